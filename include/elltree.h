@@ -84,22 +84,22 @@ struct elltree_pair {
 enum {
     ELLTREE_NO = 0,
     ELLTREE_YES = 1,
-    ELLTREE_OTHER_VALUE = 2,  /* from elltree_compare_exchange: the key has another value */
-    ELLTREE_BUSY = -1,        /* something was in the way of each try, or changed the value first: call again */
-    ELLTREE_SPENT = -2,       /* all cards are given out: finds and looks still work, and a renewal makes fresh cards */
-    ELLTREE_FOREIGN = -3,     /* a key is neither the handle's own nor shared; no key above ELLTREE_KEY_MAX is */
-    ELLTREE_NO_TRIES = -4,    /* tries is 0 */
-    ELLTREE_BAD_CARDS = -5,   /* the number of cards is not 1 to ELLTREE_CARDS_MAX */
-    ELLTREE_BAD_KEY = -6,     /* a key is above ELLTREE_KEY_MAX */
-    ELLTREE_BAD_START = -7,   /* start keys do not ascend strictly, or they (or the keys present at a renewal) exceed ELLTREE_START_MAX */
-    ELLTREE_NO_ROOM = -8,     /* the array is too short for all pairs, or all keys */
-    ELLTREE_NO_MEMORY = -9,   /* memory was refused */
-    ELLTREE_CLOSED = -10,     /* a handle holds nothing */
-    ELLTREE_OPEN = -11,       /* the handle that is to get something holds something */
-    ELLTREE_OTHER_TREE = -12, /* the handles are of two trees */
-    ELLTREE_NULL = -13,       /* a pointer is null that may not be null */
-    ELLTREE_SAME = -14,       /* the same handle is given twice */
-    ELLTREE_IN_CALL = -15,    /* the handle is in another call */
+    ELLTREE_OTHER_VALUE = 2,        /* from elltree_compare_exchange: the key has another value */
+    ELLTREE_BUSY = -1,              /* something was in the way of each try, or changed the value first: call again */
+    ELLTREE_SPENT = -2,             /* all cards are given out: finds and looks still work, and a renewal makes fresh cards */
+    ELLTREE_FOREIGN = -3,           /* a key is neither the handle's own nor shared; no key above ELLTREE_KEY_MAX is */
+    ELLTREE_NO_TRIES = -4,          /* tries is 0 */
+    ELLTREE_BAD_CARDS = -5,         /* the number of cards is not 1 to ELLTREE_CARDS_MAX */
+    ELLTREE_BAD_KEY = -6,           /* a key is above ELLTREE_KEY_MAX */
+    ELLTREE_BAD_START = -7,         /* start keys do not ascend strictly, or they (or the keys present at a renewal) exceed ELLTREE_START_MAX */
+    ELLTREE_NO_ROOM = -8,           /* the array is too short for all pairs, or all keys */
+    ELLTREE_NO_MEMORY = -9,         /* memory was refused */
+    ELLTREE_CLOSED = -10,           /* a handle holds nothing */
+    ELLTREE_OPEN = -11,             /* the handle that is to get something holds something */
+    ELLTREE_OTHER_TREE = -12,       /* the handles are of two trees */
+    ELLTREE_NULL = -13,             /* a pointer is null that may not be null */
+    ELLTREE_SAME = -14,             /* the same handle is given twice */
+    ELLTREE_IN_CALL = -15,          /* the handle is in another call */
     ELLTREE_TOO_MANY_HANDLES = -16, /* the handle has the least share of a tree of shared keys */
     ELLTREE_SHARED_KEYS = -17       /* only elltree_renew_all_shared renews handles of a tree of shared keys */
 };
@@ -111,10 +111,10 @@ enum {
 #define ELLTREE_MUST_USE __attribute__((warn_unused_result))
 
 /* These are the functions of the library, without the checks of the calls below them. */
-ELLTREE_MUST_USE int32_t elltree_slot_open(struct elltree_slot *slot, const uint64_t *keys, size_t key_count,
-                                           const struct elltree_pair *start, size_t start_count, uint64_t cards, uint64_t number);
-ELLTREE_MUST_USE int32_t elltree_slot_open_shared(struct elltree_slot *slot, const struct elltree_pair *start, size_t start_count,
-                                                  uint64_t cards, uint64_t number);
+ELLTREE_MUST_USE int32_t elltree_slot_open(struct elltree_slot *slot, const uint64_t *keys, size_t key_count, const struct elltree_pair *start,
+                                           size_t start_count, uint64_t cards, uint64_t number);
+ELLTREE_MUST_USE int32_t elltree_slot_open_shared(struct elltree_slot *slot, const struct elltree_pair *start, size_t start_count, uint64_t cards,
+                                                  uint64_t number);
 ELLTREE_MUST_USE int32_t elltree_slot_another(struct elltree_slot *from, struct elltree_slot *into);
 ELLTREE_MUST_USE int32_t elltree_slot_split(struct elltree_slot *from, struct elltree_slot *into, const uint64_t *keys, size_t key_count);
 ELLTREE_MUST_USE int32_t elltree_slot_join(struct elltree_slot *into, struct elltree_slot *from);
@@ -127,8 +127,8 @@ ELLTREE_MUST_USE int32_t elltree_slot_last_at_most(struct elltree_slot *slot, ui
 ELLTREE_MUST_USE int32_t elltree_slot_insert(struct elltree_slot *slot, uint64_t key, uint64_t value, uint32_t tries);
 ELLTREE_MUST_USE int32_t elltree_slot_delete(struct elltree_slot *slot, uint64_t key, uint32_t tries);
 ELLTREE_MUST_USE int32_t elltree_slot_take(struct elltree_slot *slot, uint64_t key, uint32_t tries, uint64_t *taken);
-ELLTREE_MUST_USE int32_t elltree_slot_compare_exchange(struct elltree_slot *slot, uint64_t key, uint64_t current, uint64_t desired,
-                                                       uint32_t tries, uint64_t *found);
+ELLTREE_MUST_USE int32_t elltree_slot_compare_exchange(struct elltree_slot *slot, uint64_t key, uint64_t current, uint64_t desired, uint32_t tries,
+                                                       uint64_t *found);
 ELLTREE_MUST_USE int32_t elltree_slot_put(struct elltree_slot *slot, uint64_t key, uint64_t value, uint32_t tries, uint64_t *was);
 ELLTREE_MUST_USE int32_t elltree_slot_fetch_add(struct elltree_slot *slot, uint64_t key, uint64_t addend, uint32_t tries, uint64_t *was);
 ELLTREE_MUST_USE int32_t elltree_slot_keys(struct elltree_slot *slot, uint64_t *out, size_t room, size_t *count);
@@ -198,8 +198,8 @@ static inline int32_t elltree_leave_all(struct elltree_handle *const *handles, s
    back; elltree_cards_left tells you how many are left, and elltree_renew_all_shared makes fresh ones. A card and a start key take 96 bytes
    each. An array without items may be null.
    ELLTREE_NULL, ELLTREE_IN_CALL, ELLTREE_OPEN, ELLTREE_BAD_START, ELLTREE_BAD_KEY, ELLTREE_BAD_CARDS, ELLTREE_NO_MEMORY. */
-ELLTREE_MUST_USE static inline int32_t elltree_open_shared(struct elltree_handle *handle, const struct elltree_pair *start,
-                                                           size_t start_count, uint64_t cards) {
+ELLTREE_MUST_USE static inline int32_t elltree_open_shared(struct elltree_handle *handle, const struct elltree_pair *start, size_t start_count,
+                                                           uint64_t cards) {
     static const struct elltree_pair no_pair[1] = {{0, 0}};
     int32_t code = start || !start_count ? elltree_enter(handle) : ELLTREE_NULL;
     if (code != ELLTREE_YES)
@@ -236,8 +236,8 @@ ELLTREE_MUST_USE static inline int32_t elltree_open(struct elltree_handle *handl
     code = elltree_enter(handle);
     if (code != ELLTREE_YES)
         return code;
-    return elltree_leave(handle, elltree_slot_open(&handle->slot, keys ? keys : no_key, key_count, start ? start : no_pair, start_count,
-                                                   cards, __atomic_add_fetch(&elltree_trees, 1, __ATOMIC_SEQ_CST)));
+    return elltree_leave(handle, elltree_slot_open(&handle->slot, keys ? keys : no_key, key_count, start ? start : no_pair, start_count, cards,
+                                                   __atomic_add_fetch(&elltree_trees, 1, __ATOMIC_SEQ_CST)));
 }
 
 /* Gives these keys of a handle to another handle, which holds nothing yet. Without keys, the other handle can only look, unless the keys of
@@ -371,8 +371,8 @@ ELLTREE_MUST_USE static inline int32_t elltree_take(struct elltree_handle *handl
    which is then written to expected, and ELLTREE_NO if the key is absent; in the last two cases nothing has changed. An exchange takes a
    card.
    ELLTREE_NULL, ELLTREE_IN_CALL, ELLTREE_CLOSED, ELLTREE_NO_TRIES, ELLTREE_FOREIGN, ELLTREE_BUSY, ELLTREE_SPENT. */
-ELLTREE_MUST_USE static inline int32_t elltree_compare_exchange(struct elltree_handle *handle, uint64_t key, uint64_t *expected,
-                                                                uint64_t desired, uint32_t tries) {
+ELLTREE_MUST_USE static inline int32_t elltree_compare_exchange(struct elltree_handle *handle, uint64_t key, uint64_t *expected, uint64_t desired,
+                                                                uint32_t tries) {
     int32_t code = expected ? elltree_enter(handle) : ELLTREE_NULL;
     if (code != ELLTREE_YES)
         return code;

@@ -1,7 +1,7 @@
 //! The library as a program in C has it, by `array.c`.
 
-use crate::peers::{View, TRIES};
-use crate::ranges::{told, Ranges, Told};
+use crate::peers::{TRIES, View};
+use crate::ranges::{Ranges, Told, told};
 use std::ffi::c_void;
 
 #[repr(C)]

@@ -4,8 +4,8 @@ use crate::pauses::{self, Load};
 use crate::peers::{Peer, Sizes, View};
 use crate::record::Figure;
 use crate::work::Random;
-use std::sync::atomic::{AtomicUsize, Ordering};
 use std::sync::Barrier;
+use std::sync::atomic::{AtomicUsize, Ordering};
 use std::thread;
 use std::time::{Duration, Instant};
 

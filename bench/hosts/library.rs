@@ -1,15 +1,15 @@
 //! The library as a program in Rust has it: the one that is built here, and, if there is one, another that was built before a change, whose
 //! functions have other names.
 
-use crate::peers::{boxed, Counters, Crew, Sizes, View, TRIES};
-use crate::ranges::{told, Ranges, Told};
+use crate::peers::{Counters, Crew, Sizes, TRIES, View, boxed};
+use crate::ranges::{Ranges, Told, told};
 
 /// A module for a library: what a thread does with a handle, and new trees.
 macro_rules! library {
     ($library:ident) => {
         pub mod $library {
             use super::*;
-            use ::$library::{Handle, Refused, Result, Tree, CARDS_MAX};
+            use ::$library::{CARDS_MAX, Handle, Refused, Result, Tree};
 
             impl View for Handle {
                 fn find(&mut self, key: u64) -> Option<u64> {
@@ -79,8 +79,7 @@ macro_rules! library {
             /// The same, of which ranges are told.
             pub fn ranging(sizes: Sizes) -> Result<Crew<dyn Ranges>> {
                 let mut handles = handles(&sizes.start().collect::<Vec<_>>(), sizes.owners + sizes.readers)?.into_iter();
-                let mut boxed =
-                    |count: u64| handles.by_ref().take(count as usize).map(|it| Box::new(it) as Box<dyn Ranges>).collect();
+                let mut boxed = |count: u64| handles.by_ref().take(count as usize).map(|it| Box::new(it) as Box<dyn Ranges>).collect();
                 Ok(Crew::of(boxed(sizes.owners), boxed(sizes.readers)))
             }
 

@@ -20,15 +20,15 @@ mod realtime;
 mod record;
 mod work;
 
-use inserts::{inserts, Order};
+use inserts::{Order, inserts};
 use pauses::pauses;
 use peers::{Crew, Peer, Sizes};
-use ranges::{write, Hold, Span, Told, Way};
+use ranges::{Hold, Span, Told, Way, write};
 use record::{Figure, Record};
 use std::process::ExitCode;
 use std::time::Duration;
 use std::{env, fs};
-use work::{adds, expect_stops, latencies, scans, stops, Bursts, Latencies, Random, Speeds, Work};
+use work::{Bursts, Latencies, Random, Speeds, Work, adds, expect_stops, latencies, scans, stops};
 
 const KEYS: [u64; 3] = [64, 4_096, 262_144];
 
@@ -409,11 +409,7 @@ fn class_of(wanted: &Wanted) -> String {
         return "normal, since an interval takes seconds".to_string();
     }
     let class = realtime::begin(wanted.in_real_time);
-    if normal == 0 {
-        class.to_string()
-    } else {
-        format!("{class}; normal for inserts and pauses")
-    }
+    if normal == 0 { class.to_string() } else { format!("{class}; normal for inserts and pauses") }
 }
 
 fn main() -> ExitCode {

@@ -1,7 +1,7 @@
 //! The library's one map, which all threads share without handles and which renews itself, and when a renewal of it has ended.
 
 use crate::peers::{Counters, Crew, Sizes, View};
-use crate::ranges::{told, Ranges, Told};
+use crate::ranges::{Ranges, Told, told};
 use elltree::{Map, MapCounts, MapResult, MapSettings};
 use std::sync::Arc;
 use std::thread;

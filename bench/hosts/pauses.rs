@@ -19,12 +19,8 @@ pub enum Load {
 }
 
 impl Load {
-    pub const ALL: [Load; 4] = [
-        Load::Inserts(Order::Ascending),
-        Load::Inserts(Order::Shuffled),
-        Load::Work(Work::Changes),
-        Load::Work(Work::FewChanges),
-    ];
+    pub const ALL: [Load; 4] =
+        [Load::Inserts(Order::Ascending), Load::Inserts(Order::Shuffled), Load::Work(Work::Changes), Load::Work(Work::FewChanges)];
 
     pub fn name(self) -> &'static str {
         match self {
@@ -106,9 +102,7 @@ fn pauses_of(peer: Peer, sizes: Sizes, work: Work, interval: Duration) -> Vec<(F
     let map = renewing.expect("a map that renews itself");
     let stage = &Stage::of(owners.len());
     let (changes, took) = thread::scope(|scope| {
-        let count = |(mut owner, seed): (Box<dyn View>, u64)| {
-            scope.spawn(move || count_changes(stage, seed, &mut *owner, sizes.all(), work))
-        };
+        let count = |(mut owner, seed): (Box<dyn View>, u64)| scope.spawn(move || count_changes(stage, seed, &mut *owner, sizes.all(), work));
         let threads: Vec<_> = owners.into_iter().zip(0..).map(count).collect();
         stage.begin_to_count();
         let begun = Instant::now();

@@ -422,11 +422,7 @@ impl Peer {
             Peer::Before | Peer::SharedBefore => true,
             _ => false,
         };
-        if takes_cards {
-            1_400_000
-        } else {
-            u64::MAX / 2
-        }
+        if takes_cards { 1_400_000 } else { u64::MAX / 2 }
     }
 
     /// A new map of this kind, parted.

@@ -6,7 +6,7 @@ use crate::bare_tree::BareTree;
 use crate::java::SkipList;
 use crate::library;
 use crate::one_map;
-use crate::peers::{bare_tree, Crew, Lock, Map, Peer, Shards, Sizes, Stripe, View, SHARDS};
+use crate::peers::{Crew, Lock, Map, Peer, SHARDS, Shards, Sizes, Stripe, View, bare_tree};
 use crate::work::Random;
 use elltree::CARDS_MAX;
 use std::hint::black_box;
@@ -22,10 +22,7 @@ pub struct Told {
 
 /// What these pairs tell.
 pub fn told(pairs: impl Iterator<Item = (u64, u64)>) -> Told {
-    let and = |told: Told, (key, value): (u64, u64)| Told {
-        count: told.count + 1,
-        sum: (told.sum.rotate_left(7) ^ key).wrapping_add(value),
-    };
+    let and = |told: Told, (key, value): (u64, u64)| Told { count: told.count + 1, sum: (told.sum.rotate_left(7) ^ key).wrapping_add(value) };
     pairs.fold(Told::default(), and)
 }
 
@@ -186,11 +183,7 @@ impl<L: Lock> Iterator for KeyByKey<'_, L> {
 
 /// What the pairs of all parts tell, the keys ascending, as those of each part do.
 fn told_in_order<I: Iterator<Item = (u64, u64)>, const COUNT: usize>(parts: [I; COUNT]) -> Told {
-    if COUNT == 1 {
-        told(parts.into_iter().flatten())
-    } else {
-        told(Merge::of(parts))
-    }
+    if COUNT == 1 { told(parts.into_iter().flatten()) } else { told(Merge::of(parts)) }
 }
 
 /// Merges parts.

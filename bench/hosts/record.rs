@@ -146,8 +146,7 @@ impl Record {
     /// One row for each figure of each peer in each case: the least and the median of its rounds, the medians of its ratios within a round,
     /// to the reference, and to the library before if that was measured, and the times of all rounds.
     pub fn rows(&self) -> String {
-        let mut rows =
-            String::from("kind,keys,owners,readers,peer,figure,least,median,reference,to reference,to before,rounds\n");
+        let mut rows = String::from("kind,keys,owners,readers,peer,figure,least,median,reference,to reference,to before,rounds\n");
         for ((at, figure, peer), rounds) in &self.times {
             let Case { kind, sizes } = self.cases[*at];
             let reference = kind.reference().map_or("", Peer::name);
@@ -179,8 +178,7 @@ impl Record {
 
     /// The peers of a kind of which this was measured.
     fn peers(&self, kind: Kind, rows: &[Row]) -> Vec<Peer> {
-        let has =
-            |peer: Peer| rows.iter().flat_map(|row| &row.shown).any(|(at, figure)| self.median(*at, *figure, peer).is_some());
+        let has = |peer: Peer| rows.iter().flat_map(|row| &row.shown).any(|(at, figure)| self.median(*at, *figure, peer).is_some());
         kind.peers().into_iter().filter(|peer| has(*peer)).collect()
     }
 
@@ -192,16 +190,13 @@ impl Record {
         }
         let compared = form.kind.compared();
         let names = peers.iter().map(|peer| form.kind.title(*peer));
-        let names =
-            names.chain(compared.iter().map(|(one, other)| format!("{} to {}", form.kind.title(*one), form.kind.title(*other))));
+        let names = names.chain(compared.iter().map(|(one, other)| format!("{} to {}", form.kind.title(*one), form.kind.title(*other))));
         let heads: Vec<String> = form.labels.iter().map(|it| it.to_string()).chain(names).collect();
-        let mut lines =
-            format!("\n{}\n\n<!-- {file} -->\n\n|{}|\n{}|\n", form.title, heads.join("|"), "|---".repeat(heads.len()));
+        let mut lines = format!("\n{}\n\n<!-- {file} -->\n\n|{}|\n{}|\n", form.title, heads.join("|"), "|---".repeat(heads.len()));
         for row in rows {
             let times = peers.iter().map(|peer| row.cell(|at, figure| Some(form.shown(self.median(at, figure, *peer)?))));
-            let ratio = |(one, other): &(Peer, Peer)| {
-                row.cell(|at, figure| Some(format!("{:.2}", self.ratio(at, figure, one.name(), other.name())?)))
-            };
+            let ratio =
+                |(one, other): &(Peer, Peer)| row.cell(|at, figure| Some(format!("{:.2}", self.ratio(at, figure, one.name(), other.name())?)));
             let cells: Vec<String> = row.labels.iter().cloned().chain(times).chain(compared.iter().map(ratio)).collect();
             let _ = writeln!(lines, "|{}|", cells.join("|"));
         }
@@ -218,10 +213,7 @@ impl Record {
         let row = |(at, Case { sizes, .. }): (usize, Case)| {
             let readers = labels.contains(&"Readers").then_some(sizes.readers);
             let threads = [Some(sizes.keys), readers, Some(sizes.owners)];
-            Row {
-                labels: threads.into_iter().flatten().map(counted).collect(),
-                shown: figures.iter().map(|figure| (at, *figure)).collect(),
-            }
+            Row { labels: threads.into_iter().flatten().map(counted).collect(), shown: figures.iter().map(|figure| (at, *figure)).collect() }
         };
         let rows = self.cases_of(kind).map(row).collect();
         self.table(Form { kind, title, labels, in_milliseconds: false }, file, rows)
@@ -358,11 +350,7 @@ impl Form {
     /// A time as the table has it: what the rows have, or that in milliseconds.
     fn shown(&self, nanoseconds: f64) -> String {
         let whole = nanoseconds.round_ties_even();
-        if self.in_milliseconds {
-            format!("{:.1}", whole / 1e6)
-        } else {
-            counted(whole as u64)
-        }
+        if self.in_milliseconds { format!("{:.1}", whole / 1e6) } else { counted(whole as u64) }
     }
 }
 

@@ -2,12 +2,12 @@
 
 use crate::one_map;
 use crate::peers::{Counters, Crew, Peer, Sizes, Stripe, View};
-use crate::ranges::{write, Span, Way};
+use crate::ranges::{Span, Way, write};
 use crate::realtime;
 use elltree::Map;
 use std::hint::{black_box, spin_loop};
-use std::sync::atomic::{AtomicU8, AtomicUsize, Ordering};
 use std::sync::Barrier;
+use std::sync::atomic::{AtomicU8, AtomicUsize, Ordering};
 use std::thread::{self, ScopedJoinHandle};
 use std::time::{Duration, Instant};
 
@@ -345,10 +345,8 @@ pub fn adds(peer: Peer, sizes: Sizes, interval: Duration) -> Option<f64> {
     let stage = &Stage::of(owners.len());
     let keys = sizes.all();
     let (done, added) = thread::scope(|scope| {
-        let threads = owners
-            .iter_mut()
-            .zip(0..)
-            .map(|(owner, place)| realtime::spawn(scope, place, move || stage.add(place as u64, &mut **owner, keys)));
+        let threads =
+            owners.iter_mut().zip(0..).map(|(owner, place)| realtime::spawn(scope, place, move || stage.add(place as u64, &mut **owner, keys)));
         let threads: Vec<_> = threads.collect();
         stage.conduct(interval, renewing.as_deref());
         let ended = threads.into_iter().map(|thread| thread.join().unwrap());

@@ -7,7 +7,7 @@ mod workers;
 use bare_tree::BareTree;
 use std::io;
 use std::{env, process};
-use text::{read_bulk, write_answer, Operation, Reply};
+use text::{Operation, Reply, read_bulk, write_answer};
 use workers::{settings, work};
 
 fn main() -> io::Result<()> {

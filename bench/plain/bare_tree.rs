@@ -230,10 +230,7 @@ impl BareTree {
     }
 
     fn child(&self, node: u64, right: bool) -> &AtomicU64 {
-        &self[(
-            card_of(node),
-            if right { Field::Right } else { Field::Left },
-        )]
+        &self[(card_of(node), if right { Field::Right } else { Field::Left })]
     }
 
     fn key(&self, node: u64) -> u64 {
@@ -264,10 +261,7 @@ impl BareTree {
     fn descend(&self, key: u64, node: u64) -> (Passed, u64) {
         let update = self.update(node).load(SeqCst);
         let right = self.key(node) <= key;
-        (
-            Passed { node, update },
-            self.child(node, right).load(SeqCst),
-        )
+        (Passed { node, update }, self.child(node, right).load(SeqCst))
     }
 
     fn search(&self, key: u64) -> Place {
@@ -279,13 +273,7 @@ impl BareTree {
             parent = passed;
             node = child;
         }
-        Place {
-            leaf: node,
-            key: self.key(node),
-            value: self.value(node),
-            parent,
-            grandparent,
-        }
+        Place { leaf: node, key: self.key(node), value: self.value(node), parent, grandparent }
     }
 
     /// The value of a key, if it is present.
@@ -310,23 +298,13 @@ impl BareTree {
     #[allow(dead_code)]
     pub fn range(&self, from: u64, upto: u64) -> Range<'_> {
         let first = self.first_glance();
-        Range {
-            tree: self,
-            at: from,
-            upto: upto.min(INF1),
-            kept: [first; KEPT],
-            count: 0,
-        }
+        Range { tree: self, at: from, upto: upto.min(INF1), kept: [first; KEPT], count: 0 }
     }
 
     /// Where a look begins: no key comes to the root's right child.
     #[allow(dead_code)]
     fn first_glance(&self) -> Glance {
-        Glance {
-            node: self.child(0, false).load(SeqCst),
-            low: 0,
-            high: INF1,
-        }
+        Glance { node: self.child(0, false).load(SeqCst), low: 0, high: INF1 }
     }
 
     /// The keys of the leaves with their values, the keys ascending, when no thread is at work.
@@ -431,11 +409,7 @@ impl BareTree {
 
     fn fill_insert(&self, card: u64, key: u64, value: u64, place: &Place) {
         let (lesser, greater) = (key.min(place.key), key.max(place.key));
-        let (left_value, right_value) = if key < place.key {
-            (value, place.value)
-        } else {
-            (place.value, value)
-        };
+        let (left_value, right_value) = if key < place.key { (value, place.value) } else { (place.value, value) };
         self.fill(card, Field::P, place.parent.node);
         self.fill(card, Field::L, place.leaf);
         self.fill(card, Field::Key, greater);
@@ -512,21 +486,13 @@ impl BareTree {
         let right = self.key(parent) <= card_key;
         let flag = update_word(State::IFlag, card);
         let clean = update_word(State::Clean, card);
-        let _ = exchange(
-            self.child(parent, right),
-            leaf,
-            self.brought(card, card_key),
-        );
+        let _ = exchange(self.child(parent, right), leaf, self.brought(card, card_key));
         let _ = exchange(self.update(parent), flag, clean);
     }
 
     /// The node that a card puts in the place of a leaf: an insert's has two keys, and a swap's has one, in both of its leaves.
     fn brought(&self, card: u64, card_key: u64) -> u64 {
-        if self.word(card, Field::LeftLeafKey) == card_key {
-            node(card, Kind::RightLeaf)
-        } else {
-            node(card, Kind::Internal)
-        }
+        if self.word(card, Field::LeftLeafKey) == card_key { node(card, Kind::RightLeaf) } else { node(card, Kind::Internal) }
     }
 
     /// Whether the parent was cut out.
@@ -555,11 +521,7 @@ impl BareTree {
     fn finish_marked(&self, card: u64, grandparent: u64, parent: u64) {
         let leaf = self.word(card, Field::L);
         let right_child = self.child(parent, true).load(SeqCst);
-        let sibling = if right_child == leaf {
-            self.child(parent, false).load(SeqCst)
-        } else {
-            right_child
-        };
+        let sibling = if right_child == leaf { self.child(parent, false).load(SeqCst) } else { right_child };
         let right = self.key(grandparent) <= self.key(sibling);
         let flag = update_word(State::DFlag, card);
         let clean = update_word(State::Clean, card);

@@ -19,8 +19,6 @@ fn main() -> io::Result<()> {
     };
     let bulk = read_bulk()?;
     let map = Mutex::new(BTreeMap::from_iter(bulk.start));
-    let replies = work(&bulk.operations, &settings, |operation| {
-        apply(operation, &mut map.lock().unwrap())
-    });
+    let replies = work(&bulk.operations, &settings, |operation| apply(operation, &mut map.lock().unwrap()));
     write_answer(bulk.has_values, &replies, map.into_inner().unwrap().into_iter())
 }

@@ -129,11 +129,7 @@ pub fn read_bulk() -> io::Result<Bulk> {
 }
 
 /// Writes the answer to standard output: a line for each reply, the number of keys, and the keys, in version 2 with values.
-pub fn write_answer(
-    has_values: bool,
-    replies: &[Reply],
-    pairs: impl ExactSizeIterator<Item = (u64, u64)>,
-) -> io::Result<()> {
+pub fn write_answer(has_values: bool, replies: &[Reply], pairs: impl ExactSizeIterator<Item = (u64, u64)>) -> io::Result<()> {
     let mut output = Vec::new();
     for &reply in replies {
         match reply {

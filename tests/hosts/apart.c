@@ -63,9 +63,7 @@ static long try_all(const char *name, struct elltree_handle *handles) {
 
 int main(void) {
     /* As the header says for handles of several threads. */
-    static struct {
-        _Alignas(LINE) struct elltree_handle handle;
-    } line[2];
+    static struct { _Alignas(LINE) struct elltree_handle handle; } line[2];
     struct elltree_handle shared[HANDLES] = {ELLTREE_EMPTY}, owned[HANDLES] = {ELLTREE_EMPTY};
     const uint64_t keys[HANDLES] = {0, 1, 2, 3};
     long wrong = sizeof line[0] != LINE || (uintptr_t)&line[0] % LINE != 0;

@@ -195,7 +195,8 @@ static void *write_keys(void *given) {
 static void seek(struct elltree_handle *handle, struct scan *scan, int is_up) {
     struct elltree_pair *pair = scan->pairs;
     uint64_t from = key_at(scan->from), upto = key_at(scan->upto);
-    int32_t said = is_up ? elltree_next_at_least(handle, from, &pair->key, &pair->value) : elltree_last_before(handle, upto, &pair->key, &pair->value);
+    int32_t said = is_up ? elltree_next_at_least(handle, from, &pair->key, &pair->value)
+                         : elltree_last_before(handle, upto, &pair->key, &pair->value);
     scan->count = said == ELLTREE_YES ? 1 : said == ELLTREE_NO ? 0 : -1;
     if (is_up)
         scan->upto = said == ELLTREE_YES ? place_of(pair->key) + 1 : PLACES;

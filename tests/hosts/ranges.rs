@@ -1,7 +1,7 @@
 //! Ranges, and the next key above or below one, by a single thread of Rust, compared with a `BTreeMap`: random keys between random bounds, from the
 //! front, from the back, and from both ends at once. Then the edges: no key, one, the least and the greatest, ranges without keys, and a whole tree of
 //! many pairs. Beside other threads ranges are tried by `shared.rs`.
-use elltree::{Handle, Refused, KEY_MAX};
+use elltree::{Handle, KEY_MAX, Refused};
 use std::collections::BTreeMap;
 use std::ops::{Bound, RangeBounds};
 

@@ -6,8 +6,8 @@
 //! check of the order is tried first, on histories that a person worked out.
 use elltree::{Handle, Refused};
 use std::collections::{BTreeSet, HashSet};
-use std::sync::atomic::{AtomicU64, Ordering::SeqCst};
 use std::sync::Barrier;
+use std::sync::atomic::{AtomicU64, Ordering::SeqCst};
 use std::time::{Duration, Instant};
 
 const TRIES: u32 = 100_000;

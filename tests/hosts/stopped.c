@@ -118,7 +118,8 @@ int main(void) {
     }
     over = 1;
     pthread_join(thread, NULL);
-    wrong += (elltree_free(&victim) != ELLTREE_YES) + (elltree_free(&owners[0]) != ELLTREE_YES) + (elltree_free(&owners[1]) != ELLTREE_YES) + (elltree_free(&reader) != ELLTREE_YES);
+    wrong += (elltree_free(&victim) != ELLTREE_YES) + (elltree_free(&owners[0]) != ELLTREE_YES) + (elltree_free(&owners[1]) != ELLTREE_YES) +
+             (elltree_free(&reader) != ELLTREE_YES);
     printf("stopped in %ld inserts and %ld deletes, %ld wrong\n", stops[INSERT], stops[DELETE], wrong);
     return wrong != 0 || stops[INSERT] < WANTED || stops[DELETE] < WANTED;
 }

@@ -98,7 +98,8 @@ int main(void) {
     for (int t = 0; t < THREADS; t++) {
         uint64_t steps = 0;
         wrong += w[t].wrong + differs(&w[t]) + (elltree_steps(&w[t].handle, &steps) != ELLTREE_YES) + (steps < OPS);
-        printf("thread %d: %ld changes, %ld keys looked up, %llu steps, %ld wrong\n", t, w[t].changed, w[t].looked, (unsigned long long)steps, w[t].wrong);
+        printf("thread %d: %ld changes, %ld keys looked up, %llu steps, %ld wrong\n", t, w[t].changed, w[t].looked, (unsigned long long)steps,
+               w[t].wrong);
     }
     for (int t = 1; t < THREADS; t++) {
         wrong += elltree_join(&w[0].handle, &w[t].handle) != ELLTREE_YES;

@@ -1,6 +1,6 @@
 //! Four threads of Rust on neighboring keys, each answer compared with a `BTreeMap` of the thread's own, while a reader looks at all keys;
 //! then four that spend all cards, go to fresh cards together, and go on.
-use elltree::{renew_all, Handle, Member, Refused, Tree};
+use elltree::{Handle, Member, Refused, Tree, renew_all};
 use std::collections::BTreeMap;
 use std::sync::atomic::{AtomicBool, Ordering};
 

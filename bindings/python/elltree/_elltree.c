@@ -124,7 +124,9 @@ static void *read_list(PyObject *list, size_t size, bool (*read)(PyObject *item,
 }
 
 uint64_t *keys_in(PyObject *list, size_t *count) { return read_list(list, sizeof(uint64_t), read_key, count); }
-struct elltree_pair *pairs_in(PyObject *list, size_t *count) { return read_list(list, sizeof(struct elltree_pair), read_pair, count); }
+struct elltree_pair *pairs_in(PyObject *list, size_t *count) {
+    return read_list(list, sizeof(struct elltree_pair), read_pair, count);
+}
 
 /* What calls tell. */
 
@@ -137,7 +139,9 @@ PyObject *refuse(struct module_state *state, int32_t code) {
     return NULL;
 }
 
-struct module_state *state_of(void *core) { return PyType_GetModuleState(Py_TYPE((PyObject *)core)); }
+struct module_state *state_of(void *core) {
+    return PyType_GetModuleState(Py_TYPE((PyObject *)core));
+}
 
 PyObject *nothing(void *core, int32_t code) {
     if (code < 0)

@@ -29,7 +29,7 @@
 #define NUMBERS_MOST 4
 
 /* A function that gets its arguments in an array, as a table of methods has it. */
-#define FAST(function) (PyCFunction)(void (*)(void))function
+#define FAST(function) (PyCFunction)(void (*)(void)) function
 
 struct module_state {
     PyObject *answer; /* the function of _codes.py that raises the exception of a code */

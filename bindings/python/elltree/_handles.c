@@ -518,9 +518,7 @@ static PyObject *renew_by(PyObject *module, PyObject *const *given, Py_ssize_t c
     Py_RETURN_NONE;
 }
 
-PyObject *renew_all(PyObject *module, PyObject *const *given, Py_ssize_t count) {
-    return renew_by(module, given, count, elltree_slots_renew);
-}
+PyObject *renew_all(PyObject *module, PyObject *const *given, Py_ssize_t count) { return renew_by(module, given, count, elltree_slots_renew); }
 
 PyObject *renew_all_shared(PyObject *module, PyObject *const *given, Py_ssize_t count) {
     return renew_by(module, given, count, elltree_slots_renew_shared);
