@@ -51,7 +51,8 @@ struct elltree_map_settings {
     uint32_t renewal_microseconds; /* but no more than a renewal of this length allows; if 0, 5,000 */
     uint32_t calls;                /* how many calls may be under way at once, up to 4,096; if 0, 8 for each processor, and at least 64 */
 };
-#define ELLTREE_MAP_SETTINGS {0, 0, 0, 0}
+#define ELLTREE_MAP_SETTINGS \
+    { 0, 0, 0, 0 }
 
 /* What has happened to a map, as elltree_map_counts tells it. */
 struct elltree_map_counters {

@@ -340,8 +340,10 @@ static void look_around(struct filler *f, uint64_t place) {
     uint64_t found = 0, value = 0;
     if (!f->value[place])
         return;
-    f->wrong += elltree_map_next_at_least(map, key_at(f, place), &found, &value) != ELLTREE_YES || found != key_at(f, place) || value != f->value[place];
-    f->wrong += elltree_map_last_at_most(map, key_at(f, place), &found, &value) != ELLTREE_YES || found != key_at(f, place) || value != f->value[place];
+    f->wrong += elltree_map_next_at_least(map, key_at(f, place), &found, &value) != ELLTREE_YES || found != key_at(f, place) ||
+                value != f->value[place];
+    f->wrong += elltree_map_last_at_most(map, key_at(f, place), &found, &value) != ELLTREE_YES || found != key_at(f, place) ||
+                value != f->value[place];
 }
 
 static void *fill_and_empty(void *given) {

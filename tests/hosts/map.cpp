@@ -92,7 +92,8 @@ static void members() {
     EXPECT(map.compare_exchange(2, value, 22) == elltree::exchanged::other_value && value == 20);
     EXPECT(map.compare_exchange(2, value, 22) == elltree::exchanged::yes && map.compare_exchange(3, value, 1) == elltree::exchanged::absent);
     EXPECT(map.put(4, 40) == std::nullopt && map.put(4, 41) == 41 - 1 && map.fetch_add(5, 1) == std::nullopt);
-    EXPECT(map.update(4, [&](uint64_t was) { return was + *map.get(2); }) == 41u && map.get(4) == 63u && !map.update(5, [](uint64_t was) { return was; }));
+    EXPECT(map.update(4, [&](uint64_t was) { return was + *map.get(2); }) == 41u && map.get(4) == 63u &&
+           !map.update(5, [](uint64_t was) { return was; }));
     EXPECT(map.first()->key == 2 && map.last()->value == 63 && map.next_after(2)->key == 4 && map.last_before(4)->key == 2 && !map.next_at_least(5));
     map.for_each(0, UINT64_MAX, [&](uint64_t key, uint64_t of_key) { sum += key * of_key; });
     EXPECT(sum == 2 * 22 + 4 * 63);

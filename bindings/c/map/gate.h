@@ -13,10 +13,7 @@
 /* Two cache lines, since processors fetch lines in pairs. */
 #define LINE 128
 
-enum {
-    SPINS = 100,
-    YIELDS = 200
-};
+enum { SPINS = 100, YIELDS = 200 };
 
 /* A place has lines of its own. A thread has it while `busy` is odd, and then it alone touches the members below, but for `added`, which others
    read. */

@@ -5,7 +5,7 @@
 #include "sections.h"
 
 enum {
-    CARDS_FIRST = 16384,  /* of a new map, if nobody asks for another number */
+    CARDS_FIRST = 16384, /* of a new map, if nobody asks for another number */
     CARDS_LEAST = 1024,
     RENEWAL_PERCENT = 5,
     RENEWAL_MICROSECONDS = 5000,
@@ -58,8 +58,8 @@ struct renewal {
     struct pairs there, copied; /* what was read last of the sections, and of their heirs */
     struct difference *differences;
     size_t difference_count;
-    uint64_t began;             /* time at work */
-    uint64_t left;              /* cards of the first section, when it began */
+    uint64_t began; /* time at work */
+    uint64_t left;  /* cards of the first section, when it began */
 };
 
 static int32_t grow(struct pairs *pairs) {
@@ -80,8 +80,8 @@ static int32_t append_pairs(const struct gate *gate, struct pairs *pairs, struct
     do {
         code = pairs->count < pairs->room ? ELLTREE_YES : grow(pairs);
         if (code == ELLTREE_YES)
-            code = elltree_slot_range(slot_to_renew(gate, section), next, UINT64_MAX, pairs->items + pairs->count, pairs->room - pairs->count,
-                                      &part, &next);
+            code = elltree_slot_range(slot_to_renew(gate, section), next, UINT64_MAX, pairs->items + pairs->count, pairs->room - pairs->count, &part,
+                                      &next);
         if (code == ELLTREE_YES)
             pairs->count += part;
     } while (code == ELLTREE_YES && next < UINT64_MAX);
@@ -148,8 +148,8 @@ static int32_t note_differences(struct renewal *renewal) {
         const bool is_there = there < end && (copied == end_copied || there->key <= copied->key);
         const bool is_copied = copied < end_copied && (there == end || copied->key <= there->key);
         if (!is_there || !is_copied || there->value != copied->value)
-            renewal->differences[renewal->difference_count++] =
-                is_there ? (struct difference){there->key, {ELLTREE_YES, there->value}} : (struct difference){copied->key, {ELLTREE_NO, 0}};
+            renewal->differences[renewal->difference_count++] = is_there ? (struct difference){there->key, {ELLTREE_YES, there->value}}
+                                                                         : (struct difference){copied->key, {ELLTREE_NO, 0}};
         there += is_there;
         copied += is_copied;
     }
@@ -288,8 +288,8 @@ static int32_t prepare(struct elltree_map *map, struct renewal *renewal, uint64_
     if (code != ELLTREE_YES)
         return code;
     cards = at_most(times * cards_of_each(map, renewal, number_of_parts(&map->gate, renewal->there.count)), ELLTREE_CARDS_MAX);
-    return make_heirs(&map->gate, &renewal->heirs, renewal->sections[0]->first, renewal->sections[renewal->count - 1]->upto,
-                      renewal->there.items, renewal->there.count, cards);
+    return make_heirs(&map->gate, &renewal->heirs, renewal->sections[0]->first, renewal->sections[renewal->count - 1]->upto, renewal->there.items,
+                      renewal->there.count, cards);
 }
 
 /* Step 2, and its opposite: calls carry the keys over that they change, or do so no more. */

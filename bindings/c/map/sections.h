@@ -19,17 +19,17 @@ struct seat {
 
 /* What calls read of a section is written before they see it, but for `heirs`. `renewing` guards what is written later. */
 struct section {
-    _Alignas(LINE) uint64_t first;  /* its least key */
-    uint64_t upto;                  /* its keys are below this, or without end if it is UINT64_MAX */
-    struct seat *seats;             /* one for each place, and the last for the thread that renews the section */
-    _Atomic(struct heirs *) heirs;  /* the sections that are to replace it, if it is being renewed */
-    uint64_t allowed;               /* steps that a find takes if the tree is not deep */
-    uint64_t reserve;               /* how few cards are left when a renewal is due */
-    uint64_t cards, keys, effort;   /* its cards, the keys that it began with, and the nanoseconds of a processor that it took to make it */
-    uint64_t opened_at, all_effort; /* when it was made, and what all renewals of the map had taken by then */
+    _Alignas(LINE) uint64_t first;        /* its least key */
+    uint64_t upto;                        /* its keys are below this, or without end if it is UINT64_MAX */
+    struct seat *seats;                   /* one for each place, and the last for the thread that renews the section */
+    _Atomic(struct heirs *) heirs;        /* the sections that are to replace it, if it is being renewed */
+    uint64_t allowed;                     /* steps that a find takes if the tree is not deep */
+    uint64_t reserve;                     /* how few cards are left when a renewal is due */
+    uint64_t cards, keys, effort;         /* its cards, the keys that it began with, and the nanoseconds of a processor that it took to make it */
+    uint64_t opened_at, all_effort;       /* when it was made, and what all renewals of the map had taken by then */
     _Alignas(LINE) _Atomic bool renewing; /* whether a thread renews it, or has renewed it */
-    _Atomic uint64_t excess;        /* steps beyond the allowed ones since it was made */
-    _Atomic uint64_t spent_at;      /* when a call found its cards spent, or 0 */
+    _Atomic uint64_t excess;              /* steps beyond the allowed ones since it was made */
+    _Atomic uint64_t spent_at;            /* when a call found its cards spent, or 0 */
 };
 
 /* The sections that are to replace one, or two. */
@@ -71,9 +71,7 @@ static inline uint32_t index_of(const struct directory *directory, uint64_t key)
     return index;
 }
 
-static inline struct section *section_of(const struct directory *directory, uint64_t key) {
-    return directory->sections[index_of(directory, key)];
-}
+static inline struct section *section_of(const struct directory *directory, uint64_t key) { return directory->sections[index_of(directory, key)]; }
 
 /* How many keys a section may have without being parted. */
 static uint64_t section_keys(const struct gate *gate) { return at_least(SECTION_KEYS, KEYS_OF_A_PLACE * (gate->mask + UINT64_C(1))); }
@@ -88,9 +86,7 @@ static uint64_t allowed_steps(uint64_t keys) {
 }
 
 /* The slot that only the thread has that renews the section. */
-static struct elltree_slot *slot_to_renew(const struct gate *gate, struct section *section) {
-    return &section->seats[gate->mask + UINT64_C(1)].slot;
-}
+static struct elltree_slot *slot_to_renew(const struct gate *gate, struct section *section) { return &section->seats[gate->mask + UINT64_C(1)].slot; }
 
 /* Opens a tree with these pairs, with a slot for each seat. If it is refused, no slot holds anything. */
 static int32_t open_seats(struct seat *seats, uint64_t number_of_seats, const struct elltree_pair *pairs, size_t count, uint64_t cards) {
@@ -151,8 +147,8 @@ static uint32_t number_of_parts(const struct gate *gate, uint64_t keys) {
 
 /* Makes sections of about the same number of pairs each, for all keys from one on and below another. Each has these cards. If it is refused,
    nothing is made. */
-static int32_t make_heirs(const struct gate *gate, struct heirs **made, uint64_t first, uint64_t upto, const struct elltree_pair *pairs,
-                          size_t count, uint64_t cards) {
+static int32_t make_heirs(const struct gate *gate, struct heirs **made, uint64_t first, uint64_t upto, const struct elltree_pair *pairs, size_t count,
+                          uint64_t cards) {
     const uint32_t parts = number_of_parts(gate, count);
     struct heirs *heirs = malloc(sizeof *heirs + parts * sizeof(struct section *));
     int32_t code = heirs ? ELLTREE_YES : ELLTREE_NO_MEMORY;

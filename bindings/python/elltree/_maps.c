@@ -172,10 +172,9 @@ static PyObject *map_counts(PyObject *core, PyObject *none) {
     Py_END_ALLOW_THREADS
     if (code < 0)
         return refuse(state_of(core), code);
-    return Py_BuildValue("{sKsKsKsKsKsKsK}", "sections", (unsigned long long)counts.sections, "cards", (unsigned long long)counts.cards,
-                         "renewals", (unsigned long long)counts.renewals, "early_renewals", (unsigned long long)counts.early_renewals,
-                         "renewal_nanoseconds", (unsigned long long)counts.renewal_nanoseconds,
-                         "pause_nanoseconds", (unsigned long long)counts.pause_nanoseconds,
+    return Py_BuildValue("{sKsKsKsKsKsKsK}", "sections", (unsigned long long)counts.sections, "cards", (unsigned long long)counts.cards, "renewals",
+                         (unsigned long long)counts.renewals, "early_renewals", (unsigned long long)counts.early_renewals, "renewal_nanoseconds",
+                         (unsigned long long)counts.renewal_nanoseconds, "pause_nanoseconds", (unsigned long long)counts.pause_nanoseconds,
                          "longest_nanoseconds", (unsigned long long)counts.longest_nanoseconds);
 }
 
@@ -243,6 +242,9 @@ static PyMethodDef map_methods[] = {
     {NULL, NULL, 0, NULL},
 };
 static PyType_Slot map_slots[] = {
-    {Py_tp_new, map_new}, {Py_tp_dealloc, map_dealloc}, {Py_tp_methods, map_methods}, {0, NULL},
+    {Py_tp_new, map_new},
+    {Py_tp_dealloc, map_dealloc},
+    {Py_tp_methods, map_methods},
+    {0, NULL},
 };
 PyType_Spec map_spec = {"elltree._elltree.MapCore", sizeof(struct map_core), 0, Py_TPFLAGS_DEFAULT, map_slots};

@@ -4,10 +4,10 @@ use std::ops::{self, RangeBounds};
 use std::ptr::{self, NonNull};
 use std::time::Duration;
 
+use crate::KEY_MAX;
 use crate::error::{MapError, MapResult, NO_ROOM, OTHER_VALUE, YES, map_answer};
 use crate::range::{MapRange, Source};
 use crate::raw::{self, Pair, RawCounts, RawMap, RawSettings};
-use crate::KEY_MAX;
 
 /// How a [`Map`] is set up. A field that is 0 leaves the choice to the map.
 ///
