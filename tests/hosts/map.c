@@ -368,7 +368,7 @@ static long sections(void) {
     struct filler f[CROWD];
     struct elltree_map_counters counts = {0, 0, 0, 0, 0, 0, 0};
     size_t length = 0, keys = 0;
-    uint64_t most = 0, was;
+    uint64_t was;
     long wrong = make_map(CARDS, 0, NULL, 0);
     for (uint64_t t = 0; t < CROWD; t++)
         f[t] = (struct filler){t, 77 + t, values[t], 0, 0};
@@ -382,12 +382,10 @@ static long sections(void) {
     for (uint64_t i = 0; i < 10 * MANY; i++) { /* a queue: its sections come and go */
         wrong += elltree_map_insert(map, MANY * CROWD + i, i) != ELLTREE_YES;
         wrong += i >= MANY && (elltree_map_remove(map, MANY * (CROWD - 1) + i, &was) != ELLTREE_YES || was != i - MANY);
-        if (i % 1000 == 0) {
-            wrong += elltree_map_counts(map, &counts) != ELLTREE_YES;
-            most = counts.sections > most ? counts.sections : most;
-        }
+        if (i == MANY)
+            wrong += elltree_map_counts(map, &counts) != ELLTREE_YES || counts.sections < 3;
     }
-    wrong += most < 3 || most > 30;
+    wrong += elltree_map_counts(map, &counts) != ELLTREE_YES || counts.sections < 3 || counts.sections > 40;
     return end_map("sections", wrong, 20);
 }
 

@@ -23,7 +23,7 @@ struct elltree_map {
     struct directory directory;
     struct elltree_map_settings settings;
     _Alignas(LINE) _Atomic uint32_t ended; /* how many renewals ended, also those that were refused: who waits for one waits for this word */
-    _Atomic uint32_t swept;                /* the number of the section to be looked at next, whether it has few keys */
+    _Atomic uint32_t swept;                /* how many sections were looked at, whether they have few keys */
     _Atomic uint64_t all_effort;           /* what renewals took in all, in nanoseconds of a processor */
     _Atomic uint64_t sections, cards, renewals, early_renewals, all_pauses, longest_pause;
 };
@@ -260,7 +260,7 @@ static int32_t take_next_along(struct elltree_map *map, struct renewal *renewal)
     struct place *place = enter(&map->gate);
     const uint32_t after = index_of(&map->directory, renewal->sections[0]->first) + 1;
     struct section *next = after < map->directory.count ? map->directory.sections[after] : NULL;
-    const bool taken = next && next->keys <= most && take_renewal(next);
+    const bool may_fit = next && (renewal->reason == FEW_KEYS || next->keys <= most), taken = may_fit && take_renewal(next);
     int32_t code;
     give_back(place);
     if (!taken)
@@ -428,11 +428,12 @@ static bool has_few_keys(const struct elltree_map *map, struct section *section)
     return code == ELLTREE_YES && is_small(map, count);
 }
 
-/* Joins the next section in turn with the one behind it, if it has few keys. */
+/* Joins some section with the one behind it, if it has few keys. The multiples of this number are spread evenly over the sections. */
 static void sweep(struct elltree_map *map) {
     uint32_t more;
+    const uint32_t at = UINT32_C(2654435769) * atomic_fetch_add(&map->swept, 1);
     struct place *place = enter(&map->gate);
-    struct section *section = map->directory.sections[atomic_fetch_add(&map->swept, 1) % map->directory.count];
+    struct section *section = map->directory.sections[(uint64_t)at * map->directory.count >> 32];
     const bool taken = take_renewal(section);
     give_back(place);
     if (taken && has_few_keys(map, section))
