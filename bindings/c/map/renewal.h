@@ -226,7 +226,7 @@ static uint64_t cards_of_each(struct elltree_map *map, const struct renewal *ren
     const uint64_t cards = section->cards, most = UINT64_C(1000) * map->settings.renewal_microseconds;
     const bool may_double = likely_effort(section, 2 * cards, renewal->there.count) <= most;
     if (atomic_load(&section->spent_at))
-        return may_double ? 2 * cards : cards;
+        return may_double && cards < at_least(weight(renewal->there.count), CARDS_FIRST) ? 2 * cards : cards;
     return part_of_cards(cards_of_all(map, renewal, may_double), parts);
 }
 
