@@ -1,6 +1,6 @@
-use Rattle.std.specs.Prelude.{◌≡◌, ◌≢◌, ℕ, ◌+◌, ◌<◌, ◌≤◌, ◌==◌, ◌%◌, if◌then◌else◌, Bool, false, Option, Some, None, is_some}
+use Rattle.std.specs.Prelude.{◌≡◌, ◌≢◌, ℕ, ◌+◌, ◌<◌, ◌≤◌, ◌==◌, ◌%◌, if◌then◌else◌, Bool, false, Option, Some, None, is_some, [], ◌∷◌}
 use Rattle.ell_ops.specs.declared.op.Op.{Op}
-use Rattle.ell_ops.specs.Meaning.{key_of}
+use Rattle.ell_ops.specs.Meaning.{key_of, greatest_key}
 use Rattle.ell_core.specs.declared.exchange.Exchange.TheVariants as exchange
 use Rattle.ell_word.specs.Node.{IsInternal, card}
 use Rattle.ell_word.specs.Word.{packed, unpacked}
@@ -15,16 +15,17 @@ use Rattle.ell_layout.specs.Layout.{address}
 use Rattle.ell_layout.specs.Words.{key_field, value_field, child_field, IsLeaf}
 use Rattle.ell_core.specs.state.Machine.{Machine, ledger_of, worker_of}
 use Rattle.ell_layout.specs.Cards.{iflag, dflag, marked, clean}
+use Rattle.ell_core.specs.acts.Searching.{MayStop}
 use Rattle.ell_core.specs.acts.Exchanges.{won_or_lost}
 use Rattle.ell_core.specs.acts.Events.{Steps}
 use Rattle.ell_core.specs.statements.Effects.{AnswersAsMap, contents_in}
 use Rattle.ell_cards.specs.declared.call.Call.{Call}
 use Rattle.ell_cards.specs.declared.call.Call.TheVariants as call
-use Rattle.ell_cards.specs.declared.view.Told.TheVariants.{Met, Info}
+use Rattle.ell_cards.specs.declared.view.Told.TheVariants.{Met, Key, Value, Info, Frozen}
 use Rattle.ell_cards.specs.declared.view.View.{View}
 use Rattle.ell_cards.specs.Models.{IsTold, IsFree, Does, StandsAt, InTable, KnowsDelete, EndWasUnknown}
-use Rattle.ell_cards.specs.Changes.{learning, if_won, exchanged, after_begin, after_again, after_leave, after_answer, after_upd, after_down, after_next, after_key_of, after_value_of, after_info, after_frozen_child, after_look, after_look_down, after_claim, after_fill, after_flag, after_mark}
-use Rattle.ell_cards.specs.Guards.{MayBegin, MayStop, MayAnswer, MayRead, MayGoDown, MayAsk, MaySee, MayLookDown, MayClaim, MayFill, MayIFlag, MayDFlag, MayIChild, MayIUnflag, MayMark, MayDChild, MayDUnflag, MayBacktrack}
+use Rattle.ell_cards.specs.Changes.{learning, if_won, exchanged, after_begin, after_again, after_leave, after_answer, after_upd, after_claim, after_flag, after_mark, gone_from, gone_down, is_this, told_info, after_fill}
+use Rattle.ell_cards.specs.Guards.{MayBegin, MayAnswer, MayRead, MayGoDown, MayAsk, KnowsPlace, MayLookDown, MayClaim, MayFill, MayIFlag, MayDFlag, MayIChild, MayMark, MayDChild}
 
 -- the address of the update word of a node
 abbrev pub update_at : ℕ → ℕ
@@ -44,10 +45,6 @@ value_at x = address (card x) (value_field (x % 4))
 
 -- the word that a call touches: of a call that only notes something it is the key of the root, which never changes
 abbrev pub word_of : Call → ℕ
-word_of (call.Begin op) = key_at 0
-word_of call.Again = key_at 0
-word_of call.Leave = key_at 0
-word_of (call.Answer said) = key_at 0
 word_of (call.Upd x) = update_at x
 word_of (call.Down x right) = child_at x right
 word_of call.Next = 0
@@ -67,6 +64,7 @@ word_of (call.Mark c p was) = update_at p
 word_of (call.DChild c gp p s right) = child_at gp right
 word_of (call.DUnflag c gp) = update_at gp
 word_of (call.Backtrack c gp) = update_at gp
+word_of _ = key_at 0
 
 -- what an atomic step does to its word: it loads it, stores a value, or exchanges an expected value for another
 pub data Atomic : Type 0 where
@@ -99,33 +97,40 @@ abbrev pub is_won : Atomic → ℕ → Bool
 is_won (Exchange expected value) found = found == expected
 is_won _ found = false
 
--- what a pass knows after a call that found this word
+-- what a pass knows after a call that found this word; a node that it was told it has met
 abbrev pub after : Call → ℕ → View → View
 after (call.Begin op) n v = after_begin (Some op) v
 after call.Again n v = after_again v
 after call.Leave n v = after_leave v
 after (call.Answer said) n v = after_answer said v
 after (call.Upd x) n v = after_upd x (unpacked n) v
-after (call.Down x right) n v = after_down x n v
-after call.Next n v = after_next n v
-after (call.KeyOf x) n v = after_key_of x n v
-after (call.ValueOf x) n v = after_value_of x n v
-after (call.Info c f) n v = after_info c f n v
-after (call.FrozenChild c p right) n v = after_frozen_child c right n v
-after call.Look n v = after_look n v
-after (call.LookDown from key right) n v = after_look_down from key right n v
+after (call.Down x right) n v = record v {
+  worker = record (v.worker) { search = gone_from x n v.worker.search };
+  told = Met n ∷ v.told;
+  here = None;
+  made = v.made + 1;
+}
+after call.Next n v = record v { next = Some n; made = v.made + 1 }
+after (call.KeyOf x) n v = record v { told = Key x n ∷ v.told; here = if is_this v.worker.search.node x then Some n else v.here; made = v.made + 1 }
+after (call.ValueOf x) n v = record v { told = Value x n ∷ v.told; made = v.made + 1 }
+after (call.Info c f) n v = record v { told = told_info c f n v.told; made = v.made + 1 }
+after (call.FrozenChild c p right) n v = record v { told = Frozen c right n ∷ Met n ∷ v.told; made = v.made + 1 }
+after call.Look n v = record v {
+  told = Met n ∷ v.told;
+  glances = record { node = n; low = 0; high = greatest_key + 1 } ∷ [];
+  looks = v.looks + 1;
+  made = v.made + 1;
+}
+after (call.LookDown from key right) n v = record v { told = Met n ∷ v.told; glances = gone_down from key right n ∷ v.glances; made = v.made + 1 }
 after (call.Claim c) n v = after_claim (n == c) c v
 after (call.Fill c f value) n v = after_fill f value v
 after (call.IFlag c p from) n v =
-    exchanged (if_won (n == packed from) exchange.IFlag c) n
-    (after_flag (n == packed from) (fact.IFlagged c) p (unpacked n) v)
+    exchanged (if_won (n == packed from) exchange.IFlag c) n (after_flag (n == packed from) (fact.IFlagged c) p (unpacked n) v)
 after (call.IChild c p l q right) n v = exchanged (if_won (n == l) exchange.IChild c) n (learning (fact.IChanged c) v)
 after (call.IUnflag c p) n v = exchanged (if_won (n == iflag c) exchange.IUnflag c) n (learning (fact.IOver c) v)
 after (call.DFlag c gp from) n v =
-    exchanged (if_won (n == packed from) exchange.DFlag c) n
-    (after_flag (n == packed from) (fact.DFlagged c) gp (unpacked n) v)
-after (call.Mark c p was) n v =
-    exchanged (if_won (n == was) exchange.Mark c) n (after_mark (n == was) c p (unpacked n) v)
+    exchanged (if_won (n == packed from) exchange.DFlag c) n (after_flag (n == packed from) (fact.DFlagged c) gp (unpacked n) v)
+after (call.Mark c p was) n v = exchanged (if_won (n == was) exchange.Mark c) n (after_mark (n == was) c p (unpacked n) v)
 after (call.DChild c gp p s right) n v = exchanged (if_won (n == p) exchange.DChild c) n (learning (fact.Cut c) v)
 after (call.DUnflag c gp) n v = exchanged (if_won (n == dflag c) exchange.DUnflag c) n (learning (fact.DOver c) v)
 after (call.Backtrack c gp) n v = exchanged (if_won (n == dflag c) exchange.Backtrack c) n (learning (fact.Backed c) v)
@@ -133,8 +138,8 @@ after (call.Backtrack c gp) n v = exchanged (if_won (n == dflag c) exchange.Back
 -- what a call asks of what the pass knows
 abbrev pub May : ℕ → Call → View → Type 0
 May cards (call.Begin op) v = MayBegin v op
-May cards call.Again v = MayStop v
-May cards call.Leave v = MayStop v
+May cards call.Again v = MayStop (worker_of v.worker)
+May cards call.Leave v = MayStop (worker_of v.worker)
 May cards (call.Answer said) v = MayAnswer v said
 May cards (call.Upd x) v = MayRead v x
 May cards (call.Down x right) v = MayGoDown v x right
@@ -142,19 +147,19 @@ May cards call.Next v = Unit {0}
 May cards (call.KeyOf x) v = IsTold v (Met x)
 May cards (call.ValueOf x) v = IsTold v (Met x) × IsLeaf x
 May cards (call.Info c f) v = MayAsk v c f
-May cards (call.FrozenChild c p right) v = MaySee v c p
+May cards (call.FrozenChild c p right) v = KnowsPlace v (fact.Marked c) c field.P p
 May cards call.Look v = IsFree v
 May cards (call.LookDown from key right) v = MayLookDown v from key
 May cards (call.Claim c) v = MayClaim v c × (c ≤ cards)
 May cards (call.Fill c f value) v = MayFill v c
 May cards (call.IFlag c p from) v = MayIFlag v c p from
 May cards (call.IChild c p l q right) v = MayIChild v c p l q right
-May cards (call.IUnflag c p) v = MayIUnflag v c p
+May cards (call.IUnflag c p) v = KnowsPlace v (fact.IChanged c) c field.P p
 May cards (call.DFlag c gp from) v = MayDFlag v c gp from
 May cards (call.Mark c p was) v = MayMark v c p was
 May cards (call.DChild c gp p s right) v = MayDChild v c gp p s right
-May cards (call.DUnflag c gp) v = MayDUnflag v c gp
-May cards (call.Backtrack c gp) v = MayBacktrack v c gp
+May cards (call.DUnflag c gp) v = KnowsPlace v (fact.Cut c) c field.Gp gp
+May cards (call.Backtrack c gp) v = KnowsPlace v (fact.Unmarkable c) c field.Gp gp
 
 -- the act of the machine that a call which found this word is, or none
 abbrev pub act_of : Call → ℕ → Option Act

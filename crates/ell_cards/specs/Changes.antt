@@ -1,5 +1,6 @@
-use Rattle.std.specs.Prelude.{ℕ, ◌+◌, ◌==◌, ◌++◌, ◌&&◌, if◌then◌else◌, Bool, true, false, Option, Some, None, List, [], ◌∷◌, unwrap_or, nat_lt, max, Result, Ok, Err, ◌-◌, ◌%◌, ◌^◌}
-use Rattle.ell_ops.specs.Meaning.{greatest_key}
+use Rattle.std.specs.Option.{option_or}
+use Rattle.std.specs.List.{list_all}
+use Rattle.std.specs.Prelude.{filter, map, not, option_map, ℕ, ◌+◌, ◌==◌, ◌++◌, if◌then◌else◌, Bool, true, false, Option, Some, None, List, [], ◌∷◌, unwrap_or, nat_lt, max, Result, Ok, Err, ◌-◌, ◌%◌, ◌^◌}
 use Rattle.ell_ops.specs.KeySet.{set_of}
 use Rattle.ell_ops.specs.declared.op.Op.{Op}
 use Rattle.ell_ops.specs.declared.op.Op.TheVariants.{Insert, Delete, Swap}
@@ -22,7 +23,7 @@ use Rattle.ell_core.specs.acts.Searching.{with_read, at_root}
 use Rattle.ell_core.specs.state.Opening.{keys_at_start}
 use Rattle.ell_core.specs.statements.Readers.{from_of, upto_of}
 use Rattle.ell_cards.specs.declared.view.Told.{Told}
-use Rattle.ell_cards.specs.declared.view.Told.TheVariants.{Met, Key, Value, Info, Frozen}
+use Rattle.ell_cards.specs.declared.view.Told.TheVariants.{Met, Value, Info}
 use Rattle.ell_cards.specs.declared.view.Hindrance.{Hindrance}
 use Rattle.ell_cards.specs.declared.view.Hindrance.TheVariants.{Claim, Found}
 use Rattle.ell_cards.specs.declared.glance.Glance.{Glance}
@@ -63,8 +64,7 @@ abbrev pub first_in_way : List Hindrance → List Hindrance → List Hindrance
 first_in_way [] those = those
 first_in_way (h ∷ hs) those = h ∷ hs
 
--- what a search that stands at a node has read in the way of an operation: of an insert at the parent, of a delete at the
--- grandparent, or else at the parent
+-- what a search that stands at a node has read in the way of an operation: of a delete first at the grandparent; at the parent
 abbrev pub in_the_way : Option Op → Option ℕ → Option Seen → Option Seen → List Hindrance
 in_the_way (Some (Insert k value)) (Some x) parent above = read_in_way parent
 in_the_way (Some (Swap k was value)) (Some x) parent above = read_in_way parent
@@ -74,14 +74,6 @@ in_the_way _ _ parent above = []
 -- what the search of a pass has read in the way, where it stands
 abbrev pub way_now : View → List Hindrance
 way_now v = in_the_way v.worker.operation v.worker.search.node v.worker.search.parent v.worker.search.grandparent
-
--- what was in the way, once a try is given up
-abbrev pub given_up : View → List Hindrance
-given_up v = way_now v ++ v.hindrances
-
--- what was in the way of that try
-abbrev pub met_in_try : View → List Hindrance
-met_in_try v = way_now v ++ v.met
 
 -- whether what an update says was under way is over: a clean one says nothing, and of any other facts tell the end of its card
 abbrev pub update_over : List Fact → State → ℕ → Bool
@@ -93,26 +85,18 @@ abbrev pub is_over : List Fact → Hindrance → Bool
 is_over facts (Claim c) = true
 is_over facts (Found u) = update_over facts u.state u.card
 
--- whether all of these are
-abbrev pub all_over : List Fact → List Hindrance → Bool
-all_over facts [] = true
-all_over facts (h ∷ hs) = is_over facts h && all_over facts hs
-
 -- whether something was in the way, and all of it is over
 abbrev pub was_hindered : List Fact → List Hindrance → Bool
 was_hindered facts [] = false
-was_hindered facts (h ∷ hs) = all_over facts (h ∷ hs)
+was_hindered facts (h ∷ hs) = list_all (is_over facts) (h ∷ hs)
 
 -- how many tries something hindered that was over by then, once a try is given up
 abbrev pub tries_hindered : View → ℕ
-tries_hindered v = v.hindered + (if was_hindered v.worker.facts (met_in_try v) then 1 else 0)
+tries_hindered v = v.hindered + (if was_hindered v.worker.facts (way_now v ++ v.met) then 1 else 0)
 
 -- the pass has found an update at a node
 abbrev pub finding : ℕ → Update → View → View
-finding x u v = record v {
-  worker = record (v.worker) { facts = facts_by u.state u.card v.worker.facts };
-  told = places_by x u.state u.card v.told;
-}
+finding x u v = record v { worker = record (v.worker) { facts = facts_by u.state u.card v.worker.facts }; told = places_by x u.state u.card v.told }
 
 -- the pass has learnt a fact
 abbrev pub learning : Fact → View → View
@@ -154,38 +138,31 @@ found_child expected (Err found) = found
 abbrev pub idle_worker : List (ℕ × Entry) → Option (List ℕ) → List Fact → WorkerView
 idle_worker ledger ownable facts = record { ledger = ledger; ownable = ownable; operation = None; search = no_search; card = None; flagged = false; facts = facts }
 
--- begin: this operation is in hand, and the search stands at the root, which the pass has met; a look is at its end, and so is what was
--- answered before
+-- nothing is in hand, and the ledger is this one
+abbrev pub at_rest : List (ℕ × Entry) → View → View
+at_rest ledger v = record v { worker = idle_worker ledger v.worker.ownable v.worker.facts; here = None; planned = []; stores = []; met = [] }
+
+-- nothing is left of the last operation, answered or laid down, nor of the last look
+abbrev pub afresh : List (ℕ × Entry) → View → View
+afresh ledger v = record (at_rest ledger v) { next = None; glances = []; answered = None; laid_down = None }
+
+-- begin: nothing is left of what was before; this operation is in hand, and the search stands at the root, which the pass has met
 abbrev pub after_begin : Option Op → View → View
-after_begin op v = record v {
+after_begin op v = record (afresh v.worker.ledger v) {
   worker = record (v.worker) { operation = op; search = at_root; card = None; flagged = false };
   told = Met 0 ∷ v.told;
-  glances = [];
-  answered = None;
-  laid_down = None;
-  here = None;
-  next = None;
-  planned = [];
-  stores = [];
   knew_before = v.worker.facts;
-  met = [];
   made = v.made + 1;
 }
 
--- again: the operation in hand begins once more, and what its search read in the way was a hindrance; the try before is counted, if
--- something hindered it that is over
+-- again: the operation begins once more; what its search read in the way was a hindrance, and the try counts if one that is over hindered it
 abbrev pub after_again : View → View
-after_again v = record (after_begin v.worker.operation v) { hindrances = given_up v; hindered = tries_hindered v }
+after_again v = record (after_begin v.worker.operation v) { hindrances = way_now v ++ v.hindrances; hindered = tries_hindered v }
 
 -- leave: nothing is in hand any more, the operation was laid down, and the last try is given up as by again
 abbrev pub after_leave : View → View
-after_leave v = record v {
-  worker = idle_worker v.worker.ledger v.worker.ownable v.worker.facts;
-  here = None;
-  planned = [];
-  stores = [];
-  hindrances = given_up v;
-  met = [];
+after_leave v = record (at_rest v.worker.ledger v) {
+  hindrances = way_now v ++ v.hindrances;
   hindered = tries_hindered v;
   laid_down = v.worker.operation;
   made = v.made + 1;
@@ -193,8 +170,7 @@ after_leave v = record v {
 
 -- the ledger where a key's entry is this one now
 abbrev pub with_entry : ℕ → Entry → List (ℕ × Entry) → List (ℕ × Entry)
-with_entry k entry [] = []
-with_entry k entry (e ∷ es) = (e.0, if k == e.0 then entry else e.1) ∷ with_entry k entry es
+with_entry k entry ledger = map (λ e. (e.0, if k == e.0 then entry else e.1)) ledger
 
 -- the ledger after an operation was answered so
 abbrev pub answered_ledger : Option Op → Reply → List (ℕ × Entry) → List (ℕ × Entry)
@@ -205,19 +181,13 @@ answered_ledger _ _ ledger = ledger
 
 -- the operation that was in hand, with what is answered to it, and the card that was in hand for it
 abbrev pub answered_so : Option Op → Option ℕ → Reply → Option Answered
-answered_so None card said = None
-answered_so (Some op) card said = Some (record { op = op; said = said; card = card })
+answered_so op card said = option_map (λ o. record { op = o; said = said; card = card }) op
 
 -- answer: nothing is in hand any more, the ledger goes by the answer, and the pass has it for its last
 abbrev pub after_answer : Reply → View → View
-after_answer said v = record v {
-  worker = idle_worker (answered_ledger v.worker.operation said v.worker.ledger) v.worker.ownable v.worker.facts;
-  here = None;
-  planned = [];
-  stores = [];
+after_answer said v = record (at_rest (answered_ledger v.worker.operation said v.worker.ledger) v) {
   answers = v.answers + 1;
   answered = answered_so v.worker.operation v.worker.card said;
-  met = [];
   made = v.made + 1;
 }
 
@@ -228,47 +198,15 @@ after_upd x u v = record (finding x u v) {
   made = v.made + 1;
 }
 
--- a node with the word that was read there, if one was
-abbrev pub seen_at : ℕ → Option ℕ → Option Seen
-seen_at x None = None
-seen_at x (Some word) = Some (record { node = x; word = word })
+-- a search that goes from a node to this child
+abbrev pub gone_from : ℕ → ℕ → Search → Search
+gone_from x child search =
+    record { node = Some child; read = None; parent = option_map (λ word. record { node = x; word = word }) search.read; grandparent = search.parent }
 
--- down: from this node to this child, which the pass has met
-abbrev pub after_down : ℕ → ℕ → View → View
-after_down x child v = record v {
-  worker = record (v.worker) {
-    search = record {
-      node = Some child;
-      read = None;
-      parent = seen_at x v.worker.search.read;
-      grandparent = v.worker.search.parent;
-    };
-  };
-  told = Met child ∷ v.told;
-  here = None;
-  made = v.made + 1;
-}
-
--- next: the claim word was read
-abbrev pub after_next : ℕ → View → View
-after_next n v = record v { next = Some n; made = v.made + 1 }
-
--- whether a place, if there is one, is this node
-abbrev pub is_at : Option ℕ → ℕ → Bool
-is_at None x = false
-is_at (Some y) x = y == x
-
--- key_of: the key of a node was told
-abbrev pub after_key_of : ℕ → ℕ → View → View
-after_key_of x key v = record v {
-  told = Key x key ∷ v.told;
-  here = if is_at v.worker.search.node x then Some key else v.here;
-  made = v.made + 1;
-}
-
--- value_of: the value of a leaf was told
-abbrev pub after_value_of : ℕ → ℕ → View → View
-after_value_of x value v = record v { told = Value x value ∷ v.told; made = v.made + 1 }
+-- whether there is one, and it is this
+abbrev pub is_this : Option ℕ → ℕ → Bool
+is_this None x = false
+is_this (Some y) x = y == x
 
 -- what was told with a word of a card; a word that is a node is met
 abbrev pub told_info : ℕ → Field → ℕ → List Told → List Told
@@ -277,34 +215,9 @@ told_info c P x told = Info c P x ∷ Met x ∷ told
 told_info c L x told = Info c L x ∷ Met x ∷ told
 told_info c f x told = Info c f x ∷ told
 
--- info: a word of a card was told
-abbrev pub after_info : ℕ → Field → ℕ → View → View
-after_info c f x v = record v { told = told_info c f x v.told; made = v.made + 1 }
-
--- frozen_child: a child of the parent that a card marked was told, and is met
-abbrev pub after_frozen_child : ℕ → Bool → ℕ → View → View
-after_frozen_child c right x v = record v { told = Frozen c right x ∷ Met x ∷ v.told; made = v.made + 1 }
-
--- look: a look has come to the root's left child, which the pass has met, by all real keys
-abbrev pub after_look : ℕ → View → View
-after_look child v = record v {
-  told = Met child ∷ v.told;
-  glances = record { node = child; low = 0; high = greatest_key + 1 } ∷ [];
-  looks = v.looks + 1;
-  made = v.made + 1;
-}
-
 -- where those keys have come that go from a node with this key to this child, which is on this side
 abbrev pub gone_down : Glance → ℕ → Bool → ℕ → Glance
 gone_down g key right child = record { node = child; low = from_of right g.low key; high = upto_of right g.high key }
-
--- look_down: the look has come to this child, which the pass has met
-abbrev pub after_look_down : Glance → ℕ → Bool → ℕ → View → View
-after_look_down g key right child v = record v {
-  told = Met child ∷ v.told;
-  glances = gone_down g key right child ∷ v.glances;
-  made = v.made + 1;
-}
 
 -- the value that was told of a leaf the last time, or 0
 abbrev pub told_value : List Told → ℕ → ℕ
@@ -314,12 +227,9 @@ told_value (_ ∷ told) x = told_value told x
 
 -- what fills a card, by the operation, the search, the key of the leaf and the values of leaves
 abbrev pub filling_for : ℕ → Option Op → Option ℕ → Option Seen → Option Seen → ℕ → (ℕ → ℕ) → List (Field × ℕ)
-filling_for c (Some (Insert k value)) (Some leaf) (Some parent) above key value_of =
-    insert_filling c k value parent.node leaf key (value_of leaf)
-filling_for c (Some (Swap k was value)) (Some leaf) (Some parent) above key value_of =
-    insert_filling c k value parent.node leaf key (value_of leaf)
-filling_for c (Some (Delete k)) (Some leaf) (Some parent) (Some above) key value_of =
-    delete_filling above.node parent.node leaf parent.word
+filling_for c (Some (Insert k value)) (Some leaf) (Some parent) above key value_of = insert_filling c k value parent.node leaf key (value_of leaf)
+filling_for c (Some (Swap k was value)) (Some leaf) (Some parent) above key value_of = insert_filling c k value parent.node leaf key (value_of leaf)
+filling_for c (Some (Delete k)) (Some leaf) (Some parent) (Some above) key value_of = delete_filling above.node parent.node leaf parent.word
 filling_for c _ _ _ _ key value_of = []
 
 -- what fills card c, by what the pass knows
@@ -369,42 +279,25 @@ with_stores stores v = record v { stores = stores; made = steps_with stores v.ma
 abbrev pub nowhere : Search → Search
 nowhere search = record search { node = None; read = None }
 
+-- the search stands nowhere any more, and this card is in hand, flagged or not
+abbrev pub off_the_tree : Option ℕ → Bool → View → View
+off_the_tree card flagged v = record v { worker = record (v.worker) { search = nowhere v.worker.search; card = card; flagged = flagged }; here = None }
+
 -- iflag and dflag: the card in hand is flagged; or the update was found at the node in its place, and the card is laid aside
 abbrev pub after_flag : Bool → Fact → ℕ → Update → View → View
-after_flag true new x u v = record v {
-  worker = record (v.worker) { search = nowhere v.worker.search; flagged = true; facts = new ∷ v.worker.facts };
-  here = None;
-}
-after_flag false new x u v = record v {
-  worker = record (v.worker) {
-    search = nowhere v.worker.search;
-    card = None;
-    flagged = false;
-    facts = facts_by u.state u.card v.worker.facts;
-  };
-  told = places_by x u.state u.card v.told;
-  here = None;
-  hindrances = Found u ∷ v.hindrances;
-  met = Found u ∷ v.met;
-}
+after_flag true new x u v = off_the_tree v.worker.card true (learning new v)
+after_flag false new x u v = record (off_the_tree None false (finding x u v)) { hindrances = Found u ∷ v.hindrances; met = Found u ∷ v.met }
 
 -- whether an update is the mark of a card
 abbrev pub is_mark_of : ℕ → State → ℕ → Bool
 is_mark_of c state.Mark d = d == c
 is_mark_of c _ d = false
 
--- whether the card in hand, if there is one, is this one
-abbrev pub is_held : Option ℕ → ℕ → Bool
-is_held None c = false
-is_held (Some d) c = d == c
-
 -- a lost mark: the update that was found at the parent says that the card is unmarkable, a hindrance if it is the card in hand
 abbrev pub unmarking : ℕ → ℕ → Update → View → View
-unmarking c x u v = record v {
-  worker = record (v.worker) { facts = facts_by u.state u.card (fact.Unmarkable c ∷ v.worker.facts) };
-  told = places_by x u.state u.card v.told;
-  hindrances = if is_held v.worker.card c then Found u ∷ v.hindrances else v.hindrances;
-  met = if is_held v.worker.card c then Found u ∷ v.met else v.met;
+unmarking c x u v = record (finding x u (learning (fact.Unmarkable c) v)) {
+  hindrances = if is_this v.worker.card c then Found u ∷ v.hindrances else v.hindrances;
+  met = if is_this v.worker.card c then Found u ∷ v.met else v.met;
 }
 
 -- mark: the mark stands, set by this pass or found there; or another update was found
@@ -417,10 +310,10 @@ abbrev pub keys_of : List (ℕ × Entry) → List ℕ
 keys_of [] = []
 keys_of (e ∷ es) = e.0 ∷ keys_of es
 
--- a pass with nothing in hand and this share, which has met the root alone
-abbrev pub idle_view : ℕ → Option (List ℕ) → List (ℕ × Entry) → View
-idle_view share ownable ledger = record {
-  worker = idle_worker ledger ownable [];
+-- a pass with nothing in hand, with this share and worker, which has met the root alone
+abbrev pub idle_view : ℕ → WorkerView → View
+idle_view share worker = record {
+  worker = worker;
   told = Met 0 ∷ [];
   here = None;
   next = None;
@@ -442,10 +335,6 @@ idle_view share ownable ledger = record {
   made = 0;
 }
 
--- the first pass of a table: it owns all keys, of which the start keys are present with their values, and the others absent
-abbrev pub first_view : List ℕ → List (ℕ × ℕ) → View
-first_view keys start = idle_view whole_share None (keys_at_start keys start)
-
 -- the keys that may have an owner, if every other key is shared
 abbrev pub ownable_if : Bool → List ℕ → Option (List ℕ)
 ownable_if true keys = Some keys
@@ -453,45 +342,23 @@ ownable_if false keys = None
 
 -- the first pass of a table: it owns the keys of its plan, of which the start keys are present with their values, and the others absent
 abbrev pub first_of : TablePlan → View
-first_of plan = idle_view whole_share (ownable_if plan.shared plan.keys) (keys_at_start plan.keys plan.start)
+first_of plan = idle_view whole_share (idle_worker (keys_at_start plan.keys plan.start) (ownable_if plan.shared plan.keys) [])
 
 -- what is left of a pass that was joined to another: it has no share
 abbrev pub spent_view : View
-spent_view = idle_view 0 None []
+spent_view = idle_view 0 (idle_worker [] None [])
 
--- the part of a ledger on these keys
-abbrev pub part_on : List ℕ → List (ℕ × Entry) → List (ℕ × Entry)
-part_on keys [] = []
-part_on keys (e ∷ es) = if set_of keys e.0 then e ∷ part_on keys es else part_on keys es
-
--- the part of a ledger off these keys
-abbrev pub part_off : List ℕ → List (ℕ × Entry) → List (ℕ × Entry)
-part_off keys [] = []
-part_off keys (e ∷ es) = if set_of keys e.0 then part_off keys es else e ∷ part_off keys es
-
--- a part of a pass with this share: these entries of its ledger, nothing in hand, and the facts, what was told and the counts of the pass
-abbrev pub part_view : ℕ → List (ℕ × Entry) → View → View
-part_view share ledger v = record v {
-  worker = idle_worker ledger v.worker.ownable v.worker.facts;
-  here = None;
-  next = None;
-  planned = [];
-  stores = [];
-  found = None;
-  met = [];
-  glances = [];
-  answered = None;
-  laid_down = None;
-  share = share;
-}
-
--- split, the left part: it gets these keys, and keeps the counts and what the pass won; the split is its step
+-- split, the left part: it gets these keys, and keeps facts, what was told, counts and what the pass won; the split is its step
 abbrev pub left_view : List ℕ → View → View
-left_view keys v = record (part_view (v.share - given_share v.share) (part_on keys v.worker.ledger) v) { made = v.made + 1 }
+left_view keys v = record (afresh (filter (λ e. set_of keys e.0) v.worker.ledger) v) { found = None; share = v.share - given_share v.share; made = v.made + 1 }
 
--- split, the right part: it gets the other keys, and a part of the share
+-- split, the right part: it gets the other keys and a part of the share, and facts and what was told too
 abbrev pub right_view : List ℕ → View → View
-right_view keys v = record (part_view (given_share v.share) (part_off keys v.worker.ledger) v) { won = []; answers = 0; hindrances = []; hindered = 0; looks = 0; made = 0 }
+right_view keys v = record (idle_view (given_share v.share) (at_rest (filter (λ e. not (set_of keys e.0)) v.worker.ledger) v).worker) {
+  told = v.told;
+  knew_before = v.knew_before;
+  next_at_least = v.next_at_least;
+}
 
 -- an entry put into an ascending ledger at its place, or in place of that of its key
 abbrev pub put_entry : ℕ × Entry → List (ℕ × Entry) → List (ℕ × Entry)
@@ -503,11 +370,6 @@ abbrev pub united : List (ℕ × Entry) → List (ℕ × Entry) → List (ℕ ×
 united [] ds = ds
 united (e ∷ es) ds = put_entry e (united es ds)
 
--- the first of two lists, if there is one
-abbrev pub first_known : Option (List ℕ) → Option (List ℕ) → Option (List ℕ)
-first_known None other = other
-first_known (Some keys) other = Some keys
-
 -- the later of two readings of the claim word, which only grows
 abbrev pub later : Option ℕ → Option ℕ → Option ℕ
 later None m = m
@@ -516,25 +378,15 @@ later (Some n) (Some m) = Some (max n m)
 
 -- join: one pass with the keys, the facts, the shares and the counts of two, what both were told and won, and the later reading of the claim word
 abbrev pub joined_view : View → View → View
-joined_view v w = record {
-  worker = idle_worker (united v.worker.ledger w.worker.ledger) (first_known v.worker.ownable w.worker.ownable) (v.worker.facts ++ w.worker.facts);
-  told = v.told ++ w.told;
-  here = None;
-  next = later v.next w.next;
-  planned = [];
-  stores = [];
-  found = None;
-  won = v.won ++ w.won;
-  answers = v.answers + w.answers;
-  answered = None;
-  laid_down = None;
-  share = (v.share + w.share) % 2 ^ 64;
-  knew_before = [];
-  next_at_least = max v.next_at_least w.next_at_least;
-  hindrances = v.hindrances ++ w.hindrances;
-  met = [];
-  hindered = v.hindered + w.hindered;
-  glances = [];
-  looks = v.looks + w.looks;
-  made = v.made + w.made + 1;
-}
+joined_view v w = record (idle_view ((v.share + w.share) % 2 ^ 64)
+    (idle_worker (united v.worker.ledger w.worker.ledger) (option_or v.worker.ownable w.worker.ownable) (v.worker.facts ++ w.worker.facts))) {
+      told = v.told ++ w.told;
+      next = later v.next w.next;
+      won = v.won ++ w.won;
+      answers = v.answers + w.answers;
+      next_at_least = max v.next_at_least w.next_at_least;
+      hindrances = v.hindrances ++ w.hindrances;
+      hindered = v.hindered + w.hindered;
+      looks = v.looks + w.looks;
+      made = v.made + w.made + 1;
+    }

@@ -5,7 +5,8 @@ use Rattle.ell_ops.specs.Meaning.{key_of}
 use Rattle.ell_word.specs.declared.update.Update.{Update}
 use Rattle.ell_word.specs.Node.{IsInternal}
 use Rattle.ell_word.specs.Word.{packed}
-use Rattle.ell_core.specs.declared.fact.Fact.TheVariants.{IFlagged, IChanged, IOver, DFlagged, Marked, Unmarkable, Cut, DOver, Backed}
+use Rattle.ell_core.specs.declared.fact.Fact.{Fact}
+use Rattle.ell_core.specs.declared.fact.Fact.TheVariants.{IFlagged, IOver, DFlagged, Marked, DOver}
 use Rattle.ell_layout.specs.declared.field.Field.{Field}
 use Rattle.ell_layout.specs.declared.field.Field.TheVariants as field
 use Rattle.ell_core.specs.declared.put.Put.{Put}
@@ -26,12 +27,6 @@ use Rattle.ell_core.specs.statements.Effects.{reply_of_change}
 pub record MayBegin (v : View) (op : Op) : Type 0 where
   pub free : IsFree v
   pub owned : MayChange (worker_of v.worker) (key_of op)
-
--- again and leave: an operation is in hand, and its card, if that is flagged, is known backed
-pub record MayStop (v : View) : Type 0 where
-  pub op : Op
-  pub busy : Does v op
-  pub backed : (c : ℕ) → v.worker.card ≡ Some c → v.worker.flagged ≡ true → Knows v (Backed c)
 
 -- what a leaf has of key k, by what the pass was told of the leaf: its key and, if that is k, its value
 abbrev pub TellsOf : View → ℕ → ℕ → ℕ → Option ℕ → Type 0
@@ -117,10 +112,10 @@ pub record MayLookDown (v : View) (from : Glance) (key : ℕ) : Type 0 where
   pub inner : IsInternal from.node
   pub told : IsTold v (Key from.node key)
 
--- frozen_child: the card is known marked, and this is its parent
-pub record MaySee (v : View) (c p : ℕ) : Type 0 where
-  pub knows : Knows v (Marked c)
-  pub parent : IsTold v (Info c field.P p)
+-- frozen_child, iunflag, dunflag and backtrack: a fact is known of the card, and this is its word in a field, a node
+pub record KnowsPlace (v : View) (known : Fact) (c : ℕ) (f : Field) (x : ℕ) : Type 0 where
+  pub knows : Knows v known
+  pub place : IsTold v (Info c f x)
 
 -- what a claim is for at a leaf of this key: an insert of another key, which was told the leaf's value, or a delete of this one
 -- whose grandparent was read clean
@@ -130,8 +125,7 @@ Wants v (Insert k value) leaf key = (key ≢ k) × ((leaf_value : ℕ) × IsTold
 Wants v (Swap k was value) leaf key = (key ≡ k) × IsTold v (Value leaf was)
 Wants v (Delete k) leaf key = (key ≡ k) × ((above : Seen) × (v.worker.search.grandparent ≡ Some above) × IsClean above.word)
 
--- claim: the card was read by next in this try; the pass stands at a leaf, whose key it was told, without a card, behind a
--- parent that was read clean
+-- claim: next read the card in this try; the pass stands without a card at a leaf whose key it was told, behind a parent read clean
 pub record MayClaim (v : View) (c : ℕ) : Type 0 where
   pub op : Op
   pub leaf : ℕ
@@ -156,8 +150,7 @@ pub record MayFill (v : View) (c : ℕ) : Type 0 where
 abbrev pub IsFilled : View → Type 0
 IsFilled v = (f : Field) → stored_at v.stores f ≡ stored v.planned f 0
 
--- iflag: an insert's or a swap's card is in hand, filled and not flagged, and this is the parent with the update that
--- was read there
+-- iflag: an insert's or a swap's card is in hand, filled and not flagged; this is the parent with the update that was read there
 pub record MayIFlag (v : View) (c p : ℕ) (from : Update) : Type 0 where
   pub op : Op
   pub what : Put
@@ -181,8 +174,7 @@ pub record MayDFlag (v : View) (c gp : ℕ) (from : Update) : Type 0 where
   pub above : v.worker.search.grandparent ≡ Some (record { node = gp; word = packed from })
   pub filled : IsFilled v
 
--- ichild: the card is known flagged; these are its parent and leaf, the node that it brings, by its two leaf keys, and
--- the side of its key at the parent
+-- ichild: the card is known flagged; these are its parent and leaf, the node that it brings, and the side of its key at the parent
 pub record MayIChild (v : View) (c p l node : ℕ) (right : Bool) : Type 0 where
   pub parent_key : ℕ
   pub card_key : ℕ
@@ -196,11 +188,6 @@ pub record MayIChild (v : View) (c p l node : ℕ) (right : Bool) : Type 0 where
   pub brings : node ≡ brought_by c (left_key == card_key)
   pub side : right ≡ nat_le parent_key card_key
 
--- iunflag: the card is known changed, and this is its parent
-pub record MayIUnflag (v : View) (c p : ℕ) : Type 0 where
-  pub knows : Knows v (IChanged c)
-  pub parent : IsTold v (Info c field.P p)
-
 -- mark: the card is known flagged, and these are its parent and the update word that its search read there
 pub record MayMark (v : View) (c p was : ℕ) : Type 0 where
   pub knows : Knows v (DFlagged c)
@@ -209,11 +196,9 @@ pub record MayMark (v : View) (c p was : ℕ) : Type 0 where
 
 -- the sibling of leaf l at the parent that the card marked: the right child, or the left one where the right one is l
 abbrev pub IsSibling : View → ℕ → ℕ → ℕ → Type 0
-IsSibling v c l s =
-    (IsTold v (Frozen c true s) × (s ≢ l)) ⊎ (IsTold v (Frozen c true l) × IsTold v (Frozen c false s))
+IsSibling v c l s = (IsTold v (Frozen c true s) × (s ≢ l)) ⊎ (IsTold v (Frozen c true l) × IsTold v (Frozen c false s))
 
--- dchild: the card is known marked; these are its grandparent and parent, the sibling of its leaf, and the sibling's side at the
--- grandparent
+-- dchild: the card is known marked; these are its grandparent and parent, its leaf's sibling, and that one's side at the grandparent
 pub record MayDChild (v : View) (c gp p s : ℕ) (right : Bool) : Type 0 where
   pub leaf : ℕ
   pub grandparent_key : ℕ
@@ -226,13 +211,3 @@ pub record MayDChild (v : View) (c gp p s : ℕ) (right : Bool) : Type 0 where
   pub told_grandparent : IsTold v (Key gp grandparent_key)
   pub told_sibling : IsTold v (Key s sibling_key)
   pub side : right ≡ nat_le grandparent_key sibling_key
-
--- dunflag: the card is known cut, and this is its grandparent
-pub record MayDUnflag (v : View) (c gp : ℕ) : Type 0 where
-  pub knows : Knows v (Cut c)
-  pub grandparent : IsTold v (Info c field.Gp gp)
-
--- backtrack: the card is known unmarkable, and this is its grandparent
-pub record MayBacktrack (v : View) (c gp : ℕ) : Type 0 where
-  pub knows : Knows v (Unmarkable c)
-  pub grandparent : IsTold v (Info c field.Gp gp)

@@ -19,8 +19,7 @@ use Rattle.ell_cards.specs.declared.glance.Glance.{Glance}
 use Rattle.ell_cards.specs.declared.view.Told.{Told}
 use Rattle.ell_cards.specs.declared.view.View.{View}
 
--- what a table is opened with: the keys that may have owners, the start keys with their values, the number of the last card, and whether
--- every other key is shared
+-- what a table is opened with: the keys that may have owners, the start keys with their values, the last card, and whether all others are shared
 pub record TablePlan : Type 0 where
   pub keys : List ℕ
   pub start : List (ℕ × ℕ)
@@ -79,24 +78,19 @@ Counts old new n = new ≡ record old { steps = some_more n old.steps }
 abbrev pub Steps : PassModel → PassModel → View → Type 0
 Steps old new v = new ≡ record { table = old.table; view = v; steps = one_more old.steps; label = old.label }
 
--- a list tells this
-pub data Has : List Told → Told → Type 0 where
-  latest : (e : Told) (es : List Told) → Has (e ∷ es) e
-  earlier : (e d : Told) (es : List Told) → Has es e → Has (d ∷ es) e
+-- of a list, the last first, one is this
+pub data Has {A : Type 0} : List A → A → Type 0 where
+  latest : (e : A) (es : List A) → Has (e ∷ es) e
+  earlier : (e d : A) (es : List A) → Has es e → Has (d ∷ es) e
 
 -- the pass was told this
 abbrev pub IsTold : View → Told → Type 0
 IsTold v e = Has v.told e
 
--- of these glances one is this
-pub data HasGlance : List Glance → Glance → Type 0 where
-  last : (g : Glance) (gs : List Glance) → HasGlance (g ∷ gs) g
-  before : (g d : Glance) (gs : List Glance) → HasGlance gs g → HasGlance (d ∷ gs) g
-
 -- the look that a pass began last has come to a node by all keys from low on and below high: by these, or by more
 pub record HasCome (v : View) (node low high : ℕ) : Type 0 where
   pub glance : Glance
-  pub among : HasGlance v.glances glance
+  pub among : Has v.glances glance
   pub there : glance.node ≡ node
   pub from : glance.low ≤ low
   pub upto : high ≤ glance.high

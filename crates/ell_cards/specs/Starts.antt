@@ -39,8 +39,7 @@ pub record StartWords (plan : TablePlan) (words : List ℕ) : Type 0 where
   pub size : length words ≡ table_size plan.last_card
   pub are : words_of words ≡ start_words plan.start
 
--- a table as it starts: its words are those of the opening tree over the start keys, and its one pass owns the keys of the plan, of which the
--- start keys are present
+-- a table as it starts: its words make the opening tree over the start keys, and its one pass owns the plan's keys, the start keys present
 pub record Starts (plan : TablePlan) (s : TableState) : Type 0 where
   pub may : MayStart plan
   pub words : StartWords plan s.words

@@ -43,8 +43,7 @@ PairsChangeBy _ _ old new = SamePairs old new
 -- what a call does to the ledger of its pass: an answer on a key of its own is the map's, by the ledger, which becomes the map after it; no other
 -- call changes it, nor does an answer on a shared key
 abbrev pub LedgerChangesBy : Call → View → View → Type 0
-LedgerChangesBy (call.Answer said) v w =
-    AnswersAsMap (worker_of v.worker) (ledger_of w.worker.ledger) said
+LedgerChangesBy (call.Answer said) v w = AnswersAsMap (worker_of v.worker) (ledger_of w.worker.ledger) said
 LedgerChangesBy _ v w = w.worker.ledger ≡ v.worker.ledger
 
 -- a pass has this operation in hand, and for it this card, flagged
@@ -55,15 +54,13 @@ pub record IsAtWork (s : TableState) (c : ℕ) (op : Op) : Type 0 where
   pub does : Does view op
   pub held : IsHeld view c
 
--- whose a won child exchange is: a won ichild is of an insert or a swap of its card's key and value that is in hand, a
--- won dchild of a delete
+-- whose a won child exchange is: an ichild is of an insert or a swap of its card's key and value that is in hand, a dchild of a delete
 abbrev pub ChangeIsOf : Call → Bool → TableState → Type 0
 ChangeIsOf (call.IChild c p l q right) true s = IsAtWork s c (op_of_card (own_words s) c)
 ChangeIsOf (call.DChild c gp p y right) true s = IsAtWork s c (Delete (card_key (own_words s) c))
 ChangeIsOf _ _ s = Unit {0}
 
--- how the keys of the tree that the table's own words make change by a turn: as the call says, if it is a won exchange; by a split
--- or a join not at all
+-- how a turn changes the keys of the tree that the table's own words make: as its call says; a split or a join not at all
 abbrev pub PairsGoBy : TableState → Turn → TableState → Type 0
 PairsGoBy s (Makes seat c) s' = PairsChangeBy c (is_won (atomic_of c) (found_by s c)) (own_words s) (own_words s')
 PairsGoBy s _ s' = SamePairs (own_words s) (own_words s')

@@ -19,30 +19,20 @@ view_after s v c = after c (found_by s c) v
 -- the state after the one atomic step of a call of the pass in a seat: its word is what the step leaves there, and its view what the
 -- call says; no other word and no other view changes
 abbrev pub state_after : TableState → ℕ → View → Call → TableState
-state_after s id v c = record {
+state_after s id v c = record s {
   words = slice_set s.words (word_of c) (left_by (atomic_of c) (found_by s c));
-  homes = s.homes;
   views = slice_set s.views id (view_after s v c);
 }
 
 -- the state after a split of the pass in a seat: the seat has the left part, and a new one at the end the right part
 abbrev pub state_split : TableState → ℕ → View → List ℕ → TableState
-state_split s id v left = record {
-  words = s.words;
-  homes = s.homes;
-  views = slice_set s.views id (left_view left v) ++ right_view left v ∷ [];
-}
+state_split s id v left = record s { views = slice_set s.views id (left_view left v) ++ right_view left v ∷ [] }
 
 -- the state after a join of the passes in two seats: the first has what both had, and the other nothing
 abbrev pub state_joined : TableState → ℕ → ℕ → View → View → TableState
-state_joined s id other v w = record {
-  words = s.words;
-  homes = s.homes;
-  views = slice_set (slice_set s.views id (joined_view v w)) other spent_view;
-}
+state_joined s id other v w = record s { views = slice_set (slice_set s.views id (joined_view v w)) other spent_view }
 
--- a turn of a table: the pass in a seat makes a step call; or it is split, and the left part gets these of its keys; or it is joined
--- with the pass in another seat
+-- a turn: the pass in a seat makes a step call; or it is split, and its left part gets these keys; or it is joined with another seat's
 pub data Turn : Type 0 where
   Makes : ℕ → Call → Turn
   Splits : ℕ → List ℕ → Turn

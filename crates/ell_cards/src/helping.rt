@@ -3,12 +3,14 @@
 ghost use Rattle.std.specs.Prelude.{◌≡◌, ◌≢◌, ◌≤◌, ◌<◌, is_ok, IfErr};
 ghost use Rattle.ell_word.specs.Word.{packed, unpacked};
 ghost use Rattle.ell_core.specs.declared.exchange.Exchange.TheVariants as exchange;
-ghost use Rattle.ell_core.specs.declared.fact.Fact.TheVariants.{IChanged, IOver, Cut, DOver, Backed};
+ghost use Rattle.ell_core.specs.declared.fact.Fact.TheVariants.{IChanged, IOver, Marked, Unmarkable, Cut, DOver, Backed};
+ghost use Rattle.ell_layout.specs.declared.field.Field.TheVariants.{Gp, P};
 ghost use Rattle.ell_layout.specs.Cards.{iflag, dflag};
 ghost use Rattle.ell_cards.specs.Models.{Steps, InTable};
-ghost use Rattle.ell_cards.specs.Changes.{after_info, after_frozen_child, after_mark, learning, if_won, exchanged, found_update, found_word, found_child};
-ghost use Rattle.ell_cards.specs.Guards.{MayAsk, MaySee, MayIChild, MayIUnflag, MayMark, MayDChild, MayDUnflag, MayBacktrack};
-ghost use Rattle.ell_cards.specs.Calls.{TellsNode, TellsDepth};
+ghost use Rattle.ell_cards.specs.Changes.{after_mark, learning, if_won, exchanged, found_update, found_word, found_child};
+ghost use Rattle.ell_cards.specs.declared.call.Call.TheVariants as call;
+ghost use Rattle.ell_cards.specs.Guards.{KnowsPlace, MayAsk, MayDChild, MayIChild, MayMark};
+ghost use Rattle.ell_cards.specs.Calls.{after, TellsNode, TellsDepth};
 
 use crate::call::Call;
 use crate::outcomes::{child_outcome, update_outcome};
@@ -27,7 +29,7 @@ impl<A: Allocator + Copy> CardTable<A> {
         requires own { pass.old.table ≡ self.now.id }
         requires may { MayAsk pass.old.view card field }
         // It makes one step and counts it. The pass then knows exactly what this call tells.
-        ensures step { Steps pass.old pass.new (after_info card field result pass.old.view) }
+        ensures step { Steps pass.old pass.new (after (call.Info card field) result pass.old.view) }
         // A node that the card names is one of the table, each below the one before: grandparent, parent, leaf.
         ensures node { TellsNode self.now.plan.last_card field result }
         ensures depth { TellsDepth pass.old.view card field result }
@@ -40,9 +42,9 @@ impl<A: Allocator + Copy> CardTable<A> {
     #[inline(always)]
     pub fn frozen_child(&self, pass: &mut Pass<A>, card: u64, parent: u64, right: bool) -> u64
         requires own { pass.old.table ≡ self.now.id }
-        requires may { MaySee pass.old.view card parent }
+        requires may { KnowsPlace pass.old.view (Marked card) card P parent }
         // It makes one step and counts it. The pass then knows exactly what this call tells.
-        ensures step { Steps pass.old pass.new (after_frozen_child card right result pass.old.view) }
+        ensures step { Steps pass.old pass.new (after (call.FrozenChild card parent right) result pass.old.view) }
         // The child has a greater number, and is a node of the table.
         ensures greater { parent < result }
         ensures there { InTable self.now.plan.last_card result }
@@ -82,7 +84,7 @@ impl<A: Allocator + Copy> CardTable<A> {
     #[inline(always)]
     pub fn iunflag(&self, pass: &mut Pass<A>, card: u64, parent: u64) -> Result<(), Update>
         requires own { pass.old.table ≡ self.now.id }
-        requires may { MayIUnflag pass.old.view card parent }
+        requires may { KnowsPlace pass.old.view (IChanged card) card P parent }
         // It makes one step and counts it. The pass then knows exactly what this call tells.
         ensures step { Steps pass.old pass.new (exchanged (if_won (is_ok result) exchange.IUnflag card)
             (found_word (iflag card) result) (learning (IOver card) pass.old.view)) }
@@ -149,7 +151,7 @@ impl<A: Allocator + Copy> CardTable<A> {
     #[inline(always)]
     pub fn dunflag(&self, pass: &mut Pass<A>, card: u64, grandparent: u64) -> Result<(), Update>
         requires own { pass.old.table ≡ self.now.id }
-        requires may { MayDUnflag pass.old.view card grandparent }
+        requires may { KnowsPlace pass.old.view (Cut card) card Gp grandparent }
         // It makes one step and counts it. The pass then knows exactly what this call tells.
         ensures step { Steps pass.old pass.new (exchanged (if_won (is_ok result) exchange.DUnflag card)
             (found_word (dflag card) result) (learning (DOver card) pass.old.view)) }
@@ -169,7 +171,7 @@ impl<A: Allocator + Copy> CardTable<A> {
     #[inline(always)]
     pub fn backtrack(&self, pass: &mut Pass<A>, card: u64, grandparent: u64) -> Result<(), Update>
         requires own { pass.old.table ≡ self.now.id }
-        requires may { MayBacktrack pass.old.view card grandparent }
+        requires may { KnowsPlace pass.old.view (Unmarkable card) card Gp grandparent }
         // It makes one step and counts it. The pass then knows exactly what this call tells.
         ensures step { Steps pass.old pass.new (exchanged (if_won (is_ok result) exchange.Backtrack card)
             (found_word (dflag card) result) (learning (Backed card) pass.old.view)) }

@@ -4,11 +4,13 @@ ghost use Rattle.std.specs.Prelude.{◌≡◌, ◌≤◌, ◌<◌, ◌+◌, Some
 ghost use Rattle.ell_core.specs.state.Machine.{ledger_of, worker_of};
 ghost use Rattle.ell_layout.specs.Words.{IsLeaf};
 ghost use Rattle.ell_core.specs.statements.Effects.{AnswersAsMap};
+ghost use Rattle.ell_core.specs.acts.Searching.{MayStop};
 ghost use Rattle.ell_cards.specs.declared.view.Told.TheVariants.{Met};
 ghost use Rattle.ell_cards.specs.Models.{Sees, Steps, IsTold, InTable, EndWasUnknown, IsFree};
-ghost use Rattle.ell_cards.specs.Changes.{after_begin, after_again, after_leave, after_answer, after_upd, after_down, after_next, after_key_of, after_value_of, after_look, after_look_down};
-ghost use Rattle.ell_cards.specs.Guards.{MayBegin, MayStop, MayAnswer, MayRead, MayGoDown, MayLookDown};
-ghost use Rattle.ell_cards.specs.Calls.{TellsLeaf, TellsValue};
+ghost use Rattle.ell_cards.specs.Changes.{after_begin, after_again, after_leave, after_answer, after_upd};
+ghost use Rattle.ell_cards.specs.declared.call.Call.TheVariants as call;
+ghost use Rattle.ell_cards.specs.Guards.{MayBegin, MayAnswer, MayRead, MayGoDown, MayLookDown};
+ghost use Rattle.ell_cards.specs.Calls.{after, TellsLeaf, TellsValue};
 ghost use Rattle.ell_cards.specs.Looking.{KeysAreFixed, ReadsItsOwn};
 
 use crate::call::Call;
@@ -37,7 +39,7 @@ impl<A: Allocator + Copy> CardTable<A> {
     #[inline(always)]
     pub fn again(&self, pass: &mut Pass<A>)
         requires own { pass.old.table ≡ self.now.id }
-        requires may { MayStop pass.old.view }
+        requires may { MayStop (worker_of pass.old.view.worker) }
         // It makes one step and counts it. The pass then knows exactly what this call tells.
         ensures step { Steps pass.old pass.new (after_again pass.old.view) }
     {
@@ -48,7 +50,7 @@ impl<A: Allocator + Copy> CardTable<A> {
     #[inline(always)]
     pub fn leave(&self, pass: &mut Pass<A>)
         requires own { pass.old.table ≡ self.now.id }
-        requires may { MayStop pass.old.view }
+        requires may { MayStop (worker_of pass.old.view.worker) }
         // It makes one step and counts it. The pass then knows exactly what this call tells.
         ensures step { Steps pass.old pass.new (after_leave pass.old.view) }
         // The claims that the pass has tried were of cards of the table.
@@ -95,7 +97,7 @@ impl<A: Allocator + Copy> CardTable<A> {
         requires own { pass.old.table ≡ self.now.id }
         requires may { MayGoDown pass.old.view node right }
         // It makes one step, which the caller has to count. The pass then knows exactly what this call tells.
-        ensures step { Sees pass.old pass.new (after_down node result pass.old.view) }
+        ensures step { Sees pass.old pass.new (after (call.Down node right) result pass.old.view) }
         // The child has a greater number, and is a node of the table.
         ensures greater { node < result }
         ensures there { InTable self.now.plan.last_card result }
@@ -109,7 +111,7 @@ impl<A: Allocator + Copy> CardTable<A> {
     pub fn next(&self, pass: &mut Pass<A>) -> u64
         requires own { pass.old.table ≡ self.now.id }
         // It makes one step and counts it. The pass then knows exactly what this call tells.
-        ensures step { Steps pass.old pass.new (after_next result pass.old.view) }
+        ensures step { Steps pass.old pass.new (after call.Next result pass.old.view) }
         // The claim word is at least 1, at most one past the last card, and past each claim that the pass has tried.
         ensures some { 1 ≤ result }
         ensures room { result ≤ self.now.plan.last_card + 1 }
@@ -125,7 +127,7 @@ impl<A: Allocator + Copy> CardTable<A> {
         requires own { pass.old.table ≡ self.now.id }
         requires free { IsFree pass.old.view }
         // It makes one step, which the caller has to count. The pass then knows exactly what this call tells.
-        ensures step { Sees pass.old pass.new (after_look result pass.old.view) }
+        ensures step { Sees pass.old pass.new (after call.Look result pass.old.view) }
         // The child has a greater number, and is a node of the table.
         ensures greater { 0 < result }
         ensures there { InTable self.now.plan.last_card result }
@@ -141,7 +143,7 @@ impl<A: Allocator + Copy> CardTable<A> {
         requires own { pass.old.table ≡ self.now.id }
         requires may { MayLookDown pass.old.view from key }
         // It makes one step, which the caller has to count. The pass then knows exactly what this call tells.
-        ensures step { Sees pass.old pass.new (after_look_down from key right result pass.old.view) }
+        ensures step { Sees pass.old pass.new (after (call.LookDown from key right) result pass.old.view) }
         // The child has a greater number, and is a node of the table.
         ensures greater { from.node < result }
         ensures there { InTable self.now.plan.last_card result }
@@ -160,7 +162,7 @@ impl<A: Allocator + Copy> CardTable<A> {
         requires own { pass.old.table ≡ self.now.id }
         requires met { IsTold pass.old.view (Met node) }
         // It makes one step, which the caller has to count. The pass then knows exactly what this call tells.
-        ensures step { Sees pass.old pass.new (after_key_of node result pass.old.view) }
+        ensures step { Sees pass.old pass.new (after (call.KeyOf node) result pass.old.view) }
         // The key of a leaf is the operation's own key exactly if the ledger has that present. The leaf then has a
         // grandparent.
         ensures leaf { TellsLeaf pass.old.view node result }
@@ -181,7 +183,7 @@ impl<A: Allocator + Copy> CardTable<A> {
         requires met { IsTold pass.old.view (Met leaf) }
         requires outer { IsLeaf leaf }
         // It makes one step, which the caller has to count. The pass then knows exactly what this call tells.
-        ensures step { Sees pass.old pass.new (after_value_of leaf result pass.old.view) }
+        ensures step { Sees pass.old pass.new (after (call.ValueOf leaf) result pass.old.view) }
         // The value of the operation's own key is that of the ledger.
         ensures value { TellsValue pass.old.view leaf result }
         // What a look has found of an own key is what the ledger has.

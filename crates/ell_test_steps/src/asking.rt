@@ -1,8 +1,10 @@
 //! Steps beside the search that read.
 ghost use Rattle.std.specs.Prelude.{◌≡◌};
+ghost use Rattle.ell_core.specs.declared.fact.Fact.TheVariants.{Marked};
+ghost use Rattle.ell_layout.specs.declared.field.Field.TheVariants.{P};
 ghost use Rattle.ell_cards.specs.declared.view.Told.TheVariants.{Met, Key, Info, Frozen};
 ghost use Rattle.ell_cards.specs.Models.{IsTold};
-ghost use Rattle.ell_cards.specs.Guards.{IsSibling, MayAsk, MaySee, NamesNode};
+ghost use Rattle.ell_cards.specs.Guards.{IsSibling, KnowsPlace, MayAsk, NamesNode};
 ghost use Rattle.ell_test_steps.specs.Fitting.{IsReady, StepsAside};
 
 use crate::counted;
@@ -53,7 +55,7 @@ pub(crate) fn look_child<A: Allocator + Copy>(
     right: bool,
 ) -> u64
     requires own { pass.old.table ≡ table.now.id }
-    requires may { MaySee pass.old.view card parent }
+    requires may { KnowsPlace pass.old.view (Marked card) card P parent }
     ensures aside { StepsAside pass.old pass.new }
     ensures told { IsTold pass.new.view (Frozen card right result) }
     ensures met { IsTold pass.new.view (Met result) }
@@ -71,7 +73,7 @@ pub(crate) fn look_sibling<A: Allocator + Copy>(
     leaf: u64,
 ) -> u64
     requires own { pass.old.table ≡ table.now.id }
-    requires may { MaySee pass.old.view card parent }
+    requires may { KnowsPlace pass.old.view (Marked card) card P parent }
     ensures aside { StepsAside pass.old pass.new }
     ensures sibling { IsSibling pass.new.view card leaf result }
     ensures met { IsTold pass.new.view (Met result) }

@@ -2,7 +2,9 @@
 ghost use Rattle.std.specs.Prelude.{◌≡◌, ◌≤◌, ◌<◌};
 ghost use Rattle.ell_layout.specs.Words.{IsLeaf};
 ghost use Rattle.ell_cards.specs.declared.view.Told.TheVariants.{Key, Met};
-ghost use Rattle.ell_cards.specs.Changes.{after_down, after_key_of, after_upd, after_value_of};
+ghost use Rattle.ell_cards.specs.Changes.{after_upd};
+ghost use Rattle.ell_cards.specs.Calls.{after};
+ghost use Rattle.ell_cards.specs.declared.call.Call.TheVariants as call;
 ghost use Rattle.ell_cards.specs.Calls.{TellsLeaf, TellsValue};
 ghost use Rattle.ell_cards.specs.Guards.{MayGoDown, MayRead};
 ghost use Rattle.ell_cards.specs.Models.{IsTold, Steps};
@@ -38,7 +40,7 @@ pub(crate) fn down<A: Allocator + Copy>(
 ) -> u64
     requires own { pass.old.table ≡ table.now.id }
     requires may { MayGoDown pass.old.view node right }
-    ensures step { Steps pass.old pass.new (after_down node result pass.old.view) }
+    ensures step { Steps pass.old pass.new (after (call.Down node right) result pass.old.view) }
     ensures greater { node < result }
 {
     let child = table.down(pass, node, right);
@@ -55,7 +57,7 @@ pub(crate) fn key_of<A: Allocator + Copy>(
 ) -> u64
     requires own { pass.old.table ≡ table.now.id }
     requires met { IsTold pass.old.view (Met node) }
-    ensures step { Steps pass.old pass.new (after_key_of node result pass.old.view) }
+    ensures step { Steps pass.old pass.new (after (call.KeyOf node) result pass.old.view) }
     ensures leaf { TellsLeaf pass.old.view node result }
     ensures told { IsTold pass.new.view (Key node result) }
 {
@@ -74,7 +76,7 @@ pub(crate) fn value_of<A: Allocator + Copy>(
     requires own { pass.old.table ≡ table.now.id }
     requires met { IsTold pass.old.view (Met leaf) }
     requires outer { IsLeaf leaf }
-    ensures step { Steps pass.old pass.new (after_value_of leaf result pass.old.view) }
+    ensures step { Steps pass.old pass.new (after (call.ValueOf leaf) result pass.old.view) }
     ensures value { TellsValue pass.old.view leaf result }
 {
     let value = table.value_of(pass, leaf);

@@ -6,7 +6,9 @@ ghost use Rattle.ell_word.specs.Word.{packed};
 ghost use Rattle.ell_layout.specs.Cards.{insert_filling, delete_filling};
 ghost use Rattle.ell_cards.specs.Models.{Does};
 ghost use Rattle.ell_cards.specs.Guards.{IsFilled, Wants};
-ghost use Rattle.ell_cards.specs.Changes.{after_claim, after_next, with_stores};
+ghost use Rattle.ell_cards.specs.Changes.{after_claim, with_stores};
+ghost use Rattle.ell_cards.specs.Calls.{after};
+ghost use Rattle.ell_cards.specs.declared.call.Call.TheVariants as call;
 ghost use Rattle.ell_test_steps.specs.Claims.{EndsAt, IsFresh, delete_stores, insert_stores};
 ghost use Rattle.ell_test_steps.specs.Fitting.{StepsAside};
 
@@ -42,7 +44,7 @@ pub(crate) fn take_card<A: Allocator + Copy>(
     requires wants { Wants pass.old.view op place.leaf place.key }
     ensures own { pass.new.table ≡ pass.old.table }
     ensures named { IfSome result (λ card. card ≤ greatest_card) }
-    ensures taken { IfSome result (λ card. pass.new.view ≡ after_claim true card (after_next card pass.old.view)) }
+    ensures taken { IfSome result (λ card. pass.new.view ≡ after_claim true card (after call.Next card pass.old.view)) }
     ensures left { result ≡ None → StepsAside pass.old pass.new }
 {
     let last = table.last_card();

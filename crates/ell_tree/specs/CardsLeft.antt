@@ -3,7 +3,8 @@ use mathlib.Core.Option.{some}
 use lib.ListN.{get_elem?}
 use Rattle.ell_cards.specs.declared.view.View.{View}
 use Rattle.ell_cards.specs.Models.{PassModel, Steps}
-use Rattle.ell_cards.specs.Changes.{after_next}
+use Rattle.ell_cards.specs.Calls.{after}
+use Rattle.ell_cards.specs.declared.call.Call.TheVariants as call
 use Rattle.ell_cards.specs.States.{TableState}
 use Rattle.ell_cards.specs.Starts.{IsReached}
 use Rattle.ell_tree.specs.Ledgers.{TreeModel}
@@ -12,7 +13,7 @@ use Rattle.ell_tree.specs.Ledgers.{TreeModel}
 -- out then, those from that number to the last one
 pub record ReadsCardsLeft (cards : ℕ) (old new : PassModel) (left : ℕ) : Type 0 where
   pub next : ℕ
-  pub step : Steps old new (after_next next old.view)
+  pub step : Steps old new (after call.Next next old.view)
   pub first : 1 ≤ next
   pub all : next + left ≡ cards + 1
 

@@ -5,7 +5,7 @@ use Rattle.ell_cards.specs.declared.glance.Glance.{Glance}
 use Rattle.ell_cards.specs.declared.view.Told.TheVariants.{Met, Key}
 use Rattle.ell_cards.specs.declared.view.View.{View}
 use Rattle.ell_cards.specs.Looking.{HasFoundBetween, ReadsItsOwn}
-use Rattle.ell_cards.specs.Models.{HasCome, HasGlance, InTable, IsTold, PassModel}
+use Rattle.ell_cards.specs.Models.{HasCome, Has, InTable, IsTold, PassModel}
 use Rattle.ell_tree.specs.declared.cursor.About.{About}
 use Rattle.ell_tree.specs.declared.cursor.Cursor.{Cursor}
 use Rattle.ell_tree.specs.Looks.{OnlyLooks}
@@ -56,7 +56,7 @@ IsAmong c g = (g ≡ c.first) ⊎ ((i : ℕ) × (i < 32) × (g ≡ kept_at c i))
 -- a look goes on: it only looks, and what it has come to it has come to
 pub record LooksOn (old new : PassModel) (n : ℕ) : Type 0 where
   pub only : OnlyLooks old new n
-  pub glances : (g : Glance) → HasGlance old.view.glances g → HasGlance new.view.glances g
+  pub glances : (g : Glance) → Has old.view.glances g → Has new.view.glances g
   pub looks : new.view.looks ≡ old.view.looks
 
 -- a look begins

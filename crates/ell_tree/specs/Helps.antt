@@ -8,7 +8,7 @@ use Rattle.ell_cards.specs.declared.view.Hindrance.{Hindrance}
 use Rattle.ell_cards.specs.declared.view.Hindrance.TheVariants.{Found}
 use Rattle.ell_cards.specs.declared.view.View.{View}
 use Rattle.ell_cards.specs.Models.{PassModel, IsTold, Knows}
-use Rattle.ell_cards.specs.Changes.{is_mark_of, is_held}
+use Rattle.ell_cards.specs.Changes.{is_mark_of, is_this}
 use Rattle.ell_cards.specs.Guards.{IsSibling}
 use Rattle.ell_tree.specs.declared.steps.KeyedNode.{KeyedNode}
 use Rattle.ell_tree.specs.declared.helping.DeleteFlag.{DeleteFlag}
@@ -59,7 +59,7 @@ found_instead c (Err found) = if is_mark_of c found.state found.card then None e
 -- what was in the way once a mark of a card was made: the update that was found instead, if the card is the one in hand
 abbrev pub met_by_mark : ℕ → Option Update → View → List Hindrance
 met_by_mark c None v = v.hindrances
-met_by_mark c (Some found) v = if is_held v.worker.card c then Found found ∷ v.hindrances else v.hindrances
+met_by_mark c (Some found) v = if is_this v.worker.card c then Found found ∷ v.hindrances else v.hindrances
 
 -- the mark of a card was lost to another update at its parent
 pub record IsLost (cards c p : ℕ) (found : Update) (w : View) : Type 0 where

@@ -2,7 +2,8 @@ use Rattle.std.specs.Prelude.{◌≡◌, ℕ, ◌+◌, ◌-◌, ◌%◌, ◌^◌
 use Rattle.ell_ops.specs.KeySet.{set_of}
 use Rattle.ell_ops.specs.Contents.{contents_of}
 use Rattle.ell_cards.specs.Models.{PassModel, given_share, one_more, whole_share}
-pub use Rattle.ell_cards.specs.Changes.{first_known, later, ownable_if}
+pub use Rattle.ell_cards.specs.Changes.{later, ownable_if}
+pub use Rattle.std.specs.Option.{option_or}
 use Rattle.ell_tree.specs.CardsTaken.{cards_taken}
 use Rattle.ell_tree.specs.Moves.{moves_known}
 use Rattle.ell_tree.specs.Ledgers.{TreeModel, ledger, present_in, answers, hindrances, IsIdle}
@@ -79,5 +80,5 @@ pub record IsUnion (left right both : PassModel) : Type 0 where
   pub label : both.label ≡ left.label
   pub moves : (cards : ℕ) → (moves_known cards left.view ≤ moves_known cards both.view) × (moves_known cards right.view ≤ moves_known cards both.view)
   pub share : both.view.share ≡ (left.view.share + right.view.share) % 2 ^ 64
-  pub ownable : both.view.worker.ownable ≡ first_known left.view.worker.ownable right.view.worker.ownable
+  pub ownable : both.view.worker.ownable ≡ option_or left.view.worker.ownable right.view.worker.ownable
   pub idle : IsIdle both

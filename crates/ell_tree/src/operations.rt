@@ -3,8 +3,9 @@ ghost use Rattle.std.specs.Prelude.{◌≡◌, ◌≢◌, ◌<◌, ◌≤◌, �
 ghost use Rattle.ell_ops.specs.declared.op.Op.{Op};
 ghost use Rattle.ell_ops.specs.declared.op.Op.TheVariants.{Find};
 ghost use Rattle.ell_ops.specs.Meaning.{key_of, found};
+ghost use Rattle.ell_core.specs.acts.Searching.{MayStop};
+ghost use Rattle.ell_core.specs.state.Machine.{worker_of};
 ghost use Rattle.ell_cards.specs.Changes.{tries_hindered};
-ghost use Rattle.ell_cards.specs.Guards.{MayStop};
 ghost use Rattle.ell_cards.specs.Models.{Does};
 ghost use Rattle.ell_tree.specs.CardsTaken.{TakesNoCard, TryTakes};
 ghost use Rattle.ell_tree.specs.Counts.{Took};
@@ -113,7 +114,7 @@ fn restart<A: Allocator + Copy, G: StepGate>(
     gate: &G,
 )
     requires own { pass.old.table ≡ table.now.id }
-    requires may { MayStop pass.old.view }
+    requires may { MayStop (worker_of pass.old.view.worker) }
     ensures begins { (op : Op) → Does pass.old.view op → (first ≡ true → AtRoot op pass.old.view) →
         Begins op (way_of op pass.old.view) (tries_hindered pass.old.view) pass.old pass.new }
     ensures first { first ≡ true → pass.new ≡ pass.old }

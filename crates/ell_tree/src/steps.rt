@@ -6,10 +6,11 @@ ghost use Rattle.ell_core.specs.declared.fact.Fact.TheVariants as fact;
 ghost use Rattle.ell_layout.specs.declared.field.Field.TheVariants as field;
 ghost use Rattle.ell_core.specs.soundness.Sound.{MayChange};
 ghost use Rattle.ell_core.specs.state.Machine.{worker_of};
+ghost use Rattle.ell_core.specs.acts.Searching.{MayStop};
 ghost use Rattle.ell_cards.specs.declared.view.Told.TheVariants as told;
 ghost use Rattle.ell_cards.specs.Models.{Does, IsFree, IsTold, Knows};
 ghost use Rattle.ell_cards.specs.Changes.{answered_so, is_mark_of, tries_hindered};
-ghost use Rattle.ell_cards.specs.Guards.{MayAnswer, MayAsk, MaySee, MayStop, NamesNode};
+ghost use Rattle.ell_cards.specs.Guards.{KnowsPlace, MayAnswer, MayAsk, NamesNode};
 ghost use Rattle.ell_cards.specs.Calls.{TellsDepth, TellsNode};
 ghost use Rattle.ell_tree.specs.CardsTaken.{TakesNoCard};
 ghost use Rattle.ell_tree.specs.Counts.{Took};
@@ -57,7 +58,7 @@ pub(crate) fn again<A: Allocator + Copy, G: StepGate>(
     gate: &G,
 )
     requires own { pass.old.table ≡ table.now.id }
-    requires may { MayStop pass.old.view }
+    requires may { MayStop (worker_of pass.old.view.worker) }
     ensures { (op : Op) → Does pass.old.view op →
         Begins op (way_of op pass.old.view) (tries_hindered pass.old.view) pass.old pass.new }
 {
@@ -72,7 +73,7 @@ pub(crate) fn leave<A: Allocator + Copy, G: StepGate>(
     gate: &G,
 )
     requires own { pass.old.table ≡ table.now.id }
-    requires may { MayStop pass.old.view }
+    requires may { MayStop (worker_of pass.old.view.worker) }
     ensures lays { (op : Op) → Does pass.old.view op → Lays op pass.old pass.new }
     ensures least { pass.old.view.next_at_least ≤ table.now.plan.last_card + 1 }
 {
@@ -153,7 +154,7 @@ pub(crate) fn look_child<A: Allocator + Copy, G: StepGate>(
     gate: &G,
 ) -> u64
     requires own { pass.old.table ≡ table.now.id }
-    requires may { MaySee pass.old.view card parent }
+    requires may { KnowsPlace pass.old.view (fact.Marked card) card field.P parent }
     ensures walks { Walks pass.old pass.new 1 }
     ensures told { IsTold pass.new.view (told.Frozen card right result) }
     ensures met { IsTold pass.new.view (told.Met result) }

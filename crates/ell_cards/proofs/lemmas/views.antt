@@ -1,3 +1,5 @@
+-- what a pass knows after a call, by the words that the call has
+pub mod Afters
 -- facts that are known, beside more that were learnt
 pub mod Facts
 -- entries that were told, beside more of them

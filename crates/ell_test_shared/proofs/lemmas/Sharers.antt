@@ -12,7 +12,7 @@ use Rattle.ell_tree.specs.Ends.{Answers, LaidDown}
 use Rattle.ell_tree.specs.Ledgers.{TreeModel, PassModel, Owns}
 use Rattle.ell_tree.specs.Looks.{OnlyLooks}
 use Rattle.ell_tree.specs.PassParts.{IsLeftPart, IsRightPart, IsUnion}
-use Rattle.ell_cards.specs.Changes.{first_known}
+use Rattle.std.specs.Option.{option_or}
 use Rattle.ell_tree.specs.Promises.{MayDo}
 use Rattle.ell_test_shared.specs.Sharing.{IsMember}
 
@@ -86,5 +86,5 @@ pub member_joined : (owned : List ℕ) (t : TreeModel) (p q r : PassModel) → I
 member_joined owned t p q r h k u = record {
   own = u.own ∙ h.own;
   idle = u.idle;
-  ownable = u.ownable ∙ ap (λ (o : Option (List ℕ)). first_known o q.view.worker.ownable) h.ownable;
+  ownable = u.ownable ∙ ap (λ (o : Option (List ℕ)). option_or o q.view.worker.ownable) h.ownable;
 }

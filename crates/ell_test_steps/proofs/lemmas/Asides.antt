@@ -9,7 +9,8 @@ use Rattle.ell_cards.specs.declared.view.Told.{Told}
 use Rattle.ell_cards.specs.declared.view.Told.TheVariants.{Frozen}
 use Rattle.ell_cards.specs.declared.view.View.{View}
 use Rattle.ell_cards.specs.Models.{PassModel, Steps, earlier, IsTold, Knows, KnowsCard}
-use Rattle.ell_cards.specs.Changes.{learning, exchanged, after_key_of, after_value_of, after_next, after_claim, after_info, after_frozen_child, after_mark, is_mark_of, unmarking}
+use Rattle.ell_cards.specs.Changes.{learning, exchanged, after_claim, after_mark, is_mark_of, unmarking}
+use Rattle.ell_cards.proofs.lemmas.views.Afters.{after_key_of, after_value_of, after_next, after_info, after_frozen_child}
 use Rattle.ell_cards.specs.Guards.{IsSibling}
 use Rattle.ell_cards.proofs.lemmas.views.Facts.{knows_new, knows_more, facts_by_more}
 use Rattle.ell_cards.proofs.lemmas.views.Entries.{places_more, info_more}

@@ -12,7 +12,8 @@ use Rattle.ell_core.proofs.lemmas.keeping.Puts.{added, replacing}
 use Rattle.ell_cards.specs.declared.view.Told.TheVariants.{Value}
 use Rattle.ell_cards.specs.declared.view.View.{View}
 use Rattle.ell_cards.specs.Models.{PassModel, Steps, Does, IsTold, stored_at}
-use Rattle.ell_cards.specs.Changes.{after_next, told_value, filling_for, filling_of, with_stores}
+use Rattle.ell_cards.specs.Changes.{told_value, filling_for, filling_of, with_stores}
+use Rattle.ell_cards.proofs.lemmas.views.Afters.{after_next}
 use Rattle.ell_cards.specs.Guards.{IsFilled, MayClaim, Wants}
 use Rattle.ell_cards.proofs.lemmas.words.Updates.{clean_word}
 use Rattle.ell_cards.proofs.lemmas.views.Searches.{may_claim, filling_at}

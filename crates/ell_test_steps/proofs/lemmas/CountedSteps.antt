@@ -1,7 +1,7 @@
 use Rattle.std.proofs.Common.{ℕ, sym, ap, subst, ◌∙◌}
 use Rattle.ell_cards.specs.declared.view.View.{View}
 use Rattle.ell_cards.specs.declared.view.Told.TheVariants.{Key}
-use Rattle.ell_cards.specs.Changes.{after_key_of}
+use Rattle.ell_cards.proofs.lemmas.views.Afters.{after_key_of}
 use Rattle.ell_cards.specs.Models.{PassModel, Counts, Sees, Steps, some_more, IsTold}
 use Rattle.ell_cards.proofs.lemmas.views.Steps.{key_told}
 

@@ -17,7 +17,9 @@ use Rattle.ell_cards.specs.declared.view.Told.TheVariants.{Met}
 use Rattle.ell_cards.specs.declared.view.View.{View}
 use Rattle.ell_cards.specs.Models.{PassModel, latest, IsTold, Knows, stored_at}
 use Rattle.ell_layout.specs.Cards.{stored}
-use Rattle.ell_cards.specs.Changes.{after_begin, after_upd, after_down, after_next, after_claim, after_flag, exchanged, seen_at, facts_by, filling_of, with_stores, nowhere}
+use Rattle.ell_cards.specs.Changes.{after_begin, after_upd, after_claim, after_flag, exchanged, facts_by, filling_of, with_stores, nowhere}
+use Rattle.ell_cards.proofs.lemmas.views.Afters.{after_down, after_next}
+use Rattle.ell_cards.proofs.lemmas.views.Searches.{seen_at}
 use Rattle.ell_cards.specs.Guards.{IsFilled}
 use Rattle.ell_cards.proofs.lemmas.views.Facts.{knows_new, knows_more, facts_by_more}
 use Rattle.ell_cards.proofs.lemmas.views.Entries.{places_more, filling_more}

@@ -16,15 +16,17 @@ use Rattle.ell_core.specs.declared.view.Search.{Search}
 use Rattle.ell_core.specs.declared.view.WorkerView.{WorkerView}
 use Rattle.std.proofs.lemmas.List.Elements.{All-replicate}
 use Rattle.ell_core.specs.state.Facts.{told_by_state}
-use Rattle.ell_core.specs.acts.Searching.{leaf_answer, put_of}
+use Rattle.ell_core.specs.acts.Searching.{leaf_answer, put_of, MayStop}
 use Rattle.ell_layout.specs.Words.{IsLeaf}
 use Rattle.ell_core.specs.declared.put.Put.{Put}
 use Rattle.ell_core.specs.statements.Effects.{reply_of_change}
+use Rattle.ell_core.specs.state.Machine.{worker_of}
 use Rattle.ell_cards.specs.declared.view.View.{View}
 use Rattle.ell_cards.specs.declared.view.Told.TheVariants.{Value}
 use Rattle.ell_cards.specs.Models.{PassModel, TableModel, Steps, latest, IsTold, Knows}
-use Rattle.ell_cards.specs.Changes.{after_begin, after_again, after_upd, after_key_of, after_value_of, after_next, after_claim, after_flag, after_mark, is_mark_of, learning, unmarking, if_won, exchanged, found_word, found_update, told_value, with_stores}
-use Rattle.ell_cards.specs.Guards.{IsOver, MayStop, MayGoDown, MayAnswer, TellsOf, MayIFlag, MayDFlag, IsFilled}
+use Rattle.ell_cards.specs.Changes.{after_begin, after_again, after_upd, after_claim, after_flag, after_mark, is_mark_of, learning, unmarking, if_won, exchanged, found_word, found_update, told_value, with_stores}
+use Rattle.ell_cards.proofs.lemmas.views.Afters.{after_key_of, after_value_of, after_next}
+use Rattle.ell_cards.specs.Guards.{IsOver, MayGoDown, MayAnswer, TellsOf, MayIFlag, MayDFlag, IsFilled}
 use Rattle.ell_test_steps.specs.declared.memory.Remembered.{Remembered}
 use Rattle.ell_test_steps.specs.declared.memory.TheConstants.{FACTS}
 use Rattle.ell_test_steps.specs.declared.memory.Passed.{Passed}
@@ -80,7 +82,7 @@ ready_again t a b m n op h busy s e =
     })
 
 -- where the card in hand, if it is flagged, is remembered backed, the operation may stop
-pub may_stop_by : (v : View) (m : Remembered) (op : Op) → Fits v m → m.op ≡ Some op → MayStopBy m → MayStop v
+pub may_stop_by : (v : View) (m : Remembered) (op : Op) → Fits v m → m.op ≡ Some op → MayStopBy m → MayStop (worker_of v.worker)
 may_stop_by v m op h busy stops = record {
   op = op;
   busy = h.operation ∙ busy;

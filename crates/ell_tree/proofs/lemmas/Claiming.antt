@@ -9,7 +9,8 @@ use Rattle.ell_cards.specs.declared.view.Told.TheVariants.{Info}
 use Rattle.ell_cards.specs.declared.view.Hindrance.TheVariants.{Claim}
 use Rattle.ell_cards.specs.declared.view.View.{View}
 use Rattle.ell_cards.specs.Models.{PassModel, Steps, one_more as one_step_more, Has, latest, earlier, Does}
-use Rattle.ell_cards.specs.Changes.{after_next, after_claim, filling_of, told_filling, told_fixed}
+use Rattle.ell_cards.specs.Changes.{after_claim, filling_of, told_filling, told_fixed}
+use Rattle.ell_cards.proofs.lemmas.views.Afters.{after_next}
 use Rattle.ell_cards.specs.Guards.{MayClaim, Wants}
 use Rattle.ell_cards.proofs.lemmas.words.Updates.{clean_word}
 use Rattle.ell_cards.proofs.lemmas.views.Entries.{filling_more}

@@ -11,10 +11,11 @@ use Rattle.ell_core.proofs.lemmas.runs.Stretches.{key_from, key_upto}
 use Rattle.ell_cards.specs.declared.glance.Glance.{Glance}
 use Rattle.ell_cards.specs.declared.view.Told.TheVariants.{Met, Key, Value}
 use Rattle.ell_cards.specs.declared.view.View.{View}
-use Rattle.ell_cards.specs.Changes.{after_look, after_look_down, after_key_of, after_value_of, gone_down}
+use Rattle.ell_cards.specs.Changes.{gone_down}
+use Rattle.ell_cards.proofs.lemmas.views.Afters.{after_look, after_look_down, after_key_of, after_value_of}
 use Rattle.ell_cards.specs.Guards.{MayLookDown, TellsOf}
 use Rattle.ell_cards.specs.Looking.{HasFound, HasFoundBetween, ReadsItsOwn}
-use Rattle.ell_cards.specs.Models.{PassModel, Counts, Sees, HasGlance, HasCome, last, before, latest, IsTold, InTable}
+use Rattle.ell_cards.specs.Models.{PassModel, Counts, Sees, Has, HasCome, latest, earlier, IsTold, InTable}
 use Rattle.ell_cards.proofs.lemmas.views.Steps.{view_seen}
 use Rattle.ell_tree.specs.Counts.{HasUncounted}
 use Rattle.ell_tree.proofs.lemmas.Counting.{uncounted_one}
@@ -44,7 +45,7 @@ key_on old new x k s =
     let view = view_seen old new (after_key_of x k old.view) s in
     record {
       only = key_only old new x k s;
-      glances = λ g has. subst (λ (v : View). HasGlance v.glances g) (sym view) has;
+      glances = λ g has. subst (λ (v : View). Has v.glances g) (sym view) has;
       looks = ap (λ (v : View). v.looks) view;
     }
 
@@ -53,7 +54,7 @@ value_on old new x value s =
     let view = view_seen old new (after_value_of x value old.view) s in
     record {
       only = value_only old new x value s;
-      glances = λ g has. subst (λ (v : View). HasGlance v.glances g) (sym view) has;
+      glances = λ g has. subst (λ (v : View). Has v.glances g) (sym view) has;
       looks = ap (λ (v : View). v.looks) view;
     }
 
@@ -62,7 +63,7 @@ down_on old new from k right child s =
     let view = view_seen old new (after_look_down from k right child old.view) s in
     record {
       only = down_only old new from k right child s;
-      glances = λ g has. subst (λ (v : View). HasGlance v.glances g) (sym view) (before g (gone_down from k right child) old.view.glances has);
+      glances = λ g has. subst (λ (v : View). Has v.glances g) (sym view) (earlier g (gone_down from k right child) old.view.glances has);
       looks = ap (λ (v : View). v.looks) view;
     }
 
@@ -72,7 +73,7 @@ on_counted a b c n k h u s =
     let view = ap (λ (m : PassModel). m.view) s in
     record {
       only = only_counted a b c n k h.only u s;
-      glances = λ g has. subst (λ (v : View). HasGlance v.glances g) (sym view) (h.glances g has);
+      glances = λ g has. subst (λ (v : View). Has v.glances g) (sym view) (h.glances g has);
       looks = ap (λ (v : View). v.looks) view ∙ h.looks;
     }
 
@@ -126,7 +127,7 @@ first_kept cards old new child s low there =
     let g : Glance = record { node = child; low = 0; high = greatest_key + 1 } in
     record {
       come = subst (λ (v : View). HasCome v child 0 (greatest_key + 1)) (sym view)
-          (record { glance = g; among = last _ _; there = refl; from = omega arith; upto = omega arith });
+          (record { glance = g; among = latest _ _; there = refl; from = omega arith; upto = omega arith });
       met = subst (λ (v : View). IsTold v (Met child)) (sym view) (latest (Met child) old.view.told);
       there = there;
       below = low;
@@ -259,7 +260,7 @@ module _ (cards : ℕ) (old a b : PassModel) (key : ℕ) (here : Glance) (cursor
         few = (let few = at.few in omega arith);
         stands = record {
           come = subst (λ (v : View). HasCome v child (from_of right here.low k) (upto_of right here.high k)) (sym view)
-              (record { glance = gone_down here k right child; among = last _ _; there = refl; from = omega arith; upto = omega arith });
+              (record { glance = gone_down here k right child; among = latest _ _; there = refl; from = omega arith; upto = omega arith });
           met = subst (λ (v : View). IsTold v (Met child)) (sym view) (latest (Met child) b.view.told);
           there = there;
           below = omega (arith, deeper);

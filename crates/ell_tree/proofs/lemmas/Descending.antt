@@ -12,7 +12,8 @@ use Rattle.ell_core.specs.statements.Effects.{contents_in}
 use Rattle.ell_cards.specs.declared.view.Told.TheVariants.{Met}
 use Rattle.ell_cards.specs.declared.view.View.{View}
 use Rattle.ell_cards.specs.Models.{PassModel, Sees, latest, Does, IsTold, StandsAt, InTable, EndedBy, EndWasUnknown}
-use Rattle.ell_cards.specs.Changes.{after_upd, after_key_of, after_value_of, after_down, told_value}
+use Rattle.ell_cards.specs.Changes.{after_upd, told_value}
+use Rattle.ell_cards.proofs.lemmas.views.Afters.{after_key_of, after_value_of, after_down}
 use Rattle.ell_cards.specs.Guards.{MayAnswer, TellsOf}
 use Rattle.ell_cards.specs.Calls.{TellsLeaf, TellsValue}
 use Rattle.ell_cards.proofs.lemmas.views.Entries.{places_more}

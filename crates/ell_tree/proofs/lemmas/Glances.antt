@@ -8,8 +8,8 @@ use Rattle.ell_cards.specs.declared.view.Told.{Told}
 use Rattle.ell_cards.specs.declared.view.Told.TheVariants.{Met, Key, Value}
 use Rattle.ell_cards.specs.declared.glance.Glance.{Glance}
 use Rattle.ell_cards.specs.declared.view.View.{View}
-use Rattle.ell_cards.specs.Models.{PassModel, Counts, Sees, some_more, Has, HasCome, last, latest, earlier, IsTold, InTable}
-use Rattle.ell_cards.specs.Changes.{after_look, after_look_down, after_key_of, after_value_of}
+use Rattle.ell_cards.specs.Models.{PassModel, Counts, Sees, some_more, Has, HasCome, latest, earlier, IsTold, InTable}
+use Rattle.ell_cards.proofs.lemmas.views.Afters.{after_look, after_look_down, after_key_of, after_value_of}
 use Rattle.ell_cards.specs.Guards.{MayLookDown}
 use Rattle.ell_cards.specs.Looking.{HasFound, ReadsItsOwn}
 use Rattle.ell_core.specs.declared.view.WorkerView.{WorkerView}
@@ -152,7 +152,7 @@ comes_first cards old new key child real s low there =
       only = look_only old new child s;
       few = omega arith;
       come = subst (λ (v : View). HasCome v child key (key + 1)) (sym view)
-          (record { glance = record { node = child; low = 0; high = greatest_key + 1 }; among = last _ _; there = refl; from = omega arith; upto = omega arith });
+          (record { glance = record { node = child; low = 0; high = greatest_key + 1 }; among = latest _ _; there = refl; from = omega arith; upto = omega arith });
       met = subst (λ (v : View). IsTold v (Met child)) (sym view) (latest (Met child) old.view.told);
       there = there;
       one = ap (λ (v : View). v.looks) view;
@@ -208,7 +208,7 @@ module _ (cards : ℕ) (old a b : PassModel) (key node k : ℕ) (at : Comes card
             (only_trans a b d 1 1 2 (key_only a b node k asked) (down_only b d from k (nat_le k key) child s) (omega arith)) (omega arith);
         few = (let few = at.few in omega arith);
         come = subst (λ (v : View). HasCome v child key (key + 1)) (sym view)
-            (record { glance = next; among = last _ _; there = refl; from = low; upto = omega arith });
+            (record { glance = next; among = latest _ _; there = refl; from = low; upto = omega arith });
         met = subst (λ (v : View). IsTold v (Met child)) (sym view) (latest (Met child) b.view.told);
         there = there;
         one = ap (λ (v : View). v.looks) view ∙ one_none;

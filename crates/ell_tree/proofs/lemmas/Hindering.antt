@@ -7,7 +7,9 @@ use Rattle.ell_cards.specs.declared.view.Hindrance.{Hindrance}
 use Rattle.ell_cards.specs.declared.view.Hindrance.TheVariants.{Claim, Found}
 use Rattle.ell_cards.specs.declared.view.View.{View}
 use Rattle.ell_cards.specs.Models.{PassModel, Does}
-use Rattle.ell_cards.specs.Changes.{in_the_way, met_in_try, update_over, all_over, was_hindered, tries_hindered}
+use Rattle.ell_cards.specs.Changes.{is_over, in_the_way, update_over, was_hindered, tries_hindered}
+use Rattle.ell_cards.proofs.lemmas.runs.InHand.{met_in_try}
+use Rattle.std.specs.List.{list_all}
 use Rattle.ell_cards.proofs.lemmas.views.Facts.{ended_test}
 use Rattle.ell_tree.specs.Hindrances.{IsEnded, AreOver, way_of}
 use Rattle.ell_tree.specs.Searches.{AtRoot}
@@ -45,10 +47,10 @@ update_test w state.DFlag c h = ended_test w.worker.facts c (help_ended w state.
 update_test w state.Mark c h = ended_test w.worker.facts c (help_ended w state.Mark c (λ e. cc) h)
 update_test w state.Clean c h = refl
 
-over_test : (w : View) (hs : List Hindrance) → AreOver w hs → all_over w.worker.facts hs ≡ true
+over_test : (w : View) (hs : List Hindrance) → AreOver w hs → list_all (is_over w.worker.facts) hs ≡ true
 over_test w [] h = refl
 over_test w (Claim c ∷ hs) h = over_test w hs h.1
-over_test w (Found u ∷ hs) h = ap (λ b. b && all_over w.worker.facts hs) (update_test w u.state u.card h.0) ∙ over_test w hs h.1
+over_test w (Found u ∷ hs) h = ap (λ b. b && list_all (is_over w.worker.facts) hs) (update_test w u.state u.card h.0) ∙ over_test w hs h.1
 
 -- all that a try met is over, and it met something
 hindered_test : (w : View) (hs : List Hindrance) → AreOver w hs → 1 ≤ length hs → was_hindered w.worker.facts hs ≡ true

@@ -12,7 +12,8 @@ use Rattle.ell_cards.specs.declared.view.Told.{Told}
 use Rattle.ell_cards.specs.declared.view.Told.TheVariants.{Met, Info}
 use Rattle.ell_cards.specs.declared.view.View.{View}
 use Rattle.ell_cards.specs.Models.{PassModel, Counts, Sees, Steps, some_more, Has, latest, earlier, IsTold, Knows}
-use Rattle.ell_cards.specs.Changes.{facts_by, places_by, learning, exchanged, after_upd, after_down, after_key_of, after_value_of, after_info, after_frozen_child, after_next}
+use Rattle.ell_cards.specs.Changes.{facts_by, places_by, learning, exchanged, after_upd}
+use Rattle.ell_cards.proofs.lemmas.views.Afters.{after_down, after_key_of, after_value_of, after_info, after_frozen_child, after_next}
 use Rattle.ell_cards.proofs.lemmas.views.Facts.{knows_new, knows_more, facts_by_more}
 use Rattle.ell_cards.proofs.lemmas.views.Entries.{places_more, info_more}
 use Rattle.ell_cards.specs.Stepping.{SameShare}

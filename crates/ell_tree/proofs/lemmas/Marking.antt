@@ -8,7 +8,7 @@ use Rattle.ell_cards.specs.declared.view.Hindrance.{Hindrance}
 use Rattle.ell_cards.specs.declared.view.Hindrance.TheVariants.{Found}
 use Rattle.ell_cards.specs.declared.view.View.{View}
 use Rattle.ell_cards.specs.Models.{PassModel, Steps, Knows}
-use Rattle.ell_cards.specs.Changes.{learning, if_won, exchanged, found_word, found_update, is_mark_of, is_held, unmarking, after_mark}
+use Rattle.ell_cards.specs.Changes.{learning, if_won, exchanged, found_word, found_update, is_mark_of, is_this, unmarking, after_mark}
 use Rattle.ell_cards.proofs.lemmas.views.Facts.{knows_new, knows_more, facts_by_more}
 use Rattle.ell_cards.proofs.lemmas.views.Entries.{places_more}
 use Rattle.ell_cards.proofs.lemmas.views.Steps.{view_after}
@@ -36,7 +36,7 @@ unmarking_keeps n c p u v = record {
   before = refl;
   least = omega arith;
   hindered = refl;
-  earlier = λ hs e. if_found (is_held v.worker.card c) (Found u) v.hindrances v.met hs e;
+  earlier = λ hs e. if_found (is_this v.worker.card c) (Found u) v.hindrances v.met hs e;
 }
 
 module _ (n c p : ℕ) (u : Update) (old new : PassModel) where

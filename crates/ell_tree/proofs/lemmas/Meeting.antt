@@ -13,7 +13,7 @@ use Rattle.ell_cards.specs.declared.view.Hindrance.{Hindrance}
 use Rattle.ell_cards.specs.declared.view.Hindrance.TheVariants.{Claim, Found}
 use Rattle.ell_cards.specs.declared.view.View.{View}
 use Rattle.ell_cards.specs.Models.{Knows}
-use Rattle.ell_cards.specs.Changes.{in_the_way, first_in_way, read_in_way, unless_clean, is_held}
+use Rattle.ell_cards.specs.Changes.{in_the_way, first_in_way, read_in_way, unless_clean, is_this}
 use Rattle.ell_cards.proofs.lemmas.words.Updates.{card_again}
 use Rattle.ell_tree.specs.declared.searching.Passed.{Passed}
 use Rattle.ell_tree.specs.Hindrances.{IsDeleteEnded, IsEnded, AreOver, StillKnows, Meets, MeetsUpTo, way_of}
@@ -178,7 +178,7 @@ found_up_to true u v w e is k = record {
 }
 found_up_to false u v w e is k = record { met = []; list = e; over = λ x j h. tt; knows = k }
 
-pub found_count : (o : Option ℕ) (c : ℕ) (u : Update) (hs ks : List Hindrance) → ks ≡ (if is_held o c then Found u ∷ hs else hs) → o ≡ Some c
+pub found_count : (o : Option ℕ) (c : ℕ) (u : Update) (hs ks : List Hindrance) → ks ≡ (if is_this o c then Found u ∷ hs else hs) → o ≡ Some c
     → length hs + 1 ≤ length ks
 found_count None c u hs ks e is = cc
 found_count (Some d) c u hs ks e is =
@@ -190,7 +190,7 @@ found_count (Some d) c u hs ks e is =
 pub lost_ends : (c : ℕ) (u : Update) (v s w : View) → s.hindrances ≡ met_by_mark c (Some u) v → w.hindrances ≡ s.hindrances → StillKnows v w
     → IsEnded w u.state u.card → Knows w (fact.Backed c) → Meets v w × IsBacked c v w
 lost_ends c u v s w at e k ended backed = (
-  found_meets (is_held v.worker.card c) u v w (e ∙ at) ended k,
+  found_meets (is_this v.worker.card c) u v w (e ∙ at) ended k,
   record { knows = backed; hindered = found_count v.worker.card c u v.hindrances w.hindrances (e ∙ at) },
 )
 
@@ -198,6 +198,6 @@ lost_ends c u v s w at e k ended backed = (
 pub lost_behind : (c : ℕ) (u : Update) (v s w : View) → s.hindrances ≡ met_by_mark c (Some u) v → w.hindrances ≡ s.hindrances → StillKnows v w
     → u.state ≡ state.DFlag → Knows w (fact.Backed c) → MeetsUpTo u.card v w × IsBacked c v w
 lost_behind c u v s w at e k is backed = (
-  found_up_to (is_held v.worker.card c) u v w (e ∙ at) is k,
+  found_up_to (is_this v.worker.card c) u v w (e ∙ at) is k,
   record { knows = backed; hindered = found_count v.worker.card c u v.hindrances w.hindrances (e ∙ at) },
 )

@@ -5,7 +5,8 @@ use Rattle.ell_ops.specs.KeySet.{set_of}
 use Rattle.ell_core.specs.state.Machine.{ledger_of}
 use Rattle.ell_tree.proofs.lemmas.Moving.{moves_more, moves_none, known_left, known_right}
 use Rattle.ell_cards.specs.Models.{TablePlan, PassModel, TableModel, Steps, one_more}
-use Rattle.ell_cards.specs.Changes.{first_of, part_on, part_off, left_view, right_view, united, joined_view}
+use Rattle.ell_cards.specs.Changes.{first_of, left_view, right_view, united, joined_view}
+use Rattle.ell_cards.proofs.lemmas.lifetimes.Parts.{part_on, part_off}
 use Rattle.ell_core.specs.state.Machine.{entry_of}
 use Rattle.ell_cards.specs.Starts.{OpensBy}
 use Rattle.ell_cards.proofs.lemmas.words.Keys.{ledger_at_start, present_at_start}

@@ -15,7 +15,8 @@ use Rattle.ell_core.specs.soundness.Sound.{WorkerOwns}
 use Rattle.ell_core.proofs.lemmas.following.Lawful.{joins_lawful}
 use Rattle.ell_core.proofs.lemmas.outcomes.Decide.{some_not_none}
 use Rattle.ell_cards.specs.declared.view.View.{View}
-use Rattle.ell_cards.specs.Changes.{united, first_known, later, joined_view, spent_view}
+use Rattle.ell_cards.specs.Changes.{united, later, joined_view, spent_view}
+use Rattle.std.specs.Option.{option_or}
 use Rattle.ell_cards.specs.Naming.{IsNamed}
 use Rattle.ell_cards.specs.States.{seat_worker, seated}
 use Rattle.ell_cards.specs.Machines.{EntryHolds, ViewHolds}
@@ -100,14 +101,14 @@ or-self false = refl
 
 -- what is shared for either of two passes is so for both together
 shared_both : (keys : List ℕ) (a b : Option (List ℕ)) → ((l : List ℕ) → a ≡ Some l → l ≡ keys) → ((l : List ℕ) → b ≡ Some l → l ≡ keys) → (k : ℕ)
-    → shared_of (first_known a b) k ≡ (shared_of a k || shared_of b k)
+    → shared_of (option_or a b) k ≡ (shared_of a k || shared_of b k)
 shared_both keys None b h g k = refl
 shared_both keys (Some l) None h g k = sym (or-false (shared_of (Some l) k))
 shared_both keys (Some l) (Some m) h g k =
     sym (ap (λ o. shared_of (Some l) k || shared_of (Some o) k) (g m refl ∙ sym (h l refl)) ∙ or-self (shared_of (Some l) k))
 
 -- the first of two lists is that of one of them
-first_list : (keys l : List ℕ) (a b : Option (List ℕ)) → (a ≡ Some l → l ≡ keys) → (b ≡ Some l → l ≡ keys) → first_known a b ≡ Some l → l ≡ keys
+first_list : (keys l : List ℕ) (a b : Option (List ℕ)) → (a ≡ Some l → l ≡ keys) → (b ≡ Some l → l ≡ keys) → option_or a b ≡ Some l → l ≡ keys
 first_list keys l None b h g is = g is
 first_list keys l (Some m) b h g is = h is
 
@@ -184,7 +185,7 @@ joined_named cards v w h g = rest_named cards (joined_view v w)
     refl refl (let a = h.next in let b = g.next in omega arith)
 
 -- the share of both counts where one of the two does
-either_counts : (a b : Bool) (l m : Option (List ℕ)) → (a ≡ true) ↔ (l ≢ None) → (b ≡ true) ↔ (m ≢ None) → ((a || b) ≡ true) ↔ (first_known l m ≢ None)
+either_counts : (a b : Bool) (l m : Option (List ℕ)) → (a ≡ true) ↔ (l ≢ None) → (b ≡ true) ↔ (m ≢ None) → ((a || b) ≡ true) ↔ (option_or l m ≢ None)
 either_counts a b None m h g = by a (λ is. h.0 is refl)
   where
     by : (a : Bool) → (a ≡ true → ⊥) → ((a || b) ≡ true) ↔ (m ≢ None)

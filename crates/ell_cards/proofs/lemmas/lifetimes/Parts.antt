@@ -4,11 +4,19 @@ use Rattle.std.specs.List.Sorted.{IsStrictlyIncreasing}
 use Rattle.ell_core.specs.state.Machine.{Ledger, ledger_of}
 use Rattle.ell_core.specs.state.Moves.{AreParted}
 use Rattle.ell_ops.specs.KeySet.{set_of}
-use Rattle.ell_cards.specs.Changes.{keys_of, part_on, part_off}
+use Rattle.ell_cards.specs.Changes.{keys_of}
 use Rattle.ell_core.proofs.lemmas.opening.KeyLists.{place_of}
 use Rattle.ell_ops.proofs.lemmas.Rising.{Over, Rises, rises, over_less}
 use Rattle.ell_cards.proofs.lemmas.words.Ascending.{over_among, not_among, among_rest}
 use Rattle.ell_core.specs.declared.view.Entry.{Entry}
+
+-- the part of a ledger on these keys
+abbrev pub part_on : List ℕ → List (ℕ × Entry) → List (ℕ × Entry)
+part_on keys l = filter (λ e. set_of keys e.0) l
+
+-- the part of a ledger off these keys
+abbrev pub part_off : List ℕ → List (ℕ × Entry) → List (ℕ × Entry)
+part_off keys l = filter (λ e. not (set_of keys e.0)) l
 
 -- the keys of the part of a ledger on some keys
 pub keys_on : (keys : List ℕ) (l : List (ℕ × Entry)) → keys_of (part_on keys l) ≡ filter (set_of keys) (keys_of l)
@@ -26,7 +34,7 @@ keys_off keys [] = refl
 keys_off keys (e ∷ es) = by (set_of keys e.0) (keys_off keys es)
   where
     by : (t : Bool) → keys_of (part_off keys es) ≡ filter (λ k. not (set_of keys k)) (keys_of es)
-        → keys_of (if t then part_off keys es else e ∷ part_off keys es)
+        → keys_of (if not t then e ∷ part_off keys es else part_off keys es)
         ≡ cond (not t) (e.0 ∷ filter (λ k. not (set_of keys k)) (keys_of es)) (filter (λ k. not (set_of keys k)) (keys_of es))
     by true rest = rest
     by false rest = ap (λ ks. e.0 ∷ ks) rest
@@ -125,7 +133,7 @@ parts_on keys (e ∷ es) k on = by (set_of keys e.0) refl (parts_on keys es k on
 
     by : (b : Bool) → set_of keys e.0 ≡ b → (ledger_of (part_on keys es) k ≡ ledger_of es k) × (ledger_of (part_off keys es) k ≡ None)
         → (ledger_of (if b then e ∷ part_on keys es else part_on keys es) k ≡ ledger_of (e ∷ es) k)
-        × (ledger_of (if b then part_off keys es else e ∷ part_off keys es) k ≡ None)
+        × (ledger_of (if not b then e ∷ part_off keys es else part_off keys es) k ≡ None)
     by true is rest = (ap (λ o. cond (k == e.0) (Some e.1) o) rest.0, rest.1)
     by false is rest = (
       rest.0 ∙ ap (λ t. cond t (Some e.1) (ledger_of es k)) (sym (other is)),
@@ -143,7 +151,7 @@ parts_off keys (e ∷ es) k off = by (set_of keys e.0) refl (parts_off keys es k
 
     by : (b : Bool) → set_of keys e.0 ≡ b → (ledger_of (part_on keys es) k ≡ None) × (ledger_of (part_off keys es) k ≡ ledger_of es k)
         → (ledger_of (if b then e ∷ part_on keys es else part_on keys es) k ≡ None)
-        × (ledger_of (if b then part_off keys es else e ∷ part_off keys es) k ≡ ledger_of (e ∷ es) k)
+        × (ledger_of (if not b then e ∷ part_off keys es else part_off keys es) k ≡ ledger_of (e ∷ es) k)
     by false is rest = (rest.0, ap (λ o. cond (k == e.0) (Some e.1) o) rest.1)
     by true is rest = (
       ap (λ t. cond t (Some e.1) (ledger_of (part_on keys es) k)) (other is) ∙ rest.0,

@@ -20,14 +20,14 @@ use Rattle.ell_cards.specs.Looking.{BeginsNothing, LooksOn, Began, HasFound, Has
 use Rattle.ell_cards.proofs.lemmas.runs.Glances.{claim_look, flag_look, mark_look, stretches_of_one_state}
 use Rattle.ell_cards.proofs.lemmas.runs.Starting.{starts_are_kept}
 use Rattle.ell_cards.proofs.lemmas.runs.TurnsOfRuns.{runs_are_lawful}
-use Rattle.ell_cards.specs.Models.{TablePlan, HasGlance}
+use Rattle.ell_cards.specs.Models.{TablePlan, Has}
 
 -- there is a glance
 abbrev IsSome : List Glance → Type 0
 IsSome [] = ⊥
 IsSome (g ∷ gs) = Unit {0}
 
-some_glance : (gs : List Glance) (g : Glance) → HasGlance gs g → IsSome gs
+some_glance : (gs : List Glance) (g : Glance) → Has gs g → IsSome gs
 some_glance [] g has = elim has [ ]
 some_glance (d ∷ gs) g has = tt
 

@@ -34,7 +34,7 @@ use Rattle.ell_cards.specs.declared.glance.Glance.{Glance}
 use Rattle.ell_cards.specs.declared.view.Told.TheVariants.{Key, Value}
 use Rattle.ell_cards.specs.declared.view.View.{View}
 use Rattle.ell_cards.specs.Changes.{after_claim, after_flag, after_mark, is_mark_of, learning, unmarking}
-use Rattle.ell_cards.specs.Models.{IsTold, IsFree, HasGlance, last, before}
+use Rattle.ell_cards.specs.Models.{IsTold, IsFree, Has, latest, earlier}
 use Rattle.ell_cards.specs.Guards.{MayLookDown}
 use Rattle.ell_cards.specs.Calls.{act_of, said_of, Becomes, May}
 use Rattle.ell_cards.specs.States.{TableState}
@@ -275,24 +275,24 @@ module _ (keys : List ℕ) (cards : ℕ) (seat : ℕ) where
     view : View
     there : get_elem? s.views seat ≡ some view
     free : IsFree view
-    came : (g : Glance) → HasGlance view.glances g → Came keys cards s0 turns s g.node g.low g.high
+    came : (g : Glance) → Has view.glances g → Came keys cards s0 turns s g.node g.low g.high
 
   module _ (s0 : TableState) (turns : List Turn) (s : TableState) (at : Looks s0 turns s) where
     -- so are they after a call, of a state that is not later than it
     abbrev AllCame : View → Type 0
-    AllCame v = (g : Glance) → HasGlance v.glances g → Came keys cards s0 turns s g.node g.low g.high
+    AllCame v = (g : Glance) → Has v.glances g → Came keys cards s0 turns s g.node g.low g.high
 
-    came_still : {gs : List Glance} → gs ≡ at.view.glances → (g : Glance) → HasGlance gs g → Came keys cards s0 turns s g.node g.low g.high
-    came_still same g has = at.came g (subst (λ gs. HasGlance gs g) same has)
+    came_still : {gs : List Glance} → gs ≡ at.view.glances → (g : Glance) → Has gs g → Came keys cards s0 turns s g.node g.low g.high
+    came_still same g has = at.came g (subst (λ gs. Has gs g) same has)
 
     goes_down : (from : Glance) (k : ℕ) (right : Bool) → MayLookDown at.view from k → AllCame (view_after s at.view (call.LookDown from k right))
-    goes_down from k right may g (last _ _) =
+    goes_down from k right may g (latest _ _) =
         let c = may.come in
         let was = subst (λ x. Came keys cards s0 turns s x c.glance.low c.glance.high) c.there (at.came c.glance c.among) in
         came_down keys cards seat s at.view at.there from.node k may.told s0 turns from.low from.high right (found_by s (call.LookDown from k right)) may.inner
         (λ end born. child_listed keys cards s end seat at.view at.there from.node right may.inner born)
         (came_part keys cards s0 turns s from.node c.glance.low c.glance.high from.low from.high c.from c.upto was)
-    goes_down from k right may g (before _ _ _ has) = at.came g has
+    goes_down from k right may g (earlier _ _ _ has) = at.came g has
 
     call_came : (c : Call) → BeginsNothing c → May cards c at.view → AllCame (view_after s at.view c)
     call_came call.Look keeps may = absurd keeps
@@ -370,9 +370,9 @@ module _ (keys : List ℕ) (cards : ℕ) (seat : ℕ) where
         came = λ g has. first g has kept come;
       }
     where
-      first : (g : Glance) → HasGlance (record { node = found_by s call.Look; low = 0; high = greatest_key + 1 } ∷ []) g → (kept : HasMachine keys cards s1)
+      first : (g : Glance) → Has (record { node = found_by s call.Look; low = 0; high = greatest_key + 1 } ∷ []) g → (kept : HasMachine keys cards s1)
           → AllCome kept.words (found_by s call.Look) 0 (greatest_key + 1) → Came keys cards s1 [] s1 g.node g.low g.high
-      first g (last _ _) kept come = record {
+      first g (latest _ _) kept come = record {
         before = [];
         after = [];
         are = refl;
@@ -383,9 +383,9 @@ module _ (keys : List ℕ) (cards : ℕ) (seat : ℕ) where
         come = come;
         real = omega arith;
       }
-      first g (before _ _ _ has) kept come = absurd (nowhere g has)
+      first g (earlier _ _ _ has) kept come = absurd (nowhere g has)
         where
-          nowhere : (g : Glance) → HasGlance [] g → ⊥
+          nowhere : (g : Glance) → Has [] g → ⊥
           nowhere g has = elim has [ ]
 
 -- a state of which all keys of a stretch came by a node is amid its run
@@ -452,7 +452,7 @@ stretches_of_one_state keys cards v low high what found s r seat s1 call turns s
     let looks = run_looks keys cards seat s1 [] s1 (look_begins keys cards seat s r s1 call) turns s' run on in
     let same : looks.view ≡ v = some-injective looks.view v (sym looks.there ∙ there) in
     let c = found.comes in
-    let came = looks.came c.glance (subst (λ (u : View). HasGlance u.glances c.glance) (sym same) c.among) in
+    let came = looks.came c.glance (subst (λ (u : View). Has u.glances c.glance) (sym same) c.among) in
     found_there keys cards s1 turns s' seat v there low high what found
     (came_part keys cards s1 turns s' found.leaf c.glance.low c.glance.high low high c.from c.upto
     (subst (λ x. Came keys cards s1 turns s' x c.glance.low c.glance.high) c.there came))

@@ -43,7 +43,8 @@ use Rattle.ell_cards.specs.declared.call.Call.TheVariants as call
 use Rattle.ell_cards.specs.declared.view.Hindrance.{Hindrance}
 use Rattle.ell_cards.specs.declared.view.Hindrance.TheVariants.{Claim, Found}
 use Rattle.ell_cards.specs.declared.view.View.{View}
-use Rattle.ell_cards.specs.Changes.{seen_at, unless_clean, read_in_way, first_in_way, in_the_way, way_now, after_again, after_leave, after_answer, after_claim, after_flag, after_mark, if_won, exchanged, learning, unmarking, is_mark_of, is_held}
+use Rattle.ell_cards.specs.Changes.{unless_clean, read_in_way, first_in_way, in_the_way, way_now, after_again, after_leave, after_answer, after_claim, after_flag, after_mark, if_won, exchanged, learning, unmarking, is_mark_of, is_this}
+use Rattle.ell_cards.proofs.lemmas.views.Searches.{seen_at}
 use Rattle.ell_cards.specs.Calls.{after, May}
 use Rattle.ell_cards.specs.States.{TableState, seat_worker}
 use Rattle.ell_cards.specs.Machines.{HasMachine}
@@ -150,7 +151,7 @@ put_is_no_delete : (k : ℕ) (op : Op) (what : Put) → put_of op ≡ Some what 
 put_is_no_delete k op what puts e = some_not_none puts (ap put_of (sym (same_Some (Delete k) op e)))
 
 -- the card that is held
-pub held_is : (o : Option ℕ) (c : ℕ) → is_held o c ≡ true → o ≡ Some c
+pub held_is : (o : Option ℕ) (c : ℕ) → is_this o c ≡ true → o ≡ Some c
 held_is None c e = absurd (false≢true e)
 held_is (Some d) c e = ap Some (eqb-true d c e)
 
@@ -448,7 +449,7 @@ module _ (keys : List ℕ) (cards : ℕ) (m0 : Machine) (stage : Stages) (first 
       is : r.words.update p ≡ n
       is = mark_found c p was may
 
-      held : (b : Bool) → is_held v.worker.card c ≡ b → n ≢ was → is_mark_of c (unpacked n).state (unpacked n).card ≡ false → HinderedSince m0.words stage later_words ends old
+      held : (b : Bool) → is_this v.worker.card c ≡ b → n ≢ was → is_mark_of c (unpacked n).state (unpacked n).card ≡ false → HinderedSince m0.words stage later_words ends old
           (exchanged [] n (record (unmarking c p (unpacked n) v) {
             hindrances = if b then Found (unpacked n) ∷ v.hindrances else v.hindrances;
             met = if b then Found (unpacked n) ∷ v.met else v.met;
@@ -462,7 +463,7 @@ module _ (keys : List ℕ) (cards : ℕ) (m0 : Machine) (stage : Stages) (first 
 
       lost : (b : Bool) → is_mark_of c (unpacked n).state (unpacked n).card ≡ b → n ≢ was → HinderedSince m0.words stage later_words ends old (exchanged [] n (if b then learning (Marked c) v else unmarking c p (unpacked n) v))
       lost true e other = quiet _ refl refl refl refl refl refl (λ seen h. h)
-      lost false e other = held (is_held v.worker.card c) refl other e
+      lost false e other = held (is_this v.worker.card c) refl other e
 
       by : (b : Bool) → (n == was) ≡ b → HinderedSince m0.words stage later_words ends old (exchanged (if_won b exchange.Mark c) n (after_mark b c p (unpacked n) v))
       by true e = quiet _ refl refl refl refl refl refl (λ seen h. h)

@@ -3,7 +3,7 @@ use Rattle.std.proofs.lemmas.Bool.{cases_eq, cases_lt, ne_eqb}
 use mathlib.Core.Option.{some, some-injective, some-ne-none}
 use lib.ListN.{get_elem?}
 use Rattle.ell_cards.specs.declared.view.View.{View}
-use Rattle.ell_cards.specs.Changes.{is_held}
+use Rattle.ell_cards.specs.Changes.{is_this}
 use Rattle.ell_cards.specs.Contention.{how_many, cards_in_hand}
 
 -- 1 for true
@@ -75,12 +75,12 @@ many_shared (suc n) was is has h =
 -- how many passes have this card in hand
 abbrev pub held_by : ℕ → List View → ℕ
 held_by c [] = 0
-held_by c (v ∷ vs) = one (is_held v.worker.card c) + held_by c vs
+held_by c (v ∷ vs) = one (is_this v.worker.card c) + held_by c vs
 
 pub held_there : (vs : List View) (i c : ℕ) (v : View) → get_elem? vs i ≡ some v → v.worker.card ≡ Some c → 1 ≤ held_by c vs
 held_there [] i c v e has = absurd (some-ne-none v (sym e))
 held_there (x ∷ vs) zero c v e has =
-    let yes = ap one (ap (λ (u : View). is_held u.worker.card c) (some-injective x v e) ∙ (ap (λ o. is_held o c) has ∙ eq-eqb c c refl)) in omega arith
+    let yes = ap one (ap (λ (u : View). is_this u.worker.card c) (some-injective x v e) ∙ (ap (λ o. is_this o c) has ∙ eq-eqb c c refl)) in omega arith
 held_there (x ∷ vs) (suc i) c v e has = let rest = held_there vs i c v e has in omega arith
 
 -- a hand has one card at most
@@ -102,7 +102,7 @@ no_hand : (n : ℕ) → sum_of n (λ c. 0) ≡ 0
 no_hand zero = refl
 no_hand (suc n) = let rest = no_hand n in omega arith
 
-one_hand : (n : ℕ) (o : Option ℕ) → sum_of n (λ c. one (is_held o c)) ≤ one (is_some o)
+one_hand : (n : ℕ) (o : Option ℕ) → sum_of n (λ c. one (is_this o c)) ≤ one (is_some o)
 one_hand n None = let none = no_hand n in omega arith
 one_hand n (Some d) = one_such n d
 
@@ -113,7 +113,7 @@ sum_both (suc n) f g = let rest = sum_both n f g in omega arith
 pub hands_hold : (n : ℕ) (vs : List View) → sum_of n (λ c. held_by c vs) ≤ cards_in_hand vs
 hands_hold n [] = let none = no_hand n in omega arith
 hands_hold n (v ∷ vs) =
-    let both = sum_both n (λ c. one (is_held v.worker.card c)) (λ c. held_by c vs) in
+    let both = sum_both n (λ c. one (is_this v.worker.card c)) (λ c. held_by c vs) in
     let first = one_hand n v.worker.card in
     let rest = hands_hold n vs in
     omega arith

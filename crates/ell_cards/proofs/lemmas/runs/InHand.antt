@@ -1,4 +1,4 @@
-use Rattle.std.proofs.Common.{◌≡◌, ℕ, Bool, true, false, Option, Some, None, [], refl, sym, ap, ◌∙◌, subst}
+use Rattle.std.proofs.Common.{◌≡◌, ℕ, Bool, true, false, Option, Some, None, List, [], ◌++◌, refl, sym, ap, ◌∙◌, subst}
 use Rattle.ell_ops.specs.declared.op.Op.{Op}
 use Rattle.ell_ops.specs.declared.op.Op.TheVariants.{Find, Insert, Delete, Swap}
 use Rattle.ell_word.specs.Word.{unpacked}
@@ -9,8 +9,13 @@ use Rattle.ell_core.specs.acts.Searching.{IsClean}
 use Rattle.ell_core.specs.history.Stages.{Stages}
 use Rattle.ell_core.specs.history.Invariant.{InsertInHand, DeleteInHand, WordsAreSound, WorkerIsSound}
 use Rattle.ell_core.proofs.lemmas.outcomes.Decide.{some_not_none}
+use Rattle.ell_cards.specs.declared.view.Hindrance.{Hindrance}
 use Rattle.ell_cards.specs.declared.view.View.{View}
 use Rattle.ell_cards.specs.Changes.{unless_clean, read_in_way, first_in_way, in_the_way, way_now}
+
+-- what was in the way of the try in hand, once it is given up
+abbrev pub met_in_try : View → List Hindrance
+met_in_try v = way_now v ++ v.met
 
 -- what a search that stands nowhere has read in the way
 nowhere_way : (op : Op) (parent above : Option Seen) → in_the_way (Some op) None parent above ≡ []

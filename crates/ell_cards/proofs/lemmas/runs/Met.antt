@@ -16,7 +16,8 @@ use Rattle.ell_cards.specs.declared.view.Told.{Told}
 use Rattle.ell_cards.specs.declared.view.Told.TheVariants.{Met}
 use Rattle.ell_cards.specs.declared.view.View.{View}
 use Rattle.ell_cards.specs.Models.{TablePlan, latest, IsTold}
-use Rattle.ell_cards.specs.Changes.{first_of, left_view, right_view, joined_view, seen_at, after_claim, after_flag, after_mark, is_mark_of, learning, unmarking}
+use Rattle.ell_cards.specs.Changes.{first_of, left_view, right_view, joined_view, after_claim, after_flag, after_mark, is_mark_of, learning, unmarking}
+use Rattle.ell_cards.proofs.lemmas.views.Searches.{seen_at}
 use Rattle.ell_cards.specs.Calls.{after, May}
 use Rattle.ell_cards.specs.States.{TableState}
 use Rattle.ell_cards.specs.Turns.{Turn, Makes, Splits, Joins, TableTurns, TableRun, found_by}

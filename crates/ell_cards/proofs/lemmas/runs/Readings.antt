@@ -16,7 +16,7 @@ use Rattle.ell_cards.specs.declared.call.Call.TheVariants as call
 use Rattle.ell_cards.specs.declared.view.Hindrance.{Hindrance}
 use Rattle.ell_cards.specs.declared.view.Hindrance.TheVariants.{Claim, Found}
 use Rattle.ell_cards.specs.declared.view.View.{View}
-use Rattle.ell_cards.specs.Changes.{first_of, left_view, right_view, joined_view, later, unless_clean, read_in_way, first_in_way, in_the_way, given_up, after_claim, after_flag, after_mark, is_mark_of, is_held, learning, unmarking}
+use Rattle.ell_cards.specs.Changes.{first_of, left_view, right_view, joined_view, later, unless_clean, read_in_way, first_in_way, in_the_way, way_now, after_claim, after_flag, after_mark, is_mark_of, is_this, learning, unmarking}
 use Rattle.ell_cards.specs.Calls.{word_of, after, May}
 use Rattle.ell_cards.specs.States.{TableState}
 use Rattle.ell_cards.specs.Machines.{HasMachine}
@@ -73,6 +73,10 @@ way_no_claim n (Some (Delete k)) (Some x) parent above =
     first_no_claim n (read_in_way above) (read_in_way parent) (read_no_claim n above) (read_no_claim n parent)
 way_no_claim n _ _ parent above = tt
 
+-- what was in the way, once a try is given up
+abbrev given_up : View → List Hindrance
+given_up v = way_now v ++ v.hindrances
+
 past_given_up : (n : ℕ) (v : View) → IsPast n v → AreBelow n (given_up v)
 past_given_up n v h =
     below_both n (in_the_way v.worker.operation v.worker.search.node v.worker.search.parent v.worker.search.grandparent) v.hindrances
@@ -84,7 +88,7 @@ past_flag n false new x u v h = record { next = h.next; claims = h.claims }
 
 past_mark : (n : ℕ) (b : Bool) (c x : ℕ) (u : Update) (v : View) → IsPast n v → IsPast n (after_mark b c x u v)
 past_mark n true c x u v h = record { next = h.next; claims = h.claims }
-past_mark n false c x u v h = by (is_mark_of c u.state u.card) (is_held v.worker.card c)
+past_mark n false c x u v h = by (is_mark_of c u.state u.card) (is_this v.worker.card c)
   where
     hinders : (held : Bool) → AreBelow n (if held then Found u ∷ v.hindrances else v.hindrances)
     hinders true = h.claims
@@ -92,7 +96,7 @@ past_mark n false c x u v h = by (is_mark_of c u.state u.card) (is_held v.worker
 
     by : (marked held : Bool) → IsPast n (if marked then learning (Marked c) v else unmarking c x u v)
     by true held = record { next = h.next; claims = h.claims }
-    by false held = record { next = h.next; claims = hinders (is_held v.worker.card c) }
+    by false held = record { next = h.next; claims = hinders (is_this v.worker.card c) }
 
 -- a claim that found another word found a later one
 past_claim : (n m : ℕ) (b : Bool) (c : ℕ) (v : View) → (n == c) ≡ b → n ≤ m → v.next ≡ Some c → IsPast n v → IsPast m (after_claim b c v)

@@ -7,7 +7,8 @@ use Rattle.atomic_table.proofs.Lists.{at_set, set_else}
 use Rattle.ell_core.proofs.lemmas.outcomes.Decide.{some_not_none}
 use Rattle.ell_cards.specs.declared.view.View.{View}
 use Rattle.ell_cards.specs.Models.{TablePlan, whole_share, given_share}
-use Rattle.ell_cards.specs.Changes.{first_of, first_known, left_view, right_view, joined_view, spent_view}
+use Rattle.ell_cards.specs.Changes.{first_of, left_view, right_view, joined_view, spent_view}
+use Rattle.std.specs.Option.{option_or}
 use Rattle.ell_cards.specs.Calls.{after}
 use Rattle.ell_cards.specs.States.{TableState}
 use Rattle.ell_cards.specs.Sharing.{all_shares, HaveTheWhole, SharesAddUp}
@@ -111,7 +112,7 @@ turn_shares cards s (Joins id other) s' turn h =
           h.each;
     })
   where
-    by : (l m : Option (List ℕ)) → turn.view.worker.ownable ≡ l → turn.view'.worker.ownable ≡ m → first_known l m ≢ None
+    by : (l m : Option (List ℕ)) → turn.view.worker.ownable ≡ l → turn.view'.worker.ownable ≡ m → option_or l m ≢ None
         → (turn.view.share + turn.view'.share) % 2 ^ 64 ≡ turn.view.share + turn.view'.share → 1 ≤ (turn.view.share + turn.view'.share) % 2 ^ 64
     by None m ours theirs sharing same =
         let some = h.each other turn.view' turn.there' (λ none. sharing (sym theirs ∙ none)) in omega arith

@@ -3,7 +3,8 @@ use mathlib.Core.Option.{Option as Item, some, none}
 use lib.ListN.{get_elem?}
 use Rattle.atomic_table.proofs.Lists.{at_set}
 use Rattle.ell_cards.specs.declared.view.View.{View}
-use Rattle.ell_cards.specs.Changes.{first_of, ownable_if, first_known, left_view, right_view, joined_view}
+use Rattle.ell_cards.specs.Changes.{first_of, ownable_if, left_view, right_view, joined_view}
+use Rattle.std.specs.Option.{option_or}
 use Rattle.ell_cards.specs.Calls.{after}
 use Rattle.ell_cards.specs.States.{TableState, seat_worker}
 use Rattle.ell_cards.specs.Machines.{NobodyShares}
@@ -42,7 +43,7 @@ turn_closed cards s (Joins id other) s' turn h =
     let both = joined_view turn.view turn.view' in
     subst NobodyShares (sym turn.gives)
     (each_joined s.views id other turn.view turn.view' turn.there turn.there' (λ e. turn.apart (sym e)) both Closed
-    ((λ t. first_known (h id turn.view turn.there t) (h other turn.view' turn.there' t))) refl h)
+    ((λ t. option_or (h id turn.view turn.there t) (h other turn.view' turn.there' t))) refl h)
 
 run_closed : (cards : ℕ) (s : TableState) (turns : List Turn) (s' : TableState) → TableRun cards s turns s' → NobodyShares s → NobodyShares s'
 run_closed cards s [] s' run h = subst NobodyShares (sym run) h

@@ -16,7 +16,7 @@ use Rattle.ell_layout.specs.Words.{IsLeaf}
 use Rattle.ell_core.proofs.lemmas.outcomes.Decide.{some_not_none}
 use Rattle.ell_cards.specs.declared.view.Told.{Told}
 use Rattle.ell_cards.specs.declared.view.View.{View}
-use Rattle.ell_cards.specs.Models.{Has, latest, earlier, last, IsFree, Knows, stored_at, MayPart}
+use Rattle.ell_cards.specs.Models.{Has, latest, earlier, IsFree, Knows, stored_at, MayPart}
 use Rattle.ell_cards.specs.Changes.{first_of, spent_view}
 use Rattle.ell_cards.specs.Calls.{May}
 use Rattle.ell_cards.specs.States.{TableState}
@@ -246,8 +246,8 @@ mark_is_lost_asks =
     ▸ (refl, record { knows = inl refl; asked = tt })
     ▸ (refl, record { knows = inl refl; asked = tt })
     ▸ (refl, record { parent_key = infinity1; card_key = 7; left_key = 5; knows = refl; parent = told_at 4 _ _ refl; leaf = told_at 2 _ _ refl; told_parent = told_at 11 _ _ refl; told_card = told_at 1 _ _ refl; told_left = told_at 0 _ _ refl; brings = refl; side = refl })
-    ▸ (refl, record { knows = refl; parent = told_at 4 _ _ refl })
-    ▸ (refl, record { knows = refl; grandparent = told_at 5 _ _ refl })
+    ▸ (refl, record { knows = refl; place = told_at 4 _ _ refl })
+    ▸ (refl, record { knows = refl; place = told_at 5 _ _ refl })
     ▸ tt
 
 abbrev at_5 : TableState
@@ -257,7 +257,7 @@ at_5 = run_leads at_4 mark_is_lost
 insert_ends_asks : RunAsks 4 at_5 insert_ends
 insert_ends_asks =
     (refl, record { parent_key = infinity1; card_key = 7; left_key = 5; knows = refl; parent = told_at 0 _ _ refl; leaf = told_at 1 _ _ refl; told_parent = told_at 10 _ _ refl; told_card = told_at 2 _ _ refl; told_left = told_at 3 _ _ refl; brings = refl; side = refl })
-    ▸ (refl, record { knows = refl; parent = told_at 0 _ _ refl })
+    ▸ (refl, record { knows = refl; place = told_at 0 _ _ refl })
     ▸ (refl, record { op = Insert 7 70; busy = refl; answers = inr (record { card = 3; holds = refl; flagged = refl; over = refl; says = refl }) })
     ▸ tt
 
@@ -294,10 +294,10 @@ delete_ends_asks =
     ▸ (refl, record { holds = refl; unflagged = refl })
     ▸ (refl, record { key = 5; leaf = 13; parent = record { node = 12; word = 3 }; busy = refl; may = record { holds = refl; unflagged = refl }; stands = refl; behind = refl; above = refl; filled = filled_delete 4 12 13 3 })
     ▸ (refl, record { knows = refl; parent = told_at 1 _ _ refl; read = told_at 3 _ _ refl })
-    ▸ (refl, record { knows = refl; parent = told_at 1 _ _ refl })
+    ▸ (refl, record { knows = refl; place = told_at 1 _ _ refl })
     ▸ (refl, told_at 1 _ _ refl)
     ▸ (refl, record { leaf = 13; grandparent_key = infinity1; sibling_key = 7; knows = refl; grandparent = told_at 3 _ _ refl; parent = told_at 4 _ _ refl; below = told_at 5 _ _ refl; sibling = inl (told_at 1 _ _ refl, λ e. let h : ◌≡◌ {A = ℕ} 14 13 = e in omega arith); told_grandparent = told_at 11 _ _ refl; told_sibling = told_at 0 _ _ refl; side = refl })
-    ▸ (refl, record { knows = refl; grandparent = told_at 3 _ _ refl })
+    ▸ (refl, record { knows = refl; place = told_at 3 _ _ refl })
     ▸ (refl, record { op = Delete 5; busy = refl; answers = inr (record { card = 4; holds = refl; flagged = refl; over = refl; says = refl }) })
     ▸ tt
 
@@ -308,7 +308,7 @@ at_8 = run_leads at_7 delete_ends
 look_asks : RunAsks 4 at_8 look
 look_asks =
     (refl, refl)
-    ▸ (refl, record { come = record { glance = record { node = 4; low = 0; high = greatest_key + 1 }; among = last _ _; there = refl; from = omega arith; upto = omega arith }; met = told_at 0 _ _ refl; inner = refl; told = told_at 11 _ _ refl })
+    ▸ (refl, record { come = record { glance = record { node = 4; low = 0; high = greatest_key + 1 }; among = latest _ _; there = refl; from = omega arith; upto = omega arith }; met = told_at 0 _ _ refl; inner = refl; told = told_at 11 _ _ refl })
     ▸ (refl, told_at 0 _ _ refl)
     ▸ (refl, (told_at 1 _ _ refl, leaf_14))
     ▸ tt

@@ -4,7 +4,8 @@ use Rattle.ell_word.specs.Word.{packed, unpacked}
 use Rattle.ell_core.proofs.lemmas.outcomes.Decide.{cases_option, some_not_none}
 use Rattle.ell_cards.specs.declared.call.Call.TheVariants as call
 use Rattle.ell_cards.specs.declared.view.Told.TheVariants.{Met}
-use Rattle.ell_cards.specs.Changes.{after_next, after_claim, after_upd}
+use Rattle.ell_cards.specs.Changes.{after_claim, after_upd}
+use Rattle.ell_cards.proofs.lemmas.views.Afters.{after_next}
 use Rattle.ell_cards.specs.Calls.{update_at}
 use Rattle.ell_cards.specs.Tellings.{told_of, NoGreaterNext, NoUntriedClaimLost, NoGreaterUpdate}
 use Rattle.ell_cards.proofs.lemmas.views.Entries.{places_more}

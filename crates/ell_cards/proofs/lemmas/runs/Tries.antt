@@ -16,14 +16,17 @@ use Rattle.ell_core.specs.declared.view.Seen.{Seen}
 use Rattle.ell_core.specs.history.Invariant.{WorkerIsSound}
 use Rattle.ell_layout.proofs.lemmas.Listed.{listed_next}
 use Rattle.ell_core.proofs.lemmas.outcomes.Decide.{some_not_none}
+use Rattle.ell_core.specs.acts.Searching.{MayStop}
+use Rattle.ell_core.specs.state.Machine.{worker_of}
 use Rattle.ell_cards.specs.declared.call.Call.{Call}
 use Rattle.ell_cards.specs.declared.call.Call.TheVariants as call
 use Rattle.ell_cards.specs.declared.view.Hindrance.{Hindrance}
 use Rattle.ell_cards.specs.declared.view.Hindrance.TheVariants.{Claim, Found}
 use Rattle.ell_cards.specs.declared.view.View.{View}
-use Rattle.ell_cards.specs.Changes.{if_won, exchanged, after_claim, after_flag, after_mark, is_mark_of, is_held, learning, unmarking, unless_clean, read_in_way, first_in_way, in_the_way, way_now, met_in_try, update_over, is_over, all_over, was_hindered, tries_hindered}
+use Rattle.ell_cards.specs.Changes.{if_won, exchanged, after_claim, after_flag, after_mark, is_mark_of, is_this, learning, unmarking, unless_clean, read_in_way, first_in_way, in_the_way, way_now, update_over, is_over, was_hindered, tries_hindered}
+use Rattle.ell_cards.proofs.lemmas.runs.InHand.{met_in_try}
+use Rattle.std.specs.List.{list_all}
 use Rattle.ell_cards.specs.Calls.{after, May}
-use Rattle.ell_cards.specs.Guards.{MayStop}
 use Rattle.ell_cards.specs.Models.{TablePlan, EndedBy}
 use Rattle.ell_cards.specs.Contention.{how_many, given_to_others, cards_in_hand, TriesAreHinderedByOthers, AreHinderedByOthers}
 use Rattle.ell_cards.specs.Meanwhile.{KeepsOn, KeepOn, BeginsHere, SearchRun, EndsMeanwhile, WordEndsMeanwhile, AreMeanwhile, AreOfOthers, ended_before, ended_since}
@@ -260,13 +263,13 @@ module _ (plan : TablePlan) where
         first_are v.met m.earlier (subst (AreMeanwhile plan ran) m.tries m.each)
 
     -- while an operation is in hand, a pass with its card flagged stands nowhere
-    stands_unflagged : MayStop v → (x : ℕ) → v.worker.search.node ≡ Some x → (c : ℕ) → v.worker.card ≡ Some c → v.worker.flagged ≡ true → ⊥
+    stands_unflagged : MayStop (worker_of v.worker) → (x : ℕ) → v.worker.search.node ≡ Some x → (c : ℕ) → v.worker.card ≡ Some c → v.worker.flagged ≡ true → ⊥
     stands_unflagged may x at c has flagged =
         let k = wins_are_counted plan s comes in
         let sound = subst (WorkerIsSound k.machine.words k.stages) (ap seat_worker there) (k.invariant.workers.each seat) in
         some_not_none at (sound.flagged may.op c may.busy has flagged).1
 
-    unless_others : MayStop v → (x : ℕ) → v.worker.search.node ≡ Some x → (st : State) (c : ℕ) → (st ≢ state.Clean → EndsMeanwhile plan ran c)
+    unless_others : MayStop (worker_of v.worker) → (x : ℕ) → v.worker.search.node ≡ Some x → (st : State) (c : ℕ) → (st ≢ state.Clean → EndsMeanwhile plan ran c)
         → Each (IsOfOthers h.begun s v) (unless_clean st c)
     unless_others may x at state.Clean c is = tt
     unless_others may x at state.IFlag c is =
@@ -276,7 +279,7 @@ module _ (plan : TablePlan) where
     unless_others may x at state.Mark c is =
         (found_others (record { state = state.Mark; card = c }) (is (λ e. cc)) (λ e. absurd (cc)) (λ d has flagged e. stands_unflagged may x at d has flagged), tt)
 
-    read_others : MayStop v → (x : ℕ) → v.worker.search.node ≡ Some x → (o : Option Seen) → ((seen : Seen) → o ≡ Some seen → WordEndsMeanwhile plan ran seen.word)
+    read_others : MayStop (worker_of v.worker) → (x : ℕ) → v.worker.search.node ≡ Some x → (o : Option Seen) → ((seen : Seen) → o ≡ Some seen → WordEndsMeanwhile plan ran seen.word)
         → Each (IsOfOthers h.begun s v) (read_in_way o)
     read_others may x at None is = tt
     read_others may x at (Some seen) is = unless_others may x at (unpacked seen.word).state (unpacked seen.word).card (is seen refl)
@@ -285,7 +288,7 @@ module _ (plan : TablePlan) where
     first_others [] b f g = g
     first_others (x ∷ a) b f g = f
 
-    way_others : MayStop v → (op : Option Op) (place : Option ℕ) (parent above : Option Seen) → v.worker.search.node ≡ place
+    way_others : MayStop (worker_of v.worker) → (op : Option Op) (place : Option ℕ) (parent above : Option Seen) → v.worker.search.node ≡ place
         → ((seen : Seen) → parent ≡ Some seen → WordEndsMeanwhile plan ran seen.word)
         → ((seen : Seen) → above ≡ Some seen → WordEndsMeanwhile plan ran seen.word)
         → Each (IsOfOthers h.begun s v) (in_the_way op place parent above)
@@ -300,7 +303,7 @@ module _ (plan : TablePlan) where
         first_others (read_in_way above) (read_in_way parent) (read_others may x at above g) (read_others may x at parent p)
 
     -- all that a try met, once it is given up
-    try_others : MayStop v → Each (IsOfOthers h.begun s v) (met_in_try v)
+    try_others : MayStop (worker_of v.worker) → Each (IsOfOthers h.begun s v) (met_in_try v)
     try_others may =
         let reads = searches_read_meanwhile plan ran in
         each_append (IsOfOthers h.begun s v) (way_now v) v.met
@@ -308,7 +311,7 @@ module _ (plan : TablePlan) where
         (met_others v.met met_are h.lost own_apart)
 
     -- a card that has ended since is not the pass's own
-    ended_other : MayStop v → (c : ℕ) → ends c h.begun ≡ 0 → 0 < ends c s → ((d : ℕ) → v.worker.card ≡ Some d → v.worker.flagged ≡ true → c ≢ d)
+    ended_other : MayStop (worker_of v.worker) → (c : ℕ) → ends c h.begun ≡ 0 → 0 < ends c s → ((d : ℕ) → v.worker.card ≡ Some d → v.worker.flagged ≡ true → c ≢ d)
         → times exchange.Claim c v.won ≡ 0
     ended_other may c before since apart = by (times exchange.Claim c v.won) refl
       where
@@ -316,19 +319,19 @@ module _ (plan : TablePlan) where
         held has true e = apart c has e refl
         held has false e = let none = hand_unended plan s comes seat v there c has e in absurd (omega arith)
 
-        mine : 0 < times exchange.Claim c v.won → (b : Bool) → is_held v.worker.card c ≡ b → ⊥
+        mine : 0 < times exchange.Claim c v.won → (b : Bool) → is_this v.worker.card c ≡ b → ⊥
         mine own true e = held (held_is v.worker.card c e) v.worker.flagged refl
-        mine own false e = elim (h.aside may.op may.busy c own (λ has. false≢true (sym e ∙ (ap (λ o. is_held o c) has ∙ eq-eqb c c refl)))) [
+        mine own false e = elim (h.aside may.op may.busy c own (λ has. false≢true (sym e ∙ (ap (λ o. is_this o c) has ∙ eq-eqb c c refl)))) [
           | inl was ↦ (omega arith)
           | inr left ↦ (let none = left.unended in omega arith)
         ]
 
         by : (n : ℕ) → times exchange.Claim c v.won ≡ n → n ≡ 0
         by zero e = refl
-        by (suc n) e = absurd (mine (omega arith) (is_held v.worker.card c) refl)
+        by (suc n) e = absurd (mine (omega arith) (is_this v.worker.card c) refl)
 
     -- a try that is given up: if it was hindered, others have done something since its search began
-    more_hindered : MayStop v → (s' : TableState) (w : View) → Grows s v s' w → tries_hindered v ≤ v0.hindered + done_since s0 s' w.won
+    more_hindered : MayStop (worker_of v.worker) → (s' : TableState) (w : View) → Grows s v s' w → tries_hindered v ≤ v0.hindered + done_since s0 s' w.won
     more_hindered may s' w g = by (was_hindered v.worker.facts (met_in_try v)) refl
       where
         on : Grows h.begun h.begins.view s' w
@@ -351,7 +354,7 @@ module _ (plan : TablePlan) where
         first_over : (facts : List Fact) (hs : List Hindrance) → was_hindered facts hs ≡ true → Each (IsOfOthers h.begun s v) hs
             → (x : Hindrance) × IsOfOthers h.begun s v x × (is_over facts x ≡ true)
         first_over facts [] e each = absurd (false≢true e)
-        first_over facts (x ∷ hs) e each = (x, each.0, (and_both (is_over facts x) (all_over facts hs) e))
+        first_over facts (x ∷ hs) e each = (x, each.0, (and_both (is_over facts x) (list_all (is_over facts) hs) e))
 
         by : (b : Bool) → was_hindered v.worker.facts (met_in_try v) ≡ b → v.hindered + (if b then 1 else 0) ≤ v0.hindered + done_since s0 s' w.won
         by false e =
@@ -461,16 +464,16 @@ module _ (plan : TablePlan) where
           by false is = record {
             hindered = ap (λ u. u.hindered) is;
             operation = λ op busy. sym (ap (λ u. u.worker.operation) is) ∙ busy;
-            aside = λ y own else_where. held y own else_where (is_held v.worker.card y) refl;
+            aside = λ y own else_where. held y own else_where (is_this v.worker.card y) refl;
             lost = subst (AllUnclaimed w.won) (sym (ap (λ (u : View). u.met) is)) (lost_on w.won g.own);
           }
             where
-              held : (y : ℕ) → 0 < times exchange.Claim y w.won → w.worker.card ≢ Some y → (b : Bool) → is_held v.worker.card y ≡ b
+              held : (y : ℕ) → 0 < times exchange.Claim y w.won → w.worker.card ≢ Some y → (b : Bool) → is_this v.worker.card y ≡ b
                   → ((0 < times exchange.Claim y v.won) × (v.worker.card ≢ Some y)) ⊎ IsAbandoned s' y
               held y own else_where true e = inr (laid y (held_is v.worker.card y e) own else_where)
               held y own else_where false e = inl (
                 subst (λ n. 0 < n) (ap (λ (u : View). times exchange.Claim y u.won) is) own,
-                λ has. false≢true (sym e ∙ (ap (λ o. is_held o y) has ∙ eq-eqb y y refl)),
+                λ has. false≢true (sym e ∙ (ap (λ o. is_this o y) has ∙ eq-eqb y y refl)),
               )
 
       -- a mark
@@ -489,7 +492,7 @@ module _ (plan : TablePlan) where
           by : (b : Bool) → Grows s v s' (exchanged [] n (if b then learning (fact.Marked d) v else unmarking d x (unpacked n) v))
               → Rests s v s' (exchanged [] n (if b then learning (fact.Marked d) v else unmarking d x (unpacked n) v))
           by true g = alike _ g refl refl refl (λ y. refl) (lost_on v.won (λ y low. refl))
-          by false g = held (is_held v.worker.card d) g
+          by false g = held (is_this v.worker.card d) g
 
       no_end_of : (k : Exchange) (d : ℕ) (b : Bool) → (number k == 3) ≡ false → (number k == 7) ≡ false → (number k == 8) ≡ false → turn_won s t ≡ if_won b k d
           → (y : ℕ) → ends_in y (turn_won s t) ≡ 0
@@ -534,7 +537,7 @@ module _ (plan : TablePlan) where
     }
 
     -- a search that begins anew
-    begins_anew : (w : View) → get_elem? s'.views seat ≡ some w → Grows s v s' w → w ≡ view_after s v call.Again → MayStop v → Searches s0 v0 seat s' w
+    begins_anew : (w : View) → get_elem? s'.views seat ≡ some w → Grows s v s' w → w ≡ view_after s v call.Again → MayStop (worker_of v.worker) → Searches s0 v0 seat s' w
     begins_anew w at g is may = record {
       opened = h.opened;
       starts = h.starts;

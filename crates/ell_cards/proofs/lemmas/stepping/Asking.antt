@@ -14,8 +14,9 @@ use Rattle.ell_cards.specs.declared.view.Told.{Told}
 use Rattle.ell_cards.specs.declared.view.Told.TheVariants.{Met, Key, Info, Frozen}
 use Rattle.ell_cards.specs.declared.view.View.{View}
 use Rattle.ell_cards.specs.Models.{Has, earlier, InTable, KnowsCard}
-use Rattle.ell_cards.specs.Changes.{told_info, after_info, after_frozen_child}
-use Rattle.ell_cards.specs.Guards.{IsAsked, MayAsk, MaySee}
+use Rattle.ell_cards.specs.Changes.{told_info}
+use Rattle.ell_cards.proofs.lemmas.views.Afters.{after_info, after_frozen_child}
+use Rattle.ell_cards.specs.Guards.{IsAsked, MayAsk, KnowsPlace}
 use Rattle.ell_cards.specs.Calls.{child_at, TellsNode, TellsDepth}
 use Rattle.ell_cards.specs.States.{TableState}
 use Rattle.ell_cards.specs.Machines.{is_fixed, EntryHolds, HasMachine}
@@ -124,14 +125,14 @@ module _ (keys : List ℕ) (cards : ℕ) (s : TableState) (r : HasMachine keys c
       refl refl (tells_node c f n may.knows is, tells_depth c f n may.knows is)
 
   -- frozen_child
-  pub keeps_frozen_child : (c p : ℕ) (right : Bool) → MaySee v c p → IsEvent keys cards s r id v (call.FrozenChild c p right)
+  pub keeps_frozen_child : (c p : ℕ) (right : Bool) → KnowsPlace v (Marked c) c field.P p → IsEvent keys cards s r id v (call.FrozenChild c p right)
   keeps_frozen_child c p right may =
       let n = get_or s.words (child_at p right) 0 in
       let h = r.views id v here in
       let w = r.words in
       let known = (mine_sound keys cards s r id v here).facts (Marked c) may.knows in
       let said = known_delete keys cards s r id v here c (inr may.knows) in
-      let p_is : w.p c ≡ p = told_is keys cards s r id v here c field.P p may.parent in
+      let p_is : w.p c ≡ p = told_is keys cards s r id v here c field.P p may.place in
       let is : w.child (w.p c) right ≡ n = child_found keys cards s r id v here (w.p c) p right p_is said.parent.inner said.parent.born in
       let mark = ((r.invariant.words.deletes c).marked known).mark in
       let children = r.invariant.words.children (w.p c) said.parent.inner said.parent.born in

@@ -10,7 +10,7 @@ use Rattle.ell_core.specs.declared.event.Event.{Event}
 use Rattle.ell_core.specs.declared.event.Stepped.TheVariants.{Moved, Answered}
 use Rattle.ell_core.specs.state.Facts.{known_of}
 use Rattle.ell_core.specs.state.Machine.{Worker, Ledger, worker_of, ledger_of}
-use Rattle.ell_core.specs.acts.Searching.{leaf_answer, value_at, card_answer, settled, ledger_after, HasAnswer}
+use Rattle.ell_core.specs.acts.Searching.{leaf_answer, value_at, card_answer, settled, ledger_after, HasAnswer, MayStop}
 use Rattle.ell_core.specs.acts.Events.{Happens}
 use Rattle.ell_core.specs.statements.Effects.{reply_of_change, AnswersAsMap}
 use Rattle.ell_core.proofs.lemmas.outcomes.Decide.{some_not_none}
@@ -22,7 +22,7 @@ use Rattle.ell_cards.specs.declared.view.View.{View}
 use Rattle.ell_cards.specs.Models.{Has}
 use Rattle.ell_cards.specs.Calls.{key_at}
 use Rattle.ell_cards.specs.Changes.{with_entry as with_entry_for, after_begin, after_again, after_leave, after_answer, answered_ledger, with_entry as put_entry}
-use Rattle.ell_cards.specs.Guards.{MayBegin, MayStop, MayAnswer, TellsOf, KnowsAnswerAtLeaf, KnowsAnswerByCard, IsOver}
+use Rattle.ell_cards.specs.Guards.{MayBegin, MayAnswer, TellsOf, KnowsAnswerAtLeaf, KnowsAnswerByCard, IsOver}
 use Rattle.ell_cards.specs.Models.{Knows, KnewBefore}
 use Rattle.ell_layout.specs.Words.{Words}
 use Rattle.ell_core.specs.declared.fact.Fact.{Fact}
@@ -92,7 +92,7 @@ module _ (keys : List ℕ) (cards : ℕ) (s : TableState) (r : HasMachine keys c
       refl refl tt
 
   -- again
-  pub keeps_again : MayStop v → IsEvent keys cards s r id v call.Again
+  pub keeps_again : MayStop (worker_of v.worker) → IsEvent keys cards s r id v call.Again
   keeps_again may =
       let after = after_again v in
       let happens : Happens cards act.Again (mine keys cards s r id v here) Moved (becomes keys cards s r id v here r.words after) = record {
@@ -106,7 +106,7 @@ module _ (keys : List ℕ) (cards : ℕ) (s : TableState) (r : HasMachine keys c
       refl refl tt
 
   -- leave
-  pub keeps_leave : MayStop v → IsEvent keys cards s r id v call.Leave
+  pub keeps_leave : MayStop (worker_of v.worker) → IsEvent keys cards s r id v call.Leave
   keeps_leave may =
       let after = after_leave v in
       let happens : Happens cards act.Leave (mine keys cards s r id v here) Moved (becomes keys cards s r id v here r.words after) = record {

@@ -22,7 +22,7 @@ use Rattle.ell_cards.specs.declared.view.Told.TheVariants.{Key, Frozen}
 use Rattle.ell_cards.specs.declared.view.View.{View}
 use Rattle.ell_cards.specs.Models.{IsTold}
 use Rattle.ell_cards.specs.Changes.{learning, if_won, exchanged, after_mark, unmarking, is_mark_of}
-use Rattle.ell_cards.specs.Guards.{MayMark, MayDChild, MayDUnflag, MayBacktrack, IsSibling}
+use Rattle.ell_cards.specs.Guards.{MayMark, MayDChild, KnowsPlace, IsSibling}
 use Rattle.ell_cards.specs.States.{TableState}
 use Rattle.ell_cards.specs.Machines.{EntryHolds, HasMachine}
 use Rattle.ell_cards.specs.Laws.{IsEvent}
@@ -173,21 +173,21 @@ module _ (keys : List ℕ) (cards : ℕ) (s : TableState) (r : HasMachine keys c
       refl refl tt
 
   -- dunflag
-  pub keeps_dunflag : (c gp : ℕ) → MayDUnflag v c gp → IsEvent keys cards s r id v (call.DUnflag c gp)
+  pub keeps_dunflag : (c gp : ℕ) → KnowsPlace v (Cut c) c field.Gp gp → IsEvent keys cards s r id v (call.DUnflag c gp)
   keeps_dunflag c gp may =
       is_event keys cards s r id v here (call.DUnflag c gp) (act.DUnflag c) _ _
       (unflags keys cards s r id v here (act.DUnflag c) c (r.words.gp c) gp (dflag c) (DOver c) exchange.DUnflag
-      (told_is keys cards s r id v here c field.Gp gp may.grandparent) (delete_cut keys cards s r id v here c may.knows).grandparent
+      (told_is keys cards s r id v here c field.Gp gp may.place) (delete_cut keys cards s r id v here c may.knows).grandparent
       (λ e. (cc)) (λ e. (cc)) (λ e. refl) (λ e. refl)
       (λ says gives. record { owned = λ h. h; row = record { may = may.knows; does = record { says = says; gives = gives } }; room = λ h. h }))
       refl refl tt
 
   -- backtrack
-  pub keeps_backtrack : (c gp : ℕ) → MayBacktrack v c gp → IsEvent keys cards s r id v (call.Backtrack c gp)
+  pub keeps_backtrack : (c gp : ℕ) → KnowsPlace v (Unmarkable c) c field.Gp gp → IsEvent keys cards s r id v (call.Backtrack c gp)
   keeps_backtrack c gp may =
       is_event keys cards s r id v here (call.Backtrack c gp) (act.Backtrack c) _ _
       (unflags keys cards s r id v here (act.Backtrack c) c (r.words.gp c) gp (dflag c) (Backed c) exchange.Backtrack
-      (told_is keys cards s r id v here c field.Gp gp may.grandparent) (delete_unmarkable keys cards s r id v here c may.knows).grandparent
+      (told_is keys cards s r id v here c field.Gp gp may.place) (delete_unmarkable keys cards s r id v here c may.knows).grandparent
       (λ e. (cc)) (λ e. (cc)) (λ e. refl) (λ e. refl)
       (λ says gives. record { owned = λ h. h; row = record { may = may.knows; does = record { says = says; gives = gives } }; room = λ h. h }))
       refl refl tt

@@ -9,10 +9,10 @@ use Rattle.ell_core.specs.statements.Waiting.{IsUnflagged}
 use Rattle.ell_layout.proofs.lemmas.Listed.{address_inside, apart}
 use Rattle.ell_core.proofs.lemmas.stages.Waiting.{waits-claimed}
 use Rattle.ell_core.proofs.lemmas.following.waiting.Cards.{hand_waits, one_hand}
+use Rattle.ell_cards.specs.Changes.{after_fill}
 use Rattle.ell_cards.specs.declared.call.Call.TheVariants as call
 use Rattle.ell_cards.specs.declared.view.View.{View}
 use Rattle.ell_cards.specs.Models.{stored_at}
-use Rattle.ell_cards.specs.Changes.{after_fill}
 use Rattle.ell_cards.specs.Guards.{MayFill}
 use Rattle.ell_cards.specs.States.{TableState, seat_worker}
 use Rattle.ell_cards.specs.Machines.{HasMachine}

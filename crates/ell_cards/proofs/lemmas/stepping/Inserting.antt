@@ -15,7 +15,7 @@ use Rattle.ell_core.specs.history.Stages.{Born}
 use Rattle.ell_cards.specs.declared.call.Call.TheVariants as call
 use Rattle.ell_cards.specs.declared.view.View.{View}
 use Rattle.ell_cards.specs.Changes.{learning}
-use Rattle.ell_cards.specs.Guards.{MayIChild, MayIUnflag}
+use Rattle.ell_cards.specs.Guards.{MayIChild, KnowsPlace}
 use Rattle.ell_cards.specs.States.{TableState}
 use Rattle.ell_cards.specs.Machines.{HasMachine}
 use Rattle.ell_cards.specs.Laws.{IsEvent}
@@ -64,11 +64,11 @@ module _ (keys : List ℕ) (cards : ℕ) (s : TableState) (r : HasMachine keys c
       refl refl tt
 
   -- iunflag
-  pub keeps_iunflag : (c p : ℕ) → MayIUnflag v c p → IsEvent keys cards s r id v (call.IUnflag c p)
+  pub keeps_iunflag : (c p : ℕ) → KnowsPlace v (IChanged c) c field.P p → IsEvent keys cards s r id v (call.IUnflag c p)
   keeps_iunflag c p may =
       is_event keys cards s r id v here (call.IUnflag c p) (act.IUnflag c) _ _
       (unflags keys cards s r id v here (act.IUnflag c) c (r.words.p c) p (iflag c) (IOver c) exchange.IUnflag
-      (told_is keys cards s r id v here c field.P p may.parent) (insert_changed keys cards s r id v here c may.knows).parent
+      (told_is keys cards s r id v here c field.P p may.place) (insert_changed keys cards s r id v here c may.knows).parent
       (λ e. (cc)) (λ e. (cc)) (λ e. refl) (λ e. refl)
       (λ says gives. record { owned = λ h. h; row = record { may = may.knows; says = says; gives = gives }; room = λ h. h }))
       refl refl tt

@@ -9,7 +9,7 @@ use Rattle.ell_cards.specs.declared.view.Told.TheVariants.{Met, Key}
 use Rattle.ell_cards.specs.declared.glance.Glance.{Glance}
 use Rattle.ell_cards.specs.declared.view.View.{View}
 use Rattle.ell_cards.specs.Models.{IsFree, earlier}
-use Rattle.ell_cards.specs.Changes.{after_look, after_look_down}
+use Rattle.ell_cards.proofs.lemmas.views.Afters.{after_look, after_look_down}
 use Rattle.ell_cards.specs.Guards.{MayLookDown}
 use Rattle.ell_cards.specs.Calls.{child_at}
 use Rattle.ell_cards.specs.States.{TableState}

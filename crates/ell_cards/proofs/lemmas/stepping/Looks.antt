@@ -40,7 +40,9 @@ use Rattle.ell_cards.specs.declared.view.Told.{Told}
 use Rattle.ell_cards.specs.declared.view.Told.TheVariants.{Met, Key, Value}
 use Rattle.ell_cards.specs.declared.view.View.{View}
 use Rattle.ell_cards.specs.Models.{Has, latest, earlier, IsTold, KnewBefore, Does, StandsAt, InTable, EndedBy, EndWasUnknown}
-use Rattle.ell_cards.specs.Changes.{places_by, after_upd, after_down, after_next, after_key_of, after_value_of, is_at, seen_at}
+use Rattle.ell_cards.specs.Changes.{places_by, after_upd, is_this}
+use Rattle.ell_cards.proofs.lemmas.views.Afters.{after_down, after_next, after_key_of, after_value_of}
+use Rattle.ell_cards.proofs.lemmas.views.Searches.{seen_at}
 use Rattle.ell_cards.specs.Guards.{MayRead as MayUpd, MayGoDown}
 use Rattle.ell_cards.specs.Calls.{TellsLeaf, TellsValue, update_at, child_at, key_at, value_at}
 use Rattle.ell_cards.specs.States.{TableState}
@@ -292,7 +294,7 @@ module _ (keys : List ℕ) (cards : ℕ) (s : TableState) (r : HasMachine keys c
       is_no_event keys cards s r id v here (call.KeyOf x)
       (kept_told keys cards s r id v here (after_key_of x n v) refl (record {
         entries = with_entry (EntryHolds r.words r.stages) (Key x n) v.told (born, is) h.entries;
-        here = λ y key at told. tells n y key at (is_at v.worker.search.node x) refl told (h.here y key at);
+        here = λ y key at told. tells n y key at (is_this v.worker.search.node x) refl told (h.here y key at);
         hand = h.hand;
         read = h.read;
         least = h.least;
@@ -301,10 +303,10 @@ module _ (keys : List ℕ) (cards : ℕ) (s : TableState) (r : HasMachine keys c
       }) (key_at x))
       refl refl (leaf n is)
     where
-      tells : (n y key : ℕ) → v.worker.search.node ≡ Some y → (b : Bool) → is_at v.worker.search.node x ≡ b
+      tells : (n y key : ℕ) → v.worker.search.node ≡ Some y → (b : Bool) → is_this v.worker.search.node x ≡ b
           → (if b then Some n else v.here) ≡ Some key → (v.here ≡ Some key → IsTold v (Key y key)) → Has (Key x n ∷ v.told) (Key y key)
       tells n y key at true same told old =
-          let eq : x ≡ y = sym (eqb-true y x (sym (ap (λ o. is_at o x) at) ∙ same)) in
+          let eq : x ≡ y = sym (eqb-true y x (sym (ap (λ o. is_this o x) at) ∙ same)) in
           let value : n ≡ key = cc in
           subst (λ z. Has (Key x n ∷ v.told) (Key z key)) eq (subst (λ k. Has (Key x n ∷ v.told) (Key x k)) value (latest (Key x n) v.told))
       tells n y key at false same told old = earlier (Key y key) (Key x n) v.told (old told)

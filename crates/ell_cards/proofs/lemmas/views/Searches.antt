@@ -9,12 +9,18 @@ use Rattle.ell_core.specs.acts.Searching.{IsClean}
 use Rattle.ell_layout.specs.Words.{IsLeaf}
 use Rattle.ell_cards.specs.declared.view.View.{View}
 use Rattle.ell_cards.specs.Models.{PassModel, Sees, Steps, Does, StandsAt}
-use Rattle.ell_cards.specs.Changes.{after_upd, after_key_of, after_next, is_at, told_value, filling_for, filling_of}
+use Rattle.ell_cards.specs.Changes.{after_upd, is_this, told_value, filling_for, filling_of}
+use Rattle.ell_cards.proofs.lemmas.views.Afters.{after_key_of, after_next}
 use Rattle.ell_cards.specs.Guards.{MayGoDown, MayClaim, Wants}
 use Rattle.ell_cards.proofs.lemmas.views.Steps.{view_after, view_seen}
 
+-- a node with the word that was read there, if one was
+abbrev pub seen_at : ℕ → Option ℕ → Option Seen
+seen_at x None = None
+seen_at x (Some word) = Some (record { node = x; word = word })
+
 -- the key that was asked at the node where the pass stands is the key there
-pub told_here : (o here : Option ℕ) (x key : ℕ) → o ≡ Some x → (if is_at o x then Some key else here) ≡ Some key
+pub told_here : (o here : Option ℕ) (x key : ℕ) → o ≡ Some x → (if is_this o x then Some key else here) ≡ Some key
 told_here None here x key e = cc
 told_here (Some y) here x key e =
     let same : (y == x) ≡ true = eq-eqb y x (cc) in rw same

@@ -3,7 +3,7 @@ use Rattle.ell_layout.specs.declared.field.Field.{Field}
 use Rattle.ell_cards.specs.declared.view.Told.TheVariants.{Met, Key, Info, Frozen}
 use Rattle.ell_cards.specs.declared.view.View.{View}
 use Rattle.ell_cards.specs.Models.{PassModel, Sees, Steps, latest, earlier, IsTold}
-use Rattle.ell_cards.specs.Changes.{after_key_of, after_info, after_frozen_child}
+use Rattle.ell_cards.proofs.lemmas.views.Afters.{after_key_of, after_info, after_frozen_child}
 use Rattle.ell_cards.specs.Guards.{NamesNode}
 use Rattle.ell_cards.proofs.lemmas.views.Entries.{info_latest, info_node}
 

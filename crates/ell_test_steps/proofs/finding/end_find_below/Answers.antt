@@ -4,7 +4,7 @@ use Rattle.ell_word.specs.Node.{IsInternal}
 use Rattle.ell_cards.specs.declared.view.View.{View}
 use Rattle.ell_cards.specs.declared.view.Told.TheVariants.{Met}
 use Rattle.ell_cards.specs.Models.{IsTold, latest}
-use Rattle.ell_cards.specs.Changes.{after_down}
+use Rattle.ell_cards.proofs.lemmas.views.Afters.{after_down}
 use Rattle.ell_cards.proofs.lemmas.views.Steps.{view_after}
 use Rattle.ell_test_steps.proofs.lemmas.Readiness.{may_go_down_by}
 use Rattle.ell_test_steps.proofs.finding.end_find_below.Goals as goal

@@ -1,6 +1,6 @@
 use Rattle.std.proofs.Common.{Some, None, refl, rules}
 use Rattle.ell_word.specs.Node.{IsInternal}
-use Rattle.ell_cards.specs.Changes.{after_down}
+use Rattle.ell_cards.proofs.lemmas.views.Afters.{after_down}
 use Rattle.ell_test_steps.specs.declared.memory.Remembered.{Remembered}
 use Rattle.ell_test_steps.proofs.lemmas.Asides.{key_aside}
 use Rattle.ell_test_steps.proofs.lemmas.Fittings.{fits_down}

@@ -2,7 +2,7 @@ use Rattle.std.proofs.Common.{◌+◌, ◌*◌, refl, ◌∙◌, arith, rules}
 use Rattle.ell_word.specs.Node.{IsInternal, card}
 use Rattle.ell_layout.specs.Words.{IsLeaf}
 use Rattle.ell_cards.specs.declared.view.Told.TheVariants.{Met}
-use Rattle.ell_cards.specs.Changes.{after_key_of, after_value_of}
+use Rattle.ell_cards.proofs.lemmas.views.Afters.{after_key_of, after_value_of}
 use Rattle.ell_tree.proofs.lemmas.Counting.{uncounted_one, uncounted_trans}
 use Rattle.ell_tree.proofs.lemmas.Keeping.{seeks_trans}
 use Rattle.ell_tree.proofs.lemmas.Descending.{key_seeks, value_seeks, stands_next, search_ends}
