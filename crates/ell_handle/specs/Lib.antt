@@ -5,7 +5,7 @@ pub mod Opens
 -- a handle that comes to fresh cards
 pub mod Renewal
 -- when a handle is not parted, and two are not joined
-pub mod Parts
+pub mod HandleParts
 -- handles that come to fresh cards together
 pub mod Groups
 -- handles of a tree of shared keys that come to fresh cards together

@@ -3,7 +3,7 @@ use Rattle.ell_ops.specs.declared.op.Op.{Op}
 use Rattle.ell_ops.specs.Meaning.{key_of}
 use Rattle.ell_tree.specs.Ends.{Ends}
 use Rattle.ell_tree.specs.Promises.{IsOthersDoing, IsWithin}
-use Rattle.ell_tree.specs.declared.operations.Held.TheVariants as held
+use Rattle.ell_tree.specs.declared.operations.NotDone.TheVariants as not_done
 use Rattle.ell_handle.specs.Reads.{MayUse, last_card_of, tree_of}
 use Rattle.ell_handle.specs.declared.handle.Handle.{Handle}
 use Rattle.ell_handle.specs.declared.refusal.Refusal.{Refusal}
@@ -27,13 +27,13 @@ TookTries tries old new = IsWithin (tree_of old) tries old.pass new.pass
 -- a change, which would have changed the map, was laid down after so many tries: something was in the way of each, which is over; that is
 -- others' doing; and they are no more than twice the cards
 pub record IsHindered (op : Op) (tries : ℕ) (old new : Handle) : Type 0 where
-  pub ends : Ends (tree_of old) tries op old.pass new.pass (Err held.Busy)
+  pub ends : Ends (tree_of old) tries op old.pass new.pass (Err not_done.Busy)
   pub others : IsOthersDoing (tree_of old) tries old.pass new.pass
   pub few : tries ≤ 2 * last_card_of old
 
 -- a change, which would have changed the map, was laid down, as its last try has read that all cards of the tree are given out
 pub record IsSpent (op : Op) (tries : ℕ) (old new : Handle) : Type 0 where
-  pub ends : Ends (tree_of old) tries op old.pass new.pass (Err held.Spent)
+  pub ends : Ends (tree_of old) tries op old.pass new.pass (Err not_done.Spent)
 
 -- why a change has no answer: the first two leave the handle untouched
 abbrev pub ChangeRefuses : Op → ℕ → Handle → Handle → Refusal → Type 0

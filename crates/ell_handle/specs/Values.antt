@@ -1,10 +1,10 @@
 use Rattle.std.specs.Prelude.{◌≡◌, ◌≢◌, ◌≤◌, ◌*◌, ℕ, Bool, true, false, Option, Some, is_some, Result, Ok, Err}
-use Rattle.ell_tree.specs.Computing.{HoldsBack, update_steps}
+use Rattle.ell_tree.specs.Computing.{IsNotDone, update_steps}
 use Rattle.ell_tree.specs.Counts.{Took}
 use Rattle.ell_tree.specs.Ends.{CountsTries}
 use Rattle.ell_tree.specs.Ledgers.{Owns}
 use Rattle.ell_tree.specs.Promises.{IsOthersDoing}
-use Rattle.ell_tree.specs.declared.operations.Held.TheVariants as held
+use Rattle.ell_tree.specs.declared.operations.NotDone.TheVariants as not_done
 use Rattle.ell_handle.specs.Reads.{MayUse, last_card_of, tree_of}
 use Rattle.ell_handle.specs.Tries.{MayChange}
 use Rattle.ell_handle.specs.declared.handle.Handle.{Handle}
@@ -45,19 +45,19 @@ pub record TookRounds (tries : ℕ) (old new : Handle) : Type 0 where
 
 -- such a call has changed nothing, as something was in the way of each try, or another handle had changed the key. On a
 -- key of the handle's own it is the former, which is others' doing; and the tries are no more than twice the cards
-pub record IsHeldBusy (key tries : ℕ) (old new : Handle) : Type 0 where
-  pub holds : HoldsBack (tree_of old) key old.pass new.pass held.Busy
+pub record EndsBusy (key tries : ℕ) (old new : Handle) : Type 0 where
+  pub ends : IsNotDone (tree_of old) key old.pass new.pass not_done.Busy
   pub others : Owns old.pass key → IsOthersDoing (tree_of old) tries old.pass new.pass
   pub few : Owns old.pass key → tries ≤ 2 * last_card_of old
 
 -- such a call has changed nothing, as a try of it has read that all cards of the tree are given out
-pub record IsHeldSpent (key : ℕ) (old new : Handle) : Type 0 where
-  pub holds : HoldsBack (tree_of old) key old.pass new.pass held.Spent
+pub record EndsSpent (key : ℕ) (old new : Handle) : Type 0 where
+  pub ends : IsNotDone (tree_of old) key old.pass new.pass not_done.Spent
 
 -- why such a call has no answer: the first two leave the handle untouched
 abbrev pub ValueRefuses : ℕ → ℕ → Handle → Handle → Refusal → Type 0
 ValueRefuses key tries old new NoTries = (tries ≡ 0) × (new ≡ old)
 ValueRefuses key tries old new Foreign = (1 ≤ tries) × ((¬ MayUse old key) × (new ≡ old))
-ValueRefuses key tries old new Busy = MayChange key tries old × IsHeldBusy key tries old new
-ValueRefuses key tries old new Spent = MayChange key tries old × IsHeldSpent key old new
+ValueRefuses key tries old new Busy = MayChange key tries old × EndsBusy key tries old new
+ValueRefuses key tries old new Spent = MayChange key tries old × EndsSpent key old new
 ValueRefuses key tries old new _ = ⊥

@@ -50,7 +50,7 @@ pub fn renew_all_shared(
         return Err(Refusal::OtherTree);
     }
     let pairs = all_pairs(&mut handles[0], alloc)?;
-    let fresh = opened(alloc, handles.len(), &pairs, cards, number)?;
+    let fresh = open_shared_handles(alloc, handles.len(), &pairs, cards, number)?;
     put_all(handles, fresh);
     Ok(())
 }
@@ -114,7 +114,7 @@ fn each(alloc: Global, pairs: &[Pair]) -> Result<Vec<(u64, u64)>, AllocError>
 }
 
 // So many handles, at least one, of a new tree of shared keys with these start keys.
-fn opened(
+fn open_shared_handles(
     alloc: Global,
     count: usize,
     start: &[(u64, u64)],

@@ -47,7 +47,7 @@ pub fn renew_all(
     if handles.iter().any(|handle| handle.has_shared_keys()) {
         return Err(Refusal::SharedKeys);
     }
-    let parts = renewed(handles, alloc, cards, number)?;
+    let parts = open_anew(handles, alloc, cards, number)?;
     put_all(handles, parts);
     Ok(())
 }
@@ -65,7 +65,7 @@ pub(crate) fn have_one_number(handles: &[Handle]) -> bool
 }
 
 // Handles of a new tree for the places of these.
-fn renewed(
+fn open_anew(
     handles: &mut [Handle],
     alloc: Global,
     cards: u64,

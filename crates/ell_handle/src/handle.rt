@@ -31,7 +31,7 @@ pub struct SharedTree {
 /// A place for a handle, on which a handle can be put back without asking for memory. A handle writes to its words at each step, so words that
 /// nobody uses stand on both sides of it: no cache line, nor the one that a processor fetches with it, has words of two handles.
 #[derive(Drop)]
-pub struct Place {
+pub struct HandlePlace {
     before: Unused,
     pub handle: Option<Handle>,
     after: Unused,
@@ -55,13 +55,13 @@ impl Unused {
     }
 }
 
-impl Place {
+impl HandlePlace {
     /// A place with this handle, or an empty one.
-    pub fn of(handle: Option<Handle>) -> Place
+    pub fn of(handle: Option<Handle>) -> HandlePlace
         // Returns a place with this handle, or without one.
         ensures { result.handle ≡ handle }
     {
-        Place {
+        HandlePlace {
             before: Unused::new(),
             handle,
             after: Unused::new(),

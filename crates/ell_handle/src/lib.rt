@@ -19,6 +19,6 @@ mod using;
 pub use ell_tree::{About, Pair, Scanned};
 pub use fresh::renew_all_shared;
 pub use grouping::renew_all;
-pub use handle::{Handle, Place, SharedTree, sent};
+pub use handle::{Handle, HandlePlace, SharedTree, sent};
 pub use key_table::KeyTable;
 pub use refusal::Refusal;

@@ -9,7 +9,7 @@ ghost use Rattle.ell_tree.specs.Ledgers.{Owns, present_in};
 ghost use Rattle.ell_tree.specs.PassParts.{IsUnion};
 ghost use Rattle.ell_handle.specs.Groups.{HasSame, HaveNumber};
 ghost use Rattle.ell_handle.specs.Opens.{IsOpened, IsOpenedShared, MayOpen, Refuses};
-ghost use Rattle.ell_handle.specs.Parts.{AnotherRefuses, AreParts, IsLeast, JoinRefuses, MayJoin, SplitRefuses};
+ghost use Rattle.ell_handle.specs.HandleParts.{AnotherRefuses, AreParts, IsLeast, JoinRefuses, MayJoin, SplitRefuses};
 ghost use Rattle.ell_handle.specs.declared.refusal.Refusal.TheVariants.{NoMemory};
 
 use crate::handle::{Handle, SharedTree};

@@ -1,9 +1,9 @@
 //! Why a call has no answer.
 ghost use Rattle.std.specs.Prelude.{◌≡◌};
-ghost use Rattle.ell_handle.specs.Refusals.{of_fault, of_held};
+ghost use Rattle.ell_handle.specs.Refusals.{of_fault, of_not_done};
 ghost use Rattle.ell_handle.specs.declared.refusal.Refusal.TheVariants.{NoMemory as no_memory};
 
-use ell_tree::{CardFault, Held};
+use ell_tree::{CardFault, NotDone};
 use std::alloc::{AllocError, AllocFailed};
 use thiserror::Error;
 
@@ -72,13 +72,13 @@ impl From<CardFault> for Refusal {
     }
 }
 
-impl From<Held> for Refusal {
-    ghost from_gives = { λ held why. why ≡ of_held held };
+impl From<NotDone> for Refusal {
+    ghost from_gives = { λ not_done why. why ≡ of_not_done not_done };
 
-    fn from(held: Held) -> Refusal {
-        match held {
-            Held::Busy => Refusal::Busy,
-            Held::Spent => Refusal::Spent,
+    fn from(not_done: NotDone) -> Refusal {
+        match not_done {
+            NotDone::Busy => Refusal::Busy,
+            NotDone::Spent => Refusal::Spent,
         }
     }
 }

@@ -1,6 +1,6 @@
 //! Which keys a handle may use.
 ghost use Rattle.std.specs.Prelude.{IsTrue, ◌↔◌};
-ghost use Rattle.ell_handle.specs.Parts.{IsLeast};
+ghost use Rattle.ell_handle.specs.HandleParts.{IsLeast};
 ghost use Rattle.ell_handle.specs.Reads.{HasSharedKeys, MayUse};
 
 use crate::handle::Handle;

@@ -14,8 +14,8 @@ pub mod Fronts
 pub mod Gathering
 -- A pass in two halves: what is done with each comes to what is done with the whole.
 pub mod Halves
--- What held the operations that workers leave.
-pub mod Held
+-- Why operations that workers leave are not done.
+pub mod NotDone
 -- The keys of rows of workers.
 pub mod Keys
 -- What is late completes what was done to what one thread does.

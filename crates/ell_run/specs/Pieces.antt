@@ -24,7 +24,7 @@ front items piece = take (length piece) items
 pub record IsPiece (set : Contents) (items : List (ℕ × Op)) (piece : List (ℕ × Reply)) : Type 0 where
   pub few : length piece ≤ length items
   pub done : piece ≡ piece_from set (front items piece)
-  pub held : (position : ℕ) (op : Op) → slice_get items (length piece) ≡ Some (position, op) →
+  pub not_done : (position : ℕ) (op : Op) → slice_get items (length piece) ≡ Some (position, op) →
       reply_of op (final set (ops_in (front items piece))) ≡ reply_of_change op
 
 -- one piece for each worker, in their order, each done from a map
@@ -51,14 +51,14 @@ ops_done parting (worker ∷ workers) (piece ∷ pieces) =
     ops_in (front (part parting worker) piece) ++ ops_done parting workers pieces
 
 -- how many operations stand just behind a piece in its part: one where it leaves something of it
-abbrev pub one_held : List (ℕ × Op) → List (ℕ × Reply) → ℕ
-one_held items piece = if nat_lt (length piece) (length items) then 1 else 0
+abbrev pub one_not_done : List (ℕ × Op) → List (ℕ × Reply) → ℕ
+one_not_done items piece = if nat_lt (length piece) (length items) then 1 else 0
 
 -- how many workers' pieces leave something of their parts
-abbrev pub all_held : PartedOps → List ℕ → List (List (ℕ × Reply)) → ℕ
-all_held parting [] pieces = 0
-all_held parting (worker ∷ workers) [] = 0
-all_held parting (worker ∷ workers) (piece ∷ pieces) = one_held (part parting worker) piece + all_held parting workers pieces
+abbrev pub all_not_done : PartedOps → List ℕ → List (List (ℕ × Reply)) → ℕ
+all_not_done parting [] pieces = 0
+all_not_done parting (worker ∷ workers) [] = 0
+all_not_done parting (worker ∷ workers) (piece ∷ pieces) = one_not_done (part parting worker) piece + all_not_done parting workers pieces
 
 -- all workers, ascending
 abbrev pub all_workers : PartedOps → List ℕ

@@ -9,7 +9,7 @@ use Rattle.ell_tree.specs.Ledgers.{PassModel, TreeModel, Owns, IsIdle, answers, 
 use Rattle.ell_tree.specs.PassParts.{IsLeftPart, IsRightPart}
 use Rattle.ell_run.specs.ByParts.{ops_in}
 use Rattle.ell_run.specs.Steps.{AreWithin, total_steps, work_steps}
-use Rattle.ell_run.specs.Pieces.{ArePieces, IsPiece, all_held, all_workers, busy, front, lists_of, one_held, ops_done}
+use Rattle.ell_run.specs.Pieces.{ArePieces, IsPiece, all_not_done, all_workers, busy, front, lists_of, one_not_done, ops_done}
 use Rattle.ell_ops.specs.declared.reply.Reply.{Reply}
 
 -- the pass owns the keys of numbered operations
@@ -47,12 +47,12 @@ pub record HasNoCards (cards : ℕ) (pass : PassModel) : Type 0 where
   pub read : pass.view.next ≡ Some next
   pub past : cards < next
 
--- why so many operations were held: something was in the way of each of them at each of its tries, or all cards are given out, as the
+-- why so many operations were not done: something was in the way of each of them at each of its tries, or all cards are given out, as the
 -- pass that comes back has read
-abbrev pub AreHeld : ℕ → ℕ → ℕ → PassModel → PassModel → Type 0
-AreHeld cards tries count before after = HasNoCards cards after ⊎ (hindrances before + tries * count ≤ hindrances after)
+abbrev pub AreNotDone : ℕ → ℕ → ℕ → PassModel → PassModel → Type 0
+AreNotDone cards tries count before after = HasNoCards cards after ⊎ (hindrances before + tries * count ≤ hindrances after)
 
--- a front of numbered operations was done with a pass, and this piece answers it; the operation behind it, if there is one, was held
+-- a front of numbered operations was done with a pass, and this piece answers it; the operation behind it, if there is one, was not done
 pub record IsWorkedOff (cards tries : ℕ) (items : List (ℕ × Op)) (before after : PassModel) (piece : List (ℕ × Reply)) : Type 0 where
   pub table : after.table ≡ before.table
   pub label : after.label ≡ before.label
@@ -61,10 +61,10 @@ pub record IsWorkedOff (cards tries : ℕ) (items : List (ℕ × Op)) (before af
   pub map : present_in after ≡ final (present_in before) (ops_in (front items piece))
   pub owned : (key : ℕ) → Owns after key ↔ Owns before key
   pub answers : answers after ≡ answers before + length piece
-  pub held : AreHeld cards tries (one_held items piece) before after
+  pub not_done : AreNotDone cards tries (one_not_done items piece) before after
 
 -- workers have worked with a pass, and left these pieces: the pass has the map that what they did leaves, one worker's operations
--- after the other's; each operation behind a piece was held
+-- after the other's; each operation behind a piece was not done
 pub record IsWorked (cards tries : ℕ) (parting : PartedOps) (workers : List ℕ) (before after : PassModel) (pieces : List (List (ℕ × Reply))) : Type 0 where
   pub table : after.table ≡ before.table
   pub idle : IsIdle after
@@ -72,7 +72,7 @@ pub record IsWorked (cards tries : ℕ) (parting : PartedOps) (workers : List �
   pub map : present_in after ≡ final (present_in before) (ops_done parting workers pieces)
   pub owned : (key : ℕ) → Owns after key ↔ Owns before key
   pub answers : answers after ≡ answers before + sum_by length pieces
-  pub held : AreHeld cards tries (all_held parting workers pieces) before after
+  pub not_done : AreNotDone cards tries (all_not_done parting workers pieces) before after
 
 -- the label of a pass that workers have worked with, each under its number: the first one's, or what it was if there is none
 abbrev pub label_after : PassModel → List ℕ → ℕ

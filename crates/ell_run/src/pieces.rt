@@ -11,13 +11,13 @@ ghost use Rattle.ell_run.specs.Work.{IsWorked, IsWorkedOff, OwnsAll};
 
 use ell_ops::{NoMemory, Op, Reply};
 use ell_parts::Parts;
-use ell_tree::{Held, Pass, StepGate, Tree};
+use ell_tree::{NotDone, Pass, StepGate, Tree};
 use std::alloc::{Allocator, Global};
 
 /// The replies of a worker, with their positions in the whole list.
 pub type Piece<A = Global> = Vec<(usize, Reply), A>;
 
-// Works a part off, operation by operation, and leaves the rest of it from the first operation on that is held. The bound on the steps
+// Works a part off, operation by operation, and leaves the rest of it from the first operation on that is not done. The bound on the steps
 // rests on the law of the moves that a pass knows of, whose function does nothing.
 pub(crate) fn work_off<A: Allocator + Copy, G: StepGate>(
     alloc: A,
@@ -31,7 +31,7 @@ pub(crate) fn work_off<A: Allocator + Copy, G: StepGate>(
     requires owned { OwnsAll pass.old part.now }
     requires tries { 1 ≤ tries }
     // The piece has the right replies to a front of the part, and the pass has the map after it. The next operation, if
-    // there is one, was held.
+    // there is one, was not done.
     ensures worked { IfOk result (λ piece.
         IsWorkedOff tree.now.plan.last_card tries part.now pass.old pass.new piece.items) }
     // It makes at most the steps of its part's operations, in a row and in all.
@@ -57,7 +57,7 @@ fn do_op<A: Allocator + Copy, G: StepGate>(
     op: Op,
     tries: u32,
     gate: &G,
-) -> Result<Reply, Held>
+) -> Result<Reply, NotDone>
     requires may { MayDo tree.now (key_of op) pass.old }
     requires tries { 1 ≤ tries }
     ensures ends { Ends tree.now tries op pass.old pass.new result }

@@ -18,7 +18,7 @@ use std::alloc::Allocator;
 use std::thread::{Threads, join};
 
 /// Has each worker work its part off with a pass of the tree, in a thread of its own where one can be made. A worker leaves the rest
-/// of its part from the first operation on that is held: something was in its way at each of its tries, or all cards are given out.
+/// of its part from the first operation on that is not done: something was in its way at each of its tries, or all cards are given out.
 /// Answers the pass, with all its keys, and a piece for each worker, in their order: its replies, with their positions. The pass then
 /// has the number of the first worker with operations as its label, or its own label if there is none. After a fault the pass is
 /// gone; `TooManyPasses` comes only in a tree that shares keys. However many tries there are, and however the workers' steps fall, a
@@ -39,7 +39,7 @@ pub fn work<R: Threads + Sync, A: Allocator + Copy + Send + Sync, G: StepGate + 
     requires owned { All (λ op. Owns pass (key_of op)) parts.now.ops }
     requires tries { 1 ≤ tries }
     // The pass that comes back has the same tree and keys, is idle, and has the map after a front of each worker's
-    // part, to which the worker's piece has the replies. The next operation of each part was held. In a row they make
+    // part, to which the worker's piece has the replies. The next operation of each part was not done. In a row they make
     // at most the steps of the longest part, and two for each other busy worker; in all at most the sum of all parts',
     // and as many.
     ensures worked { IfOk result (AllHaveWorked tree.now tries 0 parts.now pass) }

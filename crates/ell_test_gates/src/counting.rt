@@ -6,7 +6,7 @@ use std::sync::atomic::{AtomicU64, Ordering};
 
 /// What a gate was told of a worker.
 #[derive(Clone, Copy, Debug, PartialEq, Eq, Hash, Default)]
-pub struct Told {
+pub struct Tally {
     /// How many operations it began.
     pub begun: u64,
     /// How many atomic steps it came to, of whatever kind.
@@ -15,7 +15,7 @@ pub struct Told {
     pub ended_behind: u64,
     /// How many of its operations ended with an answer, and without one.
     pub answered: u64,
-    pub held: u64,
+    pub not_done: u64,
 }
 
 // Counts what is told of one worker: how often of each kind, in the order of the kinds, behind how many steps its last operation
@@ -25,7 +25,7 @@ struct Counts {
     kinds: Vec<AtomicU64>,
     ended_behind: AtomicU64,
     answered: AtomicU64,
-    held: AtomicU64,
+    not_done: AtomicU64,
 }
 
 /// Counts what it is told of each worker, and tells another gate.
@@ -59,8 +59,8 @@ impl<G: StepGate + Drop> Counting<G> {
     }
 
     /// What was told of a worker.
-    pub fn told(&self, worker: u32) -> Told {
-        self.counts(worker).map_or(Told::default(), Counts::told)
+    pub fn tally(&self, worker: u32) -> Tally {
+        self.counts(worker).map_or(Tally::default(), Counts::tally)
     }
 
     fn counts(&self, worker: u32) -> Option<&Counts> {
@@ -93,7 +93,11 @@ impl Counts {
 
     fn end(&self, answered: bool) {
         self.ended_behind.store(self.steps(), Ordering::SeqCst);
-        one_more(if answered { &self.answered } else { &self.held });
+        one_more(if answered {
+            &self.answered
+        } else {
+            &self.not_done
+        });
     }
 
     fn of(&self, kind: Kind) -> u64 {
@@ -106,13 +110,13 @@ impl Counts {
         all.wrapping_sub(self.of(Kind::Begin))
     }
 
-    fn told(&self) -> Told {
-        Told {
+    fn tally(&self) -> Tally {
+        Tally {
             begun: self.of(Kind::Begin),
             steps: self.steps(),
             ended_behind: read(&self.ended_behind),
             answered: read(&self.answered),
-            held: read(&self.held),
+            not_done: read(&self.not_done),
         }
     }
 }
@@ -127,7 +131,7 @@ fn none_told(alloc: Global) -> Result<Counts, AllocError> {
         kinds,
         ended_behind: AtomicU64::new(0),
         answered: AtomicU64::new(0),
-        held: AtomicU64::new(0),
+        not_done: AtomicU64::new(0),
     })
 }
 

@@ -8,7 +8,7 @@ use std::collections::BTreeSet;
 
 /// A call that was answered, with its begin and its end by a clock that all workers read. A look counts as a find, a
 /// take as a delete that found the value which it took, and a put or an update as a swap of the value that it found, or
-/// as an insert, if it found none. A call that is held changes nothing, and stands in no history.
+/// as an insert, if it found none. A call that is not done changes nothing, and stands in no history.
 #[derive(Clone, Copy, Debug, PartialEq, Eq)]
 pub struct Made {
     /// Who made it, by a number below 64: a worker makes one call at a time.

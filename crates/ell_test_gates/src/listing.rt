@@ -7,16 +7,16 @@ use std::sync::atomic::{AtomicU64, Ordering};
 /// What a gate is told of a worker: steps of a kind, so many one after the other, or the end of an operation, and whether with an
 /// answer.
 #[derive(Clone, Copy, Debug, PartialEq, Eq)]
-pub enum Call {
+pub enum Notice {
     Before(Kind, u32),
     After(bool),
 }
 
-/// What a gate is told of a worker, one call after the other.
-pub type Stretch<'a> = (u32, &'a [Call]);
+/// What a gate is told of a worker, one notice after the other.
+pub type Stretch<'a> = (u32, &'a [Notice]);
 
 // The numbers of the two ends in the list, greater than that of any kind of step.
-const HELD: u64 = 14;
+const NOT_DONE: u64 = 14;
 
 const ANSWERED: u64 = 15;
 
@@ -26,20 +26,20 @@ const ANSWERED: u64 = 15;
 pub struct Listing<G: StepGate + Drop> {
     behind: G,
     // The number of a worker, times 16, and that of a kind of step or of an end.
-    calls: Vec<AtomicU64>,
+    notices: Vec<AtomicU64>,
     told: AtomicU64,
 }
 
 impl<G: StepGate + Drop> Listing<G> {
-    /// Lists so many calls. Further ones are counted alone.
+    /// Lists so many notices. Further ones are counted alone.
     pub fn new(alloc: Global, room: u32, behind: G) -> Result<Listing<G>, AllocError> {
-        let mut calls = Vec::new(alloc);
+        let mut notices = Vec::new(alloc);
         for _ in 0..room {
-            calls.push(AtomicU64::new(0))?;
+            notices.push(AtomicU64::new(0))?;
         }
         Ok(Listing {
             behind,
-            calls,
+            notices,
             told: AtomicU64::new(0),
         })
     }
@@ -52,9 +52,9 @@ impl<G: StepGate + Drop> Listing<G> {
     /// Whether it was told these stretches, and nothing else.
     pub fn was_told(&self, stretches: &[Stretch]) -> bool {
         let mut told = 0u64;
-        for (worker, calls) in stretches {
-            for call in *calls {
-                let Some(next) = self.goes_on(told, *worker, *call) else {
+        for (worker, notices) in stretches {
+            for notice in *notices {
+                let Some(next) = self.goes_on(told, *worker, *notice) else {
                     return false;
                 };
                 told = next;
@@ -63,11 +63,11 @@ impl<G: StepGate + Drop> Listing<G> {
         told == self.told.load(Ordering::SeqCst)
     }
 
-    // Whether the list goes on from a place with a call of a worker, as often as it says: the place behind it.
-    fn goes_on(&self, from: u64, worker: u32, call: Call) -> Option<u64> {
-        let (number, times) = match call {
-            Call::Before(kind, times) => (number_of(kind), times),
-            Call::After(answered) => (number_of_end(answered), 1),
+    // Whether the list goes on from a place with a notice of a worker, as often as it says: the place behind it.
+    fn goes_on(&self, from: u64, worker: u32, notice: Notice) -> Option<u64> {
+        let (number, times) = match notice {
+            Notice::Before(kind, times) => (number_of(kind), times),
+            Notice::After(answered) => (number_of_end(answered), 1),
         };
         let want = entry(worker, number);
         let end = from.wrapping_add(times as u64);
@@ -76,14 +76,14 @@ impl<G: StepGate + Drop> Listing<G> {
     }
 
     fn entry_at(&self, place: u64) -> Option<u64> {
-        let call = self.calls.get(place as usize)?;
-        Some(call.load(Ordering::SeqCst))
+        let notice = self.notices.get(place as usize)?;
+        Some(notice.load(Ordering::SeqCst))
     }
 
     fn add(&self, entry: u64) {
         let place = self.told.fetch_add(1, Ordering::SeqCst);
-        if let Some(call) = self.calls.get(place as usize) {
-            call.store(entry, Ordering::SeqCst);
+        if let Some(notice) = self.notices.get(place as usize) {
+            notice.store(entry, Ordering::SeqCst);
         }
     }
 }
@@ -105,5 +105,5 @@ fn entry(worker: u32, number: u64) -> u64 {
 }
 
 fn number_of_end(answered: bool) -> u64 {
-    if answered { ANSWERED } else { HELD }
+    if answered { ANSWERED } else { NOT_DONE }
 }

@@ -12,14 +12,14 @@ pub enum Until {
 }
 
 /// A turn of a worker.
-pub type Turn = (u32, Until);
+pub type WorkerTurn = (u32, Until);
 
 /// Lets workers go on in turns, each of which begins with the first one or behind the one before it. A worker without a further turn
 /// waits until all are over. No wait lasts longer than 4,000,000,000 turns of a loop, and once one has lasted so long, nobody
 /// waits any more.
 #[derive(Drop)]
 pub struct Turns<'a> {
-    turns: &'a [Turn],
+    turns: &'a [WorkerTurn],
     // How many turns are over, and how many steps of its kind the one that goes on has come to.
     over: AtomicU64,
     come: AtomicU64,
@@ -28,7 +28,7 @@ pub struct Turns<'a> {
 }
 
 impl<'a> Turns<'a> {
-    pub fn new(turns: &'a [Turn]) -> Turns<'a> {
+    pub fn new(turns: &'a [WorkerTurn]) -> Turns<'a> {
         Turns {
             turns,
             over: AtomicU64::new(0),

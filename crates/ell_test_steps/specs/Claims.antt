@@ -12,11 +12,11 @@ use Rattle.ell_cards.specs.declared.view.Told.TheVariants.{Value}
 use Rattle.ell_cards.specs.Models.{Does, StandsAt, IsTold}
 use Rattle.ell_cards.specs.Changes.{told_value}
 use Rattle.ell_cards.specs.Guards.{MayFill}
-use Rattle.ell_test_steps.specs.declared.filling.Place.{Place}
+use Rattle.ell_test_steps.specs.declared.filling.LeafFound.{LeafFound}
 use Rattle.ell_test_steps.specs.Fitting.{seen, seen_any}
 
 -- a search ended at a place, whose key and value were told
-pub record EndsAt (v : View) (place : Place) : Type 0 where
+pub record EndsAt (v : View) (place : LeafFound) : Type 0 where
   pub stands : StandsAt v place.leaf
   pub outer : IsLeaf place.leaf
   pub told : v.here ≡ Some place.key
@@ -26,7 +26,7 @@ pub record EndsAt (v : View) (place : Place) : Type 0 where
   pub above : v.worker.search.grandparent ≡ seen_any place.grandparent
 
 -- behind a parent that was read clean, with no card in hand
-pub record ClaimsAt (v : View) (op : Op) (place : Place) : Type 0 where
+pub record ClaimsAt (v : View) (op : Op) (place : LeafFound) : Type 0 where
   pub ends : EndsAt v place
   pub busy : Does v op
   pub no_card : v.worker.card ≡ None
@@ -40,12 +40,12 @@ pub record IsFresh (v : View) (c : ℕ) (filling : List (Field × ℕ)) : Type 0
   pub empty : v.stores ≡ []
 
 -- the stores of an insert's card, the last first
-abbrev pub insert_stores : ℕ → ℕ → ℕ → Place → List (Field × ℕ)
+abbrev pub insert_stores : ℕ → ℕ → ℕ → LeafFound → List (Field × ℕ)
 insert_stores c k value place =
     (RightValue, if nat_lt k place.key then place.value else value) ∷ (LeftValue, if nat_lt k place.key then value else place.value)
     ∷ (RightLeafKey, max k place.key) ∷ (LeftLeafKey, min k place.key) ∷ (Update, clean 0) ∷ (Right, right_leaf c) ∷ (Left, left_leaf c)
     ∷ (Key, max k place.key) ∷ (L, place.leaf) ∷ (P, place.parent.node) ∷ []
 
 -- the stores of a delete's card, the last first
-abbrev pub delete_stores : ℕ → Place → List (Field × ℕ)
+abbrev pub delete_stores : ℕ → LeafFound → List (Field × ℕ)
 delete_stores gp place = (Was, packed place.parent.update) ∷ (L, place.leaf) ∷ (P, place.parent.node) ∷ (Gp, gp) ∷ []

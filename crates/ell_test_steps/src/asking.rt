@@ -15,7 +15,7 @@ use ell_word::is_internal;
 use std::alloc::Allocator;
 
 /// Reads the key of a node that the pass has met.
-pub(crate) fn look_key<A: Allocator + Copy>(
+pub(crate) fn read_key<A: Allocator + Copy>(
     table: &CardTable<A>,
     pass: &mut Pass<A>,
     node: u64,
@@ -30,7 +30,7 @@ pub(crate) fn look_key<A: Allocator + Copy>(
 
 /// Reads a word of a card that the pass knows flagged or marked.
 #[tactic(auto, using(ell_cards::proofs::lemmas::views::Steps::info_told, ell_cards::proofs::lemmas::views::Steps::info_met))]
-pub(crate) fn look_info<A: Allocator + Copy>(
+pub(crate) fn read_info<A: Allocator + Copy>(
     table: &CardTable<A>,
     pass: &mut Pass<A>,
     card: u64,
@@ -47,7 +47,7 @@ pub(crate) fn look_info<A: Allocator + Copy>(
 
 /// Reads a child of the parent that a card has marked.
 #[tactic(auto, using(ell_cards::proofs::lemmas::views::Steps::frozen_told))]
-pub(crate) fn look_child<A: Allocator + Copy>(
+pub(crate) fn read_child<A: Allocator + Copy>(
     table: &CardTable<A>,
     pass: &mut Pass<A>,
     card: u64,
@@ -65,7 +65,7 @@ pub(crate) fn look_child<A: Allocator + Copy>(
 
 /// Reads the sibling of a leaf at the parent that a card has marked.
 #[tactic(auto, using(crate::proofs::lemmas::Asides::asides))]
-pub(crate) fn look_sibling<A: Allocator + Copy>(
+pub(crate) fn read_sibling<A: Allocator + Copy>(
     table: &CardTable<A>,
     pass: &mut Pass<A>,
     card: u64,
@@ -78,11 +78,11 @@ pub(crate) fn look_sibling<A: Allocator + Copy>(
     ensures sibling { IsSibling pass.new.view card leaf result }
     ensures met { IsTold pass.new.view (Met result) }
 {
-    let right = look_child(table, pass, card, parent, true);
+    let right = read_child(table, pass, card, parent, true);
     if right != leaf {
         return right;
     }
-    look_child(table, pass, card, parent, false)
+    read_child(table, pass, card, parent, false)
 }
 
 /// Reads the value of the leaf where the pass stands, if it stands at one.

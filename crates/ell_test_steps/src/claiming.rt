@@ -8,7 +8,7 @@ ghost use Rattle.ell_test_steps.specs.Fitting.{IsReady, ended_search};
 ghost use Rattle.ell_test_steps.specs.Remembering.{KnowsAny, Learns, flag_tells};
 
 use crate::counted;
-use crate::filling::{Place, fill_delete, fill_insert, take_card};
+use crate::filling::{LeafFound, fill_delete, fill_insert, take_card};
 use crate::memory::{Passed, Remembered, fact_of, remember};
 use ell_cards::{CardTable, Pass};
 use ell_core::{Fact, Put, Stepped};
@@ -36,7 +36,7 @@ pub(crate) fn claim<A: Allocator + Copy>(
     }
     let key = counted::key_of(table, pass, leaf);
     let value = counted::value_of(table, pass, leaf);
-    let place = Place {
+    let place = LeafFound {
         leaf,
         key,
         value,
@@ -55,7 +55,7 @@ fn claim_for_put<A: Allocator + Copy>(
     memory: &mut Remembered,
     op: Op,
     what: Put,
-    place: Place,
+    place: LeafFound,
 ) -> Option<Stepped>
     requires ready { IsReady table.now pass.old memory.old }
     requires puts { put_of op ≡ Some what }
@@ -77,7 +77,7 @@ fn claim_for_delete<A: Allocator + Copy>(
     pass: &mut Pass<A>,
     memory: &mut Remembered,
     key: u64,
-    place: Place,
+    place: LeafFound,
 ) -> Option<Stepped>
     requires ready { IsReady table.now pass.old memory.old }
     requires at { ClaimsAt pass.old.view (Delete key) place }
@@ -95,7 +95,7 @@ fn claim_for_delete<A: Allocator + Copy>(
 }
 
 // The grandparent of a place, if it and the parent were read clean.
-fn calm_grandparent(place: Place) -> Option<Passed>
+fn calm_grandparent(place: LeafFound) -> Option<Passed>
     ensures { IfSome result (λ above. (place.grandparent ≡ Some above) ×
         (above.update.state ≡ Clean) × (place.parent.update.state ≡ Clean)) }
 {

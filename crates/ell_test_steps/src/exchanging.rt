@@ -4,7 +4,7 @@ ghost use Rattle.ell_cards.specs.Changes.{is_mark_of};
 ghost use Rattle.ell_test_steps.specs.Fitting.{IsReady};
 ghost use Rattle.ell_test_steps.specs.Remembering.{KnowsMark, Learns};
 
-use crate::asking::look_info;
+use crate::asking::read_info;
 use crate::helping::{change_child, clear_delete, clear_insert, cut_parent, go_back};
 use crate::memory::{Remembered, fact_of, remember, remembers};
 use ell_cards::{CardTable, Pass};
@@ -122,8 +122,8 @@ pub(crate) fn mark<A: Allocator + Copy>(
     if !remembers(memory, Fact::DFlagged(card)) {
         return None;
     }
-    let parent = look_info(table, pass, card, Field::P);
-    let was = look_info(table, pass, card, Field::Was);
+    let parent = read_info(table, pass, card, Field::P);
+    let was = read_info(table, pass, card, Field::Was);
     let mark = table.mark(pass, card, parent, was);
     Some(learn_mark(memory, card, mark))
 }

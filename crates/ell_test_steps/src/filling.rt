@@ -21,7 +21,7 @@ use std::alloc::Allocator;
 
 /// Where a search ended: a leaf with its key and its value, its parent, and its grandparent if there is one.
 #[derive(Clone, Copy)]
-pub struct Place {
+pub struct LeafFound {
     pub leaf: u64,
     pub key: u64,
     pub value: u64,
@@ -34,7 +34,7 @@ pub(crate) fn take_card<A: Allocator + Copy>(
     table: &CardTable<A>,
     pass: &mut Pass<A>,
     op: Op,
-    place: Place,
+    place: LeafFound,
 ) -> Option<u64>
     requires own { pass.old.table ≡ table.now.id }
     requires busy { Does pass.old.view op }
@@ -62,7 +62,7 @@ pub(crate) fn fill_insert<A: Allocator + Copy>(
     card: u64,
     key: u64,
     value: u64,
-    place: Place,
+    place: LeafFound,
 )
     requires own { pass.old.table ≡ table.now.id }
     requires limit { card ≤ greatest_card }
@@ -95,7 +95,7 @@ pub(crate) fn fill_delete<A: Allocator + Copy>(
     pass: &mut Pass<A>,
     card: u64,
     grandparent: u64,
-    place: Place,
+    place: LeafFound,
 )
     requires own { pass.old.table ≡ table.now.id }
     requires limit { place.parent.update.card ≤ greatest_card }

@@ -7,7 +7,7 @@ ghost use Rattle.ell_core.specs.declared.fact.Fact.TheVariants as fact;
 ghost use Rattle.ell_cards.specs.Models.{Knows, KnowsCard};
 ghost use Rattle.ell_test_steps.specs.Fitting.{StepsAside};
 
-use crate::asking::{look_info, look_key, look_sibling};
+use crate::asking::{read_info, read_key, read_sibling};
 use ell_cards::{CardTable, Pass};
 use ell_layout::{Field, brought_node};
 use std::alloc::Allocator;
@@ -24,11 +24,11 @@ pub(crate) fn change_child<A: Allocator + Copy>(
     ensures aside { StepsAside pass.old pass.new }
     ensures learns { Knows pass.new.view (fact.IChanged card) }
 {
-    let parent = look_info(table, pass, card, Field::P);
-    let leaf = look_info(table, pass, card, Field::L);
-    let card_key = look_info(table, pass, card, Field::Key);
-    let left_key = look_info(table, pass, card, Field::LeftLeafKey);
-    let parent_key = look_key(table, pass, parent);
+    let parent = read_info(table, pass, card, Field::P);
+    let leaf = read_info(table, pass, card, Field::L);
+    let card_key = read_info(table, pass, card, Field::Key);
+    let left_key = read_info(table, pass, card, Field::LeftLeafKey);
+    let parent_key = read_key(table, pass, parent);
     let node = brought_node(card, left_key, card_key);
     let right = parent_key <= card_key;
     table.ichild(pass, card, parent, leaf, node, right).is_ok()
@@ -46,7 +46,7 @@ pub(crate) fn clear_insert<A: Allocator + Copy>(
     ensures aside { StepsAside pass.old pass.new }
     ensures learns { Knows pass.new.view (fact.IOver card) }
 {
-    let parent = look_info(table, pass, card, Field::P);
+    let parent = read_info(table, pass, card, Field::P);
     table.iunflag(pass, card, parent).is_ok()
 }
 
@@ -61,12 +61,12 @@ pub(crate) fn cut_parent<A: Allocator + Copy>(
     ensures aside { StepsAside pass.old pass.new }
     ensures learns { Knows pass.new.view (fact.Cut card) }
 {
-    let grandparent = look_info(table, pass, card, Field::Gp);
-    let parent = look_info(table, pass, card, Field::P);
-    let leaf = look_info(table, pass, card, Field::L);
-    let sibling = look_sibling(table, pass, card, parent, leaf);
-    let above = look_key(table, pass, grandparent);
-    let below = look_key(table, pass, sibling);
+    let grandparent = read_info(table, pass, card, Field::Gp);
+    let parent = read_info(table, pass, card, Field::P);
+    let leaf = read_info(table, pass, card, Field::L);
+    let sibling = read_sibling(table, pass, card, parent, leaf);
+    let above = read_key(table, pass, grandparent);
+    let below = read_key(table, pass, sibling);
     let right = above <= below;
     table
         .dchild(pass, card, grandparent, parent, sibling, right)
@@ -85,7 +85,7 @@ pub(crate) fn clear_delete<A: Allocator + Copy>(
     ensures aside { StepsAside pass.old pass.new }
     ensures learns { Knows pass.new.view (fact.DOver card) }
 {
-    let grandparent = look_info(table, pass, card, Field::Gp);
+    let grandparent = read_info(table, pass, card, Field::Gp);
     table.dunflag(pass, card, grandparent).is_ok()
 }
 
@@ -101,6 +101,6 @@ pub(crate) fn go_back<A: Allocator + Copy>(
     ensures aside { StepsAside pass.old pass.new }
     ensures learns { Knows pass.new.view (fact.Backed card) }
 {
-    let grandparent = look_info(table, pass, card, Field::Gp);
+    let grandparent = read_info(table, pass, card, Field::Gp);
     table.backtrack(pass, card, grandparent).is_ok()
 }

@@ -5,15 +5,15 @@ pub mod Meeting
 -- what was in the way of a try, by how it ended
 pub mod Halting
 -- steps that read a word
-pub mod Looking
+pub mod Reading
 -- a search, node by node
-pub mod Descending
+pub mod Searches
 -- a mark, won or lost
 pub mod Marking
 -- the start of a search
 pub mod Beginning
 -- which cards steps take
-pub mod Taking
+pub mod CardsTaken
 -- a card that is claimed
 pub mod Claiming
 -- what a card says
@@ -23,28 +23,28 @@ pub mod Storing
 -- the steps of some tries
 pub mod Owning
 -- how many steps
-pub mod Counting
+pub mod Counts
 -- a flag, won or lost
 pub mod Flagging
 -- how passes begin, part and come together
-pub mod Splitting
+pub mod PassParts
 -- how a tree ends
 pub mod Closing
 -- what the steps of a look leave of a pass
-pub mod Glances
+pub mod Looks
 -- a look that goes on, from the nodes that it keeps
 pub mod Cursors
 -- a try that something hindered is counted once it is given up
-pub mod Hindering
+pub mod Hindrances
 -- how many moves of cards a pass knows of, and why each try that is hindered shows it one more
-pub mod Moving
+pub mod Moves
 -- an insert or a swap where its search ended, and once it is done
 pub mod Putting
 -- calls that are made of several operations
-pub mod Concluding
+pub mod Computing
 -- the steps of the rounds of such a call
 pub mod Rounds
 -- how many stretches of keys a look goes through that goes on
 pub mod Stretching
 -- what a scan has found and gathered as it goes on
-pub mod Gathering
+pub mod Scans

@@ -12,8 +12,8 @@ use Rattle.ell_cards.specs.Stepping.{SameShare}
 use Rattle.ell_tree.specs.declared.computing.Computed.{Computed}
 use Rattle.ell_tree.specs.declared.computing.Replaced.{Replaced}
 use Rattle.ell_tree.specs.declared.computing.Replaced.TheVariants.{Done, Lost}
-use Rattle.ell_tree.specs.declared.operations.Held.{Held}
-use Rattle.ell_tree.specs.declared.operations.Held.TheVariants.{Busy, Spent}
+use Rattle.ell_tree.specs.declared.operations.NotDone.{NotDone}
+use Rattle.ell_tree.specs.declared.operations.NotDone.TheVariants.{Busy, Spent}
 use Rattle.ell_tree.specs.Ends.{Answers, LaidDown, find_steps, try_steps}
 use Rattle.ell_tree.specs.Ledgers.{TreeModel, present_in, Owns, answers, IsIdle}
 
@@ -86,22 +86,22 @@ pub record LastChangesNothing (t : TreeModel) (key : ℕ) (v : View) : Type 0 wh
 
 -- why a call of several operations has no answer: all its tries were made, or the claim word says that all cards are
 -- given out
-abbrev pub HeldBackFor : ℕ → PassModel → Held → Type 0
-HeldBackFor cards new Busy = Unit {0}
-HeldBackFor cards new Spent = new.view.next ≡ Some (cards + 1)
+abbrev pub RanOut : ℕ → PassModel → NotDone → Type 0
+RanOut cards new Busy = Unit {0}
+RanOut cards new Spent = new.view.next ≡ Some (cards + 1)
 
 -- a call of several operations on a key has ended without an answer, and has changed nothing
-pub record HoldsBack (t : TreeModel) (key : ℕ) (old new : PassModel) (held : Held) : Type 0 where
+pub record IsNotDone (t : TreeModel) (key : ℕ) (old new : PassModel) (not_done : NotDone) : Type 0 where
   pub untouched : IsUntouched old new
   pub last : LastChangesNothing t key new.view
-  pub why : HeldBackFor t.plan.last_card new held
+  pub why : RanOut t.plan.last_card new not_done
 
 -- what comes of one try to put a value in the place of what was found of a key
-abbrev pub Replaces : TreeModel → ℕ → Option ℕ → ℕ → PassModel → PassModel → Result Replaced Held → Type 0
+abbrev pub Replaces : TreeModel → ℕ → Option ℕ → ℕ → PassModel → PassModel → Result Replaced NotDone → Type 0
 Replaces t key was value old new (Ok Done) = Answers t (put_by key value was) (reply_of_change (put_by key value was)) old new
 Replaces t key was value old new (Ok (Lost there)) =
     IsUntouched old new × ReadsValue t key there old new × (Owns old key → present_in old key ≢ was)
-Replaces t key was value old new (Err why) = LaidDown t (put_by key value was) old new × HeldBackFor t.plan.last_card new why
+Replaces t key was value old new (Err why) = LaidDown t (put_by key value was) old new × RanOut t.plan.last_card new why
 
 -- so many tries were made: each was hindered, or was answered by what another pass had changed; and the key was read
 -- before
@@ -113,17 +113,17 @@ abbrev pub is_done : Replaced → Bool
 is_done Done = true
 is_done (Lost there) = false
 
-abbrev pub whether_done : Result Replaced Held → Result Bool Held
+abbrev pub whether_done : Result Replaced NotDone → Result Bool NotDone
 whether_done (Ok replaced) = Ok (is_done replaced)
 whether_done (Err why) = Err why
 
 -- whether a call has put anything
-abbrev pub whether_made : Result Computed Held → Result Bool Held
+abbrev pub whether_made : Result Computed NotDone → Result Bool NotDone
 whether_made (Ok computed) = Ok (is_some computed.made)
 whether_made (Err why) = Err why
 
 -- whether a call has put what it always puts
-abbrev pub whether_put : Result (Option ℕ) Held → Result Bool Held
+abbrev pub whether_put : Result (Option ℕ) NotDone → Result Bool NotDone
 whether_put (Ok was) = Ok true
 whether_put (Err why) = Err why
 

@@ -9,8 +9,8 @@ use Rattle.ell_cards.specs.LayingDown.{IsLaidDownInRuns}
 use Rattle.ell_cards.specs.Taking.{IsTakenInRuns}
 use Rattle.ell_cards.specs.Models.{PassModel}
 use Rattle.ell_cards.specs.Stepping.{SameShare}
-use Rattle.ell_tree.specs.declared.operations.Held.{Held}
-use Rattle.ell_tree.specs.declared.operations.Held.TheVariants.{Busy, Spent}
+use Rattle.ell_tree.specs.declared.operations.NotDone.{NotDone}
+use Rattle.ell_tree.specs.declared.operations.NotDone.TheVariants.{Busy, Spent}
 use Rattle.ell_tree.specs.Hindrances.{Meets}
 use Rattle.ell_tree.specs.Ledgers.{TreeModel, present_in, ledger, Owns, answers, hindrances, IsIdle}
 
@@ -43,9 +43,9 @@ pub record LaidDown (t : TreeModel) (op : Op) (old new : PassModel) : Type 0 whe
   pub no_card : new.view.worker.card ≡ None
 
 -- why: something was in its way at each try; or the claim word, as its last try read it, says that all cards are given out
-abbrev pub HeldFor : ℕ → ℕ → PassModel → PassModel → Held → Type 0
-HeldFor cards tries old new Busy = hindrances old + tries ≤ hindrances new
-HeldFor cards tries old new Spent = new.view.next ≡ Some (cards + 1)
+abbrev pub NotDoneFor : ℕ → ℕ → PassModel → PassModel → NotDone → Type 0
+NotDoneFor cards tries old new Busy = hindrances old + tries ≤ hindrances new
+NotDoneFor cards tries old new Spent = new.view.next ≡ Some (cards + 1)
 
 -- of so many tries at most, those that something hindered which was over by then are counted
 pub record CountsTries (tries : ℕ) (old new : PassModel) : Type 0 where
@@ -53,26 +53,26 @@ pub record CountsTries (tries : ℕ) (old new : PassModel) : Type 0 where
   pub most : new.view.hindered ≤ old.view.hindered + tries
 
 -- what an insert or a delete says, as a reply
-abbrev pub replied : Result Bool Held → Result Reply Held
+abbrev pub replied : Result Bool NotDone → Result Reply NotDone
 replied (Ok said) = Ok (yes_if said)
 replied (Err why) = Err why
 
 -- whether it changes the map, by the value that it adds or takes away
-abbrev pub whether : Result (Option ℕ) Held → Result Bool Held
+abbrev pub whether : Result (Option ℕ) NotDone → Result Bool NotDone
 whether (Ok moved) = Ok (is_some moved)
 whether (Err why) = Err why
 
 -- what a swap says, as a reply
-abbrev pub found_or_held : Result (Option ℕ) Held → Result Reply Held
-found_or_held (Ok there) = Ok (found there)
-found_or_held (Err why) = Err why
+abbrev pub found_or_not_done : Result (Option ℕ) NotDone → Result Reply NotDone
+found_or_not_done (Ok there) = Ok (found there)
+found_or_not_done (Err why) = Err why
 
 -- whether it swapped: it found its first value
 abbrev pub is_value : ℕ → Option ℕ → Bool
 is_value was None = false
 is_value was (Some there) = there == was
 
-abbrev pub whether_swapped : ℕ → Result (Option ℕ) Held → Result Bool Held
+abbrev pub whether_swapped : ℕ → Result (Option ℕ) NotDone → Result Bool NotDone
 whether_swapped was (Ok there) = Ok (is_value was there)
 whether_swapped was (Err why) = Err why
 
@@ -82,7 +82,7 @@ abbrev pub reply_by : Op → Option ℕ → Reply
 reply_by (Swap key was value) there = found there
 reply_by _ moved = yes_if (is_some moved)
 
-abbrev pub replied_by : Op → Result (Option ℕ) Held → Result Reply Held
+abbrev pub replied_by : Op → Result (Option ℕ) NotDone → Result Reply NotDone
 replied_by op (Ok moved) = Ok (reply_by op moved)
 replied_by op (Err why) = Err why
 
@@ -91,7 +91,7 @@ abbrev pub changes_by : Op → Option ℕ → Bool
 changes_by (Swap key was value) there = is_value was there
 changes_by _ moved = is_some moved
 
-abbrev pub changed_by : Op → Result (Option ℕ) Held → Result Bool Held
+abbrev pub changed_by : Op → Result (Option ℕ) NotDone → Result Bool NotDone
 changed_by op (Ok moved) = Ok (changes_by op moved)
 changed_by op (Err why) = Err why
 
@@ -109,9 +109,9 @@ Moves t (Delete key) old new moved = TakesValue t key old new moved
 Moves t (Swap key was value) old new there = Unit {0}
 
 -- how an insert, a delete or a swap ends; whatever was in its way is over
-abbrev pub Ends : TreeModel → ℕ → Op → PassModel → PassModel → Result Reply Held → Type 0
+abbrev pub Ends : TreeModel → ℕ → Op → PassModel → PassModel → Result Reply NotDone → Type 0
 Ends t tries op old new (Ok said) = Answers t op said old new × Meets old.view new.view
-Ends t tries op old new (Err why) = LaidDown t op old new × HeldFor t.plan.last_card tries old new why × Meets old.view new.view
+Ends t tries op old new (Err why) = LaidDown t op old new × NotDoneFor t.plan.last_card tries old new why × Meets old.view new.view
 
 -- the most steps of a find in a tree of so many cards
 abbrev pub find_steps : ℕ → ℕ

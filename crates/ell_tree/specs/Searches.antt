@@ -13,7 +13,7 @@ use Rattle.ell_cards.specs.declared.view.View.{View}
 use Rattle.ell_cards.specs.Models.{IsTold, Does, InTable, EndWasUnknown}
 use Rattle.ell_cards.specs.Changes.{told_value}
 use Rattle.ell_tree.specs.declared.searching.Passed.{Passed}
-use Rattle.ell_tree.specs.declared.searching.Place.{Place}
+use Rattle.ell_tree.specs.declared.searching.LeafFound.{LeafFound}
 use Rattle.ell_tree.specs.Keeping.{IsSeenAt}
 
 -- an operation is in hand, its search stands at the root, and its try has met nothing yet
@@ -56,7 +56,7 @@ pub record Stands (cards : ℕ) (w : View) (node : ℕ) (parent : Passed) (grand
   pub unknown_above : IfSome grandparent (EndWasUnknownAt w)
 
 -- a search stands at the leaf of a place, and was told its key and its value
-pub record IsAt (w : View) (place : Place) : Type 0 where
+pub record IsAt (w : View) (place : LeafFound) : Type 0 where
   pub search : w.worker.search ≡ below place.leaf place.parent (seen_any place.grandparent)
   pub outer : IsLeaf place.leaf
   pub told : w.here ≡ Some place.key
@@ -64,12 +64,12 @@ pub record IsAt (w : View) (place : Place) : Type 0 where
   pub value : told_value w.told place.leaf ≡ place.value
 
 -- what a place has of a key: its value, if its leaf has that key
-abbrev pub there_at : Place → ℕ → Option ℕ
+abbrev pub there_at : LeafFound → ℕ → Option ℕ
 there_at place k = if place.key == k then Some place.value else None
 
 -- a search ended at a place, which has of the operation's key what the ledger has, if that has the key; and if the place has the key, there is
 -- a grandparent
-pub record EndsAt (cards : ℕ) (w : View) (op : Op) (place : Place) : Type 0 where
+pub record EndsAt (cards : ℕ) (w : View) (op : Op) (place : LeafFound) : Type 0 where
   pub at : IsAt w place
   pub passed : Passes cards w place.parent
   pub passed_above : IfSome place.grandparent (λ x. Passes cards w x)

@@ -20,7 +20,7 @@ use Rattle.ell_cards.specs.declared.view.View.{View}
 use Rattle.ell_cards.specs.Models.{PassModel, Has, IsTold, Knows, Does, StandsAt}
 use Rattle.ell_cards.specs.Changes.{told_filling, filling_of, with_stores, tries_hindered}
 use Rattle.ell_cards.specs.Guards.{IsFilled, MayFill}
-use Rattle.ell_tree.specs.declared.searching.Place.{Place}
+use Rattle.ell_tree.specs.declared.searching.LeafFound.{LeafFound}
 use Rattle.ell_tree.specs.declared.trying.Claimed.{Claimed}
 use Rattle.ell_tree.specs.declared.trying.Claimed.TheVariants as claimed
 use Rattle.ell_tree.specs.declared.trying.Tried.{Tried}
@@ -120,7 +120,7 @@ TryMoves t (Swap key was value) old new ended = Unit {0}
 
 -- a card was taken for an operation whose search ended at a place: it is to say this, nothing of it was stored, and its words
 -- that never change are told
-pub record HasCard (op : Op) (place : Place) (filling : List (Field × ℕ)) (v : View) (c : ℕ) : Type 0 where
+pub record HasCard (op : Op) (place : LeafFound) (filling : List (Field × ℕ)) (v : View) (c : ℕ) : Type 0 where
   pub busy : Does v op
   pub may : MayFill v c
   pub stands : StandsAt v place.leaf
@@ -136,7 +136,7 @@ found_for (Some was) there = there
 
 -- what is told of its key to whoever puts this, where a search ended: to a swap its value, if it is there; to an insert
 -- nothing
-abbrev pub found_by : Put → Place → Option ℕ
+abbrev pub found_by : Put → LeafFound → Option ℕ
 found_by what place = found_for what.was (there_at place what.key)
 
 -- and what is said once it is done: yes, or the value that was replaced
@@ -145,7 +145,7 @@ put_reply None = Yes
 put_reply (Some was) = replaced.Found was
 
 -- one was taken for an insert or a swap, that puts this
-pub record HasCardToPut (what : Put) (place : Place) (v : View) (c : ℕ) : Type 0 where
+pub record HasCardToPut (what : Put) (place : LeafFound) (v : View) (c : ℕ) : Type 0 where
   pub op : Op
   pub puts : put_of op ≡ Some what
   pub card : HasCard op place (insert_filling c what.key what.value place.parent.node place.leaf place.key place.value) v c
@@ -156,7 +156,7 @@ pub record HasNone (old new : PassModel) : Type 0 where
   pub search : new.view.worker.search ≡ old.view.worker.search
 
 -- what comes of asking for a card
-abbrev pub Claims : ℕ → Op → Place → PassModel → PassModel → Claimed → Type 0
+abbrev pub Claims : ℕ → Op → LeafFound → PassModel → PassModel → Claimed → Type 0
 Claims cards op place old new (claimed.Card c) =
     HasCard op place (filling_of c old.view) new.view c × (c ≤ cards) × (new.view.hindrances ≡ old.view.hindrances) × GivesOut cards old.view new.view
 Claims cards op place old new claimed.NoneLeft =

@@ -1,14 +1,14 @@
 //! Calls that compute what becomes of a key from what is there of it, and do that in one atomic step.
 ghost use Rattle.std.specs.Prelude.{◌≡◌, ◌≢◌, ◌<◌, ◌≤◌, ◌*◌, None, Err, IfOk, IfErr};
-ghost use Rattle.ell_tree.specs.Computing.{AreTried, Computes, HoldsBack, Replaces, round_steps, update_steps, whether_done, whether_made};
+ghost use Rattle.ell_tree.specs.Computing.{AreTried, Computes, IsNotDone, Replaces, round_steps, update_steps, whether_done, whether_made};
 ghost use Rattle.ell_tree.specs.Counts.{Took};
 ghost use Rattle.ell_tree.specs.Ends.{CountsTries};
 ghost use Rattle.ell_tree.specs.Ledgers.{Owns};
 ghost use Rattle.ell_tree.specs.Promises.{IsOthersDoing, MayDo, SpendsCards};
-ghost use Rattle.ell_tree.specs.declared.operations.Held.TheVariants.{Busy};
+ghost use Rattle.ell_tree.specs.declared.operations.NotDone.TheVariants.{Busy};
 
 use crate::gate::StepGate;
-use crate::operations::{Held, change, find};
+use crate::operations::{NotDone, change, find};
 use ell_cards::{CardTable, Pass};
 use ell_ops::Op;
 use std::alloc::Allocator;
@@ -39,13 +39,13 @@ pub(crate) fn compute<A: Allocator + Copy, G: StepGate, F: Fn(Option<u64>) -> Op
     make: F,
     tries: u32,
     gate: &G,
-) -> Result<Computed, Held>
+) -> Result<Computed, NotDone>
     requires may { MayDo table.now key pass.old }
     requires tries { 1 ≤ tries }
     requires make { F.IsAlwaysCallable make }
     ensures computes { IfOk result (λ done. Computes table.now key pass.old pass.new done.was done.made) }
     ensures makes { IfOk result (λ done. F.post make done.was done.made) }
-    ensures held { IfErr result (HoldsBack table.now key pass.old pass.new) }
+    ensures not_done { IfErr result (IsNotDone table.now key pass.old pass.new) }
     ensures tried { result ≡ Err Busy → AreTried tries pass.old pass.new }
     ensures others { Owns pass.old key → result ≡ Err Busy → IsOthersDoing table.now tries pass.old pass.new }
     ensures steps { Took pass.old pass.new (update_steps table.now.plan.last_card tries) }
@@ -65,13 +65,13 @@ pub(crate) fn compute<A: Allocator + Copy, G: StepGate, F: Fn(Option<u64>) -> Op
                 was = there;
                 made = make(was);
             }
-            Err(Held::Busy) => {}
-            Err(Held::Spent) => return Err(Held::Spent),
+            Err(NotDone::Busy) => {}
+            Err(NotDone::Spent) => return Err(NotDone::Spent),
         }
     }
     if made.is_some() {
         table.claims_stay_inside(pass);
-        return Err(Held::Busy);
+        return Err(NotDone::Busy);
     }
     Ok(Computed { was, made })
 }
@@ -84,7 +84,7 @@ fn replace<A: Allocator + Copy, G: StepGate>(
     was: Option<u64>,
     value: u64,
     gate: &G,
-) -> Result<Replaced, Held>
+) -> Result<Replaced, NotDone>
     requires may { MayDo table.now key pass.old }
     ensures replaces { Replaces table.now key was value pass.old pass.new result }
     ensures others { result ≡ Err Busy → IsOthersDoing table.now 1 pass.old pass.new }
@@ -110,7 +110,7 @@ fn add<A: Allocator + Copy, G: StepGate>(
     key: u64,
     value: u64,
     gate: &G,
-) -> Result<Replaced, Held>
+) -> Result<Replaced, NotDone>
     requires may { MayDo table.now key pass.old }
     ensures replaces { Replaces table.now key None value pass.old pass.new result }
     ensures others { result ≡ Err Busy → IsOthersDoing table.now 1 pass.old pass.new }

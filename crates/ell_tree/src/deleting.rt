@@ -19,7 +19,7 @@ ghost use Rattle.ell_tree.specs.Tries.{Fills, Flags, HasCard, TryEnds, TryTook};
 
 use crate::gate::{Kind, StepGate};
 use crate::helping::{DeleteFlag, Ending, finish_delete, help, help_delete};
-use crate::searching::{Passed, Place, search};
+use crate::searching::{LeafFound, Passed, search};
 use crate::steps::answer;
 use crate::trying::{Claimed, Tried, fill, take_card};
 use ell_cards::{CardTable, Pass};
@@ -87,7 +87,7 @@ fn flag_delete<A: Allocator + Copy, G: StepGate>(
     pass: &mut Pass<A>,
     card: u64,
     above: Passed,
-    place: Place,
+    place: LeafFound,
     gate: &G,
 ) -> Result<(), Update>
     requires own { pass.old.table ≡ table.now.id }
@@ -111,7 +111,7 @@ fn fill_delete<A: Allocator + Copy, G: StepGate>(
     pass: &mut Pass<A>,
     card: u64,
     grandparent: u64,
-    place: Place,
+    place: LeafFound,
     gate: &G,
 )
     requires own { pass.old.table ≡ table.now.id }

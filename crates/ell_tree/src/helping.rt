@@ -13,8 +13,8 @@ ghost use Rattle.ell_tree.specs.Keeping.{IsSeenAt, Walks, Works};
 
 use crate::gate::StepGate;
 use crate::steps::{
-    KeyedNode, change_child, clear_delete, clear_insert, cut_parent, go_back, look_child,
-    look_info, look_key, set_mark,
+    KeyedNode, change_child, clear_delete, clear_insert, cut_parent, go_back, read_child,
+    read_info, read_key, set_mark,
 };
 use ell_cards::{CardTable, Pass};
 use ell_layout::Field;
@@ -83,9 +83,9 @@ pub(crate) fn help_insert<A: Allocator + Copy, G: StepGate>(
     ensures walks { Walks pass.old pass.new 6 }
     ensures over { Knows pass.new.view (fact.IOver card) }
 {
-    let leaf = look_info(table, pass, card, Field::L, gate);
-    let card_key = look_info(table, pass, card, Field::Key, gate);
-    let left_key = look_info(table, pass, card, Field::LeftLeafKey, gate);
+    let leaf = read_info(table, pass, card, Field::L, gate);
+    let card_key = read_info(table, pass, card, Field::Key, gate);
+    let left_key = read_info(table, pass, card, Field::LeftLeafKey, gate);
     finish_insert(table, pass, card, parent, leaf, card_key, left_key, gate);
 }
 
@@ -105,7 +105,7 @@ pub(crate) fn finish_insert<A: Allocator + Copy, G: StepGate>(
     ensures walks { Walks pass.old pass.new 3 }
     ensures over { Knows pass.new.view (fact.IOver card) }
 {
-    let above = look_key(table, pass, parent, gate);
+    let above = read_key(table, pass, parent, gate);
     change_child(table, pass, card, above, leaf, card_key, left_key, gate);
     clear_insert(table, pass, card, parent, gate);
 }
@@ -124,7 +124,7 @@ pub(crate) fn help_marked<A: Allocator + Copy, G: StepGate>(
     ensures walks { Walks pass.old pass.new 8 }
     ensures over { Knows pass.new.view (fact.DOver card) }
 {
-    let grandparent = look_info(table, pass, card, Field::Gp, gate);
+    let grandparent = read_info(table, pass, card, Field::Gp, gate);
     finish_marked(table, pass, card, grandparent, parent, gate);
 }
 
@@ -143,7 +143,7 @@ fn finish_marked<A: Allocator + Copy, G: StepGate>(
     ensures over { Knows pass.new.view (fact.DOver card) }
 {
     let sibling = find_sibling(table, pass, card, parent, gate);
-    let above = look_key(table, pass, grandparent, gate);
+    let above = read_key(table, pass, grandparent, gate);
     cut_parent(table, pass, card, above, parent, sibling, gate);
     clear_delete(table, pass, card, grandparent, gate);
 }
@@ -162,14 +162,14 @@ fn find_sibling<A: Allocator + Copy, G: StepGate>(
     ensures walks { Walks pass.old pass.new 4 }
     ensures sibling { HasSibling pass.new.view card result }
 {
-    let leaf = look_info(table, pass, card, Field::L, gate);
-    let right = look_child(table, pass, card, parent, true, gate);
+    let leaf = read_info(table, pass, card, Field::L, gate);
+    let right = read_child(table, pass, card, parent, true, gate);
     let sibling = if right == leaf {
-        look_child(table, pass, card, parent, false, gate)
+        read_child(table, pass, card, parent, false, gate)
     } else {
         right
     };
-    look_key(table, pass, sibling, gate)
+    read_key(table, pass, sibling, gate)
 }
 
 /// HelpDelete of a flag that was met: marks the parent and cuts it out, or takes the flag back. Where another delete's flag is in
@@ -203,8 +203,8 @@ fn help_one_delete<A: Allocator + Copy, G: StepGate>(
     requires flag { IsFlag table.now.plan.last_card pass.old.view flag }
     ensures { HelpEnds table.now.plan.last_card flag pass.old pass.new result }
 {
-    let parent = look_info(table, pass, flag.card, Field::P, gate);
-    let was = look_info(table, pass, flag.card, Field::Was, gate);
+    let parent = read_info(table, pass, flag.card, Field::P, gate);
+    let was = read_info(table, pass, flag.card, Field::Was, gate);
     finish_delete(table, pass, flag, parent, was, gate)
 }
 

@@ -11,7 +11,7 @@ ghost use Rattle.ell_tree.specs.Tries.{found_by, put_reply, Fills, Flags, HasCar
 
 use crate::gate::{Kind, StepGate};
 use crate::helping::{finish_insert, help};
-use crate::searching::{Passed, Place, search};
+use crate::searching::{LeafFound, Passed, search};
 use crate::steps::answer;
 use crate::trying::{Claimed, Tried, fill, take_card};
 use ell_cards::{CardTable, Pass};
@@ -75,7 +75,7 @@ pub(crate) fn try_put<A: Allocator + Copy, G: StepGate>(
 }
 
 // What a swap finds of its key where its search ended; an insert is told nothing.
-fn found_by(what: Put, place: Place) -> Option<u64>
+fn found_by(what: Put, place: LeafFound) -> Option<u64>
     ensures { result ≡ found_by what place }
 {
     match what.was {
@@ -100,7 +100,7 @@ fn flag_insert<A: Allocator + Copy, G: StepGate>(
     pass: &mut Pass<A>,
     card: u64,
     what: Put,
-    place: Place,
+    place: LeafFound,
     gate: &G,
 ) -> Result<(), Update>
     requires own { pass.old.table ≡ table.now.id }
@@ -123,7 +123,7 @@ fn fill_insert<A: Allocator + Copy, G: StepGate>(
     pass: &mut Pass<A>,
     card: u64,
     what: Put,
-    place: Place,
+    place: LeafFound,
     gate: &G,
 )
     requires own { pass.old.table ≡ table.now.id }

@@ -25,6 +25,6 @@ pub use ell_ops::{KEY_MAX, NoMemory, distinct_keys};
 pub use ell_word::{CARDS_MAX, START_MAX};
 pub use gate::{Kind, NoGate, StepGate};
 pub use laws::bounds_in_short;
-pub use operations::Held;
+pub use operations::NotDone;
 pub use scanning::{Pair, Scanned};
 pub use tree::Tree;

@@ -11,7 +11,7 @@ ghost use Rattle.ell_tree.specs.CardsTaken.{TakesNoCard, TryTakes};
 ghost use Rattle.ell_tree.specs.Counts.{Took};
 ghost use Rattle.ell_tree.specs.Ends.{Answers, Ends, Moves, changed_by, find_steps, replied_by, try_steps};
 ghost use Rattle.ell_tree.specs.Hindrances.{way_of};
-ghost use Rattle.ell_tree.specs.declared.operations.Held.TheVariants.{Busy};
+ghost use Rattle.ell_tree.specs.declared.operations.NotDone.TheVariants.{Busy};
 ghost use Rattle.ell_tree.specs.Promises.{IsOthersDoing, IsQuiet, IsWithin, MayDo, SpendsCards};
 ghost use Rattle.ell_tree.specs.Searches.{AtRoot};
 ghost use Rattle.ell_tree.specs.Tries.{Begins, IsChange, TryEnds, TryMoves};
@@ -30,7 +30,7 @@ use thiserror::Error;
 
 /// Why an insert, a delete or a swap has no answer. The map is as it was before, and nothing of the call is under way.
 #[derive(Clone, Copy, Debug, PartialEq, Eq, Error)]
-pub enum Held {
+pub enum NotDone {
     /// All tries ended without an answer: something was in the way of each.
     #[error("something was in the way of each try")]
     Busy,
@@ -72,7 +72,7 @@ pub(crate) fn change<A: Allocator + Copy, G: StepGate>(
     op: Op,
     tries: u32,
     gate: &G,
-) -> Result<Option<u64>, Held>
+) -> Result<Option<u64>, NotDone>
     requires may { MayDo table.now (key_of op) pass.old }
     requires change { IsChange op }
     requires tries { 1 ≤ tries }
@@ -96,14 +96,14 @@ pub(crate) fn change<A: Allocator + Copy, G: StepGate>(
             Tried::Spent => {
                 leave(table, pass, gate);
                 gate.after(label, false);
-                return Err(Held::Spent);
+                return Err(NotDone::Spent);
             }
             Tried::Hindered => {}
         }
     }
     leave(table, pass, gate);
     gate.after(label, false);
-    Err(Held::Busy)
+    Err(NotDone::Busy)
 }
 
 // Starts the search anew, unless this is the first try.

@@ -24,7 +24,7 @@ pub(crate) struct Passed {
 
 /// Where a search ended: a leaf with its key and its value, its parent, and its grandparent if there is one.
 #[derive(Clone, Copy)]
-pub(crate) struct Place {
+pub(crate) struct LeafFound {
     pub leaf: u64,
     pub key: u64,
     pub value: u64,
@@ -38,7 +38,7 @@ pub(crate) fn search<A: Allocator + Copy, G: StepGate>(
     pass: &mut Pass<A>,
     op: Op,
     gate: &G,
-) -> Place
+) -> LeafFound
     requires own { pass.old.table ≡ table.now.id }
     requires root { AtRoot op pass.old.view }
     ensures seeks { Seeks pass.old pass.new (3 * table.now.plan.last_card + 5) }
@@ -58,7 +58,7 @@ fn walk<A: Allocator + Copy, G: StepGate>(
     pass: &mut Pass<A>,
     op: Op,
     gate: &G,
-) -> (Place, u64)
+) -> (LeafFound, u64)
     requires own { pass.old.table ≡ table.now.id }
     requires root { AtRoot op pass.old.view }
     ensures seeks { Seeks pass.old pass.new (3 * table.now.plan.last_card + 5) }
@@ -71,8 +71,8 @@ fn walk<A: Allocator + Copy, G: StepGate>(
     let mut steps = STEPS_AT_A_NODE;
     while is_internal(node) {
         let (passed, child) = descend(table, pass, op, node, gate);
-        grandparent = Some(anew(parent));
-        parent = anew(passed);
+        grandparent = Some(rebuild(parent));
+        parent = rebuild(passed);
         node = child;
         steps += STEPS_AT_A_NODE;
     }
@@ -81,7 +81,7 @@ fn walk<A: Allocator + Copy, G: StepGate>(
     let key = table.key_of(pass, node);
     gate.before(label, Kind::Look);
     let value = table.value_of(pass, node);
-    let place = Place {
+    let place = LeafFound {
         leaf: node,
         key,
         value,
@@ -93,7 +93,7 @@ fn walk<A: Allocator + Copy, G: StepGate>(
 
 // The same value, made from its parts. A move would copy the unused bytes beside the state too, for which the processor waits.
 #[inline(always)]
-fn anew(passed: Passed) -> Passed
+fn rebuild(passed: Passed) -> Passed
     ensures { result ≡ passed }
 {
     let Update { state, card } = passed.update;

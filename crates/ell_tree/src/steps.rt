@@ -106,7 +106,7 @@ pub(crate) fn answer<A: Allocator + Copy, G: StepGate>(
 }
 
 /// Reads the key of a node that the pass has met.
-pub(crate) fn look_key<A: Allocator + Copy, G: StepGate>(
+pub(crate) fn read_key<A: Allocator + Copy, G: StepGate>(
     table: &CardTable<A>,
     pass: &mut Pass<A>,
     node: u64,
@@ -125,7 +125,7 @@ pub(crate) fn look_key<A: Allocator + Copy, G: StepGate>(
 }
 
 /// Reads a word of a card that the pass knows flagged or marked.
-pub(crate) fn look_info<A: Allocator + Copy, G: StepGate>(
+pub(crate) fn read_info<A: Allocator + Copy, G: StepGate>(
     table: &CardTable<A>,
     pass: &mut Pass<A>,
     card: u64,
@@ -145,7 +145,7 @@ pub(crate) fn look_info<A: Allocator + Copy, G: StepGate>(
 }
 
 /// Reads a child of the parent that a card has marked.
-pub(crate) fn look_child<A: Allocator + Copy, G: StepGate>(
+pub(crate) fn read_child<A: Allocator + Copy, G: StepGate>(
     table: &CardTable<A>,
     pass: &mut Pass<A>,
     card: u64,

@@ -12,11 +12,11 @@ ghost use Rattle.ell_cards.specs.Models.{IsCardCount, MayPart, Refuses, SplitRef
 ghost use Rattle.ell_tree.specs.CardsLeft.{AreLeftAtMost, ReadsCardsLeft};
 ghost use Rattle.ell_tree.specs.CardsTaken.{TakesNoCard};
 ghost use Rattle.ell_tree.specs.Closing.{ClosesTo};
-ghost use Rattle.ell_tree.specs.Computing.{AreTried, HoldsBack, IsSum, PutsValue, UpdatesValue, update_steps, whether_put};
+ghost use Rattle.ell_tree.specs.Computing.{AreTried, IsNotDone, IsSum, PutsValue, UpdatesValue, update_steps, whether_put};
 ghost use Rattle.ell_tree.specs.Counts.{Took};
-ghost use Rattle.ell_tree.specs.Ends.{Answers, CountsTries, Ends, TakesValue, find_steps, found_or_held, replied, whether, whether_swapped};
+ghost use Rattle.ell_tree.specs.Ends.{Answers, CountsTries, Ends, TakesValue, find_steps, found_or_not_done, replied, whether, whether_swapped};
 ghost use Rattle.ell_tree.specs.Moves.{moves_known};
-ghost use Rattle.ell_tree.specs.declared.operations.Held.TheVariants.{Busy};
+ghost use Rattle.ell_tree.specs.declared.operations.NotDone.TheVariants.{Busy};
 ghost use Rattle.ell_tree.specs.Ledgers.{IsIdlePassOf, Owns, TreeModel, present_in};
 ghost use Rattle.ell_tree.specs.Looks.{IsFoundIn, OnlyLooks, look_steps};
 ghost use Rattle.ell_tree.specs.Scans.{AreFoundIn, AreInOrder, IsAbout, IsFoundAboutIn, IsLastIn, IsNextIn, TellsItsOwn, end_of, scan_steps, value_there, written};
@@ -27,7 +27,7 @@ ghost use Rattle.ell_tree.specs.Promises.{IsOthersDoing, IsQuiet, IsWithin, MayD
 use crate::computing::compute;
 use crate::cursor::About;
 use crate::gate::StepGate;
-use crate::operations::{Held, change, find};
+use crate::operations::{NotDone, change, find};
 use crate::reading::{cards_left, look, look_about};
 use crate::scanning::{Pair, Scanned, last_below, next_from, scan};
 use ell_cards::{CardFault, CardTable, Pass, SplitFault};
@@ -473,7 +473,7 @@ impl<A: Allocator + Copy> Tree<A> {
         value: u64,
         tries: u32,
         gate: &G,
-    ) -> Result<bool, Held>
+    ) -> Result<bool, NotDone>
         requires may { MayDo self.now key pass.old }
         requires tries { 1 ≤ tries }
         // On a key of the pass it answers as a map that has the pass's keys, which becomes the map after it. On any key
@@ -507,14 +507,14 @@ impl<A: Allocator + Copy> Tree<A> {
         value: u64,
         tries: u32,
         gate: &G,
-    ) -> Result<Option<u64>, Held>
+    ) -> Result<Option<u64>, NotDone>
         requires may { MayDo self.now key pass.old }
         requires tries { 1 ≤ tries }
         // The answer is the value that the key has, which becomes the new one exactly if it is `was`: on a key of the
         // pass in the pass's map, on any key as of one thread at one point of the call, in every run. A call without an
         // answer changes nothing in any run: `Busy` comes only after as many hindrances as tries, `Spent` only if no
         // card is left. What was in its way is over.
-        ensures ends { Ends self.now tries (Swap key was value) pass.old pass.new (found_or_held result) }
+        ensures ends { Ends self.now tries (Swap key was value) pass.old pass.new (found_or_not_done result) }
         // A `Busy` call counts each of its tries as hindered. Each shows the pass a move that it did not know, and in
         // every run they are no more than others' acts allow.
         ensures others { result ≡ Err Busy → IsOthersDoing self.now tries pass.old pass.new }
@@ -547,7 +547,7 @@ impl<A: Allocator + Copy> Tree<A> {
         value: u64,
         tries: u32,
         gate: &G,
-    ) -> Result<Option<u64>, Held>
+    ) -> Result<Option<u64>, NotDone>
         requires may { MayDo self.now key pass.old }
         requires tries { 1 ≤ tries }
         // The key had the value that is returned, or none, and has this one instead, by one step. On a key of the pass
@@ -555,7 +555,7 @@ impl<A: Allocator + Copy> Tree<A> {
         ensures puts { IfOk result (PutsValue self.now key value pass.old pass.new) }
         // A call without an answer changes nothing of what the pass has, and has nothing in hand. Its last operation
         // changes nothing in any run. `Spent` comes only if no card is left.
-        ensures held { IfErr result (HoldsBack self.now key pass.old pass.new) }
+        ensures not_done { IfErr result (IsNotDone self.now key pass.old pass.new) }
         // `Busy` comes only after all tries: each was hindered, or answered by what another pass had changed.
         ensures tried { result ≡ Err Busy → AreTried tries pass.old pass.new }
         // On a key of the pass a `Busy` call counts each of its tries as hindered, which is others' doing.
@@ -583,7 +583,7 @@ impl<A: Allocator + Copy> Tree<A> {
         f: F,
         tries: u32,
         gate: &G,
-    ) -> Result<Option<u64>, Held>
+    ) -> Result<Option<u64>, NotDone>
         requires may { MayDo self.now key pass.old }
         requires tries { 1 ≤ tries }
         requires f { F.IsAlwaysCallable f }
@@ -593,7 +593,7 @@ impl<A: Allocator + Copy> Tree<A> {
         ensures updates { IfOk result (UpdatesValue self.now key (F.post f) pass.old pass.new) }
         // A call without an answer changes nothing of what the pass has, and has nothing in hand. Its last operation
         // changes nothing in any run. `Spent` comes only if no card is left.
-        ensures held { IfErr result (HoldsBack self.now key pass.old pass.new) }
+        ensures not_done { IfErr result (IsNotDone self.now key pass.old pass.new) }
         // `Busy` comes only after all tries: each was hindered, or answered by what another pass had changed.
         ensures tried { result ≡ Err Busy → AreTried tries pass.old pass.new }
         // On a key of the pass a `Busy` call counts each of its tries as hindered, which is others' doing.
@@ -624,7 +624,7 @@ impl<A: Allocator + Copy> Tree<A> {
         addend: u64,
         tries: u32,
         gate: &G,
-    ) -> Result<Option<u64>, Held>
+    ) -> Result<Option<u64>, NotDone>
         requires may { MayDo self.now key pass.old }
         requires tries { 1 ≤ tries }
         // The key had the value that is returned, and has the sum modulo 2^64 instead, by one step; an absent key is
@@ -633,7 +633,7 @@ impl<A: Allocator + Copy> Tree<A> {
         ensures adds { IfOk result (UpdatesValue self.now key (IsSum addend) pass.old pass.new) }
         // A call without an answer changes nothing of what the pass has, and has nothing in hand. Its last operation
         // changes nothing in any run. `Spent` comes only if no card is left.
-        ensures held { IfErr result (HoldsBack self.now key pass.old pass.new) }
+        ensures not_done { IfErr result (IsNotDone self.now key pass.old pass.new) }
         // `Busy` comes only after all tries: each was hindered, or answered by what another pass had changed.
         ensures tried { result ≡ Err Busy → AreTried tries pass.old pass.new }
         // On a key of the pass a `Busy` call counts each of its tries as hindered, which is others' doing.
@@ -662,7 +662,7 @@ impl<A: Allocator + Copy> Tree<A> {
         key: u64,
         tries: u32,
         gate: &G,
-    ) -> Result<bool, Held>
+    ) -> Result<bool, NotDone>
         requires may { MayDo self.now key pass.old }
         requires tries { 1 ≤ tries }
         // On a key of the pass it answers as a map that has the pass's keys, which becomes the map after it. On any key
@@ -693,7 +693,7 @@ impl<A: Allocator + Copy> Tree<A> {
         key: u64,
         tries: u32,
         gate: &G,
-    ) -> Result<Option<u64>, Held>
+    ) -> Result<Option<u64>, NotDone>
         requires may { MayDo self.now key pass.old }
         requires tries { 1 ≤ tries }
         // On a key of the pass it answers as a map that has the pass's keys, which becomes the map after it. On any key
@@ -742,7 +742,7 @@ impl<A: Allocator + Copy> Tree<A> {
     {
         let places = self.table.last_card() as usize + 2;
         let most = self.table.most_pairs(pass.keys().len());
-        let Ok((waiting, pairs)) = lists(self.alloc, places, most) else {
+        let Ok((waiting, pairs)) = empty_lists(self.alloc, places, most) else {
             return Err((self, pass, NoMemory));
         };
         let Tree { table, alloc: _ } = self;
@@ -752,7 +752,7 @@ impl<A: Allocator + Copy> Tree<A> {
 }
 
 // Two empty lists, with room for so many nodes and so many keys with their values.
-fn lists<A: Allocator + Copy>(
+fn empty_lists<A: Allocator + Copy>(
     alloc: A,
     nodes: usize,
     keys: usize,

@@ -11,7 +11,7 @@ ghost use Rattle.ell_tree.specs.Searches.{IsAt};
 ghost use Rattle.ell_tree.specs.Tries.{Claims};
 
 use crate::gate::{Kind, StepGate};
-use crate::searching::Place;
+use crate::searching::LeafFound;
 use ell_cards::{CardTable, Pass};
 use ell_core::Exchange;
 use ell_layout::Field;
@@ -44,7 +44,7 @@ pub(crate) fn take_card<A: Allocator + Copy, G: StepGate>(
     table: &CardTable<A>,
     pass: &mut Pass<A>,
     op: Op,
-    place: Place,
+    place: LeafFound,
     gate: &G,
 ) -> Claimed
     requires own { pass.old.table ≡ table.now.id }

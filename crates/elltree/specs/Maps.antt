@@ -5,7 +5,7 @@ use Rattle.ell_cards.specs.Changes.{keys_of}
 use Rattle.ell_tree.specs.Ledgers.{Owns, present_in}
 use Rattle.ell_tree.specs.Looks.{IsFoundIn}
 use Rattle.ell_tree.specs.PassParts.{IsUnion}
-use Rattle.ell_handle.specs.Parts.{MayJoin}
+use Rattle.ell_handle.specs.HandleParts.{MayJoin}
 use Rattle.ell_handle.specs.Reads.{tree_of}
 use Rattle.ell_handle.specs.declared.handle.Handle.{Handle}
 use Rattle.elltree.specs.Owned.{Inside}

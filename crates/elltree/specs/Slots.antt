@@ -3,7 +3,7 @@ use Rattle.ell_ops.specs.KeySet.{set_of}
 use Rattle.ell_cards.specs.Changes.{keys_of}
 use Rattle.ell_tree.specs.Ledgers.{Owns, present_in}
 use Rattle.ell_handle.specs.Groups.{HasSame}
-use Rattle.ell_handle.specs.Parts.{AreParts}
+use Rattle.ell_handle.specs.HandleParts.{AreParts}
 use Rattle.ell_handle.specs.declared.handle.Handle.{Handle}
 use Rattle.elltree.specs.Maps.{NumbersTell}
 

@@ -13,7 +13,7 @@ use Rattle.ell_tree.specs.Ledgers.{Owns, present_in}
 use Rattle.ell_handle.specs.Groups.{HasSame, StaysPut}
 use Rattle.std.specs.List.{All}
 use Rattle.ell_handle.specs.Opens.{IsOpened, IsOpenedShared, MayOpen, Refuses}
-use Rattle.ell_handle.specs.Parts.{IsLeast}
+use Rattle.ell_handle.specs.HandleParts.{IsLeast}
 use Rattle.ell_handle.specs.Reads.{HasSharedKeys, KeepsKeys, MayUse, OnlyFinds, OnlyLooksUp, tree_of}
 use Rattle.ell_handle.specs.Renewal.{IsRenewed, IsTooMuch, MayRenew}
 use Rattle.ell_handle.specs.Tries.{IsHindered, IsSpent, TookTries}

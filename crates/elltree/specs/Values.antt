@@ -8,7 +8,7 @@ use Rattle.ell_tree.specs.Ledgers.{Owns}
 use Rattle.ell_handle.specs.Groups.{StaysPut}
 use Rattle.ell_handle.specs.Reads.{KeepsKeys, MayUse, tree_of}
 use Rattle.ell_handle.specs.Tries.{IsHindered, IsSpent, TookTries}
-use Rattle.ell_handle.specs.Values.{IsHeldBusy, IsHeldSpent, TookRounds}
+use Rattle.ell_handle.specs.Values.{EndsBusy, EndsSpent, TookRounds}
 use Rattle.ell_handle.specs.declared.handle.Handle.{Handle}
 use Rattle.elltree.specs.Codes.{IsOneOf, said_busy, said_foreign, said_no, said_no_tries, said_other_value, said_spent, said_yes}
 use Rattle.elltree.specs.Told.{SpendsBy}
@@ -53,8 +53,8 @@ pub record TellsPut (key value tries : ℕ) (said : ℤ) (was : ℕ) (old new : 
   pub tried : said ≢ said_no_tries → 1 ≤ tries
   pub foreign : said ≡ said_foreign → ¬ MayUse old key
   pub may : said ≢ said_no_tries → said ≢ said_foreign → MayUse old key
-  pub busy : said ≡ said_busy → IsHeldBusy key tries old new
-  pub spent : said ≡ said_spent → IsHeldSpent key old new
+  pub busy : said ≡ said_busy → EndsBusy key tries old new
+  pub spent : said ≡ said_spent → EndsSpent key old new
   pub refused : said ≢ said_yes → said ≢ said_no → StaysPut old new
   pub keeps : KeepsKeys old new
   pub took : TookRounds tries old new
@@ -69,8 +69,8 @@ pub record TellsSum (key addend tries : ℕ) (said : ℤ) (was : ℕ) (old new :
   pub tried : said ≢ said_no_tries → 1 ≤ tries
   pub foreign : said ≡ said_foreign → ¬ MayUse old key
   pub may : said ≢ said_no_tries → said ≢ said_foreign → MayUse old key
-  pub busy : said ≡ said_busy → IsHeldBusy key tries old new
-  pub spent : said ≡ said_spent → IsHeldSpent key old new
+  pub busy : said ≡ said_busy → EndsBusy key tries old new
+  pub spent : said ≡ said_spent → EndsSpent key old new
   pub refused : said ≢ said_yes → said ≢ said_no → StaysPut old new
   pub keeps : KeepsKeys old new
   pub took : TookRounds tries old new

@@ -33,7 +33,7 @@ pub extern "C" fn elltree_slot_find(
     let Some(answer) = slot.with_handle(alloc, |handle| handle.find(key)) else {
         return CLOSED;
     };
-    told(answer, value)
+    tell_value(answer, value)
 }
 
 /// Whether any key of the slot's tree is present, whoever owns it, and its value: as it was in one state of the tree during the call.
@@ -57,11 +57,11 @@ pub extern "C" fn elltree_slot_look(
     let Some(answer) = slot.with_handle(alloc, |handle| handle.look(key)) else {
         return CLOSED;
     };
-    told(answer, value)
+    tell_value(answer, value)
 }
 
 // What a find, a look or a take has answered, as a code: a value that was found is written.
-fn told(answer: Result<Option<u64>, Refusal>, value: &mut u64) -> i32
+fn tell_value(answer: Result<Option<u64>, Refusal>, value: &mut u64) -> i32
     ensures yes { result ≡ said_yes → answer ≡ Ok (Some value.new) }
     ensures no { result ≡ said_no → answer ≡ Ok None }
     ensures foreign { result ≡ said_foreign → answer ≡ Err Foreign }
@@ -150,14 +150,14 @@ pub extern "C" fn elltree_slot_take(
 fn insert(handle: &mut Handle, key: u64, value: u64, tries: u32) -> i32
     ensures { TellsChange (Insert key value) tries result handle.old handle.new }
 {
-    changed(handle.insert(key, value, tries))
+    code_of_change(handle.insert(key, value, tries))
 }
 
 // A delete as a code.
 fn delete(handle: &mut Handle, key: u64, tries: u32) -> i32
     ensures { TellsChange (Delete key) tries result handle.old handle.new }
 {
-    changed(handle.delete(key, tries))
+    code_of_change(handle.delete(key, tries))
 }
 
 // A take as a code.
@@ -166,11 +166,11 @@ fn take(handle: &mut Handle, key: u64, tries: u32, taken: &mut u64) -> i32
     ensures kept { result ≢ said_yes → taken.new ≡ taken.old }
     ensures open { result ≢ said_closed }
 {
-    told(handle.take(key, tries), taken)
+    tell_value(handle.take(key, tries), taken)
 }
 
 // What an insert or a delete has answered, as a code.
-fn changed(answer: Result<bool, Refusal>) -> i32
+fn code_of_change(answer: Result<bool, Refusal>) -> i32
     ensures yes { result ≡ said_yes → answer ≡ Ok true }
     ensures no { result ≡ said_no → answer ≡ Ok false }
     ensures answered { OnOk answer (IsOneOf (said_yes ∷ said_no ∷ []) result) }

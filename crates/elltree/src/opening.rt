@@ -10,7 +10,7 @@ use crate::Pair;
 use crate::codes::{CLOSED, FOREIGN, NO_MEMORY, OPEN, TOO_MANY_HANDLES, YES, code_of_refusal};
 use crate::slot::Slot;
 use crate::starting::why_refused;
-use ell_handle::{Handle, Place, Refusal};
+use ell_handle::{Handle, HandlePlace, Refusal};
 use std::alloc::{AllocError, Global};
 
 /// Opens a tree of so many cards over these keys and the start keys, which are present with their values. The slot then owns all keys.
@@ -53,7 +53,7 @@ fn open(
     start: &[Pair],
     cards: u64,
     number: u64,
-) -> Result<Box<Place, Global>, Refusal>
+) -> Result<Box<HandlePlace, Global>, Refusal>
     ensures opened { IfOk result (λ place.
         OfHandle (BeginsWith keys.now (as_pairs start.now) cards number) place.value.handle) }
     ensures refused { IfErr result (Refuses keys.now (as_pairs start.now) cards) }
@@ -62,7 +62,7 @@ fn open(
         return Err(why_refused(keys, start, cards));
     };
     let handle = Handle::open(alloc, keys, &pairs, cards, number)?;
-    Ok(Box::new(alloc, Place::of(Some(handle)))?)
+    Ok(Box::new(alloc, HandlePlace::of(Some(handle)))?)
 }
 
 /// The pairs of a host, as the tree has them.
@@ -113,7 +113,11 @@ pub extern "C" fn elltree_slot_split(
 }
 
 // Parts the handle of a place: the part with these keys, in a box of its own, or a code.
-fn split(alloc: Global, place: &mut Place, keys: &[u64]) -> Result<Box<Place, Global>, i32>
+fn split(
+    alloc: Global,
+    place: &mut HandlePlace,
+    keys: &[u64],
+) -> Result<Box<HandlePlace, Global>, i32>
     ensures parts { IfOk result (λ part.
         TellsSplit keys.now said_yes place.old.handle part.value.handle place.new.handle) }
     ensures why { IfErr result (λ code. TellsSplit keys.now code place.old.handle None None) }
@@ -123,7 +127,7 @@ fn split(alloc: Global, place: &mut Place, keys: &[u64]) -> Result<Box<Place, Gl
     let Some(handle) = place.handle.take() else {
         return Err(CLOSED);
     };
-    let Ok(mut part) = Box::new(alloc, Place::of(None)) else {
+    let Ok(mut part) = Box::new(alloc, HandlePlace::of(None)) else {
         let code = if !handle.owns_all(keys) {
             FOREIGN
         } else if handle.has_least_share() {
@@ -179,7 +183,7 @@ pub extern "C" fn elltree_slot_join(alloc: Global, into: &mut Slot, from: &mut S
 }
 
 // Joins the handles of two places in the first.
-fn join(place: &mut Place, added: &mut Place) -> i32
+fn join(place: &mut HandlePlace, added: &mut HandlePlace) -> i32
     requires numbers { NumbersTell place.old.handle added.old.handle }
     ensures tells { TellsJoin result place.old.handle added.old.handle place.new.handle }
     ensures refused { result ≢ said_yes → place.new ≡ place.old }

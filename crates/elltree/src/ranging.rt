@@ -84,7 +84,7 @@ pub extern "C" fn elltree_slot_next_at_least(
     let Some(there) = slot.with_handle(alloc, |handle| handle.next_at_least(key)) else {
         return CLOSED;
     };
-    told(there, found, value)
+    tell_pair(there, found, value)
 }
 
 /// Whether a key up to `key` is present, whoever owns it, and the greatest of them with its value: it was present in
@@ -109,11 +109,11 @@ pub extern "C" fn elltree_slot_last_at_most(
     let Some(there) = slot.with_handle(alloc, |handle| handle.last_at_most(key)) else {
         return CLOSED;
     };
-    told(there, found, value)
+    tell_pair(there, found, value)
 }
 
 // What was found, as a code: it is written.
-fn told(there: Option<(u64, u64)>, found: &mut u64, value: &mut u64) -> i32
+fn tell_pair(there: Option<(u64, u64)>, found: &mut u64, value: &mut u64) -> i32
     ensures codes { IsOneOf (said_yes ∷ said_no ∷ []) result }
     ensures yes { result ≡ said_yes → there ≡ Some (found.new, value.new) }
     ensures no { result ≡ said_no → there ≡ None }

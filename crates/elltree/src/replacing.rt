@@ -57,11 +57,11 @@ fn compare_exchange(
     ensures kept { result ≢ said_yes → result ≢ said_other_value → found.new ≡ found.old }
     ensures open { result ≢ said_closed }
 {
-    exchanged(handle.compare_exchange(key, current, new, tries), found)
+    tell_exchange(handle.compare_exchange(key, current, new, tries), found)
 }
 
 // What a compare-exchange has answered, as a code: a value that was found is written.
-fn exchanged(answer: Result<Result<u64, Option<u64>>, Refusal>, found: &mut u64) -> i32
+fn tell_exchange(answer: Result<Result<u64, Option<u64>>, Refusal>, found: &mut u64) -> i32
     ensures yes { result ≡ said_yes → answer ≡ Ok (Ok found.new) }
     ensures no { result ≡ said_no → answer ≡ Ok (Err None) }
     ensures other { result ≡ said_other_value → answer ≡ Ok (Err (Some found.new)) }
@@ -122,7 +122,7 @@ fn put(handle: &mut Handle, key: u64, value: u64, tries: u32, was: &mut u64) -> 
     ensures kept { result ≢ said_yes → was.new ≡ was.old }
     ensures open { result ≢ said_closed }
 {
-    replaced(handle.put(key, value, tries), was)
+    tell_old_value(handle.put(key, value, tries), was)
 }
 
 /// Adds to the value of a key of the slot's, modulo 2^64: whether the key is present, and then the value that it had is
@@ -164,11 +164,11 @@ fn fetch_add(handle: &mut Handle, key: u64, addend: u64, tries: u32, was: &mut u
     ensures kept { result ≢ said_yes → was.new ≡ was.old }
     ensures open { result ≢ said_closed }
 {
-    replaced(handle.fetch_add(key, addend, tries), was)
+    tell_old_value(handle.fetch_add(key, addend, tries), was)
 }
 
 // What a put or a sum has answered, as a code: a value that the key had is written.
-fn replaced(answer: Result<Option<u64>, Refusal>, was: &mut u64) -> i32
+fn tell_old_value(answer: Result<Option<u64>, Refusal>, was: &mut u64) -> i32
     ensures yes { result ≡ said_yes → answer ≡ Ok (Some was.new) }
     ensures no { result ≡ said_no → answer ≡ Ok None }
     ensures answered { OnOk answer (IsOneOf (said_yes ∷ said_no ∷ []) result) }

@@ -11,7 +11,7 @@ use crate::codes::{CLOSED, NO_MEMORY, OPEN, TOO_MANY_HANDLES, YES, code_of_refus
 use crate::opening::pairs_of;
 use crate::slot::Slot;
 use crate::starting::why_refused;
-use ell_handle::{Handle, Place, Refusal};
+use ell_handle::{Handle, HandlePlace, Refusal};
 use std::alloc::Global;
 
 /// Opens a tree of so many cards in which every key up to `KEY_MAX` is shared, and which has the start keys with their values. Trees that are
@@ -52,7 +52,7 @@ fn open_shared(
     start: &[Pair],
     cards: u64,
     number: u64,
-) -> Result<Box<Place, Global>, Refusal>
+) -> Result<Box<HandlePlace, Global>, Refusal>
     ensures opened { IfOk result (λ place.
         OfHandle (BeginsShared (as_pairs start.now) cards number) place.value.handle) }
     ensures refused { IfErr result (Refuses [] (as_pairs start.now) cards) }
@@ -61,7 +61,7 @@ fn open_shared(
         return Err(why_refused(&[], start, cards));
     };
     let handle = Handle::open_shared(alloc, &pairs, cards, number)?;
-    Ok(Box::new(alloc, Place::of(Some(handle)))?)
+    Ok(Box::new(alloc, HandlePlace::of(Some(handle)))?)
 }
 
 /// Gives another slot, which is not open yet, a handle of the same tree: it changes shared keys, and looks at any key. A slot's own keys
@@ -98,7 +98,7 @@ pub extern "C" fn elltree_slot_another(alloc: Global, from: &mut Slot, into: &mu
 }
 
 // Another handle of the tree of a place's handle, in a box of its own, or a code.
-fn another(alloc: Global, place: &mut Place) -> Result<Box<Place, Global>, i32>
+fn another(alloc: Global, place: &mut HandlePlace) -> Result<Box<HandlePlace, Global>, i32>
     ensures another { IfOk result (λ made.
         TellsAnother said_yes place.old.handle place.new.handle made.value.handle) }
     ensures why { IfErr result (λ code. TellsAnother code place.old.handle None None) }
@@ -108,7 +108,7 @@ fn another(alloc: Global, place: &mut Place) -> Result<Box<Place, Global>, i32>
     let Some(handle) = place.handle.take() else {
         return Err(CLOSED);
     };
-    let Ok(mut made) = Box::new(alloc, Place::of(None)) else {
+    let Ok(mut made) = Box::new(alloc, HandlePlace::of(None)) else {
         let code = if handle.has_least_share() {
             TOO_MANY_HANDLES
         } else {

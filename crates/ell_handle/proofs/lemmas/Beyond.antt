@@ -1,8 +1,8 @@
 use Rattle.std.proofs.Common.{◌<◌, ℕ, None, refl, arith}
 use Rattle.ell_ops.specs.Meaning.{greatest_key}
 use Rattle.ell_cards.specs.declared.view.View.{View}
-use Rattle.ell_tree.proofs.lemmas.Counting.{took_none}
-use Rattle.ell_tree.proofs.lemmas.Glances.{only_none_yet, only_trans}
+use Rattle.ell_tree.proofs.lemmas.Counts.{took_none}
+use Rattle.ell_tree.proofs.lemmas.Looks.{only_none_yet, only_trans}
 use Rattle.ell_tree.specs.Ledgers.{PassModel, TreeModel}
 use Rattle.ell_tree.specs.Looks.{OnlyLooks}
 use Rattle.ell_tree.specs.Scans.{IsNextIn}

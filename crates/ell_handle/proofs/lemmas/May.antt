@@ -16,7 +16,7 @@ use Rattle.ell_tree.specs.Ends.{Answers}
 use Rattle.ell_tree.specs.Ledgers.{Owns, PassModel, TreeModel, ledger, present_in}
 use Rattle.ell_tree.specs.Promises.{MayDo}
 use Rattle.ell_handle.specs.Groups.{HasSame}
-use Rattle.ell_handle.specs.Parts.{AnotherRefuses, AreParts, SplitRefuses}
+use Rattle.ell_handle.specs.HandleParts.{AnotherRefuses, AreParts, SplitRefuses}
 use Rattle.ell_handle.specs.Reads.{HasSharedKeys, MayUse, tree_of}
 use Rattle.ell_handle.specs.declared.handle.Handle.{Handle}
 use Rattle.ell_handle.specs.declared.refusal.Refusal.{Refusal}

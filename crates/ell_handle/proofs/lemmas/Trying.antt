@@ -1,9 +1,9 @@
 use Rattle.std.proofs.Common.{ℕ, Err, refl, arith}
 use Rattle.ell_tree.specs.Ledgers.{PassModel, TreeModel}
 use Rattle.ell_tree.specs.Promises.{IsQuiet, IsWithin, SpendsCards}
-use Rattle.ell_tree.proofs.lemmas.Counting.{took_none}
+use Rattle.ell_tree.proofs.lemmas.Counts.{took_none}
 use Rattle.ell_tree.proofs.lemmas.Meeting.{meets_none}
-use Rattle.ell_tree.proofs.lemmas.Moving.{amortized}
+use Rattle.ell_tree.proofs.lemmas.Moves.{amortized}
 use Rattle.ell_handle.specs.Values.{TookRounds}
 use Rattle.ell_handle.specs.declared.handle.Handle.{Handle}
 

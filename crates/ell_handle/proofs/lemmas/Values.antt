@@ -2,7 +2,7 @@ use Rattle.std.proofs.Common.{◌≡◌, ◌↔◌, ℕ, Option, Some, None}
 use Rattle.ell_cards.specs.Stepping.{SameShare}
 use Rattle.ell_tree.specs.Computing.{UpdatesValue}
 use Rattle.ell_tree.specs.Ledgers.{IsIdle, Owns, PassModel, TreeModel}
-use Rattle.ell_tree.proofs.lemmas.Concluding.{reads_leave}
+use Rattle.ell_tree.proofs.lemmas.Computing.{reads_leave}
 
 -- what an update leaves of a pass, whatever it found
 pub record IsLeft (old new : PassModel) : Type 0 where

@@ -9,7 +9,7 @@ use Rattle.ell_tree.specs.PassParts.{IsLeftPart, IsRightPart, IsUnion}
 use Rattle.ell_run.specs.Pieces.{all_workers}
 use Rattle.ell_run.specs.Work.{AreHalves, AreReady, IsWorked}
 use Rattle.ell_run.proofs.lemmas.Halves.{worked_both}
-use Rattle.ell_run.proofs.lemmas.Held.{none_held}
+use Rattle.ell_run.proofs.lemmas.NotDone.{none_not_done}
 use Rattle.ell_run.proofs.lemmas.Keys.{all_keys}
 use Rattle.ell_run.proofs.lemmas.Opened.{all_ready, finds_key, owns_ops}
 use Rattle.ell_ops.specs.declared.reply.Reply.{Reply}
@@ -23,7 +23,7 @@ rest_worked cards tries parting rest idle = record {
   map = refl;
   owned = λ key. (λ own. own, λ own. own);
   answers = omega arith;
-  held = none_held cards tries 0 rest rest refl (omega arith);
+  not_done = none_not_done cards tries 0 rest rest refl (omega arith);
 }
 
 module _ (parting : PartedOps) (keys : List ℕ) (pass left right : PassModel) (listed : Lists (keys_of parting.ops) keys) (owned : All (λ key. Owns pass key) keys)

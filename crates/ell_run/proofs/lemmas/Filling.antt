@@ -12,8 +12,8 @@ use Rattle.ell_parts.specs.PartedOps.{PartedOps, part}
 use Rattle.ell_tree.specs.Ledgers.{PassModel, present_in}
 use Rattle.ell_run.specs.ByParts.{ops_in}
 use Rattle.ell_run.specs.Pieces.{ArePieces, IsPiece, all_workers, busy, front, ops_done}
-use Rattle.ell_run.specs.Work.{AreHeld, IsWorked}
-use Rattle.ell_run.proofs.lemmas.Held.{all_held-insert}
+use Rattle.ell_run.specs.Work.{AreNotDone, IsWorked}
+use Rattle.ell_run.proofs.lemmas.NotDone.{all_not_done-insert}
 use Rattle.ell_run.proofs.lemmas.Busy.{counted, is_busy, no_items, some_items, none_left}
 use Rattle.ell_ops.specs.declared.reply.Reply.{Reply}
 
@@ -72,7 +72,7 @@ empty_piece : (s : Contents) (items : List (ℕ × Op)) → items ≡ [] → IsP
 empty_piece s items none = record {
   few = omega arith;
   done = refl;
-  held = λ position op e. let no : ⊥ = (let e = ap (λ l. slice_get l 0) (sym none) ∙ e in cc) in absurd no;
+  not_done = λ position op e. let no : ⊥ = (let e = ap (λ l. slice_get l 0) (sym none) ∙ e in cc) in absurd no;
 }
 
 -- among the pieces of workers
@@ -110,9 +110,9 @@ worked-insert cards tries parting xs ys worker before after ps none h =
       map = h.map ∙ ap (final (present_in before)) (sym (done-insert parting xs ys worker ps (present_in before) h.told));
       owned = h.owned;
       answers = omega (arith, sum-insert ps (length xs));
-      held =
-          subst (λ n. AreHeld cards tries n before after)
-          (sym (all_held-insert (present_in before) parting xs ys worker ps none h.told)) h.held;
+      not_done =
+          subst (λ n. AreNotDone cards tries n before after)
+          (sym (all_not_done-insert (present_in before) parting xs ys worker ps none h.told)) h.not_done;
     }
 
 -- one worker more with nothing to do: its empty piece comes to its place

@@ -9,15 +9,15 @@ use Rattle.ell_ops.specs.Contents.{Contents}
 use Rattle.ell_ops.specs.Meaning.{key_of, reply_of, final}
 use Rattle.ell_tree.specs.Effects.{reply_of_change}
 use Rattle.ell_ops.specs.Meaning.{after as after_op}
-use Rattle.ell_tree.specs.declared.operations.Held.{Held}
-use Rattle.ell_tree.specs.Ends.{Answers, HeldFor, LaidDown}
+use Rattle.ell_tree.specs.declared.operations.NotDone.{NotDone}
+use Rattle.ell_tree.specs.Ends.{Answers, NotDoneFor, LaidDown}
 use Rattle.ell_tree.specs.Hindrances.{Meets}
 use Rattle.ell_tree.specs.Ledgers.{PassModel, TreeModel, Owns, IsIdle, answers, hindrances, present_in}
 use Rattle.ell_parts.specs.PartedOps.{PartedOps, part}
 use Rattle.ell_run.specs.ByParts.{ops_in}
-use Rattle.ell_run.specs.Pieces.{front, one_held, piece_from}
-use Rattle.ell_run.specs.Work.{AreHeld, IsWorked, IsWorkedOff, OwnsAll, label_after}
-use Rattle.ell_run.proofs.lemmas.Held.{hindrances_grow, none_held, once_held}
+use Rattle.ell_run.specs.Pieces.{front, one_not_done, piece_from}
+use Rattle.ell_run.specs.Work.{AreNotDone, IsWorked, IsWorkedOff, OwnsAll, label_after}
+use Rattle.ell_run.proofs.lemmas.NotDone.{hindrances_grow, none_not_done, once_not_done}
 use Rattle.ell_order.proofs.lemmas.OnKey.{final-append}
 use Rattle.ell_ops.specs.declared.reply.Reply.{Reply}
 
@@ -85,22 +85,22 @@ front_all cards tries items i before after piece all h =
       told = record {
         few = omega arith;
         done = h.told ∙ ap (piece_from (present_in before)) same;
-        held = λ position op e. absurd (let within = slice_get_within items (length piece) (position, op) e in omega arith);
+        not_done = λ position op e. absurd (let within = slice_get_within items (length piece) (position, op) e in omega arith);
       };
       map = h.map ∙ ap (λ l. final (present_in before) (ops_in l)) same;
       owned = h.owned;
       answers = omega arith;
-      held =
+      not_done =
           let whole : length items ≤ length piece = omega arith in
-          none_held cards tries (one_held items piece) before after
+          none_not_done cards tries (one_not_done items piece) before after
           (cond-false (nat_lt (length piece) (length items)) 1 0 (le-ltb (length piece) (length items) whole)) h.grows;
     }
 
--- the next operation is held
-pub front_held : (tree : TreeModel) (cards tries : ℕ) (items : List (ℕ × Op)) (i : ℕ) (d : ℕ × Op) (before mid after : PassModel) (piece : List (ℕ × Reply)) (why : Held) →
-    i < length items → OwnsAll before items → IsFrontDone items i before mid piece → LaidDown tree (get_or items i d).1 mid after → HeldFor cards tries mid after why →
+-- the next operation is not done
+pub front_not_done : (tree : TreeModel) (cards tries : ℕ) (items : List (ℕ × Op)) (i : ℕ) (d : ℕ × Op) (before mid after : PassModel) (piece : List (ℕ × Reply)) (why : NotDone) →
+    i < length items → OwnsAll before items → IsFrontDone items i before mid piece → LaidDown tree (get_or items i d).1 mid after → NotDoneFor cards tries mid after why →
     IsWorkedOff cards tries items before after piece
-front_held tree cards tries items i d before mid after piece why below owned h l held_for =
+front_not_done tree cards tries items i d before mid after piece why below owned h l not_done_for =
     let few = h.few in
     let count = h.count in
     let answered = h.answered in
@@ -114,7 +114,7 @@ front_held tree cards tries items i d before mid after piece why below owned h l
       told = record {
         few = omega arith;
         done = h.told ∙ ap (piece_from (present_in before)) same;
-        held = λ position op e.
+        not_done = λ position op e.
             let here : get_or items i d ≡ (position, op) =
             ap (λ n. get_or items n d) (sym count) ∙ get_or_from_slice_get items (length piece) (position, op) d e in
             ap (λ l. reply_of op (final (present_in before) (ops_in l))) (sym same) ∙ ap (reply_of op) (sym h.map)
@@ -124,10 +124,10 @@ front_held tree cards tries items i d before mid after piece why below owned h l
       map = kept ∙ h.map ∙ ap (λ l. final (present_in before) (ops_in l)) same;
       owned = λ key. let old = h.owned key in rw l.ledger old;
       answers = omega arith;
-      held =
+      not_done =
           let short : length piece < length items = omega arith in
-          once_held cards tries (one_held items piece) before mid after why
-          (cond-true (nat_lt (length piece) (length items)) 1 0 (lt-ltb (length piece) (length items) short)) h.grows held_for;
+          once_not_done cards tries (one_not_done items piece) before mid after why
+          (cond-true (nat_lt (length piece) (length items)) 1 0 (lt-ltb (length piece) (length items) short)) h.grows not_done_for;
     }
 
 -- one worker has worked its part off, by a pass that got another label
@@ -148,7 +148,7 @@ one_worked cards tries parting (w ∷ []) d label before told after items piece 
       map = off.map ∙ ap (final (present_in before)) (sym (append-nil (ops_in (front (part parting w) piece))));
       owned = off.owned;
       answers = let counted = off.answers in omega arith;
-      held = subst (λ n. AreHeld cards tries n before after) (sym (add-zero (one_held (part parting w) piece))) off.held;
+      not_done = subst (λ n. AreNotDone cards tries n before after) (sym (add-zero (one_not_done (part parting w) piece))) off.not_done;
     })
 
 -- the label after workers, of whom there are some, is the first one's number

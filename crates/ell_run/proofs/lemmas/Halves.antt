@@ -16,10 +16,10 @@ use Rattle.ell_ops.specs.Meaning.{key_of, final}
 use Rattle.ell_parts.specs.PartedOps.{PartedOps, IsLawful, part, keys_in}
 use Rattle.ell_tree.specs.Ledgers.{PassModel, TreeModel, Owns, ledger, present_in, Entry}
 use Rattle.ell_tree.specs.PassParts.{IsUnion, or_else}
-use Rattle.ell_run.specs.Pieces.{all_held, ops_done}
-use Rattle.ell_run.specs.Work.{AreHalves, AreHeld, AreReady, IsWorked, OwnsAll, keys_for}
+use Rattle.ell_run.specs.Pieces.{all_not_done, ops_done}
+use Rattle.ell_run.specs.Work.{AreHalves, AreNotDone, AreReady, IsWorked, OwnsAll, keys_for}
 use Rattle.ell_run.proofs.lemmas.ByParts.{part_item}
-use Rattle.ell_run.proofs.lemmas.Held.{all_held-append, held_both}
+use Rattle.ell_run.proofs.lemmas.NotDone.{all_not_done-append, both_not_done}
 use Rattle.ell_order.proofs.lemmas.OnKey.{on_key, on_key-append, final_alike}
 use Rattle.ell_run.proofs.lemmas.Rows.{IsOffKey, all_at, done-append, done_off_key, pieces-append, pieces_alike}
 use Rattle.ell_ops.specs.declared.reply.Reply.{Reply}
@@ -256,11 +256,11 @@ module _ (tree : TreeModel) (parting : PartedOps) (low high : List ℕ) (pass le
           map = (λ i key. set_at key i) ∙ ap (final (present_in pass)) (sym (done-append (present_in pass) parting low high ps qs first_told));
           owned = owned_at;
           answers = omega (arith, sum_by-append (λ (piece : List (ℕ × Reply)). length piece) ps qs);
-          held =
-              subst (λ n. AreHeld cards tries n pass both)
-              (sym (all_held-append (present_in pass) parting low high ps qs first_told))
-              (held_both cards tries (all_held parting low ps) (all_held parting high qs) pass left right first second both
-              h.on_left.hindrances h.on_right.hindrances union.hindrances union.next did.held other.held);
+          not_done =
+              subst (λ n. AreNotDone cards tries n pass both)
+              (sym (all_not_done-append (present_in pass) parting low high ps qs first_told))
+              (both_not_done cards tries (all_not_done parting low ps) (all_not_done parting high qs) pass left right first second both
+              h.on_left.hindrances h.on_right.hindrances union.hindrances union.next did.not_done other.not_done);
         }
 
 -- the keys that a half is to get are the pass's

@@ -30,11 +30,11 @@ piece_alike s t items piece same h =
           (replies_alike (ops_in done) s t
           (All-map (λ op. s (key_of op) ≡ t (key_of op)) (λ (item : ℕ × Op). item.1) done
           (All-take (λ item. s (key_of item.1) ≡ t (key_of item.1)) (length piece) items same)));
-      held = λ position op e.
+      not_done = λ position op e.
           reply_alike op (final t (ops_in done)) (final s (ops_in done))
           (final_agree (ops_in done) t s (key_of op)
           (sym (all_at (λ item. s (key_of item.1) ≡ t (key_of item.1)) items (length piece) (position, op) same e)))
-          ∙ h.held position op e;
+          ∙ h.not_done position op e;
     }
 
 -- and so are pieces of workers

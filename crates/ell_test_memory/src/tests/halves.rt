@@ -3,7 +3,7 @@ use super::refusing::{Heap, Refusal};
 use ell_ops::Op;
 use ell_parts::Parts;
 use ell_run::{Tree, work};
-use ell_test_gates::{Counting, Told, two_threads_meet};
+use ell_test_gates::{Counting, Tally, two_threads_meet};
 use ell_tree::{Kind, StepGate};
 use std::process::Abort;
 use std::thread::Threads;
@@ -56,7 +56,7 @@ fn are_worked<R: Threads + Abort + Sync>(
 }
 
 // Whether a worker began none or all of its operations, and ended each that it began.
-fn is_whole(told: Told) -> bool {
+fn is_whole(told: Tally) -> bool {
     told.answered == told.begun && (told.begun == 0 || told.begun == 3)
 }
 
@@ -71,7 +71,7 @@ fn halves<R: Threads + Abort + AllocGlobal + Sync>(rt: &R, number: u64) -> bool 
     if are_worked(rt, &heap, number, &gate) {
         return false;
     }
-    let (one, other) = (gate.told(0), gate.told(1));
+    let (one, other) = (gate.tally(0), gate.tally(1));
     assert!(rt; is_whole(one) && is_whole(other), "growth {number}");
     one.begun != other.begun
 }

@@ -9,7 +9,7 @@ use super::refusing::{Heap, Refusal};
 use super::sweeping::{Ended, sweep};
 use ell_ops::Reply::{self, Found, No, Yes};
 use ell_ops::{NoMemory, Op};
-use ell_tree::{CardFault, Held, NoGate, Pass, SplitFault, Tree};
+use ell_tree::{CardFault, NoGate, NotDone, Pass, SplitFault, Tree};
 use std::alloc::Allocator;
 use std::process::Abort;
 
@@ -19,10 +19,14 @@ const CARDS: u64 = 3;
 const LEFT: [(u64, u64); 1] = [(7, 0)];
 
 // An operation that may take one card, and what it is to answer.
-type Row = (Op, Result<Reply, Held>);
+type Row = (Op, Result<Reply, NotDone>);
 
 // Does an operation on a key of the pass.
-fn answer_of<A: Allocator + Copy>(tree: &Tree<A>, pass: &mut Pass<A>, op: Op) -> Result<Reply, Held>
+fn answer_of<A: Allocator + Copy>(
+    tree: &Tree<A>,
+    pass: &mut Pass<A>,
+    op: Op,
+) -> Result<Reply, NotDone>
     requires own { pass.old.table ≡ tree.now.id }
     requires idle { IsIdle pass.old }
     requires owned { Owns pass.old (key_of op) }
@@ -190,7 +194,7 @@ fn parted<'a>(rt: &impl Abort, heap: &'a Heap) -> (Tree<&'a Heap>, Pass<&'a Heap
     answer_without_memory(rt, heap, &tree, &mut right, &[(Op::Insert(7, 0), Ok(Yes))]);
     answer_without_memory(rt, heap, &tree, &mut left, &[(Op::Delete(5), Ok(Yes))]);
     let rows = [
-        (Op::Delete(7), Err(Held::Spent)),
+        (Op::Delete(7), Err(NotDone::Spent)),
         (Op::Find(7), Ok(Found(0))),
     ];
     answer_without_memory(rt, heap, &tree, &mut right, &rows);
@@ -355,7 +359,7 @@ fn an_operation_on_start_keys_wants_no_memory(rt: HostRuntime) {
         (Op::Insert(5, 50), Ok(Yes)),
         (Op::Insert(7, 70), Ok(Yes)),
         (Op::Delete(5), Ok(Yes)),
-        (Op::Delete(7), Err(Held::Spent)),
+        (Op::Delete(7), Err(NotDone::Spent)),
         (Op::Find(7), Ok(Found(70))),
     ];
     let heap = Heap::new(rt.alloc());

@@ -31,7 +31,7 @@ fn steps_of(
     let steps = pass.steps().saturating_sub(before);
     assert!(rt; sight.pairs.len() == count, "{ask:?}");
     assert!(rt;
-        gate.told(0).steps == steps && gate.count(0, Kind::Look) == steps,
+        gate.tally(0).steps == steps && gate.count(0, Kind::Look) == steps,
         "{ask:?}"
     );
     steps

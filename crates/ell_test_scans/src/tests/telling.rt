@@ -74,7 +74,7 @@ pub fn parted(
 }
 
 /// Makes an operation.
-#[tactic(auto, using(ell_test_shared::proofs::lemmas::Sharers::may_share, ell_test_shared::proofs::lemmas::Sharers::member_answered, ell_test_shared::proofs::lemmas::Sharers::member_held))]
+#[tactic(auto, using(ell_test_shared::proofs::lemmas::Sharers::may_share, ell_test_shared::proofs::lemmas::Sharers::member_answered, ell_test_shared::proofs::lemmas::Sharers::member_laid_down))]
 pub fn make<G: StepGate>(
     rt: &impl Abort,
     tree: &Tree<Global>,

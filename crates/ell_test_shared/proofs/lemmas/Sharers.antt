@@ -6,8 +6,8 @@ use Rattle.ell_ops.specs.KeySet.{set_of}
 use Rattle.ell_ops.specs.Meaning.{greatest_key}
 use Rattle.ell_core.specs.state.Machine.{shared_of}
 use Rattle.ell_core.specs.declared.view.WorkerView.{WorkerView}
-use Rattle.ell_tree.specs.Computing.{Concludes, HoldsBack, PutsValue, UpdatesValue}
-use Rattle.ell_tree.specs.declared.operations.Held.{Held}
+use Rattle.ell_tree.specs.Computing.{Concludes, IsNotDone, PutsValue, UpdatesValue}
+use Rattle.ell_tree.specs.declared.operations.NotDone.{NotDone}
 use Rattle.ell_tree.specs.Ends.{Answers, LaidDown}
 use Rattle.ell_tree.specs.Ledgers.{TreeModel, PassModel, Owns}
 use Rattle.ell_tree.specs.Looks.{OnlyLooks}
@@ -36,8 +36,8 @@ pub member_answered : (owned : List ℕ) (t : TreeModel) (op : Op) (said : Reply
 member_answered owned t op said p q h a = record { own = a.table ∙ h.own; idle = a.idle; ownable = a.share.ownable ∙ h.ownable }
 
 -- and without one
-pub member_held : (owned : List ℕ) (t : TreeModel) (op : Op) (p q : PassModel) → IsMember owned t p → LaidDown t op p q → IsMember owned t q
-member_held owned t op p q h l = record { own = l.table ∙ h.own; idle = l.idle; ownable = l.share.ownable ∙ h.ownable }
+pub member_laid_down : (owned : List ℕ) (t : TreeModel) (op : Op) (p q : PassModel) → IsMember owned t p → LaidDown t op p q → IsMember owned t q
+member_laid_down owned t op p q h l = record { own = l.table ∙ h.own; idle = l.idle; ownable = l.share.ownable ∙ h.ownable }
 
 -- and after a call of several operations, of which the last one was answered
 member_concluded : (owned : List ℕ) (t : TreeModel) (op : Op) (said : Reply) (p q : PassModel) → IsMember owned t p → Concludes t op said p q
@@ -55,9 +55,9 @@ member_updated owned t key makes p q None h (inr (other, value, differs, a)) = m
 member_updated owned t key makes p q (Some was) h (value, made, a) = member_concluded owned t _ _ p q h a
 
 -- and one that has changed nothing
-pub member_held_back : (owned : List ℕ) (t : TreeModel) (key : ℕ) (p q : PassModel) (why : Held) → IsMember owned t p
-    → HoldsBack t key p q why → IsMember owned t q
-member_held_back owned t key p q why h b = record {
+pub member_not_done : (owned : List ℕ) (t : TreeModel) (key : ℕ) (p q : PassModel) (why : NotDone) → IsMember owned t p
+    → IsNotDone t key p q why → IsMember owned t q
+member_not_done owned t key p q why h b = record {
   own = b.untouched.table ∙ h.own;
   idle = b.untouched.idle;
   ownable = b.untouched.share.ownable ∙ h.ownable;

@@ -5,7 +5,7 @@ ghost use Rattle.ell_test_shared.specs.Sharing.{IsMember};
 
 use ell_ops::{KEY_MAX, Op, Reply};
 use ell_test_gates::{Made, are_in_order, calls_on};
-use ell_tree::{Held, Pass, StepGate, Tree};
+use ell_tree::{NotDone, Pass, StepGate, Tree};
 use std::alloc::Global;
 use std::process::Abort;
 use std::sync::atomic::{AtomicU64, Ordering};
@@ -15,7 +15,7 @@ const TRIES: u32 = 1_000;
 
 /// A call on a key.
 #[derive(Clone, Copy, Debug)]
-pub enum Call {
+pub enum KeyCall {
     Ask(Op),
     Take(u64),
     Look(u64),
@@ -32,28 +32,34 @@ pub fn next_value(value: u64) -> u64 {
     value.wrapping_mul(3).wrapping_add(1)
 }
 
-impl Call {
+impl KeyCall {
     /// The key.
     pub fn key(self) -> u64 {
         match self {
-            Call::Ask(op) => op.key(),
-            Call::Take(key) | Call::Look(key) | Call::Update(key) => key,
-            Call::Put(key, _) | Call::Add(key, _) => key,
+            KeyCall::Ask(op) => op.key(),
+            KeyCall::Take(key) | KeyCall::Look(key) | KeyCall::Update(key) => key,
+            KeyCall::Put(key, _) | KeyCall::Add(key, _) => key,
         }
     }
 
     // As what it stands in a history, and what it answers there, if it answers this.
     fn told(self, said: Reply) -> (Op, Reply) {
         match (self, said) {
-            (Call::Ask(op), _) => (op, said),
-            (Call::Take(key), _) => (Op::Delete(key), said),
-            (Call::Put(key, value), Reply::Found(was)) => (Op::Swap(key, was, value), said),
-            (Call::Put(key, value), _) => (Op::Insert(key, value), Reply::Yes),
-            (Call::Add(key, addend), Reply::Found(was)) => {
+            (KeyCall::Ask(op), _) => (op, said),
+            (KeyCall::Take(key), _) => (Op::Delete(key), said),
+            (KeyCall::Put(key, value), Reply::Found(was)) => (Op::Swap(key, was, value), said),
+            (KeyCall::Put(key, value), _) => (Op::Insert(key, value), Reply::Yes),
+            (KeyCall::Add(key, addend), Reply::Found(was)) => {
                 (Op::Swap(key, was, was.wrapping_add(addend)), said)
             }
-            (Call::Update(key), Reply::Found(was)) => (Op::Swap(key, was, next_value(was)), said),
-            (Call::Look(key) | Call::Add(key, _) | Call::Update(key), _) => (Op::Find(key), said),
+            (KeyCall::Update(key), Reply::Found(was)) => (
+                Op::Swap(key, was, next_value(was)),
+                said,
+            ),
+            (KeyCall::Look(key) | KeyCall::Add(key, _) | KeyCall::Update(key), _) => (
+                Op::Find(key),
+                said,
+            ),
         }
     }
 }
@@ -66,7 +72,7 @@ pub fn is_among(key: u64, keys: &[u64]) -> bool
 }
 
 /// Makes an operation on a key of the pass, or on a shared one, where these keys may have owners.
-#[tactic(auto, using(crate::proofs::lemmas::Sharers::may_own, crate::proofs::lemmas::Sharers::may_share, crate::proofs::lemmas::Sharers::member_answered, crate::proofs::lemmas::Sharers::member_held))]
+#[tactic(auto, using(crate::proofs::lemmas::Sharers::may_own, crate::proofs::lemmas::Sharers::may_share, crate::proofs::lemmas::Sharers::member_answered, crate::proofs::lemmas::Sharers::member_laid_down))]
 pub fn ask<G: StepGate>(
     rt: &impl Abort,
     tree: &Tree<Global>,
@@ -75,7 +81,7 @@ pub fn ask<G: StepGate>(
     op: Op,
     tries: u32,
     gate: &G,
-) -> Result<Reply, Held>
+) -> Result<Reply, NotDone>
     requires member { IsMember owned.now tree.now pass.old }
     requires tries { 1 ≤ tries }
     ensures { IsMember owned.now tree.now pass.new }
@@ -94,7 +100,7 @@ pub fn ask<G: StepGate>(
 }
 
 // Takes such a key away: the value that it took.
-#[tactic(auto, using(crate::proofs::lemmas::Sharers::may_own, crate::proofs::lemmas::Sharers::may_share, crate::proofs::lemmas::Sharers::member_answered, crate::proofs::lemmas::Sharers::member_held))]
+#[tactic(auto, using(crate::proofs::lemmas::Sharers::may_own, crate::proofs::lemmas::Sharers::may_share, crate::proofs::lemmas::Sharers::member_answered, crate::proofs::lemmas::Sharers::member_laid_down))]
 fn take<G: StepGate>(
     rt: &impl Abort,
     tree: &Tree<Global>,
@@ -103,7 +109,7 @@ fn take<G: StepGate>(
     key: u64,
     tries: u32,
     gate: &G,
-) -> Result<Option<u64>, Held>
+) -> Result<Option<u64>, NotDone>
     requires member { IsMember owned.now tree.now pass.old }
     requires tries { 1 ≤ tries }
     ensures { IsMember owned.now tree.now pass.new }
@@ -113,7 +119,7 @@ fn take<G: StepGate>(
 }
 
 // Puts a value at such a key: the value that it had.
-#[tactic(auto, using(crate::proofs::lemmas::Sharers::may_own, crate::proofs::lemmas::Sharers::may_share, crate::proofs::lemmas::Sharers::member_put, crate::proofs::lemmas::Sharers::member_held_back))]
+#[tactic(auto, using(crate::proofs::lemmas::Sharers::may_own, crate::proofs::lemmas::Sharers::may_share, crate::proofs::lemmas::Sharers::member_put, crate::proofs::lemmas::Sharers::member_not_done))]
 fn put<G: StepGate>(
     rt: &impl Abort,
     tree: &Tree<Global>,
@@ -123,7 +129,7 @@ fn put<G: StepGate>(
     value: u64,
     tries: u32,
     gate: &G,
-) -> Result<Option<u64>, Held>
+) -> Result<Option<u64>, NotDone>
     requires member { IsMember owned.now tree.now pass.old }
     requires tries { 1 ≤ tries }
     ensures { IsMember owned.now tree.now pass.new }
@@ -133,7 +139,7 @@ fn put<G: StepGate>(
 }
 
 // Adds to the value of such a key: the value that it had.
-#[tactic(auto, using(crate::proofs::lemmas::Sharers::may_own, crate::proofs::lemmas::Sharers::may_share, crate::proofs::lemmas::Sharers::member_updated, crate::proofs::lemmas::Sharers::member_held_back))]
+#[tactic(auto, using(crate::proofs::lemmas::Sharers::may_own, crate::proofs::lemmas::Sharers::may_share, crate::proofs::lemmas::Sharers::member_updated, crate::proofs::lemmas::Sharers::member_not_done))]
 fn add<G: StepGate>(
     rt: &impl Abort,
     tree: &Tree<Global>,
@@ -143,7 +149,7 @@ fn add<G: StepGate>(
     addend: u64,
     tries: u32,
     gate: &G,
-) -> Result<Option<u64>, Held>
+) -> Result<Option<u64>, NotDone>
     requires member { IsMember owned.now tree.now pass.old }
     requires tries { 1 ≤ tries }
     ensures { IsMember owned.now tree.now pass.new }
@@ -154,7 +160,7 @@ fn add<G: StepGate>(
 
 /// Updates the value of such a key to the one that `next_value` makes of it, and counts how often it is called: the
 /// value that it had.
-#[tactic(auto, using(crate::proofs::lemmas::Sharers::may_own, crate::proofs::lemmas::Sharers::may_share, crate::proofs::lemmas::Sharers::member_updated, crate::proofs::lemmas::Sharers::member_held_back))]
+#[tactic(auto, using(crate::proofs::lemmas::Sharers::may_own, crate::proofs::lemmas::Sharers::may_share, crate::proofs::lemmas::Sharers::member_updated, crate::proofs::lemmas::Sharers::member_not_done))]
 pub fn update<G: StepGate>(
     rt: &impl Abort,
     tree: &Tree<Global>,
@@ -164,7 +170,7 @@ pub fn update<G: StepGate>(
     called: &AtomicU64,
     tries: u32,
     gate: &G,
-) -> Result<Option<u64>, Held>
+) -> Result<Option<u64>, NotDone>
     requires member { IsMember owned.now tree.now pass.old }
     requires tries { 1 ≤ tries }
     ensures { IsMember owned.now tree.now pass.new }
@@ -185,24 +191,24 @@ pub fn answer_by<G: StepGate>(
     tree: &Tree<Global>,
     pass: &mut Pass<Global>,
     owned: &[u64],
-    call: Call,
+    call: KeyCall,
     tries: u32,
     gate: &G,
-) -> Result<Reply, Held>
+) -> Result<Reply, NotDone>
     requires member { IsMember owned.now tree.now pass.old }
     requires tries { 1 ≤ tries }
     ensures { IsMember owned.now tree.now pass.new }
 {
     let there = match call {
-        Call::Ask(op) => return ask(rt, tree, pass, owned, op, tries, gate),
-        Call::Take(key) => take(rt, tree, pass, owned, key, tries, gate)?,
-        Call::Look(key) => {
+        KeyCall::Ask(op) => return ask(rt, tree, pass, owned, op, tries, gate),
+        KeyCall::Take(key) => take(rt, tree, pass, owned, key, tries, gate)?,
+        KeyCall::Look(key) => {
             assert!(rt; key <= KEY_MAX);
             tree.look(pass, key, gate)
         }
-        Call::Put(key, value) => put(rt, tree, pass, owned, key, value, tries, gate)?,
-        Call::Add(key, addend) => add(rt, tree, pass, owned, key, addend, tries, gate)?,
-        Call::Update(key) => {
+        KeyCall::Put(key, value) => put(rt, tree, pass, owned, key, value, tries, gate)?,
+        KeyCall::Add(key, addend) => add(rt, tree, pass, owned, key, addend, tries, gate)?,
+        KeyCall::Update(key) => {
             let called = AtomicU64::new(0);
             update(rt, tree, pass, owned, key, &called, tries, gate)?
         }
@@ -216,9 +222,9 @@ pub fn answer<G: StepGate>(
     tree: &Tree<Global>,
     pass: &mut Pass<Global>,
     owned: &[u64],
-    call: Call,
+    call: KeyCall,
     gate: &G,
-) -> Result<Reply, Held>
+) -> Result<Reply, NotDone>
     requires { IsMember owned.now tree.now pass.old }
     ensures { IsMember owned.now tree.now pass.new }
 {
@@ -231,7 +237,7 @@ pub fn tick(clock: &AtomicU64) -> u64 {
 }
 
 /// What a history says of a call of a worker.
-pub fn made(worker: u32, call: Call, said: Reply, begun: u64, ended: u64) -> Made {
+pub fn made(worker: u32, call: KeyCall, said: Reply, begun: u64, ended: u64) -> Made {
     let (op, said) = call.told(said);
     Made {
         worker,
@@ -249,7 +255,7 @@ pub fn make<G: StepGate>(
     pass: &mut Pass<Global>,
     owned: &[u64],
     clock: &AtomicU64,
-    call: Call,
+    call: KeyCall,
     gate: &G,
 ) -> Option<Made>
     requires { IsMember owned.now tree.now pass.old }

@@ -7,14 +7,14 @@ ghost use Rattle.ell_tree.specs.Meaning.{greatest_key};
 ghost use Rattle.ell_tree.specs.Node.{most_start};
 ghost use Rattle.ell_test_shared.specs.Sharing.{IsMember};
 
-use super::calling::Call::{self, Ask};
+use super::calling::KeyCall::{self, Ask};
 use super::calling::{answer, check, close, made, tick};
 use super::parting::{joined, parted};
 use super::working::Done;
 use ell_ops::Op::{Delete, Find, Insert};
 use ell_ops::Reply;
 use ell_ops::Reply::{Found, No, Yes};
-use ell_test_gates::{Holding, Turn, Turns, Until, two_threads_meet};
+use ell_test_gates::{Holding, Turns, Until, WorkerTurn, two_threads_meet};
 use ell_tree::{Exchange, Kind, Pass, StepGate, Tree};
 use std::alloc::Global;
 use std::process::Abort;
@@ -22,7 +22,7 @@ use std::sync::atomic::AtomicU64;
 use std::thread::{Threads, join};
 
 /// A call, and what it answers.
-pub type Row = (Call, Reply);
+pub type Row = (KeyCall, Reply);
 
 /// Makes calls one after the other, each of which is to be answered as its row says.
 pub fn play<G: StepGate>(
@@ -274,7 +274,7 @@ const BEHIND_A_LOST_MARK: Meeting = Meeting {
     ..BEFORE_ITS_DELETE
 };
 
-const TURNS: [Turn; 8] = [
+const TURNS: [WorkerTurn; 8] = [
     (0, Until::Comes(Kind::Exchange(Exchange::Mark), 1)),
     (1, Until::Ends),
     (0, Until::Comes(Kind::Exchange(Exchange::Backtrack), 1)),

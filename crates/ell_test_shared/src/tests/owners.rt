@@ -1,7 +1,7 @@
 //! Trees in which some keys have owners, and every other one is shared.
 ghost use Rattle.ell_test_shared.specs.Sharing.{IsMember};
 
-use super::calling::Call::{self, Add, Ask, Look, Put, Take, Update};
+use super::calling::KeyCall::{self, Add, Ask, Look, Put, Take, Update};
 use super::calling::{answer, check, check_key, close};
 use super::holding::{Meeting, meet};
 use super::parting::{joined, parted};
@@ -10,7 +10,7 @@ use ell_ops::Op::{Delete, Find, Insert, Swap};
 use ell_ops::Reply;
 use ell_ops::Reply::{Found, No, Yes};
 use ell_test_gates::{Jostling, Made, two_threads_meet};
-use ell_tree::{Exchange, Held, Kind, NoGate, Pass, Tree};
+use ell_tree::{Exchange, Kind, NoGate, NotDone, Pass, Tree};
 use std::alloc::Global;
 use std::process::Abort;
 
@@ -63,7 +63,7 @@ fn owners_are_answered_as_private_maps_among_shared_keys(rt: HostRuntime) {
 }
 
 // A call, whether the owner of keys makes it, and what it answers.
-type Turn = (bool, Call, Result<Reply, Held>);
+type Turn = (bool, KeyCall, Result<Reply, NotDone>);
 
 // An owner and a guest make calls in turns, each of which is to be answered as it says.
 fn take_turns(
@@ -160,18 +160,18 @@ fn a_swap_a_put_an_update_and_a_sum_answer_the_value_that_was_there(rt: HostRunt
 const SPENT: [Turn; 16] = [
     (true, Put(1, 11), Ok(Found(10))),
     (true, Add(1, 1), Ok(Found(11))),
-    (true, Put(1, 14), Err(Held::Spent)),
+    (true, Put(1, 14), Err(NotDone::Spent)),
     (true, Ask(Find(1)), Ok(Found(12))),
-    (true, Ask(Swap(1, 12, 13)), Err(Held::Spent)),
+    (true, Ask(Swap(1, 12, 13)), Err(NotDone::Spent)),
     (true, Ask(Swap(1, 13, 14)), Ok(Found(12))),
-    (true, Add(1, 1), Err(Held::Spent)),
-    (true, Update(1), Err(Held::Spent)),
-    (true, Put(3, 30), Err(Held::Spent)),
+    (true, Add(1, 1), Err(NotDone::Spent)),
+    (true, Update(1), Err(NotDone::Spent)),
+    (true, Put(3, 30), Err(NotDone::Spent)),
     (true, Add(3, 1), Ok(No)),
     (true, Update(3), Ok(No)),
-    (false, Put(2, 21), Err(Held::Spent)),
-    (false, Update(2), Err(Held::Spent)),
-    (false, Ask(Swap(2, 20, 21)), Err(Held::Spent)),
+    (false, Put(2, 21), Err(NotDone::Spent)),
+    (false, Update(2), Err(NotDone::Spent)),
+    (false, Ask(Swap(2, 20, 21)), Err(NotDone::Spent)),
     (false, Look(2), Ok(Found(20))),
     (true, Ask(Find(1)), Ok(Found(12))),
 ];

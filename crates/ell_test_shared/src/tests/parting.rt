@@ -2,7 +2,7 @@
 ghost use Rattle.std.specs.List.Sorted.{IsStrictlyIncreasing};
 ghost use Rattle.ell_test_shared.specs.Sharing.{IsMember, IsSharer};
 
-use super::calling::Call::Ask;
+use super::calling::KeyCall::Ask;
 use super::calling::{answer, close, is_among};
 use ell_cards::SplitFault;
 use ell_ops::Op::{Delete, Find, Insert};

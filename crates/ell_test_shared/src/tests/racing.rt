@@ -7,7 +7,7 @@ ghost use Rattle.ell_tree.specs.Meaning.{greatest_key};
 ghost use Rattle.ell_tree.specs.Node.{most_start};
 ghost use Rattle.ell_test_shared.specs.Sharing.{IsSharer};
 
-use super::calling::Call::{self, Ask, Take};
+use super::calling::KeyCall::{self, Ask, Take};
 use super::calling::{answer, close};
 use super::parting::{joined, parted};
 use ell_ops::Op::{Delete, Insert};
@@ -29,7 +29,7 @@ fn run<G: StepGate>(
     rt: &impl Abort,
     tree: &Tree<Global>,
     pass: Pass<Global>,
-    call: Call,
+    call: KeyCall,
     gate: &G,
 ) -> Ran
     requires { IsSharer tree.now pass }
@@ -45,7 +45,7 @@ fn race<R: Threads + Abort + AllocGlobal + Sync>(
     rt: &R,
     at: Kind,
     start: &[(u64, u64)],
-    calls: (Call, Call),
+    calls: (KeyCall, KeyCall),
 ) -> (Option<Reply>, Option<Reply>, Vec<(u64, u64)>)
     requires ascending { IsStrictlyIncreasing (keys_of start.now) }
     requires real { All (λ k. k ≤ greatest_key) (keys_of start.now) }

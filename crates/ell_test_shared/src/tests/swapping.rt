@@ -2,7 +2,7 @@
 ghost use Rattle.std.specs.Prelude.{[]};
 ghost use Rattle.ell_test_shared.specs.Sharing.{IsSharer};
 
-use super::calling::Call::{Add, Ask, Look, Put, Take, Update};
+use super::calling::KeyCall::{Add, Ask, Look, Put, Take, Update};
 use super::calling::{answer_by, close, next_value, update};
 use super::holding::{Meeting, meet, meet_until};
 use super::parting::{joined, parted};
@@ -10,7 +10,7 @@ use ell_ops::Op::{Delete, Find, Insert, Swap};
 use ell_ops::Reply;
 use ell_ops::Reply::{Found, No, Yes};
 use ell_test_gates::{Holding, two_threads_meet};
-use ell_tree::{Exchange, Held, Kind, Pass, StepGate, Tree};
+use ell_tree::{Exchange, Kind, NotDone, Pass, StepGate, Tree};
 use std::alloc::Global;
 use std::process::Abort;
 use std::sync::atomic::{AtomicU64, Ordering};
@@ -241,7 +241,7 @@ fn a_put_or_a_sum_goes_by_the_value_that_the_key_has_last(rt: HostRuntime) {
 }
 
 // What a worker leaves: its pass, and what it was answered.
-type Ran = (Pass<Global>, Result<Reply, Held>);
+type Ran = (Pass<Global>, Result<Reply, NotDone>);
 
 // Worker 0 updates a key, and counts how often its closure is called.
 fn run_update<G: StepGate>(
@@ -264,7 +264,7 @@ fn run_once<G: StepGate>(
     rt: &impl Abort,
     tree: &Tree<Global>,
     pass: Pass<Global>,
-    call: super::calling::Call,
+    call: super::calling::KeyCall,
     gate: &G,
 ) -> Ran
     requires { IsSharer tree.now pass }
@@ -281,8 +281,13 @@ fn meet_update<R: Threads + Abort + AllocGlobal + Sync>(
     rt: &R,
     at: Kind,
     ends: u64,
-    call: super::calling::Call,
-) -> (Result<Reply, Held>, Result<Reply, Held>, u64, Option<u64>) {
+    call: super::calling::KeyCall,
+) -> (
+    Result<Reply, NotDone>,
+    Result<Reply, NotDone>,
+    u64,
+    Option<u64>,
+) {
     let (gate, called) = (Holding::until(at, ends), AtomicU64::new(0));
     let made = Tree::reserve_shared(rt.alloc(), &[(5, 50)], &[], 100);
     let (tree, pass) = made.expect(rt, "tree");
@@ -331,7 +336,7 @@ fn a_call_of_one_try_that_meets_a_flag_is_busy_and_changes_nothing(rt: HostRunti
         (Ask(Delete(5)), 1),
     ] {
         let met = meet_update(&rt, Kind::Exchange(Exchange::IChild), ends, call);
-        let want = (Ok(Found(50)), Err(Held::Busy), 1, Some(next_value(50)));
+        let want = (Ok(Found(50)), Err(NotDone::Busy), 1, Some(next_value(50)));
         assert!(rt; met == want);
     }
 }

@@ -7,7 +7,7 @@ ghost use Rattle.ell_tree.specs.Meaning.{greatest_key};
 ghost use Rattle.ell_tree.specs.Node.{most_start};
 ghost use Rattle.ell_test_shared.specs.Sharing.{IsMember};
 
-use super::calling::{Call, check, close, is_among, make};
+use super::calling::{KeyCall, check, close, is_among, make};
 use super::parting::{joined, parted};
 use ell_ops::{Op, Reply, distinct_keys};
 use ell_test_gates::{Dice, Jostling, Made};
@@ -60,42 +60,42 @@ type Seen = (u64, u64);
 // Draws a call of all kinds, at times on the key that the worker found last, whose value is the one that a swap
 // replaces. All other values are of 64 bits, so that one is hardly put twice. A key that another worker owns is looked
 // for.
-fn draw_any(dice: &mut Dice, load: Load, seen: Seen, pass: &Pass<Global>) -> Call {
+fn draw_any(dice: &mut Dice, load: Load, seen: Seen, pass: &Pass<Global>) -> KeyCall {
     let any = dice.below(load.keys.max(1));
     let key = if dice.below(2) == 0 { seen.0 } else { any };
     let may = pass.owns(key) || !is_among(key, load.owned);
     match dice.below(10) {
-        1 if may => Call::Take(key),
-        2 if may => Call::Put(key, dice.value()),
-        3 if may => Call::Add(key, dice.value()),
-        4 if may => Call::Update(key),
-        5 | 6 if may => Call::Ask(Op::Swap(key, seen.1, dice.value())),
-        7 if may => Call::Ask(Op::Insert(key, dice.value())),
-        8 if may => Call::Ask(Op::Delete(key)),
-        9 if may => Call::Ask(Op::Find(key)),
-        _ => Call::Look(key),
+        1 if may => KeyCall::Take(key),
+        2 if may => KeyCall::Put(key, dice.value()),
+        3 if may => KeyCall::Add(key, dice.value()),
+        4 if may => KeyCall::Update(key),
+        5 | 6 if may => KeyCall::Ask(Op::Swap(key, seen.1, dice.value())),
+        7 if may => KeyCall::Ask(Op::Insert(key, dice.value())),
+        8 if may => KeyCall::Ask(Op::Delete(key)),
+        9 if may => KeyCall::Ask(Op::Find(key)),
+        _ => KeyCall::Look(key),
     }
 }
 
 // Draws a put, or an operation, whose values are each one of four.
-fn draw_few(dice: &mut Dice, key: u64) -> Call {
+fn draw_few(dice: &mut Dice, key: u64) -> KeyCall {
     if dice.below(4) == 0 {
-        Call::Put(key, dice.one_of_four())
+        KeyCall::Put(key, dice.one_of_four())
     } else {
-        Call::Ask(dice.operation(key))
+        KeyCall::Ask(dice.operation(key))
     }
 }
 
 // Draws the call of this number.
-fn draw(dice: &mut Dice, load: Load, number: u32, seen: Seen, pass: &Pass<Global>) -> Call {
+fn draw(dice: &mut Dice, load: Load, number: u32, seen: Seen, pass: &Pass<Global>) -> KeyCall {
     let key = dice.below(load.keys.max(1));
     match load.mix {
         Mix::All => draw_any(dice, load, seen, pass),
         Mix::Few => draw_few(dice, key),
-        Mix::Adds => Call::Add(key, 1),
-        Mix::Rises if pass.label() == 0 => Call::Put(key, number as u64 + 1),
-        Mix::Rises if dice.below(2) == 0 => Call::Look(key),
-        Mix::Rises => Call::Ask(Op::Find(key)),
+        Mix::Adds => KeyCall::Add(key, 1),
+        Mix::Rises if pass.label() == 0 => KeyCall::Put(key, number as u64 + 1),
+        Mix::Rises if dice.below(2) == 0 => KeyCall::Look(key),
+        Mix::Rises => KeyCall::Ask(Op::Find(key)),
     }
 }
 

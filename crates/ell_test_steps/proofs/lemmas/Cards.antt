@@ -18,25 +18,25 @@ use Rattle.ell_cards.specs.Guards.{IsFilled, MayClaim, Wants}
 use Rattle.ell_cards.proofs.lemmas.words.Updates.{clean_word}
 use Rattle.ell_cards.proofs.lemmas.views.Searches.{may_claim, filling_at}
 use Rattle.ell_cards.proofs.lemmas.stepping.Claiming.{put_filling}
-use Rattle.ell_test_steps.specs.declared.filling.Place.{Place}
+use Rattle.ell_test_steps.specs.declared.filling.LeafFound.{LeafFound}
 use Rattle.ell_test_steps.specs.Claims.{EndsAt, IsFresh, insert_stores}
 use Rattle.ell_test_steps.specs.Fitting.{seen, seen_any}
 
 -- where the search ended at a place, and the claim word was read, a claim may be made
-pub may_claim_at : (old new : PassModel) (n : ℕ) (op : Op) (place : Place) → Steps old new (after_next n old.view) → EndsAt old.view place
+pub may_claim_at : (old new : PassModel) (n : ℕ) (op : Op) (place : LeafFound) → Steps old new (after_next n old.view) → EndsAt old.view place
     → Does old.view op → old.view.worker.card ≡ None → place.parent.update.state ≡ state.Clean → Wants old.view op place.leaf place.key → MayClaim new.view n
 may_claim_at old new n op place s e busy no_card calm wants =
     may_claim old new op n place.leaf place.key (seen place.parent) s busy no_card e.stands e.outer e.told e.behind
     (clean_word place.parent.update.state place.parent.update.card calm) wants
 
 -- what the card of an operation is to say whose search ended at a place
-pub filling_there : (v : View) (c : ℕ) (op : Op) (place : Place) → Does v op → EndsAt v place
+pub filling_there : (v : View) (c : ℕ) (op : Op) (place : LeafFound) → Does v op → EndsAt v place
     → filling_of c v ≡ filling_for c (Some op) (Some place.leaf) (Some (seen place.parent)) (seen_any place.grandparent) place.key (told_value v.told)
 filling_there v c op place busy e =
     filling_at v op c place.leaf place.key (seen place.parent) (seen_any place.grandparent) busy e.stands e.told e.behind e.above
 
 -- and that of one that puts something
-pub put_fills : (v : View) (c : ℕ) (op : Op) (what : Put) (place : Place) → put_of op ≡ Some what → Does v op → EndsAt v place
+pub put_fills : (v : View) (c : ℕ) (op : Op) (what : Put) (place : LeafFound) → put_of op ≡ Some what → Does v op → EndsAt v place
     → filling_of c v ≡ insert_filling c what.key what.value place.parent.node place.leaf place.key place.value
 put_fills v c op what place puts busy e =
     filling_there v c op place busy e
@@ -44,7 +44,7 @@ put_fills v c op what place puts busy e =
     ∙ ap (insert_filling c what.key what.value place.parent.node place.leaf place.key) e.value)
 
 -- where a search ended at a place that takes what an operation puts, a claim is wanted
-pub wants_put : (v : View) (op : Op) (what : Put) (place : Place) → put_of op ≡ Some what → EndsAt v place → TakesPut what place.key place.value
+pub wants_put : (v : View) (op : Op) (what : Put) (place : LeafFound) → put_of op ≡ Some what → EndsAt v place → TakesPut what place.key place.value
     → Wants v op place.leaf place.key
 wants_put v (Find k) what place puts e takes = absurd cc
 wants_put v (Insert k value) what place puts e takes =
@@ -55,7 +55,7 @@ wants_put v (Swap k was value) what place puts e takes =
     (there.0, subst (λ n. IsTold v (Value place.leaf n)) there.1 e.value_told)
 
 -- what is stored of an insert's card is what it is to say
-stored_of_insert : (c k value : ℕ) (place : Place) (f : Field)
+stored_of_insert : (c k value : ℕ) (place : LeafFound) (f : Field)
     → stored_at (insert_stores c k value place) f ≡ stored (insert_filling c k value place.parent.node place.leaf place.key place.value) f 0
 stored_of_insert c k value place field.Gp = refl
 stored_of_insert c k value place field.P = refl
@@ -70,7 +70,7 @@ stored_of_insert c k value place field.RightLeafKey = refl
 stored_of_insert c k value place field.LeftValue = refl
 stored_of_insert c k value place field.RightValue = refl
 
-pub insert_filled : (v w : View) (c k value : ℕ) (place : Place)
+pub insert_filled : (v w : View) (c k value : ℕ) (place : LeafFound)
     → IsFresh v c (insert_filling c k value place.parent.node place.leaf place.key place.value)
     → w ≡ with_stores (insert_stores c k value place) v → IsFilled w
 insert_filled v w c k value place fresh e f =

@@ -6,9 +6,9 @@ use Rattle.ell_cards.specs.Changes.{after_begin, after_again, after_leave, in_th
 use Rattle.ell_tree.specs.Hindrances.{way_of}
 use Rattle.ell_tree.specs.Searches.{AtRoot}
 use Rattle.ell_tree.specs.Tries.{Begins, Lays}
-use Rattle.ell_tree.proofs.lemmas.Counting.{took_none, took_one}
+use Rattle.ell_tree.proofs.lemmas.Counts.{took_none, took_one}
 use Rattle.ell_tree.proofs.lemmas.Meeting.{root_way}
-use Rattle.ell_tree.proofs.lemmas.Hindering.{root_hindered}
+use Rattle.ell_tree.proofs.lemmas.Hindrances.{root_hindered}
 
 -- an operation that was taken in hand stands at the root
 pub begins : (old new : PassModel) (op : Op) → Steps old new (after_begin (Some op) old.view) → Begins op [] old.view.hindered old new

@@ -16,7 +16,7 @@ use Rattle.ell_cards.proofs.lemmas.words.Updates.{clean_word}
 use Rattle.ell_cards.proofs.lemmas.views.Entries.{filling_more}
 use Rattle.ell_cards.proofs.lemmas.views.Steps.{view_after}
 use Rattle.ell_cards.proofs.lemmas.views.Searches.{may_claim}
-use Rattle.ell_tree.specs.declared.searching.Place.{Place}
+use Rattle.ell_tree.specs.declared.searching.LeafFound.{LeafFound}
 use Rattle.ell_tree.specs.CardsTaken.{claims_in, TakesNoCard, TakesOneCard}
 use Rattle.ell_tree.specs.Hindrances.{Meets}
 use Rattle.ell_tree.specs.Keeping.{LosesNothing, Goes}
@@ -67,7 +67,7 @@ lost_keeps : (c : ℕ) (v : View) → v.next_at_least ≤ c → LosesNothing v (
 lost_keeps c v low = record { ledger = refl; operation = refl; answers = refl; share = record { share = refl; ownable = refl }; knows = λ f h. h; told = λ e h. h; before = refl; least = omega arith; hindered = refl; earlier = λ hs e. ap (λ hs. Claim c ∷ hs) e }
 
 -- where a search stands at a leaf, and the claim word was read, a claim may be made
-pub may_claim_at : (old new : PassModel) (c : ℕ) (op : Op) (place : Place) → Steps old new (after_next c old.view) → Does old.view op
+pub may_claim_at : (old new : PassModel) (c : ℕ) (op : Op) (place : LeafFound) → Steps old new (after_next c old.view) → Does old.view op
     → old.view.worker.card ≡ None → IsAt old.view place → place.parent.update.state ≡ state.Clean → Wants old.view op place.leaf place.key → MayClaim new.view c
 may_claim_at old new c op place s busy no_card at calm wants =
     may_claim old new op c place.leaf place.key (seen place.parent) s busy no_card (ap (λ (r : Search). r.node) at.search) at.outer at.told
@@ -97,7 +97,7 @@ module _ (a b d : PassModel) (c : ℕ) (read : Steps a b (after_next c a.view)) 
       (goes_step b d (after_claim true c b.view) s (won_keeps c b.view low_there) refl) (omega arith)
 
   -- the card is in hand then
-  pub has_card : (op : Op) (place : Place) → Steps b d (after_claim true c b.view) → Does a.view op → IsAt a.view place
+  pub has_card : (op : Op) (place : LeafFound) → Steps b d (after_claim true c b.view) → Does a.view op → IsAt a.view place
       → HasCard op place (filling_of c a.view) d.view c
   has_card op place s busy at =
       subst (λ (w : View). HasCard op place (filling_of c a.view) w c)

@@ -23,7 +23,7 @@ use Rattle.ell_cards.specs.Closed.{ClosedModel, TableEnds}
 use Rattle.ell_cards.proofs.lemmas.words.Keys.{owned_among}
 use Rattle.ell_tree.specs.Ledgers.{TreeModel, ledger, present_in}
 use Rattle.ell_tree.specs.Closing.{ClosesTo}
-use Rattle.ell_tree.proofs.lemmas.Splitting.{there_same}
+use Rattle.ell_tree.proofs.lemmas.PassParts.{there_same}
 use Rattle.std.proofs.lemmas.Bool.{cases_eq, false≢true}
 use Rattle.ell_word.specs.Node.{card, IsNode}
 use Rattle.ell_cards.specs.Starts.{IsSharedIn}

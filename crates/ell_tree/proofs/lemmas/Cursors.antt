@@ -18,13 +18,13 @@ use Rattle.ell_cards.specs.Looking.{HasFound, HasFoundBetween, ReadsItsOwn}
 use Rattle.ell_cards.specs.Models.{PassModel, Counts, Sees, Has, HasCome, latest, earlier, IsTold, InTable}
 use Rattle.ell_cards.proofs.lemmas.views.Steps.{view_seen}
 use Rattle.ell_tree.specs.Counts.{HasUncounted}
-use Rattle.ell_tree.proofs.lemmas.Counting.{uncounted_one}
+use Rattle.ell_tree.proofs.lemmas.Counts.{uncounted_one}
 use Rattle.ell_tree.specs.declared.cursor.About.{About}
 use Rattle.ell_tree.specs.declared.cursor.Cursor.{Cursor}
 use Rattle.ell_tree.specs.Cursors.{AreKept, BeginsALook, FindsAbout, IsAmong, IsKept, kept_at, IsLower, IsNodeKey, IsUpper, LooksOn}
 use Rattle.ell_tree.specs.Looks.{stretch_steps}
 use Rattle.ell_tree.specs.Scans.{TellsItsOwn, value_there}
-use Rattle.ell_tree.proofs.lemmas.Glances.{come_part, reads_mine, only_trans, only_none_yet, look_only, down_only, key_only, value_only, only_counted}
+use Rattle.ell_tree.proofs.lemmas.Looks.{come_part, reads_mine, only_trans, only_none_yet, look_only, down_only, key_only, value_only, only_counted}
 
 -- a look that goes on, and on
 pub on_trans : (a b c : PassModel) (m n k : ℕ) → LooksOn a b m → LooksOn b c n → m + n ≤ k → LooksOn a c k
@@ -184,7 +184,7 @@ one_kept cards v c d j g room first each new k = record {
     ]
 
 -- a look has come to a node by a key and others, from one from which it went on, in at most two steps for each internal node that there is down to it
-pub record Goes (cards : ℕ) (old new : PassModel) (key : ℕ) (here : Glance) (cursor : Cursor) : Type 0 where
+pub record GoesDown (cards : ℕ) (old new : PassModel) (key : ℕ) (here : Glance) (cursor : Cursor) : Type 0 where
   pub count : ℕ
   pub on : LooksOn old new count
   pub few : count + 2 ≤ 2 * ((here.node + 3) / 4)
@@ -194,7 +194,7 @@ pub record Goes (cards : ℕ) (old new : PassModel) (key : ℕ) (here : Glance) 
   pub kept : AreKept cards new.view cursor
 
 pub goes_first : (cards : ℕ) (old : PassModel) (key : ℕ) (here : Glance) (c d : Cursor) → AreKept cards old.view c → IsAmong c here → here.low ≤ key → key < here.high
-    → d.first ≡ c.first → d.kept ≡ c.kept → Goes cards old old key here d
+    → d.first ≡ c.first → d.kept ≡ c.kept → GoesDown cards old old key here d
 goes_first cards old key here c d kept among from upto first same =
     let stands = among_kept cards old.view c here kept among in
     record {
@@ -228,7 +228,7 @@ upper_down : (right : Bool) (cards : ℕ) (v : View) (high k : ℕ) → IsUpper 
 upper_down true cards v high k u n = u
 upper_down false cards v high k u n = upper_min cards v high k u n
 
-module _ (cards : ℕ) (old a b : PassModel) (key : ℕ) (here : Glance) (cursor : Cursor) (k : ℕ) (at : Goes cards old a key here cursor)
+module _ (cards : ℕ) (old a b : PassModel) (key : ℕ) (here : Glance) (cursor : Cursor) (k : ℕ) (at : GoesDown cards old a key here cursor)
     (asked : Sees a b (after_key_of here.node k a.view)) where
   asked_view : b.view ≡ after_key_of here.node k a.view
   asked_view = view_seen a b (after_key_of here.node k a.view) asked
@@ -249,7 +249,7 @@ module _ (cards : ℕ) (old a b : PassModel) (key : ℕ) (here : Glance) (cursor
   may_go_down inner = record { come = stands_still.come; met = stands_still.met; inner = inner; told = told_key }
 
   pub goes_down : (d : PassModel) (right : Bool) (child : ℕ) (after : Cursor) → Sees b d (after_look_down here k right child b.view) → IsInternal here.node
-      → here.node < child → InTable cards child → right ≡ nat_le k key → AreKept cards b.view after → Goes cards old d key (gone_down here k right child) after
+      → here.node < child → InTable cards child → right ≡ nat_le k key → AreKept cards b.view after → GoesDown cards old d key (gone_down here k right child) after
   goes_down d right child after s inner deeper there side kept =
       let view = view_seen b d (after_look_down here k right child b.view) s in
       let on = down_on b d here k right child s in
@@ -321,7 +321,7 @@ module _ (cards : ℕ) (a b : PassModel) (key : ℕ) (leaf : Glance) (k : ℕ) (
       }
 
 -- a stretch is found in at most so many steps
-pub goes_found : (cards : ℕ) (old a b : PassModel) (key : ℕ) (here : Glance) (cursor : Cursor) → Goes cards old a key here cursor → LooksOn a b 2
+pub goes_found : (cards : ℕ) (old a b : PassModel) (key : ℕ) (here : Glance) (cursor : Cursor) → GoesDown cards old a key here cursor → LooksOn a b 2
     → LooksOn old b (stretch_steps cards)
 goes_found cards old a b key here cursor at on =
     on_trans old a b at.count 2 (stretch_steps cards) at.on on (let few = at.few in let room = at.stands.there in omega arith)

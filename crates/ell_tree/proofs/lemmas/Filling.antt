@@ -20,7 +20,7 @@ use Rattle.ell_cards.specs.Guards.{Wants}
 use Rattle.ell_cards.proofs.lemmas.words.Updates.{clean_word}
 use Rattle.ell_cards.proofs.lemmas.views.Searches.{filling_at}
 use Rattle.ell_tree.specs.declared.searching.Passed.{Passed}
-use Rattle.ell_tree.specs.declared.searching.Place.{Place}
+use Rattle.ell_tree.specs.declared.searching.LeafFound.{LeafFound}
 use Rattle.ell_tree.specs.Keeping.{LosesNothing, IsInnerMet}
 use Rattle.ell_tree.specs.Searches.{seen, seen_any, IsAt}
 use Rattle.ell_tree.specs.Helps.{IsInsert, IsParent}
@@ -28,13 +28,13 @@ use Rattle.ell_tree.specs.Tries.{HasCard}
 use Rattle.ell_tree.proofs.lemmas.Keeping.{inner_kept}
 
 -- what fills a card, by a search that stands at a place
-filling_there : (c : ℕ) (op : Op) (v : View) (place : Place) → Does v op → IsAt v place
+filling_there : (c : ℕ) (op : Op) (v : View) (place : LeafFound) → Does v op → IsAt v place
     → filling_of c v ≡ filling_for c (Some op) (Some place.leaf) (Some (seen place.parent)) (seen_any place.grandparent) place.key (told_value v.told)
 filling_there c op v place busy at = filling_at v op c place.leaf place.key (seen place.parent) (seen_any place.grandparent) busy
     (ap (λ (s : Search). s.node) at.search) at.told (ap (λ (s : Search). s.parent) at.search) (ap (λ (s : Search). s.grandparent) at.search)
 
 -- for an insert or a swap
-pub put_fills : (c : ℕ) (op : Op) (what : Put) (v : View) (place : Place) → put_of op ≡ Some what → Does v op → IsAt v place
+pub put_fills : (c : ℕ) (op : Op) (what : Put) (v : View) (place : LeafFound) → put_of op ≡ Some what → Does v op → IsAt v place
     → filling_of c v ≡ insert_filling c what.key what.value place.parent.node place.leaf place.key place.value
 put_fills c op what v place is busy at =
     filling_there c op v place busy at
@@ -42,17 +42,17 @@ put_fills c op what v place is busy at =
     ∙ ap (insert_filling c what.key what.value place.parent.node place.leaf place.key) at.value)
 
 -- a delete wants a card at a leaf of its key whose grandparent was read clean
-pub delete_wants : (v : View) (k : ℕ) (place : Place) (above : Passed) → IsAt v place → place.key ≡ k → place.grandparent ≡ Some above
+pub delete_wants : (v : View) (k : ℕ) (place : LeafFound) (above : Passed) → IsAt v place → place.key ≡ k → place.grandparent ≡ Some above
     → above.update.state ≡ state.Clean → Wants v (Delete k) place.leaf place.key
 delete_wants v k place above at same is calm =
     (same, (seen above, ap (λ (s : Search). s.grandparent) at.search ∙ ap seen_any is, clean_word above.update.state above.update.card calm))
 
 -- what a card tells is told still after its flag
-module _ (v t f : View) (c : ℕ) (op : Op) (place : Place) (busy : Does v op) (at : IsAt v place) (h : HasCard op place (filling_of c v) t c) (keeps : LosesNothing t f) where
+module _ (v t f : View) (c : ℕ) (op : Op) (place : LeafFound) (busy : Does v op) (at : IsAt v place) (h : HasCard op place (filling_of c v) t c) (keeps : LosesNothing t f) where
   told_by_card : (filling : List (Field × ℕ)) → filling_of c v ≡ filling → (e : Told) → Has (told_filling c filling []) e → IsTold f e
   told_by_card filling is e has = keeps.told e (h.told e (subst (λ (fs : List (Field × ℕ)). Has (told_filling c fs []) e) (sym is) has))
 
-module _ (v t f : View) (c : ℕ) (place : Place) (keeps : LosesNothing t f) where
+module _ (v t f : View) (c : ℕ) (place : LeafFound) (keeps : LosesNothing t f) where
   pub is_insert : (op : Op) (what : Put) → put_of op ≡ Some what → Does v op → IsAt v place → HasCard op place (filling_of c v) t c
       → Knows f (fact.IFlagged c) → IsTold t (Met place.parent.node)
       → IsInsert f c place.parent.node place.leaf (max what.key place.key) (min what.key place.key)
@@ -68,7 +68,7 @@ module _ (v t f : View) (c : ℕ) (place : Place) (keeps : LosesNothing t f) whe
         left_key = tells (Info c field.LeftLeafKey (min what.key place.key)) (earlier _ _ _ (earlier _ _ _ (earlier _ _ _ (latest _ _))));
       }
 
-module _ (v t f : View) (c k : ℕ) (place : Place) (keeps : LosesNothing t f) where
+module _ (v t f : View) (c k : ℕ) (place : LeafFound) (keeps : LosesNothing t f) where
   module _ (above : Passed) (is : place.grandparent ≡ Some above) (busy : Does v (Delete k)) (at : IsAt v place) (h : HasCard (Delete k) place (filling_of c v) t c) where
     delete_tells : (e : Told) → Has (told_filling c (delete_filling above.node place.parent.node place.leaf (packed place.parent.update)) []) e → IsTold f e
     delete_tells = told_by_card v t f c (Delete k) place busy at h keeps (delete_filling above.node place.parent.node place.leaf (packed place.parent.update))

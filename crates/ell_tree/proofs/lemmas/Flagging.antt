@@ -17,15 +17,15 @@ use Rattle.ell_cards.proofs.lemmas.views.Facts.{knows_new, knows_more, facts_by_
 use Rattle.ell_cards.proofs.lemmas.views.Entries.{places_more}
 use Rattle.ell_cards.proofs.lemmas.views.Steps.{view_after}
 use Rattle.ell_tree.specs.declared.searching.Passed.{Passed}
-use Rattle.ell_tree.specs.declared.searching.Place.{Place}
+use Rattle.ell_tree.specs.declared.searching.LeafFound.{LeafFound}
 use Rattle.ell_tree.specs.CardsTaken.{is_claim, claims_in, TakesNoCard}
 use Rattle.ell_tree.specs.Counts.{Took}
 use Rattle.ell_tree.specs.Keeping.{LosesNothing, Goes, IsInnerMet}
 use Rattle.ell_tree.specs.Searches.{seen, seen_any}
 use Rattle.ell_tree.specs.Tries.{HasCard, HasCardToPut, Fills, Flags, IsFlagged, IsUnflagged}
-use Rattle.ell_tree.proofs.lemmas.Counting.{took_one, took_trans}
+use Rattle.ell_tree.proofs.lemmas.Counts.{took_one, took_trans}
 use Rattle.ell_tree.proofs.lemmas.Keeping.{place_told}
-use Rattle.ell_tree.proofs.lemmas.Taking.{no_claims}
+use Rattle.ell_tree.proofs.lemmas.CardsTaken.{no_claims}
 
 -- a card that is filled is in hand, not flagged, as before
 may_fill_still : (a b : PassModel) (n c : ℕ) → Fills a b n → MayFill a.view c → MayFill b.view c
@@ -35,7 +35,7 @@ may_fill_still a b n c fills may = record {
 }
 
 -- an insert's card that is filled may flag the parent
-pub may_iflag : (a b : PassModel) (n c : ℕ) (what : Put) (place : Place) → HasCardToPut what place a.view c → Fills a b n
+pub may_iflag : (a b : PassModel) (n c : ℕ) (what : Put) (place : LeafFound) → HasCardToPut what place a.view c → Fills a b n
     → MayIFlag b.view c place.parent.node place.parent.update
 may_iflag a b n c what place h fills = record {
   op = h.op;
@@ -50,7 +50,7 @@ may_iflag a b n c what place h fills = record {
 }
 
 -- a delete's the grandparent
-pub may_dflag : (a b : PassModel) (n c k : ℕ) (place : Place) (above : Passed) → place.grandparent ≡ Some above
+pub may_dflag : (a b : PassModel) (n c k : ℕ) (place : LeafFound) (above : Passed) → place.grandparent ≡ Some above
     → HasCard (Delete k) place (delete_filling above.node place.parent.node place.leaf (packed place.parent.update)) a.view c
     → Fills a b n → MayDFlag b.view c above.node above.update
 may_dflag a b n c k place above is h fills = record {

@@ -17,7 +17,7 @@ use Rattle.ell_cards.proofs.lemmas.views.Afters.{after_down, after_key_of, after
 use Rattle.ell_cards.proofs.lemmas.views.Facts.{knows_new, knows_more, facts_by_more}
 use Rattle.ell_cards.proofs.lemmas.views.Entries.{places_more, info_more}
 use Rattle.ell_cards.specs.Stepping.{SameShare}
-use Rattle.ell_tree.proofs.lemmas.Counting.{took_none, took_one, took_unseen, took_counted, took_within, took_trans}
+use Rattle.ell_tree.proofs.lemmas.Counts.{took_none, took_one, took_unseen, took_counted, took_within, took_trans}
 use Rattle.ell_tree.specs.Counts.{HasUncounted}
 use Rattle.ell_tree.specs.CardsTaken.{claims_in}
 use Rattle.ell_tree.specs.Keeping.{LosesNothing, Goes, Seeks, Works, Walks, IsInnerMet, TellsPlace, IsSeenAt}

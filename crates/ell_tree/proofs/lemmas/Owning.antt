@@ -14,7 +14,7 @@ use Rattle.ell_core.specs.acts.Searching.{put_of, TakesPut}
 use Rattle.ell_core.proofs.lemmas.keeping.Puts.{added, replacing}
 use Rattle.ell_cards.specs.Models.{PassModel, ledger}
 use Rattle.ell_cards.specs.Stepping.{SameShare}
-use Rattle.ell_tree.specs.declared.searching.Place.{Place}
+use Rattle.ell_tree.specs.declared.searching.LeafFound.{LeafFound}
 use Rattle.ell_tree.specs.declared.trying.Tried.TheVariants.{Answered}
 use Rattle.ell_tree.specs.Ends.{Answers, Moves, TakesValue}
 use Rattle.ell_tree.specs.Tries.{TryMoves}
@@ -72,7 +72,7 @@ goes_answers t op said p q r n goes h = answers_before t op said p q r goes.tabl
 
 -- an insert whose search ended at another key would add its own; a swap whose search ended at its key and its first value would swap it; a delete
 -- whose search ended at its key would take it away
-module _ (cards : ℕ) (p q : PassModel) (same : q.view.worker.ledger ≡ p.view.worker.ledger) (place : Place) where
+module _ (cards : ℕ) (p q : PassModel) (same : q.view.worker.ledger ≡ p.view.worker.ledger) (place : LeafFound) where
   there : (op : Op) → EndsAt cards q.view op place → Owns p (key_of op) → present_in p (key_of op) ≡ there_at place (key_of op)
   there op ends owns =
       sym (ap (λ (l : List (ℕ × Entry)). contents_in (ledger_of l) (key_of op)) same) ∙ ends.there (still_owned (key_of op) p q same owns)

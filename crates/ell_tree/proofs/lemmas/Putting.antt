@@ -15,13 +15,13 @@ use Rattle.ell_cards.specs.declared.view.View.{View}
 use Rattle.ell_cards.specs.declared.view.Told.TheVariants.{Value}
 use Rattle.ell_cards.specs.Models.{IsTold, Knows}
 use Rattle.ell_cards.specs.Guards.{IsOver, Wants}
-use Rattle.ell_tree.specs.declared.searching.Place.{Place}
+use Rattle.ell_tree.specs.declared.searching.LeafFound.{LeafFound}
 use Rattle.ell_tree.specs.Ends.{changes_by, reply_by}
 use Rattle.ell_tree.specs.Searches.{IsAt, there_at}
 use Rattle.ell_tree.specs.Tries.{found_by, put_reply}
 
 -- an insert or a swap, that puts this, and a place where its search ended
-module _ (place : Place) where
+module _ (place : LeafFound) where
   -- it wants a card at a place that it may take
   insert_wants : (k value : ℕ) (v : View) → IsAt v place → TakesPut (added k value) place.key place.value → Wants v (Insert k value) place.leaf place.key
   insert_wants k value v at takes = (takes, (place.value, at.value_told))

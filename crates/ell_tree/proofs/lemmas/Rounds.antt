@@ -1,12 +1,12 @@
 use Rattle.std.proofs.Common.{◌≡◌, ◌≢◌, ◌<◌, ◌≤◌, ◌+◌, ◌*◌, ℕ, zero, suc, Option, Some, None, is_some, Ok, false, refl, arith}
 use Rattle.ell_cards.specs.Models.{PassModel}
 use Rattle.ell_tree.specs.CardsTaken.{TakesAtMost, TakesByHindered}
-use Rattle.ell_tree.specs.declared.operations.Held.{Held}
+use Rattle.ell_tree.specs.declared.operations.NotDone.{NotDone}
 use Rattle.ell_tree.specs.Ledgers.{Owns}
 use Rattle.ell_tree.specs.Promises.{SpendsCards}
 use Rattle.ell_tree.specs.Ends.{find_steps}
 use Rattle.ell_tree.specs.Computing.{round_steps, update_steps}
-use Rattle.ell_tree.proofs.lemmas.Counting.{rounds_steps}
+use Rattle.ell_tree.proofs.lemmas.Counts.{rounds_steps}
 
 -- one round more is one of all rounds
 pub rounds_within : (cards round tries : ℕ) → round < tries → find_steps cards + round * round_steps cards + round_steps cards ≤ update_steps cards tries
@@ -22,7 +22,7 @@ one_round_more cards round =
 
 -- a call that has put nothing has taken no card but those of hindered tries, and of an own key none
 pub spends_none : (key tries round : ℕ) (old new : PassModel) (made : Option ℕ) → TakesAtMost round old new → TakesByHindered old new → round ≤ tries
-    → made ≡ None → (Owns old key → round ≡ 0) → SpendsCards {E = Held} key tries old new (Ok (is_some made))
+    → made ≡ None → (Owns old key → round ≡ 0) → SpendsCards {E = NotDone} key tries old new (Ok (is_some made))
 spends_none key tries round old new (Some value) most few less none own = absurd cc
 spends_none key tries round old new None most few less none own = record {
   most = record { least = most.least; most = let all = most.most in omega arith };

@@ -9,7 +9,7 @@ use Rattle.ell_cards.specs.Changes.{after_fill, with_stores}
 use Rattle.ell_cards.proofs.lemmas.views.Steps.{view_after}
 use Rattle.ell_tree.specs.Counts.{Took}
 use Rattle.ell_tree.specs.Tries.{Fills}
-use Rattle.ell_tree.proofs.lemmas.Counting.{took_none, took_one, took_trans}
+use Rattle.ell_tree.proofs.lemmas.Counts.{took_none, took_one, took_trans}
 
 -- these words of the card in hand were stored in so many steps, and nothing else was done
 pub record Stores (old new : PassModel) (stores : List (Field × ℕ)) (n : ℕ) : Type 0 where

@@ -10,7 +10,7 @@ use Rattle.ell_cards.proofs.lemmas.runs.HowMany.{many_most, many_where}
 use Rattle.ell_tree.specs.Cursors.{BeginsALook, IsNodeKey, LooksOn}
 use Rattle.ell_tree.specs.Looks.{OnlyLooks, stretch_steps}
 use Rattle.ell_tree.specs.Scans.{scan_steps}
-use Rattle.ell_tree.proofs.lemmas.Glances.{only_none_yet, only_trans}
+use Rattle.ell_tree.proofs.lemmas.Looks.{only_none_yet, only_trans}
 
 -- where both of two tests pass, each does
 both : (a b : Bool) → (a && b) ≡ true → (a ≡ true) × (b ≡ true)

@@ -17,11 +17,11 @@ pub returns-then-any-clause-refused : goal.returns-then-any-clause-refused
 returns-then-any-clause-refused c = zip_same StaysPut stays_put c.args.handles.now
 
 pub returns-in_err-parts-clause-kept : goal.returns-in_err-parts-clause-kept
-returns-in_err-parts-clause-kept c = zip_weaker StaysPut HasSame (λ old new stays. stays.same) c.args.handles.now c.renewed.new.handles c.renewed.ensures.kept
+returns-in_err-parts-clause-kept c = zip_weaker StaysPut HasSame (λ old new stays. stays.same) c.args.handles.now c.open_anew.new.handles c.open_anew.ensures.kept
 
 -- as many as there are places
 pub put_all-requires : goal.put_all-requires
 put_all-requires c = record {
   count = sym (length_all_zip HasSame c.args.handles.now c.in_ok-parts.parts.items c.in_ok-parts.ensures.same)
-      ∙ length_all_zip StaysPut c.args.handles.now c.renewed.new.handles c.renewed.ensures.kept;
+      ∙ length_all_zip StaysPut c.args.handles.now c.open_anew.new.handles c.open_anew.ensures.kept;
 }

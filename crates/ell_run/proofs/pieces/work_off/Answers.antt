@@ -1,6 +1,6 @@
 use Rattle.std.proofs.Common.{◌+◌, arith}
 use Rattle.ell_ops.specs.declared.op.Op.TheVariants.{Find}
-use Rattle.ell_run.proofs.lemmas.Fronts.{front_all, front_held, front_more}
+use Rattle.ell_run.proofs.lemmas.Fronts.{front_all, front_not_done, front_more}
 use Rattle.ell_run.proofs.lemmas.Paid.{paid_more, paid_steps, paid_within}
 use Rattle.ell_run.proofs.pieces.work_off.Goals as goal
 
@@ -26,7 +26,7 @@ returns-clause-bounded g c =
 
 pub returns-in_default-clause-worked : goal.returns-in_default-clause-worked
 returns-in_default-clause-worked g c =
-    front_held c.args.tree.now c.args.tree.now.plan.last_card c.args.tries c.args.part.now c.loop-position.position-index (0, Find 0) c.args.pass.now c.loop-position.pass c.do_op.new.pass c.loop-position.piece.items
+    front_not_done c.args.tree.now c.args.tree.now.plan.last_card c.args.tries c.args.part.now c.loop-position.position-index (0, Find 0) c.args.pass.now c.loop-position.pass c.do_op.new.pass c.loop-position.piece.items
     c.in_default.field-0 c.loop-position-test.true c.requires.owned c.loop-position.invariant.0 c.in_default.ensures.ends.0 c.in_default.ensures.ends.1
 
 pub returns-in_default-clause-bounded : goal.returns-in_default-clause-bounded

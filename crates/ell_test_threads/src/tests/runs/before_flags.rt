@@ -89,7 +89,7 @@ fn is_told_alike<G: StepGate + Drop>(
     other: &Counting<NoGate>,
     worker: u32,
 ) -> bool {
-    gate.told(worker) == other.told(worker)
+    gate.tally(worker) == other.tally(worker)
         && KINDS.iter().all(|kind| gate.count(worker, *kind) == other.count(worker, *kind))
 }
 

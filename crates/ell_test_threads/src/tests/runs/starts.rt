@@ -8,7 +8,7 @@ use ell_ops::Reply::{Found, No, Yes};
 use ell_ops::{apply_all, apply_from};
 use ell_parts::Parts;
 use ell_run::Outcome;
-use ell_test_gates::{Counting, Dice, Told, two_threads_meet};
+use ell_test_gates::{Counting, Dice, Tally, two_threads_meet};
 use ell_tree::{Kind, NoGate};
 use std::process::Abort;
 use std::thread::Threads;
@@ -69,14 +69,14 @@ fn a_run_finds_its_start_keys_in_a_balanced_tree(rt: HostRuntime) {
     assert!(rt; came_to(&outcome, &replies, &EIGHT, 0));
     let looks = 7 * (3 * 4 + 2) + (3 * 5 + 2);
     let notes = 2 * 8;
-    let told = Told {
+    let told = Tally {
         begun: 8,
         steps: looks + notes,
         ended_behind: looks + notes,
         answered: 8,
-        held: 0,
+        not_done: 0,
     };
-    assert!(rt; gate.told(0) == told && gate.count(0, Kind::Look) == looks);
+    assert!(rt; gate.tally(0) == told && gate.count(0, Kind::Look) == looks);
 }
 
 #[test]

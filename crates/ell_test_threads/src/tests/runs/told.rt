@@ -1,7 +1,7 @@
 //! What a gate is told of each worker of a run.
 use super::running::{random_ops, run_striped};
 use ell_ops::Op::{self, Delete, Find, Insert};
-use ell_test_gates::{Counting, Told, two_threads_meet};
+use ell_test_gates::{Counting, Tally, two_threads_meet};
 use ell_tree::{Exchange, Kind, NoGate};
 use std::process::Abort;
 use std::thread::Threads;
@@ -63,14 +63,14 @@ const LISTS: [List; 4] = [
 // Whether a gate was told of a worker that each of so many operations was answered, and of its steps these and no others.
 fn told_steps(gate: &Counting<NoGate>, worker: u32, count: u64, kinds: &[(Kind, u64)]) -> bool {
     let steps = kinds.iter().map(|of| of.1).fold(0, u64::wrapping_add);
-    let want = Told {
+    let want = Tally {
         begun: count,
         steps,
         ended_behind: steps,
         answered: count,
-        held: 0,
+        not_done: 0,
     };
-    gate.told(worker) == want
+    gate.tally(worker) == want
         && kinds
             .iter()
             .all(|(kind, times)| gate.count(worker, *kind) == *times)
@@ -96,22 +96,22 @@ fn held_in_run<R: Threads + Abort + AllocGlobal + Sync>(
 ) -> u64 {
     let gate = Counting::new(rt.alloc(), workers, NoGate).expect(rt, "memory");
     let outcome = run_striped(rt, ops, workers, cards, tries, &gate);
-    let (mut answered, mut held) = (0u64, 0u64);
+    let (mut answered, mut not_done) = (0u64, 0u64);
     for worker in 0..workers {
-        let told = gate.told(worker);
+        let told = gate.tally(worker);
         assert!(rt;
-            told.held <= 1 && told.ended_behind == told.steps,
+            told.not_done <= 1 && told.ended_behind == told.steps,
             "of worker {worker}"
         );
         assert!(rt;
-            told.begun == told.answered.wrapping_add(told.held),
+            told.begun == told.answered.wrapping_add(told.not_done),
             "of worker {worker}"
         );
         answered = answered.wrapping_add(told.answered);
-        held = held.wrapping_add(told.held);
+        not_done = not_done.wrapping_add(told.not_done);
     }
     assert!(rt; answered.wrapping_add(outcome.late as u64) == ops.len() as u64);
-    held
+    not_done
 }
 
 #[test]

@@ -3,9 +3,9 @@
 use super::running::run_from;
 use ell_ops::Op::{self, Delete, Find, Insert};
 use ell_parts::Parts;
-use ell_test_gates::Call::{self, After, Before};
+use ell_test_gates::Notice::{self, After, Before};
 use ell_test_gates::Until::{Comes, Ends};
-use ell_test_gates::{Listing, Stretch, Turn, Turns, two_threads_meet};
+use ell_test_gates::{Listing, Stretch, Turns, WorkerTurn, two_threads_meet};
 use ell_tree::Exchange::{Backtrack, Claim, DChild, DFlag, DUnflag, IChild, IFlag, IUnflag, Mark};
 use ell_tree::Kind::{Begin, Exchange, Fill, Look, Note};
 
@@ -21,23 +21,23 @@ const START: [(u64, u64); 3] = [(5, 50), (10, 100), (20, 200)];
 
 // A search reads three words at each of three inner nodes, and the key and the value of the leaf. A change then reads the number of
 // the next card.
-const BEGUN: &[Call] = &[Before(Begin, 1), Before(Note, 1), Before(Look, 12)];
+const BEGUN: &[Notice] = &[Before(Begin, 1), Before(Note, 1), Before(Look, 12)];
 
-const AGAIN: &[Call] = &[Before(Note, 1), Before(Look, 12)];
+const AGAIN: &[Notice] = &[Before(Note, 1), Before(Look, 12)];
 
 // A card for an insert has ten words, and the key of the parent is read behind the flag.
-const INSERT_FILLED: &[Call] = &[Before(Exchange(Claim), 1), Before(Fill, 10)];
+const INSERT_FILLED: &[Notice] = &[Before(Exchange(Claim), 1), Before(Fill, 10)];
 
-const INSERT_FLAGGED: &[Call] = &[Before(Exchange(IFlag), 1), Before(Look, 1)];
+const INSERT_FLAGGED: &[Notice] = &[Before(Exchange(IFlag), 1), Before(Look, 1)];
 
-const INSERT_ENDED: &[Call] = &[
+const INSERT_ENDED: &[Notice] = &[
     Before(Exchange(IChild), 1),
     Before(Exchange(IUnflag), 1),
     Before(Note, 1),
     After(true),
 ];
 
-const INSERT_MADE: &[Call] = &[
+const INSERT_MADE: &[Notice] = &[
     Before(Exchange(Claim), 1),
     Before(Fill, 10),
     Before(Exchange(IFlag), 1),
@@ -49,7 +49,7 @@ const INSERT_MADE: &[Call] = &[
 ];
 
 // Three words of the card are read, and the key of the parent.
-const INSERT_HELPED: &[Call] = &[
+const INSERT_HELPED: &[Notice] = &[
     Before(Look, 4),
     Before(Exchange(IChild), 1),
     Before(Exchange(IUnflag), 1),
@@ -57,18 +57,18 @@ const INSERT_HELPED: &[Call] = &[
 
 // A card for a delete has four words. Behind the mark its leaf is read, the right child, and the keys of the sibling and of the
 // grandparent.
-const DELETE_FILLED: &[Call] = &[Before(Exchange(Claim), 1), Before(Fill, 4)];
+const DELETE_FILLED: &[Notice] = &[Before(Exchange(Claim), 1), Before(Fill, 4)];
 
-const DELETE_MARKED: &[Call] = &[Before(Exchange(Mark), 1), Before(Look, 4)];
+const DELETE_MARKED: &[Notice] = &[Before(Exchange(Mark), 1), Before(Look, 4)];
 
-const DELETE_ENDED: &[Call] = &[
+const DELETE_ENDED: &[Notice] = &[
     Before(Exchange(DChild), 1),
     Before(Exchange(DUnflag), 1),
     Before(Note, 1),
     After(true),
 ];
 
-const DELETE_MADE: &[Call] = &[
+const DELETE_MADE: &[Notice] = &[
     Before(Exchange(Claim), 1),
     Before(Fill, 4),
     Before(Exchange(DFlag), 1),
@@ -81,14 +81,14 @@ const DELETE_MADE: &[Call] = &[
 ];
 
 // A search of a delete that meets the flag of another one, whose parent and update are read in its card; and one that finishes it.
-const DELETE_MET: &[Call] = &[
+const DELETE_MET: &[Notice] = &[
     Before(Begin, 1),
     Before(Note, 1),
     Before(Look, 13),
     Before(Exchange(Mark), 1),
 ];
 
-const DELETE_HELPED: &[Call] = &[
+const DELETE_HELPED: &[Notice] = &[
     Before(Look, 4),
     Before(Exchange(DChild), 1),
     Before(Exchange(DUnflag), 1),
@@ -98,7 +98,7 @@ const DELETE_HELPED: &[Call] = &[
 type Scene = (
     &'static [Op],
     &'static [u32],
-    &'static [Turn],
+    &'static [WorkerTurn],
     &'static [(u64, u64)],
     &'static [Stretch<'static>],
 );

@@ -45,12 +45,12 @@ fn is_told_as_left(
     if parts.workers() <= worker {
         return false;
     }
-    let (part, told) = (parts.part(worker), gate.told(worker));
+    let (part, told) = (parts.part(worker), gate.tally(worker));
     let answered = piece.len() as u64;
-    let held = (piece.len() < part.len()) as u64;
-    told.begun == answered.wrapping_add(held)
+    let not_done = (piece.len() < part.len()) as u64;
+    told.begun == answered.wrapping_add(not_done)
         && told.answered == answered
-        && told.held == held
+        && told.not_done == not_done
         && (told.steps == 0) == part.is_empty()
 }
 
@@ -109,7 +109,7 @@ fn a_pass_counts_the_steps_that_a_gate_is_told(rt: HostRuntime) {
             let parts = Parts::striped(rt.alloc(), &ops, workers).expect(&rt, "parts");
             let gate = Counting::new(rt.alloc(), workers, NoGate).expect(&rt, "memory");
             let (_pieces, steps) = leave(&rt, &parts, &ops, 1_000, 1, &gate);
-            let told = gate.told(longest);
+            let told = gate.tally(longest);
             assert!(rt; told.begun == 100, "of worker {longest} of {workers}");
             let want = told.steps.wrapping_add(splits_and_joins);
             assert!(rt; steps == want, "of worker {longest} of {workers}");

@@ -3,18 +3,18 @@ use super::running::{came_to, run_owned};
 use ell_ops::Op::{Find, Insert};
 use ell_ops::Reply::{Found, Yes};
 use ell_run::{Parting, Settings, run_bytes};
-use ell_test_gates::{Counting, Holding, Told, two_threads_meet};
+use ell_test_gates::{Counting, Holding, Tally, two_threads_meet};
 use ell_tree::{Exchange, Kind};
 
-// How many tries there are; how many operations of worker 1 are answered, and held; and how many operations are late.
+// How many tries there are; how many operations of worker 1 are answered, and not done; and how many operations are late.
 type Row = (u32, u64, u64, usize);
 
 // The first try of worker 1 meets the flag of worker 0, and takes it away; the second finds nothing in its way.
 const ROWS: [Row; 3] = [(1, 0, 1, 3), (2, 3, 0, 0), (3, 3, 0, 0)];
 
 // Whether a worker's last operation ended behind the last of its steps, after so many ends with an answer, and without.
-fn ended_so(told: Told, answered: u64, held: u64) -> bool {
-    told.answered == answered && told.held == held && told.ended_behind == told.steps
+fn ended_so(told: Tally, answered: u64, not_done: u64) -> bool {
+    told.answered == answered && told.not_done == not_done && told.ended_behind == told.steps
 }
 
 #[test]
@@ -23,7 +23,7 @@ fn a_run_tries_as_often_as_its_limits_say(rt: HostRuntime) {
         return;
     }
     let ops = [Insert(5, 50), Insert(7, 70), Find(7), Insert(9, 90)];
-    for (row, (tries, answered, held, late)) in ROWS.iter().enumerate() {
+    for (row, (tries, answered, not_done, late)) in ROWS.iter().enumerate() {
         let gate = Counting::new(
             rt.alloc(),
             2,
@@ -33,7 +33,7 @@ fn a_run_tries_as_often_as_its_limits_say(rt: HostRuntime) {
         let (replies, pairs) = ([Yes, Yes, Found(70), Yes], [(5, 50), (7, 70), (9, 90)]);
         assert!(rt; gate.behind().has_held(), "row {row}");
         assert!(rt; came_to(&outcome, &replies, &pairs, *late), "row {row}");
-        assert!(rt; ended_so(gate.told(1), *answered, *held), "row {row}");
+        assert!(rt; ended_so(gate.tally(1), *answered, *not_done), "row {row}");
     }
 }
 
@@ -46,7 +46,7 @@ fn a_text_is_tried_as_often_as_its_settings_say(rt: HostRuntime) {
     if !two_threads_meet(&rt) {
         return;
     }
-    for (row, (tries, answered, held, late)) in ROWS.iter().enumerate() {
+    for (row, (tries, answered, not_done, late)) in ROWS.iter().enumerate() {
         assert!(rt; 1 <= *tries && *tries <= 3);
         let settings = Settings {
             workers: 2,
@@ -67,6 +67,6 @@ fn a_text_is_tried_as_often_as_its_settings_say(rt: HostRuntime) {
             "row {row}"
         );
         assert!(rt; out.as_slice() == ANSWER, "row {row}");
-        assert!(rt; ended_so(gate.told(1), *answered, *held), "row {row}");
+        assert!(rt; ended_so(gate.tally(1), *answered, *not_done), "row {row}");
     }
 }

@@ -3,12 +3,12 @@ ghost use Rattle.std.specs.Prelude.{◌≡◌, ◌≤◌};
 ghost use Rattle.ell_tree.specs.Ledgers.{IsIdle};
 
 use ell_ops::{Op, Reply};
-use ell_tree::{Held, Pass, StepGate, Tree};
+use ell_tree::{NotDone, Pass, StepGate, Tree};
 use std::alloc::Global;
 use std::process::Abort;
 
 /// An operation, and how it is to end.
-pub type Row = (Op, Result<Reply, Held>);
+pub type Row = (Op, Result<Reply, NotDone>);
 
 /// Does an operation on a key of the pass.
 pub fn ask<G: StepGate>(
@@ -18,7 +18,7 @@ pub fn ask<G: StepGate>(
     op: Op,
     tries: u32,
     gate: &G,
-) -> Result<Reply, Held>
+) -> Result<Reply, NotDone>
     requires own { pass.old.table ≡ tree.now.id }
     requires idle { IsIdle pass.old }
     requires tries { 1 ≤ tries }

@@ -7,7 +7,7 @@ use super::plain_map::{KEYS, PlainMap, apply_plainly, are_pairs_of};
 use crate::tests::keys::keys_below;
 use ell_ops::{Op, Reply};
 use ell_test_gates::Dice;
-use ell_tree::{Held, NoGate, Pass, Tree};
+use ell_tree::{NoGate, NotDone, Pass, Tree};
 use std::alloc::Global;
 use std::process::Abort;
 use std::thread::{Threads, join};
@@ -35,7 +35,7 @@ pub fn ask_often(
     tree: &Tree<Global>,
     pass: &mut Pass<Global>,
     op: Op,
-) -> Result<Reply, Held>
+) -> Result<Reply, NotDone>
     requires own { pass.old.table ≡ tree.now.id }
     requires idle { IsIdle pass.old }
     ensures own { pass.new.table ≡ tree.now.id }
@@ -43,11 +43,11 @@ pub fn ask_often(
 {
     for _ in 0..ROUNDS {
         let ended = ask(rt, tree, pass, op, TRIES, &NoGate);
-        if ended != Err(Held::Busy) {
+        if ended != Err(NotDone::Busy) {
             return ended;
         }
     }
-    Err(Held::Busy)
+    Err(NotDone::Busy)
 }
 
 // One thread's operations, each of which is to answer as a plain map does: that map is what it leaves.

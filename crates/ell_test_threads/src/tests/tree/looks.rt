@@ -6,9 +6,9 @@ use super::asking::{Row, play};
 use ell_ops::KEY_MAX;
 use ell_ops::Op::{Delete, Insert};
 use ell_ops::Reply::Yes;
-use ell_test_gates::Call::{After, Before};
+use ell_test_gates::Notice::{After, Before};
 use ell_test_gates::Until::{Comes, Ends};
-use ell_test_gates::{Listing, Stretch, Turn, Turns, two_threads_meet};
+use ell_test_gates::{Listing, Stretch, Turns, WorkerTurn, two_threads_meet};
 use ell_tree::Exchange::{Claim, DChild, DFlag, DUnflag, IChild, IFlag, IUnflag, Mark};
 use ell_tree::Kind::{self, Begin, Exchange, Fill, Look, Note};
 use ell_tree::{NoGate, Pass, StepGate, Tree};
@@ -116,7 +116,7 @@ fn a_look_tells_any_key(rt: HostRuntime) {
 
 // What worker 0, which owns all keys, does, what worker 1, which owns none, finds, and their turns. What it looks for behind the last
 // turn it finds as all operations leave it.
-type Scene<'a> = (&'a [Row], &'a [Sight], &'a [Turn]);
+type Scene<'a> = (&'a [Row], &'a [Sight], &'a [WorkerTurn]);
 
 fn see<R: Threads + Abort + AllocGlobal + Sync>(rt: &R, scene: Scene) {
     let (rows, sights, turns) = scene;

@@ -7,7 +7,7 @@ use super::plain_map::{PlainMap, apply_plainly, are_pairs_of, is_change};
 use crate::tests::keys::keys_below;
 use ell_ops::Op;
 use ell_test_gates::Dice;
-use ell_tree::{Held, NoGate, Pass, Tree};
+use ell_tree::{NoGate, NotDone, Pass, Tree};
 use std::alloc::Global;
 use std::process::Abort;
 
@@ -68,6 +68,6 @@ fn random_operations_answer_as_a_plain_map(rt: HostRuntime) {
     };
     // After as many changes as cards.
     let spent = ask(&rt, &tree, &mut pass, change, TRIES, &NoGate);
-    assert!(rt; spent == Err(Held::Spent));
+    assert!(rt; spent == Err(NotDone::Spent));
     assert!(rt; are_pairs_of(&close(&rt, tree, pass, &keys), &plain));
 }

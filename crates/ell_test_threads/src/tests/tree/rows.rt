@@ -5,7 +5,7 @@ ghost use Rattle.ell_tree.specs.Ledgers.{IsIdle, IsIdlePassOf};
 use super::asking::{Row, ask, close};
 use ell_ops::Op::{Delete, Find, Insert};
 use ell_ops::Reply::{Found, No, Yes};
-use ell_tree::{CardFault, Held, NoGate, Pass, Tree};
+use ell_tree::{CardFault, NoGate, NotDone, Pass, Tree};
 use std::alloc::Global;
 use std::process::Abort;
 
@@ -86,8 +86,8 @@ fn a_tree_has_one_to_a_million_cards(rt: HostRuntime) {
 #[test]
 fn held_changes_have_texts(rt: HostRuntime) {
     for (held, text) in [
-        (Held::Busy, "something was in the way of each try"),
-        (Held::Spent, "all cards are given out"),
+        (NotDone::Busy, "something was in the way of each try"),
+        (NotDone::Spent, "all cards are given out"),
     ] {
         let said = held.to_string(rt.alloc()).expect(&rt, "memory");
         assert!(rt; said.as_str() == text);
@@ -100,7 +100,7 @@ fn a_delete_is_spent_once_all_cards_are_given_out(rt: HostRuntime) {
         (Part::Right, (Insert(7, 70), Ok(Yes))),
         (Part::Left, (Find(5), Ok(Found(50)))),
         (Part::Left, (Delete(5), Ok(Yes))),
-        (Part::Right, (Delete(7), Err(Held::Spent))),
+        (Part::Right, (Delete(7), Err(NotDone::Spent))),
         (Part::Right, (Find(7), Ok(Found(70)))),
     ];
     assert!(rt; played(&rt, &parted).as_slice() == [(7, 70)].as_slice());

@@ -9,7 +9,7 @@ use super::asking::{Row, ask, close, play};
 use ell_ops::Op;
 use ell_ops::Op::{Delete, Find, Insert};
 use ell_ops::Reply::{Found, No, Yes};
-use ell_tree::{CardFault, Held, NoGate, Pass, START_MAX, Tree};
+use ell_tree::{CardFault, NoGate, NotDone, Pass, START_MAX, Tree};
 use std::alloc::Global;
 use std::process::Abort;
 
@@ -57,8 +57,8 @@ const TWO_CHANGES: [Row; 10] = [
     (Insert(2, 20), Ok(No)),
     (Insert(5, 50), Ok(Yes)),
     (Delete(4), Ok(Yes)),
-    (Delete(2), Err(Held::Spent)),
-    (Insert(1, 10), Err(Held::Spent)),
+    (Delete(2), Err(NotDone::Spent)),
+    (Insert(1, 10), Err(NotDone::Spent)),
     (Insert(6, 60), Ok(No)),
     (Delete(4), Ok(No)),
     (Find(2), Ok(Found(200))),
@@ -112,7 +112,7 @@ const EACH_KEY_TWICE: [Row; 13] = [
     (Delete(1), Ok(Yes)),
     (Find(2), Ok(Found(20))),
     (Delete(5), Ok(Yes)),
-    (Delete(2), Err(Held::Spent)),
+    (Delete(2), Err(NotDone::Spent)),
 ];
 
 #[test]
@@ -158,7 +158,7 @@ fn a_tree_without_cards_goes_on_as_another(rt: HostRuntime) {
     let rows = [
         (Find(5), Ok(Found(50))),
         (Delete(2), Ok(Yes)),
-        (Insert(1, 10), Err(Held::Spent)),
+        (Insert(1, 10), Err(NotDone::Spent)),
     ];
     let pass = play(&rt, &tree, pass, 1, &NoGate, &rows);
     assert!(rt; close(&rt, tree, pass, &KEYS).as_slice() == [(5, 50), (6, 600)].as_slice());

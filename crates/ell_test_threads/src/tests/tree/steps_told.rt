@@ -3,11 +3,11 @@ use super::asking::{Row, ask, play};
 use crate::tests::keys::keys_below;
 use ell_ops::Op::{Delete, Find, Insert};
 use ell_ops::Reply::{No, Yes};
-use ell_test_gates::Call::{After, Before};
-use ell_test_gates::{Counting, Dice, Listing, Stretch, Told};
+use ell_test_gates::Notice::{After, Before};
+use ell_test_gates::{Counting, Dice, Listing, Stretch, Tally};
 use ell_tree::Exchange::{Claim, DChild, DFlag, DUnflag, IChild, IFlag, IUnflag, Mark};
 use ell_tree::Kind::{Begin, Exchange, Fill, Look, Note};
-use ell_tree::{Held, NoGate, Tree};
+use ell_tree::{NoGate, NotDone, Tree};
 
 const OPERATIONS: u32 = 1_000;
 
@@ -16,13 +16,13 @@ const CARDS: u64 = 100;
 const KEYS: u64 = 16;
 
 // What is to be told after one operation more, by the steps of the pass: the operation ended behind the last of them.
-fn told_more(told: Told, steps: u64, is_answered: bool) -> Told {
-    Told {
+fn told_more(told: Tally, steps: u64, is_answered: bool) -> Tally {
+    Tally {
         begun: told.begun.wrapping_add(1),
         steps,
         ended_behind: steps,
         answered: told.answered.wrapping_add(is_answered as u64),
-        held: told.held.wrapping_add(!is_answered as u64),
+        not_done: told.not_done.wrapping_add(!is_answered as u64),
     }
 }
 
@@ -31,15 +31,15 @@ fn a_gate_is_told_each_step_and_each_end(rt: HostRuntime) {
     let keys = keys_below(&rt, KEYS, &[0, 1, 2, 3]);
     let gate = Counting::new(rt.alloc(), 1, NoGate).expect(&rt, "memory");
     let (tree, mut pass) = Tree::reserve(rt.alloc(), &keys, CARDS).expect(&rt, "tree");
-    let (mut dice, mut want) = (Dice::new(2010), Told::default());
+    let (mut dice, mut want) = (Dice::new(2010), Tally::default());
     for number in 0..OPERATIONS {
         let key = dice.below(KEYS);
         let op = dice.operation(key);
         let ended = ask(&rt, &tree, &mut pass, op, 1, &gate);
         want = told_more(want, pass.steps(), ended.is_ok());
-        assert!(rt; gate.told(0) == want, "operation {number}");
+        assert!(rt; gate.tally(0) == want, "operation {number}");
     }
-    assert!(rt; 0 < want.answered && 0 < want.held);
+    assert!(rt; 0 < want.answered && 0 < want.not_done);
 }
 
 const ROWS: [Row; 6] = [
@@ -48,7 +48,7 @@ const ROWS: [Row; 6] = [
     (Insert(5, 55), Ok(No)),
     (Delete(7), Ok(No)),
     (Delete(5), Ok(Yes)),
-    (Insert(7, 70), Err(Held::Spent)),
+    (Insert(7, 70), Err(NotDone::Spent)),
 ];
 
 // A search reads three words at each inner node, one or two of them, and the key and the value of the leaf. A change then reads the

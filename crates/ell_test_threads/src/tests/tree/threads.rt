@@ -4,11 +4,11 @@ ghost use Rattle.std.specs.Prelude.{◌≤◌};
 use super::asking::{Row, close, play};
 use ell_ops::Op::{Delete, Insert};
 use ell_ops::Reply::Yes;
-use ell_test_gates::Call::{self, After, Before};
+use ell_test_gates::Notice::{self, After, Before};
 use ell_test_gates::{Holding, Listing, Stretch, two_threads_meet};
 use ell_tree::Exchange::{Backtrack, Claim, DChild, DFlag, DUnflag, IChild, IFlag, IUnflag, Mark};
 use ell_tree::Kind::{self, Begin, Exchange, Fill, Look, Note};
-use ell_tree::{Held, NoGate, Tree};
+use ell_tree::{NoGate, NotDone, Tree};
 use std::process::Abort;
 use std::thread::{Threads, join};
 
@@ -55,7 +55,7 @@ fn cross<R: Threads + Abort + AllocGlobal + Sync>(rt: &R, crossing: Crossing)
 // Calls of which the searches are of the opening tree, of one that has one key more, or two. A search reads three words at each
 // inner node, and the key and the value of the leaf where it ends, and a change that finds its way free then the number of the
 // next card.
-const FLAGGED: &[Call] = &[
+const FLAGGED: &[Notice] = &[
     Before(Begin, 1),
     Before(Note, 1),
     Before(Look, 6),
@@ -65,7 +65,7 @@ const FLAGGED: &[Call] = &[
     Before(Look, 1),
 ];
 
-const CHANGED: &[Call] = &[
+const CHANGED: &[Notice] = &[
     Before(Exchange(IChild), 1),
     Before(Exchange(IUnflag), 1),
     Before(Note, 1),
@@ -73,7 +73,7 @@ const CHANGED: &[Call] = &[
 ];
 
 // From the card on.
-const INSERTED: &[Call] = &[
+const INSERTED: &[Notice] = &[
     Before(Exchange(Claim), 1),
     Before(Fill, 10),
     Before(Exchange(IFlag), 1),
@@ -85,7 +85,7 @@ const INSERTED: &[Call] = &[
 ];
 
 // The flag is met: three words of its card are read, and the key of the parent.
-const INSERT_HELPED: &[Call] = &[
+const INSERT_HELPED: &[Notice] = &[
     Before(Begin, 1),
     Before(Note, 1),
     Before(Look, 9),
@@ -94,7 +94,7 @@ const INSERT_HELPED: &[Call] = &[
 ];
 
 // The mark is met: the grandparent is read in its card, and then what a delete reads.
-const DELETE_HELPED: &[Call] = &[
+const DELETE_HELPED: &[Notice] = &[
     Before(Begin, 1),
     Before(Note, 1),
     Before(Look, 13),
@@ -102,9 +102,9 @@ const DELETE_HELPED: &[Call] = &[
     Before(Exchange(DUnflag), 1),
 ];
 
-const LEFT: &[Call] = &[Before(Note, 1), After(false)];
+const LEFT: &[Notice] = &[Before(Note, 1), After(false)];
 
-const DELETE_FLAGGED: &[Call] = &[
+const DELETE_FLAGGED: &[Notice] = &[
     Before(Begin, 1),
     Before(Note, 1),
     Before(Look, 9),
@@ -114,9 +114,9 @@ const DELETE_FLAGGED: &[Call] = &[
 ];
 
 // Behind the mark the leaf is read, the right child, and the keys of the sibling and of the grandparent.
-const MARKED: &[Call] = &[Before(Exchange(Mark), 1), Before(Look, 4)];
+const MARKED: &[Notice] = &[Before(Exchange(Mark), 1), Before(Look, 4)];
 
-const CUT: &[Call] = &[
+const CUT: &[Notice] = &[
     Before(Exchange(DChild), 1),
     Before(Exchange(DUnflag), 1),
     Before(Note, 1),
@@ -177,7 +177,7 @@ fn a_try_that_helps_is_over(rt: HostRuntime) {
     if two_threads_meet(&rt) {
         let at_its_flag = Crossing {
             tries: 1,
-            right: (Insert(7, 70), Err(Held::Busy)),
+            right: (Insert(7, 70), Err(NotDone::Busy)),
             told: &[(0, FLAGGED), (1, INSERT_HELPED), (1, LEFT), (0, CHANGED)],
             pairs: &[(5, 50)],
             ..AT_ITS_INSERT
@@ -185,7 +185,7 @@ fn a_try_that_helps_is_over(rt: HostRuntime) {
         cross(&rt, at_its_flag);
         let at_its_mark = Crossing {
             tries: 1,
-            right: (Insert(7, 70), Err(Held::Busy)),
+            right: (Insert(7, 70), Err(NotDone::Busy)),
             told: &[
                 (0, FLAGGED),
                 (0, CHANGED),
@@ -207,7 +207,7 @@ fn a_helper_may_find_all_cards_given_out(rt: HostRuntime) {
     if two_threads_meet(&rt) {
         let with_one_card = Crossing {
             cards: 1,
-            right: (Insert(7, 70), Err(Held::Spent)),
+            right: (Insert(7, 70), Err(NotDone::Spent)),
             told: &[
                 (0, FLAGGED),
                 (1, INSERT_HELPED),
@@ -229,7 +229,7 @@ fn a_delete_that_loses_its_mark_tries_again(rt: HostRuntime) {
             cards: 8,
             tries: 1,
             held_at: Exchange(Mark),
-            left: &[(Insert(5, 50), Ok(Yes)), (Delete(5), Err(Held::Busy))],
+            left: &[(Insert(5, 50), Ok(Yes)), (Delete(5), Err(NotDone::Busy))],
             right: (Insert(7, 70), Ok(Yes)),
             told: &[
                 (0, FLAGGED),

@@ -3,7 +3,7 @@ use Rattle.ell_ops.specs.declared.op.Op.TheVariants.{Find, Insert}
 use Rattle.ell_ops.specs.declared.reply.Reply.TheVariants.{No}
 use Rattle.ell_ops.specs.Meaning.{found}
 use Rattle.ell_tree.specs.Ends.{Answers}
-use Rattle.ell_tree.proofs.lemmas.Concluding.{untouched_by, untouched_trans, concludes, find_leaves, insert_leaves, not_there}
+use Rattle.ell_tree.proofs.lemmas.Computing.{untouched_by, untouched_trans, concludes, find_leaves, insert_leaves, not_there}
 use Rattle.ell_tree.proofs.computing.add.Goals as goal
 
 -- the key was there: nothing was added, and it was found

@@ -9,9 +9,9 @@ use Rattle.ell_tree.specs.Ledgers.{Owns, present_in}
 use Rattle.ell_tree.specs.Promises.{IsOthersDoing}
 use Rattle.ell_tree.specs.CardsTaken.{TakesByHindered}
 use Rattle.ell_core.proofs.lemmas.outcomes.Decide.{some_not_none}
-use Rattle.ell_tree.proofs.lemmas.Concluding.{untouched_by, untouched_laid, untouched_self, untouched_trans, concludes, find_leaves, reads_own, reads_after, reads_last, reads_count, laid_last, may_still}
-use Rattle.ell_tree.proofs.lemmas.Counting.{took_within, took_trans}
-use Rattle.ell_tree.proofs.lemmas.Moving.{moves_most}
+use Rattle.ell_tree.proofs.lemmas.Computing.{untouched_by, untouched_laid, untouched_self, untouched_trans, concludes, find_leaves, reads_own, reads_after, reads_last, reads_count, laid_last, may_still}
+use Rattle.ell_tree.proofs.lemmas.Counts.{took_within, took_trans}
+use Rattle.ell_tree.proofs.lemmas.Moves.{moves_most}
 use Rattle.ell_tree.proofs.lemmas.Rounds.{rounds_within, one_round_more, spends_none, by_rounds, not_some}
 use Rattle.ell_tree.proofs.computing.compute.Goals as goal
 use Rattle.ell_tree.proofs.computing.compute.Goals.{in-Ok-Lost, in-Err-Busy}
@@ -146,7 +146,7 @@ returns-clause-cards g c =
 
 -- all tries were hindered
 pub returns-then-is_some-clause-others : goal.returns-then-is_some-clause-others
-returns-then-is_some-clause-others g c = λ owns held.
+returns-then-is_some-clause-others g c = λ owns not_done.
     let t = c.args.table.now in
     let l = c.loop-round in
     let all : l._round ≡ c.args.tries = omega (arith, c.loop-round-test.false, l.auto._round-end) in
@@ -158,7 +158,7 @@ returns-then-is_some-clause-others g c = λ owns held.
     }
 
 pub returns-then-is_some-clause-enough : goal.returns-then-is_some-clause-enough
-returns-then-is_some-clause-enough g c = λ owns many held.
+returns-then-is_some-clause-enough g c = λ owns many not_done.
     let l = c.loop-round in
     let cards = c.args.table.now.plan.last_card in
     let all : l._round ≡ c.args.tries = omega (arith, c.loop-round-test.false, l.auto._round-end) in
@@ -166,7 +166,7 @@ returns-then-is_some-clause-enough g c = λ owns many held.
     omega (arith, many, most, all, l.invariant.moved owns)
 
 pub returns-then-is_some-clause-tried : goal.returns-then-is_some-clause-tried
-returns-then-is_some-clause-tried g c = λ held.
+returns-then-is_some-clause-tried g c = λ not_done.
     let l = c.loop-round in
     let all : l._round ≡ c.args.tries = omega (arith, c.loop-round-test.false, l.auto._round-end) in
     omega (arith, all, l.invariant.made)

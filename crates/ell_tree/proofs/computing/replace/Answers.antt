@@ -2,7 +2,7 @@ use Rattle.std.proofs.Common.{◌≢◌, Some, inr, sym, ◌∙◌, rules}
 use Rattle.ell_ops.specs.declared.op.Op.TheVariants.{Swap}
 use Rattle.ell_ops.specs.Meaning.{found}
 use Rattle.ell_tree.specs.Ends.{Answers}
-use Rattle.ell_tree.proofs.lemmas.Concluding.{untouched_by, untouched_self, concludes, swap_leaves, not_one, found_one}
+use Rattle.ell_tree.proofs.lemmas.Computing.{untouched_by, untouched_self, concludes, swap_leaves, not_one, found_one}
 use Rattle.ell_tree.proofs.computing.replace.Goals as goal
 
 -- another value was there, or none: the swap has changed nothing

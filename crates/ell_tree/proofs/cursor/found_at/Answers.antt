@@ -1,6 +1,6 @@
 use Rattle.std.proofs.Common.{inl, inr, refl, arith, rules}
 use Rattle.ell_cards.proofs.lemmas.views.Afters.{after_key_of, after_value_of}
-use Rattle.ell_tree.proofs.lemmas.Counting.{uncounted_one, uncounted_trans}
+use Rattle.ell_tree.proofs.lemmas.Counts.{uncounted_one, uncounted_trans}
 use Rattle.ell_tree.proofs.lemmas.Cursors.{finds_none, finds_one, key_on, leaf_stands, on_more, on_trans, value_on}
 use Rattle.ell_tree.proofs.cursor.found_at.Goals as goal
 

@@ -16,9 +16,9 @@ use Rattle.ell_tree.proofs.lemmas.Owning.{goes_answers, had_none, had_value, wou
 use Rattle.ell_tree.proofs.lemmas.Meeting.{meets_trans, meets_more, above_way, parent_way, nowhere_way, way_over, way_free, no_way}
 use Rattle.ell_tree.proofs.lemmas.Halting.{goes_meets, seek_meets, said_meets, flag_lost}
 use Rattle.ell_tree.proofs.lemmas.Filling.{delete_wants, told_grandparent, told_leaf, told_parent, told_was}
-use Rattle.ell_tree.proofs.lemmas.Hindering.{root_in_try}
-use Rattle.ell_tree.proofs.lemmas.Moving.{sees_end, gives_out}
-use Rattle.ell_tree.proofs.lemmas.Descending.{unknown_above, named_above}
+use Rattle.ell_tree.proofs.lemmas.Hindrances.{root_in_try}
+use Rattle.ell_tree.proofs.lemmas.Moves.{sees_end, gives_out}
+use Rattle.ell_tree.proofs.lemmas.Searches.{unknown_above, named_above}
 use Rattle.ell_tree.proofs.deleting.try_delete.Goals as goal
 
 pub take_card-requires-clause-wants : goal.take_card-requires-clause-wants

@@ -9,15 +9,15 @@ use Rattle.ell_tree.specs.CardsTaken.{cards_taken, TakesOneCard, TakesOneIf}
 use Rattle.ell_tree.specs.Ends.{Answers, changes_by, reply_by}
 use Rattle.ell_tree.specs.Hindrances.{way_of}
 use Rattle.ell_tree.specs.Tries.{HasCard}
-use Rattle.ell_tree.proofs.lemmas.Descending.{may_answer}
+use Rattle.ell_tree.proofs.lemmas.Searches.{may_answer}
 use Rattle.ell_tree.proofs.lemmas.Filling.{put_fills, is_insert}
 use Rattle.ell_tree.proofs.lemmas.Keeping.{share_trans}
 use Rattle.ell_tree.proofs.lemmas.Owning.{goes_answers, would_put}
 use Rattle.ell_tree.proofs.lemmas.Meeting.{meets_trans, meets_more, put_way, nowhere_way, way_over, way_free, no_way}
 use Rattle.ell_tree.proofs.lemmas.Halting.{goes_meets, seek_meets, walk_meets, said_meets, flag_lost}
-use Rattle.ell_tree.proofs.lemmas.Hindering.{root_in_try}
+use Rattle.ell_tree.proofs.lemmas.Hindrances.{root_in_try}
 use Rattle.ell_tree.proofs.lemmas.Putting.{put_wants, put_refused, put_done}
-use Rattle.ell_tree.proofs.lemmas.Moving.{sees_end, gives_out}
+use Rattle.ell_tree.proofs.lemmas.Moves.{sees_end, gives_out}
 use Rattle.ell_tree.proofs.inserting.try_put.Goals as goal
 
 pub take_card-requires-clause-wants : goal.take_card-requires-clause-wants

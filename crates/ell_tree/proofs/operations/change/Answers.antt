@@ -3,12 +3,12 @@ use Rattle.ell_cards.proofs.lemmas.runs.Tries.{more_tries}
 use Rattle.ell_cards.proofs.lemmas.runs.LayingDown.{laid_down_last_changes_nothing}
 use Rattle.ell_tree.specs.Ends.{changes_by, try_steps}
 use Rattle.ell_tree.specs.Hindrances.{way_of}
-use Rattle.ell_tree.proofs.lemmas.Counting.{took_within, took_trans, rounds_first, rounds_later, round_steps, rounds_steps}
+use Rattle.ell_tree.proofs.lemmas.Counts.{took_within, took_trans, rounds_first, rounds_later, round_steps, rounds_steps}
 use Rattle.ell_tree.proofs.lemmas.Halting.{begun_meets, begun_count}
-use Rattle.ell_tree.proofs.lemmas.Hindering.{root_hindered, one_hindered, halts_hindered}
+use Rattle.ell_tree.proofs.lemmas.Hindrances.{root_hindered, one_hindered, halts_hindered}
 use Rattle.ell_tree.proofs.lemmas.Meeting.{meets_trans}
-use Rattle.ell_tree.proofs.lemmas.Moving.{moves_one, moves_still, moves_same, moves_most, moves_more, amortized}
-use Rattle.ell_tree.proofs.lemmas.Taking.{answers_first, answered_most, answered_cards, unchanged_cards, taken_none, same_Ok}
+use Rattle.ell_tree.proofs.lemmas.Moves.{moves_one, moves_still, moves_same, moves_most, moves_more, amortized}
+use Rattle.ell_tree.proofs.lemmas.CardsTaken.{answers_first, answered_most, answered_cards, unchanged_cards, taken_none, same_Ok}
 use Rattle.ell_tree.proofs.lemmas.Keeping.{share_trans}
 use Rattle.ell_tree.proofs.lemmas.Owning.{answers_before, would_before, moves_before}
 use Rattle.ell_tree.proofs.operations.change.Goals as goal
@@ -157,7 +157,7 @@ returns-clause-steps g c =
     }
 
 pub returns-clause-others : goal.returns-clause-others
-returns-clause-others g c = λ held.
+returns-clause-others g c = λ not_done.
     let t = c.args.table.now in
     let l = c.loop-round in
     let left = c.leave-2.new.pass.view in
@@ -172,7 +172,7 @@ returns-clause-others g c = λ held.
     }
 
 pub returns-clause-enough : goal.returns-clause-enough
-returns-clause-enough g c = λ many held.
+returns-clause-enough g c = λ many not_done.
     let l = c.loop-round in
     let cards = c.args.table.now.plan.last_card in
     let most = moves_most cards l.pass.view c.leave-2.ensures.least in
@@ -288,7 +288,7 @@ returns-in-Spent-clause-cards g c =
         most = omega (arith, lays.taken, none, begins.taken, i.taken.most, c.loop-round-test.true);
       };
       each = omega (arith, lays.taken, none, begins.taken, i.taken.most, one.0, lays.hindered, c.try_once.ensures.hindered, begins.hindered, i.hindered);
-      unchanged = λ owns held. absurd cc;
+      unchanged = λ owns not_done. absurd cc;
     }
 
 pub returns-clause-cards : goal.returns-clause-cards
@@ -300,5 +300,5 @@ returns-clause-cards g c =
     record {
       most = record { least = omega (arith, lays.taken, i.taken.least); most = omega (arith, lays.taken, i.taken.most, all) };
       each = omega (arith, lays.taken, i.taken.most, lays.hindered, i.hindered);
-      unchanged = λ owns held. absurd cc;
+      unchanged = λ owns not_done. absurd cc;
     }

@@ -9,7 +9,7 @@ use Rattle.ell_cards.specs.Stepping.{SameShare}
 use Rattle.ell_tree.specs.Searches.{AtRoot}
 use Rattle.ell_tree.specs.Tries.{Stops}
 use Rattle.ell_tree.specs.Moves.{moves_known}
-use Rattle.ell_tree.proofs.lemmas.Counting.{TookRounds}
+use Rattle.ell_tree.proofs.lemmas.Counts.{TookRounds}
 use Rattle.ell_tree.proofs.operations.change.Given as goal
 use Rattle.ell_core.specs.statements.Effects.{reply_of_change}
 

@@ -4,7 +4,7 @@ use Rattle.ell_tree.proofs.lemmas.Meeting.{meets_none, meets_trans}
 use Rattle.ell_tree.proofs.lemmas.Halting.{seek_meets, said_meets}
 use Rattle.ell_tree.specs.Ends.{Answers}
 use Rattle.ell_tree.proofs.lemmas.Owning.{answers_before, goes_answers}
-use Rattle.ell_tree.proofs.lemmas.Moving.{moves_more, moves_same}
+use Rattle.ell_tree.proofs.lemmas.Moves.{moves_more, moves_same}
 use Rattle.ell_tree.proofs.operations.find.Goals as goal
 
 pub returns-clause-answers : goal.returns-clause-answers

@@ -4,8 +4,8 @@ use Rattle.ell_cards.specs.Looking.{HasFound}
 use Rattle.ell_cards.specs.Models.{PassModel}
 use Rattle.ell_cards.specs.declared.view.View.{View}
 use Rattle.ell_tree.specs.Looks.{look_steps}
-use Rattle.ell_tree.proofs.lemmas.Counting.{counted_all}
-use Rattle.ell_tree.proofs.lemmas.Glances.{only_counted}
+use Rattle.ell_tree.proofs.lemmas.Counts.{counted_all}
+use Rattle.ell_tree.proofs.lemmas.Looks.{only_counted}
 use Rattle.ell_tree.proofs.reading.look.Goals as goal
 
 pub returns : goal.returns

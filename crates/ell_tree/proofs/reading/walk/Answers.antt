@@ -2,8 +2,8 @@ use Rattle.std.proofs.Common.{◌≡◌, ◌≢◌, refl, Some, None, ◌∙◌,
 use Rattle.ell_word.specs.Node.{IsInternal}
 use Rattle.ell_layout.specs.Words.{IsLeaf}
 use Rattle.ell_cards.proofs.lemmas.views.Afters.{after_look, after_key_of, after_value_of}
-use Rattle.ell_tree.proofs.lemmas.Counting.{uncounted_one, uncounted_trans}
-use Rattle.ell_tree.proofs.lemmas.Glances.{comes_first, met_still, may_down, comes_down, found_none, only_none, found_some, only_some, one_none, one_some, key_only, reads_mine}
+use Rattle.ell_tree.proofs.lemmas.Counts.{uncounted_one, uncounted_trans}
+use Rattle.ell_tree.proofs.lemmas.Looks.{comes_first, met_still, may_down, comes_down, found_none, only_none, found_some, only_some, one_none, one_some, key_only, reads_mine}
 use Rattle.ell_tree.proofs.reading.walk.Goals as goal
 
 pub loop-pass-init : goal.loop-pass-init

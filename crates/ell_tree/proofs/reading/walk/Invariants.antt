@@ -1,6 +1,6 @@
 use Rattle.std.proofs.Common.{◌+◌, ◌*◌, ◌-◌}
 use Rattle.ell_tree.specs.Counts.{HasUncounted}
-use Rattle.ell_tree.proofs.lemmas.Glances.{Comes}
+use Rattle.ell_tree.proofs.lemmas.Looks.{Comes}
 use Rattle.ell_tree.proofs.reading.walk.Given as goal
 
 abbrev pub invariant-loop-pass : goal.invariant-loop-pass

@@ -1,5 +1,5 @@
 use Rattle.std.proofs.Common.{arith, rules}
-use Rattle.ell_tree.proofs.lemmas.Gathering.{descends_pair, descends_past, none_there, one_down, other_absent}
+use Rattle.ell_tree.proofs.lemmas.Scans.{descends_pair, descends_past, none_there, one_down, other_absent}
 use Rattle.ell_tree.proofs.lemmas.Stretching.{stretches_steps}
 use Rattle.ell_tree.proofs.scanning.last_below.Goals as goal
 use Rattle.ell_tree.proofs.scanning.last_below.Goals.{in_default-via-in-None-1, in_default-via-in-Some+else-key-below}

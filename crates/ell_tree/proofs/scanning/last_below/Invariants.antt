@@ -1,5 +1,5 @@
 use Rattle.ell_tree.specs.Cursors.{AreKept}
-use Rattle.ell_tree.proofs.lemmas.Gathering.{Descends}
+use Rattle.ell_tree.proofs.lemmas.Scans.{Descends}
 use Rattle.ell_tree.proofs.scanning.last_below.Given as goal
 
 -- all keys that it has come by were absent, and it goes on from the nodes that the cursor keeps

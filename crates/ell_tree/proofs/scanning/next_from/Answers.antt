@@ -1,6 +1,6 @@
 use Rattle.std.proofs.Common.{◌+◌, arith}
 use Rattle.ell_ops.specs.Meaning.{greatest_key}
-use Rattle.ell_tree.proofs.lemmas.Gathering.{next_none, next_pair}
+use Rattle.ell_tree.proofs.lemmas.Scans.{next_none, next_pair}
 use Rattle.ell_tree.proofs.scanning.next_from.Goals as goal
 
 pub returns-then-scanned-eq0-clause-found : goal.returns-then-scanned-eq0-clause-found

@@ -1,5 +1,5 @@
 use Rattle.std.proofs.Common.{arith, rules}
-use Rattle.ell_tree.proofs.lemmas.Gathering.{none_there, other_absent, scans_pair, scans_past}
+use Rattle.ell_tree.proofs.lemmas.Scans.{none_there, other_absent, scans_pair, scans_past}
 use Rattle.ell_tree.proofs.lemmas.Stretching.{stretches_steps}
 use Rattle.ell_tree.proofs.scanning.scan.Goals as goal
 use Rattle.ell_tree.proofs.scanning.scan.Goals.{in_default-via-in-None-1, in_default-via-in-Some+else-at-key, in_default-via-in-Some+then-at-key+else-key-upto}

@@ -1,6 +1,6 @@
 use Rattle.std.proofs.Common.{◌-◌}
 use Rattle.ell_tree.specs.Cursors.{AreKept}
-use Rattle.ell_tree.proofs.lemmas.Gathering.{Scans}
+use Rattle.ell_tree.proofs.lemmas.Scans.{Scans}
 use Rattle.ell_tree.proofs.scanning.scan.Given as goal
 
 -- the scan has come to a key, and to the nodes that the cursor keeps

@@ -1,7 +1,7 @@
 use Rattle.std.proofs.Common.{refl}
 use Rattle.ell_cards.specs.declared.view.Told.TheVariants.{Met}
 use Rattle.ell_cards.proofs.lemmas.views.Searches.{may_go_down}
-use Rattle.ell_tree.proofs.lemmas.Descending.{upd_seeks, descend_seeks, descend_uncounted, descend_search, descend_met, descend_passed, descend_unknown}
+use Rattle.ell_tree.proofs.lemmas.Searches.{upd_seeks, descend_seeks, descend_uncounted, descend_search, descend_met, descend_passed, descend_unknown}
 use Rattle.ell_tree.proofs.searching.descend.Goals as goal
 
 pub key_of-node_key-requires-clause-met : goal.key_of-node_key-requires-clause-met

@@ -3,7 +3,7 @@ use Rattle.std.proofs.Common.{◌+◌, ◌*◌, sym, ap, subst}
 use Rattle.ell_cards.specs.Models.{PassModel}
 use Rattle.ell_cards.specs.declared.view.View.{View}
 use Rattle.ell_tree.specs.Searches.{EndsAt}
-use Rattle.ell_tree.proofs.lemmas.Counting.{counted_all}
+use Rattle.ell_tree.proofs.lemmas.Counts.{counted_all}
 use Rattle.ell_tree.proofs.lemmas.Keeping.{seeks_counted}
 use Rattle.ell_tree.proofs.searching.search.Goals as goal
 

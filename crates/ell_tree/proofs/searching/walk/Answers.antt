@@ -3,9 +3,9 @@ use Rattle.ell_word.specs.Node.{IsInternal, card}
 use Rattle.ell_layout.specs.Words.{IsLeaf}
 use Rattle.ell_cards.specs.declared.view.Told.TheVariants.{Met}
 use Rattle.ell_cards.proofs.lemmas.views.Afters.{after_key_of, after_value_of}
-use Rattle.ell_tree.proofs.lemmas.Counting.{uncounted_one, uncounted_trans}
+use Rattle.ell_tree.proofs.lemmas.Counts.{uncounted_one, uncounted_trans}
 use Rattle.ell_tree.proofs.lemmas.Keeping.{seeks_trans}
-use Rattle.ell_tree.proofs.lemmas.Descending.{key_seeks, value_seeks, stands_next, search_ends}
+use Rattle.ell_tree.proofs.lemmas.Searches.{key_seeks, value_seeks, stands_next, search_ends}
 use Rattle.ell_tree.proofs.searching.walk.Goals as goal
 
 pub loop-grandparent-preserved : goal.loop-grandparent-preserved
@@ -14,7 +14,7 @@ loop-grandparent-preserved g c =
     let i = l.invariant in
     let d = c.descend-child in
     let inner : IsInternal l.node = search rules in
-    rw (c.anew.ensures, c.anew-parent.ensures) (record {
+    rw (c.rebuild.ensures, c.rebuild-parent.ensures) (record {
       same = (refl, refl);
       stands = stands_next c.args.table.now.plan.last_card l.pass.view d.new.pass.view l.node d.result.1 l.parent d.result.0 l.grandparent
           d.ensures.seeks.goes.view i.stands d.ensures.search d.ensures.met d.ensures.there d.ensures.passed d.ensures.unknown;

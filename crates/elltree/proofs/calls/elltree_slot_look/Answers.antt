@@ -20,7 +20,7 @@ returns-clause-tells c =
     let looked : OfHandles (Looked key answer) (handle_of c.args.slot.now.raw.inside) (handle_of c.with_handle.new.self.raw.inside) = search rules in
     follows (Looked key answer) _ _ _ looked (λ old new did. record {
       codes = search rules;
-      yes = λ said. let is : answer ≡ Ok (Some c.told.new.value) = search rules in found key answer old new (Some c.told.new.value) did is;
+      yes = λ said. let is : answer ≡ Ok (Some c.tell_value.new.value) = search rules in found key answer old new (Some c.tell_value.new.value) did is;
       no = λ said. let is : answer ≡ Ok None = search rules in found key answer old new None did is;
       own = search rules;
       absent = search rules;

@@ -19,7 +19,7 @@ returns-clause-tells c =
     let sought : OfHandles (SoughtLast key there) (handle_of c.args.slot.now.raw.inside) (handle_of c.with_handle.new.self.raw.inside) = search rules in
     follows (SoughtLast key there) _ _ _ sought (λ old new did. record {
       codes = search rules;
-      yes = λ said. let is : there ≡ Some (c.told.new.found, c.told.new.value) = search rules in found key there _ old new did is;
+      yes = λ said. let is : there ≡ Some (c.tell_pair.new.found, c.tell_pair.new.value) = search rules in found key there _ old new did is;
       no = λ said. let is : there ≡ None = search rules in found key there _ old new did is;
       reads = did.reads;
     })

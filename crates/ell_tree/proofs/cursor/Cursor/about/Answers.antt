@@ -6,8 +6,8 @@ use Rattle.ell_cards.specs.Models.{PassModel}
 use Rattle.ell_cards.specs.declared.view.View.{View}
 use Rattle.ell_tree.specs.Cursors.{AreKept, FindsAbout}
 use Rattle.ell_tree.specs.Looks.{stretch_steps}
-use Rattle.ell_tree.proofs.lemmas.Counting.{counted_all, uncounted_none, uncounted_one, uncounted_trans}
-use Rattle.ell_tree.proofs.lemmas.Cursors.{Goes, all_on, goes_first, goes_down, goes_found, on_counted, key_on, kept_still, may_go_down, one_kept, stands_still}
+use Rattle.ell_tree.proofs.lemmas.Counts.{counted_all, uncounted_none, uncounted_one, uncounted_trans}
+use Rattle.ell_tree.proofs.lemmas.Cursors.{GoesDown, all_on, goes_first, goes_down, goes_found, on_counted, key_on, kept_still, may_go_down, one_kept, stands_still}
 use Rattle.ell_tree.proofs.cursor.Cursor.about.Goals as goal
 use Rattle.ell_tree.proofs.cursor.Cursor.about.Goals.{then-not-right, else-not-right}
 
@@ -43,7 +43,7 @@ loop-pass-preserved g c =
       | else-not-right w ↦ subst (AreKept cards k.new.pass.view) (sym w.self-is) still
     ] in
     record {
-      goes = subst (λ h. Goes cards c.args.pass.now d.new.pass c.args.key h c.if-not-right.self) (sym c.down-here.ensures)
+      goes = subst (λ h. GoesDown cards c.args.pass.now d.new.pass c.args.key h c.if-not-right.self) (sym c.down-here.ensures)
           (goes_down cards c.args.pass.now l.pass k.new.pass c.args.key l.here l.self k.result l.invariant.goes k.ensures.step d.new.pass (nat_le k.result c.args.key)
           d.result c.if-not-right.self d.ensures.step inner d.ensures.greater d.ensures.there refl kept);
       uncounted = uncounted_trans c.args.pass.now l.pass d.new.pass l.steps 2 l.invariant.uncounted

@@ -1,11 +1,11 @@
 use Rattle.std.proofs.Common.{◌+◌, ◌*◌, ◌-◌}
 use Rattle.ell_tree.specs.Counts.{HasUncounted}
-use Rattle.ell_tree.proofs.lemmas.Cursors.{Goes}
+use Rattle.ell_tree.proofs.lemmas.Cursors.{GoesDown}
 use Rattle.ell_tree.proofs.cursor.Cursor.about.Given as goal
 
 abbrev pub invariant-loop-pass : goal.invariant-loop-pass
 invariant-loop-pass g l = record {
-  goes : Goes l.table.plan.last_card l.fn.pass l.pass l.key l.here l.self;
+  goes : GoesDown l.table.plan.last_card l.fn.pass l.pass l.key l.here l.self;
   uncounted : HasUncounted l.fn.pass l.pass l.steps;
 }
 

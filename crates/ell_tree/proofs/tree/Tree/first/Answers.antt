@@ -1,5 +1,5 @@
 -- What was found of the next key, and of each before it, was so in one state since the look began.
-use Rattle.ell_tree.proofs.lemmas.Gathering.{next_in}
+use Rattle.ell_tree.proofs.lemmas.Scans.{next_in}
 use Rattle.ell_tree.proofs.tree.Tree.first.Goals as goal
 
 pub returns-clause-so : goal.returns-clause-so

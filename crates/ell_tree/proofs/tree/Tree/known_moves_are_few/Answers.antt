@@ -1,6 +1,6 @@
 use Rattle.std.proofs.Common.{ap, arith}
 use Rattle.ell_tree.specs.Ledgers.{TreeModel}
-use Rattle.ell_tree.proofs.lemmas.Moving.{moves_most}
+use Rattle.ell_tree.proofs.lemmas.Moves.{moves_most}
 use Rattle.ell_tree.proofs.tree.Tree.known_moves_are_few.Goals as goal
 
 pub returns : goal.returns

@@ -1,7 +1,7 @@
 -- What was found of the last key, and of each after it, was so in one state since the look began.
 use Rattle.std.proofs.Common.{◌+◌}
 use Rattle.ell_ops.specs.Meaning.{greatest_key}
-use Rattle.ell_tree.proofs.lemmas.Gathering.{last_in}
+use Rattle.ell_tree.proofs.lemmas.Scans.{last_in}
 use Rattle.ell_tree.proofs.tree.Tree.last.Goals as goal
 
 pub returns-clause-so : goal.returns-clause-so

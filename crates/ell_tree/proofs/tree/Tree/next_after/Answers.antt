@@ -1,6 +1,6 @@
 -- What was found of the next key, and of each before it, was so in one state since the look began.
 use Rattle.std.proofs.Common.{◌+◌}
-use Rattle.ell_tree.proofs.lemmas.Gathering.{next_in}
+use Rattle.ell_tree.proofs.lemmas.Scans.{next_in}
 use Rattle.ell_tree.proofs.tree.Tree.next_after.Goals as goal
 
 pub returns-clause-so : goal.returns-clause-so

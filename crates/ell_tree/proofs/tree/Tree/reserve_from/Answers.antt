@@ -1,4 +1,4 @@
-use Rattle.ell_tree.proofs.lemmas.Splitting.{first_pass}
+use Rattle.ell_tree.proofs.lemmas.PassParts.{first_pass}
 use Rattle.ell_tree.proofs.tree.Tree.reserve_from.Goals as goal
 
 pub returns-clause-pass : goal.returns-clause-pass

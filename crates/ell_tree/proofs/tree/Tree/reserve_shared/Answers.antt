@@ -1,6 +1,6 @@
 use Rattle.std.proofs.Common.{sym}
 use Rattle.std.proofs.lemmas.Bool.{false≢true}
-use Rattle.ell_tree.proofs.lemmas.Splitting.{first_pass}
+use Rattle.ell_tree.proofs.lemmas.PassParts.{first_pass}
 use Rattle.ell_tree.proofs.tree.Tree.reserve_shared.Goals as goal
 
 pub returns-clause-pass : goal.returns-clause-pass

@@ -1,5 +1,5 @@
 -- What a scan has found of each key was so in one state since it began.
-use Rattle.ell_tree.proofs.lemmas.Gathering.{each_in}
+use Rattle.ell_tree.proofs.lemmas.Scans.{each_in}
 use Rattle.ell_tree.proofs.tree.Tree.scan.Goals as goal
 
 pub returns-clause-so : goal.returns-clause-so

@@ -1,7 +1,7 @@
 use Rattle.ell_cards.specs.Models.{PassModel, Steps}
 use Rattle.ell_cards.specs.Changes.{left_view, right_view}
 use Rattle.ell_tree.specs.PassParts.{IsLeftPart, IsRightPart}
-use Rattle.ell_tree.proofs.lemmas.Splitting.{if_ok, left_part, right_part}
+use Rattle.ell_tree.proofs.lemmas.PassParts.{if_ok, left_part, right_part}
 use Rattle.ell_tree.proofs.tree.Tree.split.Goals as goal
 
 pub returns-clause-left : goal.returns-clause-left
