@@ -212,9 +212,10 @@ impl Kind {
     }
 }
 
-/// All cases of these kinds.
-fn cases(kinds: &[Kind]) -> Vec<Case> {
-    kinds.iter().flat_map(|kind| kind.keys().iter().flat_map(|keys| kind.cases(*keys))).collect()
+/// All cases of these kinds, or those with so many keys.
+fn cases(kinds: &[Kind], only: Option<u64>) -> Vec<Case> {
+    let are_wanted = |keys: &&u64| only.is_none_or(|only| only == **keys);
+    kinds.iter().flat_map(|kind| kind.keys().iter().filter(are_wanted).flat_map(|keys| kind.cases(*keys))).collect()
 }
 
 /// The median, 99 % and worst of latencies, if there are any.
@@ -346,7 +347,7 @@ fn ranges_agree() -> bool {
 
 /// Measures one case of these kinds after the other: in each round all of its peers, in another order each time.
 fn measure_all(wanted: &Wanted) -> Record {
-    let cases = cases(&wanted.kinds);
+    let cases = cases(&wanted.kinds, wanted.keys);
     let mut record = Record::new(cases.clone());
     let mut random = Random::new(2);
     for (at, case) in cases.into_iter().enumerate() {
@@ -374,6 +375,8 @@ struct Wanted<'a> {
     /// For how long each case of pauses is measured.
     pauses: Duration,
     kinds: Vec<Kind>,
+    /// How many keys there are, if it is not each number that a kind has.
+    keys: Option<u64>,
     /// Whether the real-time class is wanted.
     in_real_time: bool,
     /// After how many seconds this ends by a signal, if it has not ended.
@@ -385,7 +388,7 @@ struct Wanted<'a> {
 
 impl Wanted<'_> {
     fn of(words: &[String]) -> Option<Wanted<'_>> {
-        let [seconds, rounds, pauses, what, class, limit, file, name] = words else {
+        let [seconds, rounds, pauses, what, keys, class, limit, file, name] = words else {
             return None;
         };
         let duration = |seconds: &str| Duration::try_from_secs_f64(seconds.parse().ok()?).ok();
@@ -394,6 +397,7 @@ impl Wanted<'_> {
             rounds: rounds.parse().ok().filter(|it| *it > 0)?,
             pauses: duration(pauses)?,
             kinds: Kind::ALL.into_iter().filter(|kind| what == "all" || what == kind.name()).collect(),
+            keys: if keys == "all" { None } else { Some(keys.parse().ok()?) },
             in_real_time: class == "real-time",
             limit: limit.parse().ok()?,
             file,
@@ -416,8 +420,8 @@ fn main() -> ExitCode {
     let words: Vec<String> = env::args().skip(1).collect();
     let Some(wanted) = Wanted::of(&words) else {
         eprintln!(
-            "hosts: give seconds, rounds, seconds for pauses, a kind or all, real-time or normal, a limit in seconds, a file, and its \
-             name in tables"
+            "hosts: give seconds, rounds, seconds for pauses, a kind or all, a number of keys or all, real-time or normal, a limit in \
+             seconds, a file, and its name in tables"
         );
         return ExitCode::from(2);
     };
