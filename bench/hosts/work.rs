@@ -237,21 +237,20 @@ impl Stage {
 }
 
 /// Has the threads of these stages begin, lets their acts count after half of such an interval, and waits as long as it is. If the map
-/// renews itself, what counts begins and ends with the end of a renewal: so each tree of it has its renewal beside it.
+/// renews itself, what counts begins and ends with the end of a renewal, and has one renewal of each section, or as many of each: so each tree
+/// of it has its renewal beside it.
 fn lead(stages: &[&Stage], interval: Duration, renewing: Option<&Map>) {
     for stage in stages {
         stage.begin.wait();
     }
     thread::sleep(interval / 2);
-    if let Some(map) = renewing {
-        one_map::settle(map);
-    }
+    let settled = renewing.map(|map| (map, one_map::settle(map)));
     for stage in stages {
         stage.enter(Phase::Counted);
     }
     thread::sleep(interval);
-    if let Some(map) = renewing {
-        one_map::wait_for_renewal(map);
+    if let Some((map, begun)) = settled {
+        one_map::wait_for_turn(map, begun);
     }
 }
 
