@@ -78,7 +78,7 @@ static inline void give_back(struct place *place) {
 }
 
 /* A place behind the one that another thread has, or that a thread without a number would have. */
-static struct place *take_another_place(struct gate *gate) {
+static __attribute__((noinline, cold)) struct place *take_another_place(struct gate *gate) {
     unsigned tries = 0;
     if (!hint)
         hint = atomic_fetch_add_explicit(&threads, 1, memory_order_relaxed);
@@ -101,7 +101,7 @@ static inline struct place *take_place(struct gate *gate) {
 static inline bool is_closed(uint32_t gate) { return gate % 2 != 0; }
 
 /* Steps 1 to 4 of a call: a place that is the caller's, with the gate open. */
-static inline struct place *enter(struct gate *gate) {
+static inline __attribute__((always_inline)) struct place *enter(struct gate *gate) {
     for (;;) {
         struct place *place = take_place(gate);
         const uint32_t seen = atomic_load(&gate->word);

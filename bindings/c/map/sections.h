@@ -21,7 +21,6 @@ struct seat {
 struct section {
     _Alignas(LINE) uint64_t first;        /* its least key */
     uint64_t upto;                        /* its keys are below this, or without end if it is UINT64_MAX */
-    struct seat *seats;                   /* one for each place, and the last for the thread that renews the section */
     _Atomic(struct heirs *) heirs;        /* the sections that are to replace it, if it is being renewed */
     uint64_t allowed;                     /* steps that a find takes if the tree is not deep */
     uint64_t reserve;                     /* how few cards are left when a renewal is due */
@@ -30,6 +29,7 @@ struct section {
     _Alignas(LINE) _Atomic bool renewing; /* whether a thread renews it, or has renewed it */
     _Atomic uint64_t excess;              /* steps beyond the allowed ones since it was made */
     _Atomic uint64_t spent_at;            /* when a call found its cards spent, or 0 */
+    struct seat seats[];                  /* one for each place, and the last for the thread that renews the section */
 };
 
 /* The sections that are to replace one, or two. */
@@ -106,18 +106,15 @@ static int32_t open_seats(struct seat *seats, uint64_t number_of_seats, const st
 static int32_t make_section(const struct gate *gate, struct section **made, uint64_t first, uint64_t upto, const struct elltree_pair *pairs,
                             size_t count, uint64_t cards) {
     const uint64_t number_of_seats = gate->mask + UINT64_C(2);
-    struct section *section = aligned_alloc(LINE, sizeof *section);
-    struct seat *seats = aligned_alloc(LINE, number_of_seats * sizeof *seats);
-    const int32_t code = section && seats ? open_seats(seats, number_of_seats, pairs, count, cards) : ELLTREE_NO_MEMORY;
+    struct section *section = aligned_alloc(LINE, sizeof *section + number_of_seats * sizeof *section->seats);
+    const int32_t code = section ? open_seats(section->seats, number_of_seats, pairs, count, cards) : ELLTREE_NO_MEMORY;
     if (code != ELLTREE_YES) {
         free(section);
-        free(seats);
         return code;
     }
     memset(section, 0, sizeof *section);
     section->first = first;
     section->upto = upto;
-    section->seats = seats;
     section->allowed = allowed_steps(count + cards);
     section->reserve = cards / 4;
     section->cards = cards;
@@ -129,7 +126,6 @@ static int32_t make_section(const struct gate *gate, struct section **made, uint
 static void free_section(const struct gate *gate, struct section *section) {
     for (uint64_t i = 0; i < gate->mask + UINT64_C(2); i++)
         elltree_slot_free(&section->seats[i].slot);
-    free(section->seats);
     free(section);
 }
 
