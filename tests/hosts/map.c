@@ -200,7 +200,7 @@ static long share(int count, uint32_t calls) {
     working = count - 1;
     run_threads(work_or_sleep, w, sizeof *w, count);
     snprintf(name, sizeof name, "%d threads", count);
-    return end_map(name, wrong + compare(w, count), 10);
+    return end_map(name, wrong + compare(w, count), OPS / 8000);
 }
 
 /* The pages that the process has in memory. */
