@@ -111,7 +111,11 @@ after (call.Down x right) n v = record v {
   made = v.made + 1;
 }
 after call.Next n v = record v { next = Some n; made = v.made + 1 }
-after (call.KeyOf x) n v = record v { told = Key x n ∷ v.told; here = if is_this v.worker.search.node x then Some n else v.here; made = v.made + 1 }
+after (call.KeyOf x) n v = record v {
+  told = Key x n ∷ v.told;
+  here = if is_this v.worker.search.node x then Some n else v.here;
+  made = v.made + 1;
+}
 after (call.ValueOf x) n v = record v { told = Value x n ∷ v.told; made = v.made + 1 }
 after (call.Info c f) n v = record v { told = told_info c f n v.told; made = v.made + 1 }
 after (call.FrozenChild c p right) n v = record v { told = Frozen c right n ∷ Met n ∷ v.told; made = v.made + 1 }
@@ -121,16 +125,23 @@ after call.Look n v = record v {
   looks = v.looks + 1;
   made = v.made + 1;
 }
-after (call.LookDown from key right) n v = record v { told = Met n ∷ v.told; glances = gone_down from key right n ∷ v.glances; made = v.made + 1 }
+after (call.LookDown from key right) n v = record v {
+  told = Met n ∷ v.told;
+  glances = gone_down from key right n ∷ v.glances;
+  made = v.made + 1;
+}
 after (call.Claim c) n v = after_claim (n == c) c v
 after (call.Fill c f value) n v = after_fill f value v
 after (call.IFlag c p from) n v =
-    exchanged (if_won (n == packed from) exchange.IFlag c) n (after_flag (n == packed from) (fact.IFlagged c) p (unpacked n) v)
+    exchanged (if_won (n == packed from) exchange.IFlag c) n
+    (after_flag (n == packed from) (fact.IFlagged c) p (unpacked n) v)
 after (call.IChild c p l q right) n v = exchanged (if_won (n == l) exchange.IChild c) n (learning (fact.IChanged c) v)
 after (call.IUnflag c p) n v = exchanged (if_won (n == iflag c) exchange.IUnflag c) n (learning (fact.IOver c) v)
 after (call.DFlag c gp from) n v =
-    exchanged (if_won (n == packed from) exchange.DFlag c) n (after_flag (n == packed from) (fact.DFlagged c) gp (unpacked n) v)
-after (call.Mark c p was) n v = exchanged (if_won (n == was) exchange.Mark c) n (after_mark (n == was) c p (unpacked n) v)
+    exchanged (if_won (n == packed from) exchange.DFlag c) n
+    (after_flag (n == packed from) (fact.DFlagged c) gp (unpacked n) v)
+after (call.Mark c p was) n v =
+    exchanged (if_won (n == was) exchange.Mark c) n (after_mark (n == was) c p (unpacked n) v)
 after (call.DChild c gp p s right) n v = exchanged (if_won (n == p) exchange.DChild c) n (learning (fact.Cut c) v)
 after (call.DUnflag c gp) n v = exchanged (if_won (n == dflag c) exchange.DUnflag c) n (learning (fact.DOver c) v)
 after (call.Backtrack c gp) n v = exchanged (if_won (n == dflag c) exchange.Backtrack c) n (learning (fact.Backed c) v)
@@ -196,14 +207,15 @@ abbrev pub Becomes : ℕ → Option Act → Stepped → Machine → Machine → 
 Becomes i (Some a) said m m' = Steps m (record { worker = i; act = a }) said m'
 Becomes i None said m m' = m' ≡ m
 
--- the key of a leaf where the pass stands is the operation's exactly where its ledger has that present, if it has the key, and then the
--- leaf has a grandparent
+-- the key of a leaf where the pass stands is the operation's exactly where its ledger has that present, if it has the
+-- key, and then the leaf has a grandparent
 pub record TellsLeaf (v : View) (x key : ℕ) : Type 0 where
   pub present : (op : Op) → Does v op → StandsAt v x → IsLeaf x → ledger_of v.worker.ledger (key_of op) ≢ None
       → is_some (contents_in (ledger_of v.worker.ledger) (key_of op)) ≡ (key == key_of op)
   pub deep : (op : Op) → Does v op → StandsAt v x → IsLeaf x → key ≡ key_of op → v.worker.search.grandparent ≢ None
 
--- the value of a leaf where the pass stands, whose key it was told to be the operation's, is that of its ledger, if it has the key
+-- the value of a leaf where the pass stands, whose key it was told to be the operation's, is that of its ledger, if it
+-- has the key
 abbrev pub TellsValue : View → ℕ → ℕ → Type 0
 TellsValue v x value = (op : Op) → Does v op → StandsAt v x → v.here ≡ Some (key_of op) → ledger_of v.worker.ledger (key_of op) ≢ None
     → contents_in (ledger_of v.worker.ledger) (key_of op) ≡ Some value

@@ -64,7 +64,8 @@ abbrev pub first_in_way : List Hindrance → List Hindrance → List Hindrance
 first_in_way [] those = those
 first_in_way (h ∷ hs) those = h ∷ hs
 
--- what a search that stands at a node has read in the way of an operation: of a delete first at the grandparent; at the parent
+-- what a search that stands at a node has read in the way of an operation: of a delete first at the grandparent; at the
+-- parent
 abbrev pub in_the_way : Option Op → Option ℕ → Option Seen → Option Seen → List Hindrance
 in_the_way (Some (Insert k value)) (Some x) parent above = read_in_way parent
 in_the_way (Some (Swap k was value)) (Some x) parent above = read_in_way parent
@@ -75,7 +76,8 @@ in_the_way _ _ parent above = []
 abbrev pub way_now : View → List Hindrance
 way_now v = in_the_way v.worker.operation v.worker.search.node v.worker.search.parent v.worker.search.grandparent
 
--- whether what an update says was under way is over: a clean one says nothing, and of any other facts tell the end of its card
+-- whether what an update says was under way is over: a clean one says nothing, and of any other facts tell the end of
+-- its card
 abbrev pub update_over : List Fact → State → ℕ → Bool
 update_over facts state.Clean c = true
 update_over facts s c = knows_end facts c
@@ -96,7 +98,10 @@ tries_hindered v = v.hindered + (if was_hindered v.worker.facts (way_now v ++ v.
 
 -- the pass has found an update at a node
 abbrev pub finding : ℕ → Update → View → View
-finding x u v = record v { worker = record (v.worker) { facts = facts_by u.state u.card v.worker.facts }; told = places_by x u.state u.card v.told }
+finding x u v = record v {
+  worker = record (v.worker) { facts = facts_by u.state u.card v.worker.facts };
+  told = places_by x u.state u.card v.told;
+}
 
 -- the pass has learnt a fact
 abbrev pub learning : Fact → View → View
@@ -136,17 +141,32 @@ found_child expected (Err found) = found
 
 -- a worker with nothing in hand
 abbrev pub idle_worker : List (ℕ × Entry) → Option (List ℕ) → List Fact → WorkerView
-idle_worker ledger ownable facts = record { ledger = ledger; ownable = ownable; operation = None; search = no_search; card = None; flagged = false; facts = facts }
+idle_worker ledger ownable facts = record {
+  ledger = ledger;
+  ownable = ownable;
+  operation = None;
+  search = no_search;
+  card = None;
+  flagged = false;
+  facts = facts;
+}
 
 -- nothing is in hand, and the ledger is this one
 abbrev pub at_rest : List (ℕ × Entry) → View → View
-at_rest ledger v = record v { worker = idle_worker ledger v.worker.ownable v.worker.facts; here = None; planned = []; stores = []; met = [] }
+at_rest ledger v = record v {
+  worker = idle_worker ledger v.worker.ownable v.worker.facts;
+  here = None;
+  planned = [];
+  stores = [];
+  met = [];
+}
 
 -- nothing is left of the last operation, answered or laid down, nor of the last look
 abbrev pub afresh : List (ℕ × Entry) → View → View
 afresh ledger v = record (at_rest ledger v) { next = None; glances = []; answered = None; laid_down = None }
 
--- begin: nothing is left of what was before; this operation is in hand, and the search stands at the root, which the pass has met
+-- begin: nothing is left of what was before; this operation is in hand, and the search stands at the root, which the
+-- pass has met
 abbrev pub after_begin : Option Op → View → View
 after_begin op v = record (afresh v.worker.ledger v) {
   worker = record (v.worker) { operation = op; search = at_root; card = None; flagged = false };
@@ -155,9 +175,13 @@ after_begin op v = record (afresh v.worker.ledger v) {
   made = v.made + 1;
 }
 
--- again: the operation begins once more; what its search read in the way was a hindrance, and the try counts if one that is over hindered it
+-- again: the operation begins once more; what its search read in the way was a hindrance, and the try counts if one
+-- that is over hindered it
 abbrev pub after_again : View → View
-after_again v = record (after_begin v.worker.operation v) { hindrances = way_now v ++ v.hindrances; hindered = tries_hindered v }
+after_again v = record (after_begin v.worker.operation v) {
+  hindrances = way_now v ++ v.hindrances;
+  hindered = tries_hindered v;
+}
 
 -- leave: nothing is in hand any more, the operation was laid down, and the last try is given up as by again
 abbrev pub after_leave : View → View
@@ -194,14 +218,21 @@ after_answer said v = record (at_rest (answered_ledger v.worker.operation said v
 -- upd: this update was read at the node where the pass stands
 abbrev pub after_upd : ℕ → Update → View → View
 after_upd x u v = record (finding x u v) {
-  worker = record (v.worker) { search = with_read v.worker.search (packed u); facts = facts_by u.state u.card v.worker.facts };
+  worker = record (v.worker) {
+    search = with_read v.worker.search (packed u);
+    facts = facts_by u.state u.card v.worker.facts;
+  };
   made = v.made + 1;
 }
 
 -- a search that goes from a node to this child
 abbrev pub gone_from : ℕ → ℕ → Search → Search
-gone_from x child search =
-    record { node = Some child; read = None; parent = option_map (λ word. record { node = x; word = word }) search.read; grandparent = search.parent }
+gone_from x child search = record {
+  node = Some child;
+  read = None;
+  parent = option_map (λ word. record { node = x; word = word }) search.read;
+  grandparent = search.parent;
+}
 
 -- whether there is one, and it is this
 abbrev pub is_this : Option ℕ → ℕ → Bool
@@ -227,9 +258,12 @@ told_value (_ ∷ told) x = told_value told x
 
 -- what fills a card, by the operation, the search, the key of the leaf and the values of leaves
 abbrev pub filling_for : ℕ → Option Op → Option ℕ → Option Seen → Option Seen → ℕ → (ℕ → ℕ) → List (Field × ℕ)
-filling_for c (Some (Insert k value)) (Some leaf) (Some parent) above key value_of = insert_filling c k value parent.node leaf key (value_of leaf)
-filling_for c (Some (Swap k was value)) (Some leaf) (Some parent) above key value_of = insert_filling c k value parent.node leaf key (value_of leaf)
-filling_for c (Some (Delete k)) (Some leaf) (Some parent) (Some above) key value_of = delete_filling above.node parent.node leaf parent.word
+filling_for c (Some (Insert k value)) (Some leaf) (Some parent) above key value_of =
+    insert_filling c k value parent.node leaf key (value_of leaf)
+filling_for c (Some (Swap k was value)) (Some leaf) (Some parent) above key value_of =
+    insert_filling c k value parent.node leaf key (value_of leaf)
+filling_for c (Some (Delete k)) (Some leaf) (Some parent) (Some above) key value_of =
+    delete_filling above.node parent.node leaf parent.word
 filling_for c _ _ _ _ key value_of = []
 
 -- what fills card c, by what the pass knows
@@ -281,19 +315,27 @@ nowhere search = record search { node = None; read = None }
 
 -- the search stands nowhere any more, and this card is in hand, flagged or not
 abbrev pub off_the_tree : Option ℕ → Bool → View → View
-off_the_tree card flagged v = record v { worker = record (v.worker) { search = nowhere v.worker.search; card = card; flagged = flagged }; here = None }
+off_the_tree card flagged v = record v {
+  worker = record (v.worker) { search = nowhere v.worker.search; card = card; flagged = flagged };
+  here = None;
+}
 
--- iflag and dflag: the card in hand is flagged; or the update was found at the node in its place, and the card is laid aside
+-- iflag and dflag: the card in hand is flagged; or the update was found at the node in its place, and the card is laid
+-- aside
 abbrev pub after_flag : Bool → Fact → ℕ → Update → View → View
 after_flag true new x u v = off_the_tree v.worker.card true (learning new v)
-after_flag false new x u v = record (off_the_tree None false (finding x u v)) { hindrances = Found u ∷ v.hindrances; met = Found u ∷ v.met }
+after_flag false new x u v = record (off_the_tree None false (finding x u v)) {
+  hindrances = Found u ∷ v.hindrances;
+  met = Found u ∷ v.met;
+}
 
 -- whether an update is the mark of a card
 abbrev pub is_mark_of : ℕ → State → ℕ → Bool
 is_mark_of c state.Mark d = d == c
 is_mark_of c _ d = false
 
--- a lost mark: the update that was found at the parent says that the card is unmarkable, a hindrance if it is the card in hand
+-- a lost mark: the update that was found at the parent says that the card is unmarkable, a hindrance if it is the card
+-- in hand
 abbrev pub unmarking : ℕ → ℕ → Update → View → View
 unmarking c x u v = record (finding x u (learning (fact.Unmarkable c) v)) {
   hindrances = if is_this v.worker.card c then Found u ∷ v.hindrances else v.hindrances;
@@ -340,25 +382,33 @@ abbrev pub ownable_if : Bool → List ℕ → Option (List ℕ)
 ownable_if true keys = Some keys
 ownable_if false keys = None
 
--- the first pass of a table: it owns the keys of its plan, of which the start keys are present with their values, and the others absent
+-- the first pass of a table: it owns the keys of its plan, of which the start keys are present with their values, and
+-- the others absent
 abbrev pub first_of : TablePlan → View
-first_of plan = idle_view whole_share (idle_worker (keys_at_start plan.keys plan.start) (ownable_if plan.shared plan.keys) [])
+first_of plan =
+    idle_view whole_share (idle_worker (keys_at_start plan.keys plan.start) (ownable_if plan.shared plan.keys) [])
 
 -- what is left of a pass that was joined to another: it has no share
 abbrev pub spent_view : View
 spent_view = idle_view 0 (idle_worker [] None [])
 
--- split, the left part: it gets these keys, and keeps facts, what was told, counts and what the pass won; the split is its step
+-- split, the left part: it gets these keys, and keeps facts, what was told, counts and what the pass won; the split is
+-- its step
 abbrev pub left_view : List ℕ → View → View
-left_view keys v = record (afresh (filter (λ e. set_of keys e.0) v.worker.ledger) v) { found = None; share = v.share - given_share v.share; made = v.made + 1 }
+left_view keys v = record (afresh (filter (λ e. set_of keys e.0) v.worker.ledger) v) {
+  found = None;
+  share = v.share - given_share v.share;
+  made = v.made + 1;
+}
 
 -- split, the right part: it gets the other keys and a part of the share, and facts and what was told too
 abbrev pub right_view : List ℕ → View → View
-right_view keys v = record (idle_view (given_share v.share) (at_rest (filter (λ e. not (set_of keys e.0)) v.worker.ledger) v).worker) {
-  told = v.told;
-  knew_before = v.knew_before;
-  next_at_least = v.next_at_least;
-}
+right_view keys v = record (idle_view (given_share v.share)
+    (at_rest (filter (λ e. not (set_of keys e.0)) v.worker.ledger) v).worker) {
+      told = v.told;
+      knew_before = v.knew_before;
+      next_at_least = v.next_at_least;
+    }
 
 -- an entry put into an ascending ledger at its place, or in place of that of its key
 abbrev pub put_entry : ℕ × Entry → List (ℕ × Entry) → List (ℕ × Entry)
@@ -376,10 +426,12 @@ later None m = m
 later (Some n) None = Some n
 later (Some n) (Some m) = Some (max n m)
 
--- join: one pass with the keys, the facts, the shares and the counts of two, what both were told and won, and the later reading of the claim word
+-- join: one pass with the keys, the facts, the shares and the counts of two, what both were told and won, and the later
+-- reading of the claim word
 abbrev pub joined_view : View → View → View
 joined_view v w = record (idle_view ((v.share + w.share) % 2 ^ 64)
-    (idle_worker (united v.worker.ledger w.worker.ledger) (option_or v.worker.ownable w.worker.ownable) (v.worker.facts ++ w.worker.facts))) {
+    (idle_worker (united v.worker.ledger w.worker.ledger) (option_or v.worker.ownable w.worker.ownable)
+    (v.worker.facts ++ w.worker.facts))) {
       told = v.told ++ w.told;
       next = later v.next w.next;
       won = v.won ++ w.won;

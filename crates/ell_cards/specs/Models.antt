@@ -19,7 +19,8 @@ use Rattle.ell_cards.specs.declared.glance.Glance.{Glance}
 use Rattle.ell_cards.specs.declared.view.Told.{Told}
 use Rattle.ell_cards.specs.declared.view.View.{View}
 
--- what a table is opened with: the keys that may have owners, the start keys with their values, the last card, and whether all others are shared
+-- what a table is opened with: the keys that may have owners, the start keys with their values, the last card, and
+-- whether all others are shared
 pub record TablePlan : Type 0 where
   pub keys : List ℕ
   pub start : List (ℕ × ℕ)

@@ -98,9 +98,11 @@ pub record SmallRunIsMade : Type 0 where
   pub delete_lost :
       run_wins small_plan.last_card first small_run last run 2 ≡ exchange.DFlag ∷ exchange.Backtrack ∷ []
   pub insert_made :
-      run_wins small_plan.last_card first small_run last run 3 ≡ exchange.IFlag ∷ exchange.IChild ∷ exchange.IUnflag ∷ []
+      run_wins small_plan.last_card first small_run last run 3
+      ≡ exchange.IFlag ∷ exchange.IChild ∷ exchange.IUnflag ∷ []
   pub delete_made :
-      run_wins small_plan.last_card first small_run last run 4 ≡ exchange.DFlag ∷ exchange.Mark ∷ exchange.DChild ∷ exchange.DUnflag ∷ []
+      run_wins small_plan.last_card first small_run last run 4
+      ≡ exchange.DFlag ∷ exchange.Mark ∷ exchange.DChild ∷ exchange.DUnflag ∷ []
   pub view : View
   pub there : get_elem? last.views 0 ≡ some view
   pub ledger : view.worker.ledger ≡ (5, Absent) ∷ (7, Present 70) ∷ []

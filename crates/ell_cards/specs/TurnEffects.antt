@@ -40,8 +40,8 @@ PairsChangeBy (call.IChild c p l q right) true old new = MakesChange (op_of_card
 PairsChangeBy (call.DChild c gp p s right) true old new = TakesPair old new (card_key old c) (card_value old c)
 PairsChangeBy _ _ old new = SamePairs old new
 
--- what a call does to the ledger of its pass: an answer on a key of its own is the map's, by the ledger, which becomes the map after it; no other
--- call changes it, nor does an answer on a shared key
+-- what a call does to the ledger of its pass: an answer on a key of its own is the map's, by the ledger, which becomes
+-- the map after it; no other call changes it, nor does an answer on a shared key
 abbrev pub LedgerChangesBy : Call → View → View → Type 0
 LedgerChangesBy (call.Answer said) v w = AnswersAsMap (worker_of v.worker) (ledger_of w.worker.ledger) said
 LedgerChangesBy _ v w = w.worker.ledger ≡ v.worker.ledger
@@ -54,13 +54,15 @@ pub record IsAtWork (s : TableState) (c : ℕ) (op : Op) : Type 0 where
   pub does : Does view op
   pub held : IsHeld view c
 
--- whose a won child exchange is: an ichild is of an insert or a swap of its card's key and value that is in hand, a dchild of a delete
+-- whose a won child exchange is: an ichild is of an insert or a swap of its card's key and value that is in hand, a
+-- dchild of a delete
 abbrev pub ChangeIsOf : Call → Bool → TableState → Type 0
 ChangeIsOf (call.IChild c p l q right) true s = IsAtWork s c (op_of_card (own_words s) c)
 ChangeIsOf (call.DChild c gp p y right) true s = IsAtWork s c (Delete (card_key (own_words s) c))
 ChangeIsOf _ _ s = Unit {0}
 
--- how a turn changes the keys of the tree that the table's own words make: as its call says; a split or a join not at all
+-- how a turn changes the keys of the tree that the table's own words make: as its call says; a split or a join not at
+-- all
 abbrev pub PairsGoBy : TableState → Turn → TableState → Type 0
 PairsGoBy s (Makes seat c) s' = PairsChangeBy c (is_won (atomic_of c) (found_by s c)) (own_words s) (own_words s')
 PairsGoBy s _ s' = SamePairs (own_words s) (own_words s')
@@ -75,9 +77,9 @@ abbrev pub LedgerGoesBy : (cards : ℕ) (s : TableState) (t : Turn) (s' : TableS
 LedgerGoesBy cards s (Makes seat c) s' turn = LedgerChangesBy c turn.view (view_after s turn.view c)
 LedgerGoesBy cards s _ s' turn = Unit {0}
 
--- what a turn does, by the table's own words and by what its passes know: the keys of the tree that those words make change at a won
--- ichild or dchild alone, by that card's key; that is of an operation that some pass has in hand; an answer is the map's; and the
--- words after it, with what the passes know, are a sound state
+-- what a turn does, by the table's own words and by what its passes know: the keys of the tree that those words make
+-- change at a won ichild or dchild alone, by that card's key; that is of an operation that some pass has in hand; an
+-- answer is the map's; and the words after it, with what the passes know, are a sound state
 pub record TurnDoes (cards : ℕ) (s : TableState) (t : Turn) (s' : TableState) (turn : TableTurns cards s t s') : Type 0 where
   pub pairs : PairsGoBy s t s'
   pub won : IsWonFor s t
