@@ -106,15 +106,12 @@ after (call.Answer said) n v = after_answer said v
 after (call.Upd x) n v = after_upd x (unpacked n) v
 after (call.Down x right) n v = record v {
   worker = record (v.worker) { search = gone_from x n v.worker.search };
-  told = Met n ∷ v.told;
-  here = None;
-  made = v.made + 1;
+  told = Met n ∷ v.told; here = None; made = v.made + 1;
 }
 after call.Next n v = record v { next = Some n; made = v.made + 1 }
 after (call.KeyOf x) n v = record v {
   told = Key x n ∷ v.told;
-  here = if is_this v.worker.search.node x then Some n else v.here;
-  made = v.made + 1;
+  here = if is_this v.worker.search.node x then Some n else v.here; made = v.made + 1;
 }
 after (call.ValueOf x) n v = record v { told = Value x n ∷ v.told; made = v.made + 1 }
 after (call.Info c f) n v = record v { told = told_info c f n v.told; made = v.made + 1 }
@@ -122,13 +119,10 @@ after (call.FrozenChild c p right) n v = record v { told = Frozen c right n ∷ 
 after call.Look n v = record v {
   told = Met n ∷ v.told;
   glances = record { node = n; low = 0; high = greatest_key + 1 } ∷ [];
-  looks = v.looks + 1;
-  made = v.made + 1;
+  looks = v.looks + 1; made = v.made + 1;
 }
 after (call.LookDown from key right) n v = record v {
-  told = Met n ∷ v.told;
-  glances = gone_down from key right n ∷ v.glances;
-  made = v.made + 1;
+  told = Met n ∷ v.told; glances = gone_down from key right n ∷ v.glances; made = v.made + 1;
 }
 after (call.Claim c) n v = after_claim (n == c) c v
 after (call.Fill c f value) n v = after_fill f value v

@@ -64,8 +64,7 @@ abbrev pub first_in_way : List Hindrance → List Hindrance → List Hindrance
 first_in_way [] those = those
 first_in_way (h ∷ hs) those = h ∷ hs
 
--- what a search that stands at a node has read in the way of an operation: of a delete first at the grandparent; at the
--- parent
+-- what a search has read in the way of an operation: at its parent, or, for a delete, first at its grandparent
 abbrev pub in_the_way : Option Op → Option ℕ → Option Seen → Option Seen → List Hindrance
 in_the_way (Some (Insert k value)) (Some x) parent above = read_in_way parent
 in_the_way (Some (Swap k was value)) (Some x) parent above = read_in_way parent
@@ -76,8 +75,7 @@ in_the_way _ _ parent above = []
 abbrev pub way_now : View → List Hindrance
 way_now v = in_the_way v.worker.operation v.worker.search.node v.worker.search.parent v.worker.search.grandparent
 
--- whether what an update says was under way is over: a clean one says nothing, and of any other facts tell the end of
--- its card
+-- whether what an update says is over: a clean one says nothing, and of any other facts tell the end of its card
 abbrev pub update_over : List Fact → State → ℕ → Bool
 update_over facts state.Clean c = true
 update_over facts s c = knows_end facts c
@@ -142,53 +140,37 @@ found_child expected (Err found) = found
 -- a worker with nothing in hand
 abbrev pub idle_worker : List (ℕ × Entry) → Option (List ℕ) → List Fact → WorkerView
 idle_worker ledger ownable facts = record {
-  ledger = ledger;
-  ownable = ownable;
-  operation = None;
-  search = no_search;
-  card = None;
-  flagged = false;
-  facts = facts;
+  ledger = ledger; ownable = ownable; operation = None; search = no_search; card = None; flagged = false; facts = facts;
 }
 
 -- nothing is in hand, and the ledger is this one
 abbrev pub at_rest : List (ℕ × Entry) → View → View
 at_rest ledger v = record v {
   worker = idle_worker ledger v.worker.ownable v.worker.facts;
-  here = None;
-  planned = [];
-  stores = [];
-  met = [];
+  here = None; planned = []; stores = []; met = [];
 }
 
 -- nothing is left of the last operation, answered or laid down, nor of the last look
 abbrev pub afresh : List (ℕ × Entry) → View → View
 afresh ledger v = record (at_rest ledger v) { next = None; glances = []; answered = None; laid_down = None }
 
--- begin: nothing is left of what was before; this operation is in hand, and the search stands at the root, which the
--- pass has met
+-- begin: nothing is left of what was before, this operation is in hand, and the search stands at the root, which is met
 abbrev pub after_begin : Option Op → View → View
 after_begin op v = record (afresh v.worker.ledger v) {
   worker = record (v.worker) { operation = op; search = at_root; card = None; flagged = false };
-  told = Met 0 ∷ v.told;
-  knew_before = v.worker.facts;
-  made = v.made + 1;
+  told = Met 0 ∷ v.told; knew_before = v.worker.facts; made = v.made + 1;
 }
 
--- again: the operation begins once more; what its search read in the way was a hindrance, and the try counts if one
--- that is over hindered it
+-- again: the operation begins anew; what its search read in the way was a hindrance, and the try counts if that is over
 abbrev pub after_again : View → View
 after_again v = record (after_begin v.worker.operation v) {
-  hindrances = way_now v ++ v.hindrances;
-  hindered = tries_hindered v;
+  hindrances = way_now v ++ v.hindrances; hindered = tries_hindered v;
 }
 
 -- leave: nothing is in hand any more, the operation was laid down, and the last try is given up as by again
 abbrev pub after_leave : View → View
 after_leave v = record (at_rest v.worker.ledger v) {
-  hindrances = way_now v ++ v.hindrances;
-  hindered = tries_hindered v;
-  laid_down = v.worker.operation;
+  hindrances = way_now v ++ v.hindrances; hindered = tries_hindered v; laid_down = v.worker.operation;
   made = v.made + 1;
 }
 
@@ -200,7 +182,8 @@ with_entry k entry ledger = map (λ e. (e.0, if k == e.0 then entry else e.1)) l
 abbrev pub answered_ledger : Option Op → Reply → List (ℕ × Entry) → List (ℕ × Entry)
 answered_ledger (Some (Insert k value)) Yes ledger = with_entry k (Present value) ledger
 answered_ledger (Some (Delete k)) Yes ledger = with_entry k Absent ledger
-answered_ledger (Some (Swap k was value)) (Found there) ledger = if there == was then with_entry k (Present value) ledger else ledger
+answered_ledger (Some (Swap k was value)) (Found there) ledger =
+    if there == was then with_entry k (Present value) ledger else ledger
 answered_ledger _ _ ledger = ledger
 
 -- the operation that was in hand, with what is answered to it, and the card that was in hand for it
@@ -210,28 +193,22 @@ answered_so op card said = option_map (λ o. record { op = o; said = said; card 
 -- answer: nothing is in hand any more, the ledger goes by the answer, and the pass has it for its last
 abbrev pub after_answer : Reply → View → View
 after_answer said v = record (at_rest (answered_ledger v.worker.operation said v.worker.ledger) v) {
-  answers = v.answers + 1;
   answered = answered_so v.worker.operation v.worker.card said;
-  made = v.made + 1;
+  answers = v.answers + 1; made = v.made + 1;
 }
 
 -- upd: this update was read at the node where the pass stands
 abbrev pub after_upd : ℕ → Update → View → View
 after_upd x u v = record (finding x u v) {
-  worker = record (v.worker) {
-    search = with_read v.worker.search (packed u);
-    facts = facts_by u.state u.card v.worker.facts;
-  };
+  worker = record ((finding x u v).worker) { search = with_read v.worker.search (packed u) };
   made = v.made + 1;
 }
 
 -- a search that goes from a node to this child
 abbrev pub gone_from : ℕ → ℕ → Search → Search
 gone_from x child search = record {
-  node = Some child;
-  read = None;
+  node = Some child; read = None; grandparent = search.parent;
   parent = option_map (λ word. record { node = x; word = word }) search.read;
-  grandparent = search.parent;
 }
 
 -- whether there is one, and it is this
@@ -269,7 +246,8 @@ filling_for c _ _ _ _ key value_of = []
 -- what fills card c, by what the pass knows
 abbrev pub filling_of : ℕ → View → List (Field × ℕ)
 filling_of c v =
-    filling_for c v.worker.operation v.worker.search.node v.worker.search.parent v.worker.search.grandparent (unwrap_or v.here 0) (told_value v.told)
+    filling_for c v.worker.operation v.worker.search.node v.worker.search.parent v.worker.search.grandparent
+    (unwrap_or v.here 0) (told_value v.told)
 
 -- what was told with a word of a card that never changes: children and update word do
 abbrev pub told_fixed : ℕ → Field → ℕ → List Told → List Told
@@ -288,13 +266,11 @@ abbrev pub after_claim : Bool → ℕ → View → View
 after_claim true c v = record v {
   worker = record (v.worker) { card = Some c; flagged = false };
   told = told_filling c (filling_of c v) v.told;
-  planned = filling_of c v;
-  stores = [];
-  won = (exchange.Claim, c) ∷ v.won;
-  next_at_least = c + 1;
-  made = v.made + 1;
+  planned = filling_of c v; stores = []; won = (exchange.Claim, c) ∷ v.won; next_at_least = c + 1; made = v.made + 1;
 }
-after_claim false c v = record v { next_at_least = c + 1; hindrances = Claim c ∷ v.hindrances; met = Claim c ∷ v.met; made = v.made + 1 }
+after_claim false c v = record v {
+  next_at_least = c + 1; hindrances = Claim c ∷ v.hindrances; met = Claim c ∷ v.met; made = v.made + 1;
+}
 
 -- fill: a word of the card in hand was stored
 abbrev pub after_fill : Field → ℕ → View → View
@@ -320,13 +296,11 @@ off_the_tree card flagged v = record v {
   here = None;
 }
 
--- iflag and dflag: the card in hand is flagged; or the update was found at the node in its place, and the card is laid
--- aside
+-- iflag and dflag: the card in hand is flagged; or another update was found at the node, and the card is laid aside
 abbrev pub after_flag : Bool → Fact → ℕ → Update → View → View
 after_flag true new x u v = off_the_tree v.worker.card true (learning new v)
 after_flag false new x u v = record (off_the_tree None false (finding x u v)) {
-  hindrances = Found u ∷ v.hindrances;
-  met = Found u ∷ v.met;
+  hindrances = Found u ∷ v.hindrances; met = Found u ∷ v.met;
 }
 
 -- whether an update is the mark of a card
@@ -334,8 +308,7 @@ abbrev pub is_mark_of : ℕ → State → ℕ → Bool
 is_mark_of c state.Mark d = d == c
 is_mark_of c _ d = false
 
--- a lost mark: the update that was found at the parent says that the card is unmarkable, a hindrance if it is the card
--- in hand
+-- a lost mark: by the update found at its parent the card is unmarkable, which is a hindrance if it is the card in hand
 abbrev pub unmarking : ℕ → ℕ → Update → View → View
 unmarking c x u v = record (finding x u (learning (fact.Unmarkable c) v)) {
   hindrances = if is_this v.worker.card c then Found u ∷ v.hindrances else v.hindrances;
@@ -355,35 +328,17 @@ keys_of (e ∷ es) = e.0 ∷ keys_of es
 -- a pass with nothing in hand, with this share and worker, which has met the root alone
 abbrev pub idle_view : ℕ → WorkerView → View
 idle_view share worker = record {
-  worker = worker;
-  told = Met 0 ∷ [];
-  here = None;
-  next = None;
-  planned = [];
-  stores = [];
-  found = None;
-  won = [];
-  answers = 0;
-  answered = None;
-  laid_down = None;
-  share = share;
-  knew_before = [];
-  next_at_least = 0;
-  hindrances = [];
-  met = [];
-  hindered = 0;
-  glances = [];
-  looks = 0;
-  made = 0;
+  worker = worker; share = share; told = Met 0 ∷ []; knew_before = [];
+  here = None; next = None; next_at_least = 0; planned = []; stores = []; found = None; glances = [];
+  won = []; answered = None; laid_down = None; hindrances = []; met = [];
+  answers = 0; hindered = 0; looks = 0; made = 0;
 }
 
 -- the keys that may have an owner, if every other key is shared
 abbrev pub ownable_if : Bool → List ℕ → Option (List ℕ)
-ownable_if true keys = Some keys
-ownable_if false keys = None
+ownable_if shared keys = if shared then Some keys else None
 
--- the first pass of a table: it owns the keys of its plan, of which the start keys are present with their values, and
--- the others absent
+-- the first pass of a table: it owns the keys of its plan, the start keys present with their values, the others absent
 abbrev pub first_of : TablePlan → View
 first_of plan =
     idle_view whole_share (idle_worker (keys_at_start plan.keys plan.start) (ownable_if plan.shared plan.keys) [])
@@ -392,22 +347,17 @@ first_of plan =
 abbrev pub spent_view : View
 spent_view = idle_view 0 (idle_worker [] None [])
 
--- split, the left part: it gets these keys, and keeps facts, what was told, counts and what the pass won; the split is
--- its step
+-- split, the left part: it gets these keys, and keeps all that the pass knew, won and counted; the split is its step
 abbrev pub left_view : List ℕ → View → View
 left_view keys v = record (afresh (filter (λ e. set_of keys e.0) v.worker.ledger) v) {
-  found = None;
-  share = v.share - given_share v.share;
-  made = v.made + 1;
+  found = None; share = v.share - given_share v.share; made = v.made + 1;
 }
 
 -- split, the right part: it gets the other keys and a part of the share, and facts and what was told too
 abbrev pub right_view : List ℕ → View → View
 right_view keys v = record (idle_view (given_share v.share)
     (at_rest (filter (λ e. not (set_of keys e.0)) v.worker.ledger) v).worker) {
-      told = v.told;
-      knew_before = v.knew_before;
-      next_at_least = v.next_at_least;
+      told = v.told; knew_before = v.knew_before; next_at_least = v.next_at_least;
     }
 
 -- an entry put into an ascending ledger at its place, or in place of that of its key
@@ -426,19 +376,13 @@ later None m = m
 later (Some n) None = Some n
 later (Some n) (Some m) = Some (max n m)
 
--- join: one pass with the keys, the facts, the shares and the counts of two, what both were told and won, and the later
--- reading of the claim word
+-- join: one pass with the keys, shares and counts of two, all that both knew and won, and the later reading of next
 abbrev pub joined_view : View → View → View
 joined_view v w = record (idle_view ((v.share + w.share) % 2 ^ 64)
     (idle_worker (united v.worker.ledger w.worker.ledger) (option_or v.worker.ownable w.worker.ownable)
     (v.worker.facts ++ w.worker.facts))) {
-      told = v.told ++ w.told;
-      next = later v.next w.next;
-      won = v.won ++ w.won;
-      answers = v.answers + w.answers;
-      next_at_least = max v.next_at_least w.next_at_least;
-      hindrances = v.hindrances ++ w.hindrances;
-      hindered = v.hindered + w.hindered;
-      looks = v.looks + w.looks;
+      told = v.told ++ w.told; won = v.won ++ w.won; hindrances = v.hindrances ++ w.hindrances;
+      next = later v.next w.next; next_at_least = max v.next_at_least w.next_at_least;
+      answers = v.answers + w.answers; hindered = v.hindered + w.hindered; looks = v.looks + w.looks;
       made = v.made + w.made + 1;
     }

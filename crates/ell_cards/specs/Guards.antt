@@ -33,8 +33,7 @@ abbrev pub TellsOf : View → ℕ → ℕ → ℕ → Option ℕ → Type 0
 TellsOf v leaf key k None = key ≢ k
 TellsOf v leaf key k (Some value) = (key ≡ k) × IsTold v (Value leaf value)
 
--- an answer at the leaf where the pass stands, whose key it was told, and its value too, where it has the operation's
--- key
+-- an answer at the leaf where the pass stands: it was told the leaf's key and, if that is the operation's, its value
 pub record KnowsAnswerAtLeaf (v : View) (op : Op) (said : Reply) : Type 0 where
   pub leaf : ℕ
   pub key : ℕ
@@ -72,8 +71,7 @@ pub record MayRead (v : View) (x : ℕ) : Type 0 where
   pub inner : IsInternal x
   pub unread : v.worker.search.read ≡ None
 
--- down: the pass stands at this internal node, has read its update word and was told its key, and this is the
--- operation's side
+-- down: the pass stands at this internal node, read its update word and was told its key; this is the operation's side
 pub record MayGoDown (v : View) (x : ℕ) (right : Bool) : Type 0 where
   pub op : Op
   pub word : ℕ
@@ -103,9 +101,8 @@ NamesNode field.L = Unit {0}
 NamesNode _ = ⊥
 
 -- info: the card is known flagged or marked
-pub record MayAsk (v : View) (c : ℕ) (f : Field) : Type 0 where
-  pub knows : KnowsCard v c
-  pub asked : IsAsked f
+abbrev pub MayAsk : View → ℕ → Field → Type 0
+MayAsk v c f = KnowsCard v c × IsAsked f
 
 -- look_down: a look has come to this internal node by these keys, and the pass has met it and was told its key
 pub record MayLookDown (v : View) (from : Glance) (key : ℕ) : Type 0 where
@@ -119,16 +116,14 @@ pub record KnowsPlace (v : View) (known : Fact) (c : ℕ) (f : Field) (x : ℕ) 
   pub knows : Knows v known
   pub place : IsTold v (Info c f x)
 
--- what a claim is for at a leaf of this key: an insert of another key, which was told the leaf's value, or a delete of
--- this one whose grandparent was read clean
+-- what a claim wants of a leaf of this key: an insert another key, a swap its value, a delete a grandparent read clean
 abbrev pub Wants : View → Op → ℕ → ℕ → Type 0
 Wants v (Find k) leaf key = ⊥
 Wants v (Insert k value) leaf key = (key ≢ k) × ((leaf_value : ℕ) × IsTold v (Value leaf leaf_value))
 Wants v (Swap k was value) leaf key = (key ≡ k) × IsTold v (Value leaf was)
-Wants v (Delete k) leaf key = (key ≡ k) × ((above : Seen) × (v.worker.search.grandparent ≡ Some above) × IsClean above.word)
+Wants v (Delete k) leaf key = (key ≡ k) × ((gp : Seen) × (v.worker.search.grandparent ≡ Some gp) × IsClean gp.word)
 
--- claim: next read the card in this try; the pass stands without a card at a leaf whose key it was told, behind a
--- parent read clean
+-- claim: next read this card; the pass stands without a card at a leaf whose key it was told, behind a clean parent
 pub record MayClaim (v : View) (c : ℕ) : Type 0 where
   pub op : Op
   pub leaf : ℕ
@@ -153,8 +148,7 @@ pub record MayFill (v : View) (c : ℕ) : Type 0 where
 abbrev pub IsFilled : View → Type 0
 IsFilled v = (f : Field) → stored_at v.stores f ≡ stored v.planned f 0
 
--- iflag: an insert's or a swap's card is in hand, filled and not flagged; this is the parent with the update that was
--- read there
+-- iflag: an insert's or a swap's card is in hand, filled and not flagged; the parent was read with this update
 pub record MayIFlag (v : View) (c p : ℕ) (from : Update) : Type 0 where
   pub op : Op
   pub what : Put
@@ -178,8 +172,7 @@ pub record MayDFlag (v : View) (c gp : ℕ) (from : Update) : Type 0 where
   pub above : v.worker.search.grandparent ≡ Some (record { node = gp; word = packed from })
   pub filled : IsFilled v
 
--- ichild: the card is known flagged; these are its parent and leaf, the node that it brings, and the side of its key at
--- the parent
+-- ichild: the card is known flagged; these are its parent and leaf, the node that it brings, and its key's side there
 pub record MayIChild (v : View) (c p l node : ℕ) (right : Bool) : Type 0 where
   pub parent_key : ℕ
   pub card_key : ℕ
@@ -194,17 +187,14 @@ pub record MayIChild (v : View) (c p l node : ℕ) (right : Bool) : Type 0 where
   pub side : right ≡ nat_le parent_key card_key
 
 -- mark: the card is known flagged, and these are its parent and the update word that its search read there
-pub record MayMark (v : View) (c p was : ℕ) : Type 0 where
-  pub knows : Knows v (DFlagged c)
-  pub parent : IsTold v (Info c field.P p)
-  pub read : IsTold v (Info c field.Was was)
+abbrev pub MayMark : View → ℕ → ℕ → ℕ → Type 0
+MayMark v c p was = KnowsPlace v (DFlagged c) c field.P p × IsTold v (Info c field.Was was)
 
 -- the sibling of leaf l at the parent that the card marked: the right child, or the left one where the right one is l
 abbrev pub IsSibling : View → ℕ → ℕ → ℕ → Type 0
 IsSibling v c l s = (IsTold v (Frozen c true s) × (s ≢ l)) ⊎ (IsTold v (Frozen c true l) × IsTold v (Frozen c false s))
 
--- dchild: the card is known marked; these are its grandparent and parent, its leaf's sibling, and that one's side at
--- the grandparent
+-- dchild: the card is known marked; these are its grandparent and parent, its leaf's sibling, and that one's side above
 pub record MayDChild (v : View) (c gp p s : ℕ) (right : Bool) : Type 0 where
   pub leaf : ℕ
   pub grandparent_key : ℕ

@@ -19,8 +19,7 @@ use Rattle.ell_cards.specs.declared.glance.Glance.{Glance}
 use Rattle.ell_cards.specs.declared.view.Told.{Told}
 use Rattle.ell_cards.specs.declared.view.View.{View}
 
--- what a table is opened with: the keys that may have owners, the start keys with their values, the last card, and
--- whether all others are shared
+-- what a table opens with: the keys that may have owners, the start pairs, the last card, and if all others are shared
 pub record TablePlan : Type 0 where
   pub keys : List ℕ
   pub start : List (ℕ × ℕ)
@@ -122,7 +121,7 @@ KnowsDelete v c = Knows v (DFlagged c) ⊎ Knows v (Marked c)
 
 -- the pass knows the flag or the mark of a card
 abbrev pub KnowsCard : View → ℕ → Type 0
-KnowsCard v c = Knows v (IFlagged c) ⊎ KnowsDelete v c
+KnowsCard v c = Knows v (IFlagged c) ⊎ (Knows v (DFlagged c) ⊎ Knows v (Marked c))
 
 -- the pass has this operation in hand
 abbrev pub Does : View → Op → Type 0

@@ -20,15 +20,13 @@ use Rattle.ell_cards.specs.States.{TableState}
 use Rattle.ell_cards.specs.Turns.{Turn, Makes, TableTurns, TableRun}
 use Rattle.ell_cards.specs.TurnEffects.{own_words, own_machine, TurnsDo, run_wins}
 
--- a key is shared in a table: it is a real one and not among the keys that may have owners, where the plan shares every
--- other key
+-- a key is shared in a table: it is a real key, and the plan shares all but the keys that may have owners
 pub record IsSharedIn (plan : TablePlan) (key : ℕ) : Type 0 where
   pub mode : plan.shared ≡ true
   pub real : key ≤ greatest_key
   pub other : set_of plan.keys key ≡ false
 
--- what a table may be opened with: real keys, ascending; start keys, ascending too, each among them or shared; and
--- cards for these at least
+-- what a table may open with: real keys, ascending; start keys, ascending, each of them or shared; and cards for these
 pub record MayStart (plan : TablePlan) : Type 0 where
   pub ascending : IsStrictlyIncreasing plan.keys
   pub real : All (λ k. k ≤ greatest_key) plan.keys
@@ -41,8 +39,7 @@ pub record StartWords (plan : TablePlan) (words : List ℕ) : Type 0 where
   pub size : length words ≡ table_size plan.last_card
   pub are : words_of words ≡ start_words plan.start
 
--- a table as it starts: its words make the opening tree over the start keys, and its one pass owns the plan's keys, the
--- start keys present
+-- a table as it starts: its words make the opening tree, and its one pass owns the plan's keys, the start keys present
 pub record Starts (plan : TablePlan) (s : TableState) : Type 0 where
   pub may : MayStart plan
   pub words : StartWords plan s.words
@@ -76,10 +73,10 @@ abbrev pub FirstPassMayBegin : Type 0
 FirstPassMayBegin = (plan : TablePlan) (s : TableState) → Starts plan s → (op : Op) → Contains plan.keys (key_of op) ⊎ IsSharedIn plan (key_of op)
     → MayBeginThere plan.last_card s op
 
--- what a run from a start does: the tree that the table's own words make has the start keys first, with their values,
--- and each turn does to it as turns do; each card wins in order; and where it leads, those words, with what the passes
--- know, are a sound state
-pub record RunFromStart (plan : TablePlan) (s : TableState) (turns : List Turn) (s' : TableState) (run : TableRun plan.last_card s turns s') : Type 0 where
+-- what a run from a start does: the tree of the table's own words has the start pairs first, each turn changes it as
+-- turns do, each card wins in order, and where the run leads, those words, with what passes know, are a sound state
+pub record RunFromStart (plan : TablePlan) (s : TableState) (turns : List Turn) (s' : TableState)
+    (run : TableRun plan.last_card s turns s') : Type 0 where
   pub opens : (k value : ℕ) → IsTreePair (own_words s) k value ↔ (contents_of plan.start k ≡ Some value)
   pub turns_do : TurnsDo plan.last_card s turns s' run
   pub wins : (c : ℕ) → InOrder (run_wins plan.last_card s turns s' run c)

@@ -32,16 +32,14 @@ pub record IsHeld (v : View) (c : ℕ) : Type 0 where
   pub holds : v.worker.card ≡ Some c
   pub flagged : v.worker.flagged ≡ true
 
--- what a call does to the keys of the tree and their values, by whether it is a won exchange: a won ichild adds its
--- card's key with its value, or gives its key this value in place of the leaf's; a won dchild takes its card's key with
--- its value away; and nothing else changes them
+-- what a call does to the pairs of the tree, by whether it is a won exchange: an ichild adds its card's pair, or puts
+-- the card's value in place of the leaf's; a dchild takes its card's pair away; and nothing else changes them
 abbrev pub PairsChangeBy : Call → Bool → Words → Words → Type 0
 PairsChangeBy (call.IChild c p l q right) true old new = MakesChange (op_of_card old c) old new
 PairsChangeBy (call.DChild c gp p s right) true old new = TakesPair old new (card_key old c) (card_value old c)
 PairsChangeBy _ _ old new = SamePairs old new
 
--- what a call does to the ledger of its pass: an answer on a key of its own is the map's, by the ledger, which becomes
--- the map after it; no other call changes it, nor does an answer on a shared key
+-- what a call does to its pass's ledger: an answer is the map's, and makes it the map after; no other call changes it
 abbrev pub LedgerChangesBy : Call → View → View → Type 0
 LedgerChangesBy (call.Answer said) v w = AnswersAsMap (worker_of v.worker) (ledger_of w.worker.ledger) said
 LedgerChangesBy _ v w = w.worker.ledger ≡ v.worker.ledger
@@ -54,15 +52,13 @@ pub record IsAtWork (s : TableState) (c : ℕ) (op : Op) : Type 0 where
   pub does : Does view op
   pub held : IsHeld view c
 
--- whose a won child exchange is: an ichild is of an insert or a swap of its card's key and value that is in hand, a
--- dchild of a delete
+-- whose a won child exchange is: some pass has the card in hand, for that insert or swap, or for that delete
 abbrev pub ChangeIsOf : Call → Bool → TableState → Type 0
 ChangeIsOf (call.IChild c p l q right) true s = IsAtWork s c (op_of_card (own_words s) c)
 ChangeIsOf (call.DChild c gp p y right) true s = IsAtWork s c (Delete (card_key (own_words s) c))
 ChangeIsOf _ _ s = Unit {0}
 
--- how a turn changes the keys of the tree that the table's own words make: as its call says; a split or a join not at
--- all
+-- how a turn changes the tree that the table's own words make: as its call says; a split or a join not at all
 abbrev pub PairsGoBy : TableState → Turn → TableState → Type 0
 PairsGoBy s (Makes seat c) s' = PairsChangeBy c (is_won (atomic_of c) (found_by s c)) (own_words s) (own_words s')
 PairsGoBy s _ s' = SamePairs (own_words s) (own_words s')
@@ -77,17 +73,18 @@ abbrev pub LedgerGoesBy : (cards : ℕ) (s : TableState) (t : Turn) (s' : TableS
 LedgerGoesBy cards s (Makes seat c) s' turn = LedgerChangesBy c turn.view (view_after s turn.view c)
 LedgerGoesBy cards s _ s' turn = Unit {0}
 
--- what a turn does, by the table's own words and by what its passes know: the keys of the tree that those words make
--- change at a won ichild or dchild alone, by that card's key; that is of an operation that some pass has in hand; an
--- answer is the map's; and the words after it, with what the passes know, are a sound state
-pub record TurnDoes (cards : ℕ) (s : TableState) (t : Turn) (s' : TableState) (turn : TableTurns cards s t s') : Type 0 where
+-- what a turn does, by the table's own words: the tree changes at a won ichild or dchild alone, by that card's key, for
+-- an operation in some hand; an answer is the map's; and the words after it, with what passes know, are a sound state
+pub record TurnDoes (cards : ℕ) (s : TableState) (t : Turn) (s' : TableState) (turn : TableTurns cards s t s')
+    : Type 0 where
   pub pairs : PairsGoBy s t s'
   pub won : IsWonFor s t
   pub ledger : LedgerGoesBy cards s t s' turn
   pub sound : IsSound (own_machine cards s')
 
 -- so does each turn of a run
-abbrev pub TurnsDo : (cards : ℕ) (s : TableState) (turns : List Turn) (s' : TableState) → TableRun cards s turns s' → Type 0
+abbrev pub TurnsDo :
+    (cards : ℕ) (s : TableState) (turns : List Turn) (s' : TableState) → TableRun cards s turns s' → Type 0
 TurnsDo cards s [] s' run = Unit {0}
 TurnsDo cards s (t ∷ ts) s' run = TurnDoes cards s t run.0 run.1 × TurnsDo cards run.0 ts s' run.2
 

@@ -16,8 +16,7 @@ found_by s c = slice_index s.words (word_of c)
 abbrev pub view_after : TableState → View → Call → View
 view_after s v c = after c (found_by s c) v
 
--- the state after the one atomic step of a call of the pass in a seat: its word is what the step leaves there, and its
--- view what the call says; no other word and no other view changes
+-- the state after a call of the pass in a seat: its word is what its atomic step leaves, its view what the call says
 abbrev pub state_after : TableState → ℕ → View → Call → TableState
 state_after s id v c = record s {
   words = slice_set s.words (word_of c) (left_by (atomic_of c) (found_by s c));
@@ -32,8 +31,7 @@ state_split s id v left = record s { views = slice_set s.views id (left_view lef
 abbrev pub state_joined : TableState → ℕ → ℕ → View → View → TableState
 state_joined s id other v w = record s { views = slice_set (slice_set s.views id (joined_view v w)) other spent_view }
 
--- a turn: the pass in a seat makes a step call; or it is split, and its left part gets these keys; or it is joined with
--- another seat's
+-- a turn: the pass in a seat makes a step call, or is split, and its left part gets these keys, or is joined with one
 pub data Turn : Type 0 where
   Makes : ℕ → Call → Turn
   Splits : ℕ → List ℕ → Turn

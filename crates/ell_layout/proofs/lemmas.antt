@@ -10,5 +10,7 @@ pub mod Seen
 pub mod NewWords
 -- The branches of a balanced tree: the way down to each card, and how long it is.
 pub mod Branches
+-- The leaves at the start, and the fields of the root.
+pub mod Start
 -- The words at the start as they are written, card by card.
 pub mod Growing

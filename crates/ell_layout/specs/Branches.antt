@@ -2,11 +2,11 @@ use Rattle.std.specs.Prelude.{ℕ, ◌+◌, ◌-◌, ◌/◌, ◌==◌, if◌the
 use Rattle.ell_word.specs.Node.{internal, left_leaf, right_leaf}
 use Rattle.ell_layout.specs.declared.branch.Branch.{Branch}
 
--- the branch of a card over so many leaves from the first on: half of them are on its left, and where they are odd one more on its right
+-- the branch of a card over this many leaves from the first on: half of them, rounded down, are on its left
 abbrev pub halved : ℕ → ℕ → ℕ → Branch
 halved card first size = record { card = card; first = first; left = size / 2; right = size - size / 2 }
 
--- the branches below one: the next card has all leaves on its left, whose cards come before those of the leaves on its right
+-- the branches below one: its left one is of the next card, and its right one of the card behind all those on its left
 abbrev pub left_branch : Branch → Branch
 left_branch b = halved (b.card + 1) b.first b.left
 
@@ -17,20 +17,20 @@ right_branch b = halved (b.card + b.left) (b.first + b.left) b.right
 abbrev pub branch_to : ℕ → Branch → Branch
 branch_to c b = if nat_lt c (b.card + b.left) then left_branch b else right_branch b
 
--- the branch where so many steps down to card c end: at its own at the latest
+-- the branch where this many steps down to card c end: at its own at the latest
 unfoldable pub descend : ℕ → ℕ → Branch → Branch
 descend zero c b = b
 descend (suc n) c b = if b.card == c then b else descend n c (branch_to c b)
 
--- the root, with so many leaves on its left and one on its right
+-- the root, with this many leaves on its left and one on its right
 abbrev pub root_branch : ℕ → Branch
 root_branch leaves = record { card = 0; first = 0; left = leaves; right = 1 }
 
--- the branch of a card, where the root has so many leaves on its left
+-- the branch of a card, where the root has this many leaves on its left
 abbrev pub branch_of : ℕ → ℕ → Branch
 branch_of leaves c = descend c c (root_branch leaves)
 
--- the child of a branch on each side: its own leaf, where there is one leaf on that side, or the node of the branch below
+-- the child of a branch on each side: its own leaf if there is one leaf on that side, else the node of the branch below
 abbrev pub left_child : Branch → ℕ
 left_child b = if b.left == 1 then left_leaf b.card else internal (b.card + 1)
 

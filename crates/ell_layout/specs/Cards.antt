@@ -40,7 +40,7 @@ sibling w c = if w.child (w.p c) true == w.l c then w.child (w.p c) false else w
 abbrev pub is_delete_card : Words → ℕ → Bool
 is_delete_card w c = w.child (internal c) false == 0
 
--- the card's own key: a delete's is the key of its leaf, an insert's that one of its two leaf keys which its leaf has not
+-- the card's own key: a delete's is the key of its leaf, an insert's the one of its two leaf keys that its leaf lacks
 abbrev pub card_key : Words → ℕ → ℕ
 card_key w c =
     if is_delete_card w c then w.key (w.l c)
@@ -67,13 +67,13 @@ brought w c = brought_by c (is_replace_card w c)
 abbrev pub card_child : Words → ℕ → ℕ → ℕ
 card_child w c node = child_for w (card_key w c) node
 
--- the fields of an insert's card, for key k with its value at a leaf: a node with the greater key, and two leaves, the lesser key on
--- the left, each with its value
+-- the fields of an insert's card for key k at a leaf: a node of the greater key, and two leaves, the lesser key's left
 abbrev pub insert_filling : ℕ → ℕ → ℕ → ℕ → ℕ → ℕ → ℕ → List (Field × ℕ)
 insert_filling c k value parent leaf leaf_key leaf_value =
     (P, parent) ∷ (L, leaf) ∷ (Key, max k leaf_key) ∷ (Left, left_leaf c) ∷ (Right, right_leaf c) ∷ (Update, clean 0)
     ∷ (LeftLeafKey, min k leaf_key) ∷ (RightLeafKey, max k leaf_key)
-    ∷ (LeftValue, (if nat_lt k leaf_key then value else leaf_value)) ∷ (RightValue, (if nat_lt k leaf_key then leaf_value else value)) ∷ []
+    ∷ (LeftValue, (if nat_lt k leaf_key then value else leaf_value))
+    ∷ (RightValue, (if nat_lt k leaf_key then leaf_value else value)) ∷ []
 
 -- the fields of a delete's card: what its search saw
 abbrev pub delete_filling : ℕ → ℕ → ℕ → ℕ → List (Field × ℕ)

@@ -16,29 +16,8 @@ start_leaf start i = slice_index (keys_of start ++ infinity1 ∷ infinity2 ∷ [
 abbrev pub start_value : List (ℕ × ℕ) → ℕ → ℕ
 start_value start i = slice_index (values_of start) i
 
--- the fields of card 0 at the start: a root of the greatest key; on its left the tree over the start keys and the lesser of the
--- two keys above all keys, or, where there are no start keys, the leaf of that key; on its right the leaf of the greater
-abbrev pub root_field : ℕ → Field → ℕ
-root_field many Gp = 0
-root_field many P = 0
-root_field many L = 0
-root_field many Was = 0
-root_field many Key = infinity2
-root_field many Left = left_child (root_branch (many + 1))
-root_field many Right = right_leaf 0
-root_field many Update = clean 0
-root_field many LeftLeafKey = infinity1
-root_field many RightLeafKey = infinity2
-root_field many LeftValue = 0
-root_field many RightValue = 0
-
--- the fields of another card of the opening tree, by its branch and the keys and values of the leaves: it goes nowhere, and a leaf of
--- it that is not used has key and value 0
+-- the fields of a card of the opening tree, by its branch and the keys and values of all leaves: an unused leaf has 0
 abbrev pub branch_field : (ℕ → ℕ) → (ℕ → ℕ) → Branch → Field → ℕ
-branch_field leaf value b Gp = 0
-branch_field leaf value b P = 0
-branch_field leaf value b L = 0
-branch_field leaf value b Was = 0
 branch_field leaf value b Key = leaf (b.first + b.left)
 branch_field leaf value b Left = left_child b
 branch_field leaf value b Right = right_child b
@@ -47,25 +26,29 @@ branch_field leaf value b LeftLeafKey = if b.left == 1 then leaf b.first else 0
 branch_field leaf value b RightLeafKey = if b.right == 1 then leaf (b.first + b.left) else 0
 branch_field leaf value b LeftValue = if b.left == 1 then value b.first else 0
 branch_field leaf value b RightValue = if b.right == 1 then value (b.first + b.left) else 0
+branch_field leaf value b _ = 0
 
--- those of them that are written over zeros
+-- those of another card than the root that are written over zeros
 abbrev pub branch_filling : (ℕ → ℕ) → (ℕ → ℕ) → Branch → List (Field × ℕ)
 branch_filling leaf value b =
     (Key, leaf (b.first + b.left)) ∷ (Left, left_child b) ∷ (Right, right_child b) ∷ (Update, clean 0)
-    ∷ (LeftLeafKey, (if b.left == 1 then leaf b.first else 0)) ∷ (RightLeafKey, (if b.right == 1 then leaf (b.first + b.left) else 0))
-    ∷ (LeftValue, (if b.left == 1 then value b.first else 0)) ∷ (RightValue, (if b.right == 1 then value (b.first + b.left) else 0)) ∷ []
+    ∷ (LeftLeafKey, (if b.left == 1 then leaf b.first else 0))
+    ∷ (RightLeafKey, (if b.right == 1 then leaf (b.first + b.left) else 0))
+    ∷ (LeftValue, (if b.left == 1 then value b.first else 0))
+    ∷ (RightValue, (if b.right == 1 then value (b.first + b.left) else 0)) ∷ []
 
--- those of card 0 that are written over zeros, where there are so many start keys
+-- those of card 0 that are written over zeros, where there are this many start keys
 abbrev pub root_filling : ℕ → List (Field × ℕ)
 root_filling many =
-    (Key, infinity2) ∷ (Left, left_child (root_branch (many + 1))) ∷ (Right, right_leaf 0) ∷ (Update, clean 0) ∷ (LeftLeafKey, infinity1)
-    ∷ (RightLeafKey, infinity2) ∷ []
+    (Key, infinity2) ∷ (Left, left_child (root_branch (many + 1))) ∷ (Right, right_leaf 0) ∷ (Update, clean 0)
+    ∷ (LeftLeafKey, infinity1) ∷ (RightLeafKey, infinity2) ∷ []
 
--- the fields of all cards at the start: those of the cards after the opening tree's are 0
+-- the fields of all cards at the start, 0 behind the opening tree; the root's left leaf has infinity1, used or not
 abbrev pub start_field : List (ℕ × ℕ) → ℕ → Field → ℕ
-start_field start zero field = root_field (length start) field
-start_field start (suc c) field =
-    if nat_lt c (length start) then branch_field (start_leaf start) (start_value start) (branch_of (length start + 1) (suc c)) field else 0
+start_field start zero LeftLeafKey = infinity1
+start_field start zero f = branch_field (start_leaf start) (start_value start) (root_branch (length start + 1)) f
+start_field start (suc c) f = if nat_lt c (length start)
+    then branch_field (start_leaf start) (start_value start) (branch_of (length start + 1) (suc c)) f else 0
 
 -- the words at the start: the next card is the one after the opening tree's
 abbrev pub start_words : List (ℕ × ℕ) → Words

@@ -20,7 +20,7 @@ infinity1 = 2 ^ 64 - 2
 abbrev pub infinity2 : ℕ
 infinity2 = 2 ^ 64 - 1
 
--- Each card has the numbers of three nodes, and leaves one out: so a shift gives the card, and no division is to be made.
+-- Each card has the numbers of three nodes, and leaves one out: so a shift gives the card, and no division is needed.
 abbrev pub internal : ℕ → ℕ
 internal card = 4 * card
 

@@ -95,8 +95,7 @@ claims s filling = record {
   worker = record (s.worker) { card = Some s.words.next; flagged = false };
 }
 
--- what an operation puts into the tree, if it puts anything: its key with its value, where the key is absent, or has a
--- certain value
+-- what an operation puts into the tree, if anything: its key with its value, if that is absent or has a certain value
 abbrev pub put_of : Op → Option Put
 put_of (Insert key value) = Some (record { key = key; value = value; was = None })
 put_of (Swap key was value) = Some (record { key = key; value = value; was = Some was })
@@ -162,7 +161,7 @@ pub record Leave (s : Scene) (said : Stepped) (after : Scene) : Type 0 where
 abbrev pub value_at : Words → ℕ → ℕ → Option ℕ
 value_at w leaf key = if w.key leaf == key then Some (w.value leaf) else None
 
--- the answer at a leaf, which has the operation's key with a value or not: a find's, and no of insert and delete where nothing is to do
+-- the answer at a leaf that has the operation's key with a value, or lacks it: a find's, or no if nothing is to do
 abbrev pub leaf_answer : Op → Option ℕ → Option Reply
 leaf_answer (Find key) there = Some (found there)
 leaf_answer (Insert key value) (Some there) = Some No
@@ -199,7 +198,8 @@ abbrev pub settled : Ledger → ℕ → Entry → Option Entry → Ledger
 settled ledger key entry None = ledger
 settled ledger key entry (Some old) = put ledger key (Some entry)
 
--- the ledger after an answer: an insert that answers yes makes its key present with its value, a delete absent, if the ledger has the key
+-- the ledger after an answer: if it has the key, an insert that answers yes makes that present with its value, a delete
+-- absent
 abbrev pub ledger_after : Op → Reply → Ledger → Ledger
 ledger_after (Insert key value) Yes ledger = settled ledger key (Present value) (ledger key)
 ledger_after (Delete key) Yes ledger = settled ledger key Absent (ledger key)

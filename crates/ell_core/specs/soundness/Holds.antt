@@ -46,20 +46,19 @@ Holds w (fact.Cut c) = CutHolds w c
 Holds w (fact.DOver c) = CutHolds w c × (dflag c < w.update (w.gp c))
 Holds w (fact.Backed c) = UnmarkableHolds w c × (dflag c < w.update (w.gp c))
 
--- what an operation has made of its key: an insert whose child exchange was made, present with its value; a delete that has cut,
--- absent; else nothing yet. So insert 5 with value 50 has made nothing while its flag stands alone, and then Present 50
+-- what an operation has made of its key once its child exchange is made: a present value, or for a delete absence.
+-- So insert 5 with value 50 has made nothing while its flag stands alone, and then Present 50
 abbrev pub made : Op → Bool → Bool → Option Entry
 made (Insert key value) true cut = Some (Present value)
 made (Delete key) changed true = Some Absent
 made (Swap key was value) true cut = Some (Present value)
 made _ _ _ = None
 
--- once an insert's flag was won: whether its child exchange was made, which takes the leaf from the parent for ever
+-- once an insert's flag was won: whether its child exchange was made, which takes the leaf from the parent forever
 abbrev pub is_changed_in : Words → ℕ → Bool
 is_changed_in w c = not (card_child w c (w.p c) == w.l c)
 
--- once a delete's flag was won: whether it has cut, which takes the parent, if that is marked, from the grandparent for
--- ever
+-- once a delete's flag was won: whether it has cut, which takes its marked parent from the grandparent forever
 abbrev pub is_cut_in : Words → ℕ → Bool
 is_cut_in w c = if w.update (w.p c) == marked c then not (card_child w c (w.gp c) == w.p c) else false
 
@@ -76,8 +75,7 @@ abbrev pub effective_of : Words → Ledger → Option Op → Option ℕ → Bool
 effective_of w ledger (Some op) (Some c) true = with_made ledger (key_of op) (made_in w op c)
 effective_of w ledger _ _ _ = ledger
 
--- the effective ledger: the ledger, where the key of an operation whose card is flagged counts as what that card has made
--- of it already. So a worker that inserts 5 with value 50, and whose node was linked by a helper, has 5 absent in its ledger till it
--- answers, and Present 50 in the effective one
+-- the effective ledger, in which the key of an operation whose card is flagged counts as what that card has made of it.
+-- So after a helper has linked the node of insert 5 with value 50, 5 is absent in the ledger and Present 50 in this one
 abbrev pub effective : Words → Worker → Ledger
 effective w v = effective_of w v.ledger v.operation v.card v.flagged

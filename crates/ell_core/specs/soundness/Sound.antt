@@ -7,6 +7,7 @@ use Rattle.ell_word.specs.declared.update.State.{State}
 use Rattle.ell_word.specs.declared.update.State.TheVariants as state
 use Rattle.ell_core.specs.declared.fact.Fact.{Fact}
 use Rattle.ell_layout.specs.Words.{Words}
+use Rattle.ell_core.specs.acts.Searching.{IsClean}
 use Rattle.ell_core.specs.state.Machine.{Worker, Machine, nobody}
 use Rattle.ell_core.specs.tree.Tree.{OnWalk, Finds, Reached, IsTreeKey, IsTreePair, IsLawful}
 use Rattle.ell_core.specs.soundness.Holds.{Holds, effective}
@@ -29,8 +30,8 @@ pub record IsOwned (m : Machine) (key : ℕ) : Type 0 where
   pub worker : ℕ
   pub owns : WorkerOwns (m.worker worker) key
 
--- no key has two owners, no shared key has any, each other key of the tree has one, and the keys of the tree among a worker's keys, with their
--- values, are those present in its effective ledger
+-- no key has two owners, a shared key has none, each other key of the tree has one, and of a worker's keys the tree has
+-- those with their values that are present in its effective ledger
 pub record LedgersAreSound (m : Machine) : Type 0 where
   pub one_owner : (i j key : ℕ) → WorkerOwns (m.worker i) key → WorkerOwns (m.worker j) key → i ≡ j
   pub apart : (i j key : ℕ) → (m.worker i).shared key ≡ true → ¬ WorkerOwns (m.worker j) key
@@ -38,8 +39,8 @@ pub record LedgersAreSound (m : Machine) : Type 0 where
   pub present : (i key value : ℕ) → WorkerOwns (m.worker i) key
       → IsTreePair m.words key value ↔ (effective m.words (m.worker i) key ≡ Some (Present value))
 
--- where a worker stands, the walk for a key of its own finds the key with a value exactly when its ledger has it present with that value, and
--- what is reached of that walk lies on the walk from the root
+-- where a worker stands, the walk for a key of its own finds it with a value exactly when its ledger has it present with
+-- that value, and what is reached of that walk lies on the walk from the root
 pub record WalkIsSound (w : Words) (v : Worker) (key x : ℕ) : Type 0 where
   pub finds : WorkerOwns v key → (value : ℕ) → Finds w key value x ↔ (v.ledger key ≡ Some (Present value))
   pub joins : (y : ℕ) → OnWalk w key x y → Reached w y → OnWalk w key 0 y
@@ -77,7 +78,7 @@ pub record FlagIsSound (m : Machine) (x : ℕ) : Type 0 where
   pub place : flags_at m.words (unpacked (m.words.update x)).state (unpacked (m.words.update x)).card ≡ x
 
 abbrev pub FlagsAreSound : Machine → Type 0
-FlagsAreSound m = (x : ℕ) → Reached m.words x → IsInternal x → (unpacked (m.words.update x)).state ≢ state.Clean → FlagIsSound m x
+FlagsAreSound m = (x : ℕ) → Reached m.words x → IsInternal x → ¬ IsClean (m.words.update x) → FlagIsSound m x
 
 -- whoever is at or past the count is no worker: it owns no key, has nothing in hand and knows nothing
 abbrev pub StrangersAreNobody : Machine → Type 0

@@ -19,7 +19,7 @@ abbrev pub entry_of : Option ℕ → Entry
 entry_of (Some value) = Present value
 entry_of None = Absent
 
--- a worker: its ledger, the shared keys, the operation in hand, its search, the card in hand and whether that won its flag, its knowledge
+-- a worker: its ledger, the shared keys, the operation in hand, its search, its card, flagged or not, and its knowledge
 pub record Worker : Type 0 where
   pub ledger : Ledger
   pub shared : ℕ → Bool
@@ -54,7 +54,9 @@ no_search = record { node = None; read = None; parent = None; grandparent = None
 
 -- a worker that has nothing in hand
 abbrev pub idle : Ledger → (ℕ → Bool) → Knowledge → Worker
-idle ledger shared known = record { ledger = ledger; shared = shared; operation = None; search = no_search; card = None; flagged = false; knows = known }
+idle ledger shared known = record {
+  ledger = ledger; shared = shared; operation = None; search = no_search; card = None; flagged = false; knows = known;
+}
 
 -- the worker at a number where there is none: no key, nothing in hand, no knowledge
 abbrev pub nobody : Worker
@@ -72,13 +74,8 @@ shared_of (Some keys) key = nat_le key greatest_key && not (set_of keys key)
 -- the worker that a view is
 abbrev pub worker_of : WorkerView → Worker
 worker_of v = record {
-  ledger = ledger_of v.ledger;
-  shared = shared_of v.ownable;
-  operation = v.operation;
-  search = v.search;
-  card = v.card;
-  flagged = v.flagged;
-  knows = known_of v.facts;
+  ledger = ledger_of v.ledger; shared = shared_of v.ownable; operation = v.operation; search = v.search;
+  card = v.card; flagged = v.flagged; knows = known_of v.facts;
 }
 
 abbrev pub worker_or_nobody : Option WorkerView → Worker

@@ -29,8 +29,7 @@ pub record TakesPair (old new : Words) (key value : ℕ) : Type 0 where
   pub present : IsTreePair old key value
   pub pairs : (k v : ℕ) → IsTreePair new k v ↔ (IsTreePair old k v × (k ≢ key))
 
--- the tree has the same keys, and the same values but that of this one, which it had with a value, and now has with
--- this one
+-- the tree has the same keys with the same values, except that this key has another value in place of what it had
 pub record ReplacesPair (old new : Words) (key was value : ℕ) : Type 0 where
   pub present : IsTreePair old key was
   pub pairs : (k v : ℕ) → IsTreePair new k v ↔ ((IsTreePair old k v × (k ≢ key)) ⊎ ((k ≡ key) × (v ≡ value)))
@@ -47,8 +46,7 @@ abbrev pub reply_of_change : Op → Reply
 reply_of_change (Swap key was value) = Found was
 reply_of_change _ = Yes
 
--- what is put of a key with a value: by a swap, where a leaf of the key is replaced, that had a value, or else by an
--- insert
+-- what puts a key with a value: a swap if it replaces a leaf of the key, which had a value, or else an insert
 abbrev pub op_brought : Bool → ℕ → ℕ → ℕ → Op
 op_brought true key was value = Swap key was value
 op_brought false key was value = Insert key value
@@ -78,8 +76,8 @@ value_in _ = None
 abbrev pub contents_in : Ledger → Contents
 contents_in ledger = λ key. value_in (ledger key)
 
--- a worker answers the operation that it has in hand, whose key it owns, or is shared: of an own key as a map, and its ledger becomes the map
--- after it; of a shared key the ledger stays
+-- a worker answers the operation in hand: on a key of its own as a map does, and its ledger becomes the map after it;
+-- on a shared key its ledger stays
 pub record AnswersAsMap (v : Worker) (new : Ledger) (reply : Reply) : Type 0 where
   pub op : Op
   pub busy : v.operation ≡ Some op

@@ -33,15 +33,7 @@ pub record Below (w : Words) (x y : ℕ) : Type 0 where
 abbrev pub Reached : Words → ℕ → Type 0
 Reached w x = Below w 0 x
 
--- a key of the tree: a real key that a reached leaf has
-pub record IsTreeKey (w : Words) (key : ℕ) : Type 0 where
-  pub leaf : ℕ
-  pub reached : Reached w leaf
-  pub outer : IsLeaf leaf
-  pub has : w.key leaf ≡ key
-  pub real : key ≤ greatest_key
-
--- a key of the tree with its value: a reached leaf has both
+-- a key of the tree with its value: a reached leaf has both, and the key is a real one
 pub record IsTreePair (w : Words) (key value : ℕ) : Type 0 where
   pub leaf : ℕ
   pub reached : Reached w leaf
@@ -49,6 +41,10 @@ pub record IsTreePair (w : Words) (key value : ℕ) : Type 0 where
   pub has : w.key leaf ≡ key
   pub says : w.value leaf ≡ value
   pub real : key ≤ greatest_key
+
+-- a key of the tree: it is there with some value
+abbrev pub IsTreeKey : Words → ℕ → Type 0
+IsTreeKey w key = (value : ℕ) × IsTreePair w key value
 
 -- a node has a parent and a grandparent that are reached
 pub record HasGrandparent (w : Words) (x : ℕ) : Type 0 where
@@ -58,8 +54,7 @@ pub record HasGrandparent (w : Words) (x : ℕ) : Type 0 where
   pub second : Bool
   pub leads : Leads w grandparent (first ∷ second ∷ []) x
 
--- the greatest leaf key below the root's left child is the lesser infinity, and every other leaf there has a real key, a
--- parent and a grandparent
+-- below the root's left child one leaf has infinity1, and each other leaf a real key, a parent and a grandparent
 pub record LeftIsLawful (w : Words) : Type 0 where
   pub last : ℕ
   pub there : Below w (w.child 0 false) last
@@ -68,8 +63,7 @@ pub record LeftIsLawful (w : Words) : Type 0 where
   pub real : (x : ℕ) → Below w (w.child 0 false) x → IsLeaf x → x ≢ last → w.key x ≤ greatest_key
   pub deep : (x : ℕ) → Below w (w.child 0 false) x → IsLeaf x → x ≢ last → HasGrandparent w x
 
--- a lawful tree: numbers rise, one path leads to each node, keys are in order on both sides of each internal node, and
--- the root has the greatest key and a right leaf of that key
+-- a lawful tree: numbers rise, one path leads to each node, keys are in order, root and right leaf have infinity2
 pub record IsLawful (w : Words) : Type 0 where
   pub rises : (x : ℕ) (right : Bool) → Reached w x → IsInternal x → x < w.child x right
   pub one_path : (x : ℕ) (p q : List Bool) → Leads w 0 p x → Leads w 0 q x → p ≡ q

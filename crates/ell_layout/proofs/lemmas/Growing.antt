@@ -13,7 +13,8 @@ use Rattle.ell_layout.proofs.lemmas.Stored.{filled_stored, filled_elsewhere}
 use Rattle.ell_layout.proofs.lemmas.NewWords.{filled_claim, filled_no_key, filled_no_value, filled_inner_value, filled_leaf_child, filled_leaf_update}
 use Rattle.ell_layout.specs.declared.branch.Branch.{Branch}
 use Rattle.ell_layout.specs.Branches.{root_branch, branch_of, left_child}
-use Rattle.ell_layout.specs.Start.{start_leaf, start_value, root_field, branch_field, start_field, start_words, root_filling, branch_filling}
+use Rattle.ell_layout.proofs.lemmas.Start.{root_field, root_fields}
+use Rattle.ell_layout.specs.Start.{start_leaf, start_value, branch_field, start_field, start_words, root_filling, branch_filling}
 
 -- the fields of all cards where the opening tree's are written below card n, and those of the others are 0
 abbrev pub grown : List (ℕ × ℕ) → ℕ → ℕ → Field → ℕ
@@ -171,7 +172,7 @@ pub grown_up : (start : List (ℕ × ℕ)) (n : ℕ) → n ≡ length start + 1 
 grown_up start n is = λ t. words_from (length start + 1) (λ c field. all c field t)
   where
     all : (c : ℕ) (field : Field) → grown start n c field ≡ start_field start c field
-    all zero field = refl
+    all zero field = sym (root_fields start field)
     all (suc c) field =
         ap (λ t. if t then branch_field (start_leaf start) (start_value start) (branch_of (length start + 1) (suc c)) field else 0) (elim (cases_lt c (length start)) [
           | inl less ↦ lt-ltb (suc c) n (omega arith) ∙ sym (lt-ltb c (length start) less)

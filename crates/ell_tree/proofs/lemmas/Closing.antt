@@ -66,10 +66,6 @@ all_keys : (P : ℕ → Type 0) (pairs : List (ℕ × ℕ)) → ((k v : ℕ) →
 all_keys P [] each = All-nil P
 all_keys P (e ∷ es) each = All-cons P e.0 (pair_keys es) (each e.0 e.1 (Contains-first e es)) (all_keys P es (λ k v h. each k v (Contains-later e es (k, v) h)))
 
--- a key with a value is a key
-key_of_pair : (w : Words) (k v : ℕ) → IsTreePair w k v → IsTreeKey w k
-key_of_pair w k v h = record { leaf = h.leaf; reached = h.reached; outer = h.outer; has = h.has; real = h.real }
-
 -- the keys of the leaves of the cards up to one
 leaf_keys : (ℕ → ℕ) → ℕ → List ℕ
 leaf_keys key zero = key 1 ∷ key 2 ∷ []
@@ -157,14 +153,14 @@ module _ (t : TreeModel) (p : PassModel) (closed : ClosedModel) (ends : TableEnd
 
     all_present : t.plan.shared ≡ false → (k : ℕ) → contents_of pairs k ≡ present_in p k
     all_present none k = sym (there_same (ledger p k) (contents_of pairs k)
-        (λ v. (present_listed k v, λ is. listed_present k v (tree_key none k (key_of_pair (words_of closed.words) k v ((lists.each k v).0 (contained pairs k v is)))) is)))
+        (λ v. (present_listed k v, λ is. listed_present k v (tree_key none k (v, (lists.each k v).0 (contained pairs k v is))) is)))
 
     pub closes : closed.last_card ≡ t.plan.last_card → ClosesTo t p pairs
     closes cards = record {
       ascending = lists.ascending;
       present = λ k among. of_plan k (Contains-from_list_any t.plan.keys k among);
       among = all_keys (λ k. (set_of t.plan.keys k ≡ true) ⊎ IsSharedIn t.plan k) pairs (λ k v h.
-          elim (ends.shows.owned k (key_of_pair (words_of closed.words) k v ((lists.each k v).0 h))) [
+          elim (ends.shows.owned k (v, (lists.each k v).0 h)) [
             | inl own ↦ inl (list_any-from_Contains nat_eq_equiv k t.plan.keys own)
             | inr shared ↦ inr shared
           ]);

@@ -13,13 +13,12 @@ use Rattle.ell_core.specs.statements.Effects.{SamePairs}
 use Rattle.ell_core.proofs.lemmas.stages.Order.{born_is_node}
 use Rattle.ell_layout.proofs.lemmas.Writes.{key_at_node, value_at_leaf, child_at_node, update_at_node}
 use Rattle.ell_core.proofs.lemmas.stages.Waiting.{born-settled}
-use Rattle.ell_core.proofs.lemmas.tree.Reached.{pair_key, key_pair}
 
 -- trees of the same keys with the same values have the same keys
 pub same_keys : (old new : Words) → SamePairs old new → (k : ℕ) → IsTreeKey new k ↔ IsTreeKey old k
 same_keys old new same k = (
-  λ h. let pair = key_pair new k h in pair_key old k pair.0 ((same k pair.0).0 pair.1),
-  λ h. let pair = key_pair old k h in pair_key new k pair.0 ((same k pair.0).1 pair.1),
+  λ h. (h.0, (same k h.0).0 h.1),
+  λ h. (h.0, (same k h.0).1 h.1),
 )
 
 -- sound words w, and others, t, that say the same at each card that does not wait

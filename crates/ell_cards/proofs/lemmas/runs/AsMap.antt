@@ -12,7 +12,6 @@ use Rattle.ell_core.specs.tree.Tree.{IsTreeKey}
 use Rattle.ell_core.specs.statements.Effects.{reply_of_change, AddsPair, TakesPair, ReplacesPair, SamePairs, MakesChange, op_of_card}
 use Rattle.ell_core.proofs.lemmas.outcomes.Decide.{same_value, some_not_none}
 use Rattle.ell_core.proofs.lemmas.following.AnswerMeaning.{key_kept, key_lacked, swap_lacked, swap_other}
-use Rattle.ell_core.proofs.lemmas.tree.Reached.{pair_key}
 use Rattle.ell_core.proofs.lemmas.keeping.search.Answer.{gives_else}
 use Rattle.ell_cards.specs.Looking.{HasThere}
 use Rattle.ell_cards.specs.TurnEffects.{own_words, PairsChangeBy}
@@ -35,7 +34,7 @@ map_has w there map key None h = by (there key) refl
   where
     by : (o : Option ℕ) → there key ≡ o → o ≡ None
     by None e = refl
-    by (Some value) e = absurd (h (pair_key w key value ((map key value).1 e)))
+    by (Some value) e = absurd (h (value, (map key value).1 e))
 
 -- a leaf's answer is the reply on what is there, and the operation leaves it
 pub leaf_reply : (op : Op) (o : Option ℕ) (said : Reply) (there : Contents) → there (key_of op) ≡ o → leaf_answer op o ≡ Some said → said ≡ reply_of op there

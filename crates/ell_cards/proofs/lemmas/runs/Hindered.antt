@@ -318,8 +318,8 @@ module _ (keys : List ℕ) (cards : ℕ) (m0 : Machine) (stage : Stages) (first 
 
   mark_found : (c p was : ℕ) → May cards (call.Mark c p was) v → r.words.update p ≡ found_by s (call.Mark c p was)
   mark_found c p was may =
-      let p_is : r.words.p c ≡ p = told_is keys cards s r seat v there c field.P p may.parent in
-      let said = known_delete keys cards s r seat v there c (inl may.knows) in
+      let p_is : r.words.p c ≡ p = told_is keys cards s r seat v there c field.P p may.0.place in
+      let said = known_delete keys cards s r seat v there c (inl may.0.knows) in
       update_listed keys cards s r seat v there p (subst IsInternal p_is said.parent.inner) (subst (Born r.stages) p_is said.parent.born)
 
   -- a flag, won or lost, by what was found at its node
@@ -381,9 +381,9 @@ module _ (keys : List ℕ) (cards : ℕ) (m0 : Machine) (stage : Stages) (first 
   mark_met : (c p was n : ℕ) → May cards (call.Mark c p was) v → r.words.update p ≡ n → n ≢ was → v.worker.card ≡ Some c
       → Met m0.words stage later_words ends (Found (unpacked n))
   mark_met c p was n may is other has =
-      let p_is : r.words.p c ≡ p = told_is keys cards s r seat v there c field.P p may.parent in
-      let was_is : r.words.was c ≡ was = told_is keys cards s r seat v there c field.Was was may.read in
-      let won = sound.facts (DFlagged c) may.knows in
+      let p_is : r.words.p c ≡ p = told_is keys cards s r seat v there c field.P p may.0.place in
+      let was_is : r.words.was c ≡ was = told_is keys cards s r seat v there c field.Was was may.1 in
+      let won = sound.facts (DFlagged c) may.0.knows in
       let said = (holds.words.cards c).delete (delete_won-delete (now c) won) in
       let busy = busy_hand c has in
       let flagged = flag_hand c has won in
@@ -426,9 +426,9 @@ module _ (keys : List ℕ) (cards : ℕ) (m0 : Machine) (stage : Stages) (first 
   mark_apart : (c p was n : ℕ) → May cards (call.Mark c p was) v → r.words.update p ≡ n → n ≢ was → v.worker.card ≡ Some c
       → is_mark_of c (unpacked n).state (unpacked n).card ≡ false → (unpacked n).card ≢ c
   mark_apart c p was n may is other has apart =
-      let p_is : r.words.p c ≡ p = told_is keys cards s r seat v there c field.P p may.parent in
-      let was_is : r.words.was c ≡ was = told_is keys cards s r seat v there c field.Was was may.read in
-      let won = sound.facts (DFlagged c) may.knows in
+      let p_is : r.words.p c ≡ p = told_is keys cards s r seat v there c field.P p may.0.place in
+      let was_is : r.words.was c ≡ was = told_is keys cards s r seat v there c field.Was was may.1 in
+      let won = sound.facts (DFlagged c) may.0.knows in
       let deletes = delete_won-delete (now c) won in
       let said = (holds.words.cards c).delete deletes in
       let busy = busy_hand c has in

@@ -330,7 +330,7 @@ module _ (plan : TablePlan) (s : TableState) (h : IsReached plan s) (id : ℕ) (
       there = told_there plan s h id v here (call.Mark c p was) may n on
 
       parent : r.words.p c ≡ p
-      parent = ((r.views id (after (call.Mark c p was) n v) there).entries (Info c field.P p) (after_told (call.Mark c p was) n v (Info c field.P p) may.parent)).2
+      parent = ((r.views id (after (call.Mark c p was) n v) there).entries (Info c field.P p) (after_told (call.Mark c p was) n v (Info c field.P p) may.0.place)).2
 
       -- the word at the parent
       stands : is_delete (r.stages c) ≡ true → (if found == was then marked c else found) ≡ r.words.update p

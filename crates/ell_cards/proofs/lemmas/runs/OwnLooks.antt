@@ -5,7 +5,6 @@ use Rattle.ell_core.specs.declared.view.Entry.{Entry}
 use Rattle.ell_core.specs.declared.view.Entry.TheVariants.{Present, Absent}
 use Rattle.ell_core.specs.state.Machine.{ledger_of}
 use Rattle.ell_core.specs.statements.Effects.{value_in, contents_in}
-use Rattle.ell_core.proofs.lemmas.tree.Reached.{pair_key}
 use Rattle.ell_cards.specs.declared.call.Call.TheVariants as call
 use Rattle.ell_cards.specs.declared.view.View.{View}
 use Rattle.ell_cards.specs.States.{TableState}
@@ -40,7 +39,7 @@ by_ledger keys cards s r seat v at free key None owns so = by (ledger_of v.worke
     by None e = refl
     by (Some Absent) e = refl
     by (Some (Present value)) e =
-        absurd (so (pair_key (own_words s) key value ((ledgers_tell_the_tree keys cards s r seat v at free key value owns).1 e)))
+        absurd (so (value, (ledgers_tell_the_tree keys cards s r seat v at free key value owns).1 e))
 
 -- so a pass reads its own changes: from the beginning of its look on it has its ledger, and in the state that the look is of it has
 -- the tree's part of it

@@ -241,10 +241,10 @@ at_4 = run_leads at_3 insert_flags
 -- seat 0 loses the mark, helps the insert to its end, and takes its own flag away
 mark_is_lost_asks : RunAsks 4 at_4 mark_is_lost
 mark_is_lost_asks =
-    (refl, record { knows = refl; parent = told_at 1 _ _ refl; read = told_at 3 _ _ refl })
-    ▸ (refl, record { knows = inl refl; asked = tt })
-    ▸ (refl, record { knows = inl refl; asked = tt })
-    ▸ (refl, record { knows = inl refl; asked = tt })
+    (refl, (record { knows = refl; place = told_at 1 _ _ refl }, told_at 3 _ _ refl))
+    ▸ (refl, (inl refl, tt))
+    ▸ (refl, (inl refl, tt))
+    ▸ (refl, (inl refl, tt))
     ▸ (refl, record { parent_key = infinity1; card_key = 7; left_key = 5; knows = refl; parent = told_at 4 _ _ refl; leaf = told_at 2 _ _ refl; told_parent = told_at 11 _ _ refl; told_card = told_at 1 _ _ refl; told_left = told_at 0 _ _ refl; brings = refl; side = refl })
     ▸ (refl, record { knows = refl; place = told_at 4 _ _ refl })
     ▸ (refl, record { knows = refl; place = told_at 5 _ _ refl })
@@ -293,7 +293,7 @@ delete_ends_asks =
     ▸ (refl, record { holds = refl; unflagged = refl })
     ▸ (refl, record { holds = refl; unflagged = refl })
     ▸ (refl, record { key = 5; leaf = 13; parent = record { node = 12; word = 3 }; busy = refl; may = record { holds = refl; unflagged = refl }; stands = refl; behind = refl; above = refl; filled = filled_delete 4 12 13 3 })
-    ▸ (refl, record { knows = refl; parent = told_at 1 _ _ refl; read = told_at 3 _ _ refl })
+    ▸ (refl, (record { knows = refl; place = told_at 1 _ _ refl }, told_at 3 _ _ refl))
     ▸ (refl, record { knows = refl; place = told_at 1 _ _ refl })
     ▸ (refl, told_at 1 _ _ refl)
     ▸ (refl, record { leaf = 13; grandparent_key = infinity1; sibling_key = 7; knows = refl; grandparent = told_at 3 _ _ refl; parent = told_at 4 _ _ refl; below = told_at 5 _ _ refl; sibling = inl (told_at 1 _ _ refl, λ e. let h : ◌≡◌ {A = ℕ} 14 13 = e in omega arith); told_grandparent = told_at 11 _ _ refl; told_sibling = told_at 0 _ _ refl; side = refl })

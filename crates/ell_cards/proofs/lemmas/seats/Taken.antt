@@ -105,7 +105,7 @@ word_fits cards (call.Upd x) v named may = address_fits cards (card x) field.Upd
 word_fits cards (call.Down x right) v named may = address_fits cards (card x) (child_field right) (named.node x may.stands)
 word_fits cards (call.KeyOf x) v named may = address_fits cards (card x) (key_field (x % 4)) (named.entries (Met x) may)
 word_fits cards (call.ValueOf x) v named may = address_fits cards (card x) (value_field (x % 4)) (named.entries (Met x) may.0)
-word_fits cards (call.Info c f) v named may = address_fits cards c f (known_fits cards v c named may.knows)
+word_fits cards (call.Info c f) v named may = address_fits cards c f (known_fits cards v c named may.0)
 word_fits cards (call.FrozenChild c p right) v named may = address_fits cards (card p) (child_field right) (named.entries (Info c field.P p) may.place).1
 word_fits cards call.Look v named may = address_fits cards 0 (child_field false) (omega arith)
 word_fits cards (call.LookDown from key right) v named may = address_fits cards (card from.node) (child_field right) (named.entries (Met from.node) may.met)
@@ -115,7 +115,7 @@ word_fits cards (call.IChild c p l q right) v named may = address_fits cards (ca
 word_fits cards (call.IUnflag c p) v named may = address_fits cards (card p) field.Update (named.entries (Info c field.P p) may.place).1
 word_fits cards (call.DFlag c gp from) v named may =
     address_fits cards (card gp) field.Update (named.grandparent may.leaf may.parent _ may.stands may.behind may.above).node
-word_fits cards (call.Mark c p was) v named may = address_fits cards (card p) field.Update (named.entries (Info c field.P p) may.parent).1
+word_fits cards (call.Mark c p was) v named may = address_fits cards (card p) field.Update (named.entries (Info c field.P p) may.0.place).1
 word_fits cards (call.DChild c gp p sibling right) v named may =
     address_fits cards (card gp) (child_field right) (named.entries (Info c field.Gp gp) may.grandparent).1
 word_fits cards (call.DUnflag c gp) v named may = address_fits cards (card gp) field.Update (named.entries (Info c field.Gp gp) may.place).1

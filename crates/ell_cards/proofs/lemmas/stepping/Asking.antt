@@ -111,10 +111,10 @@ module _ (keys : List ℕ) (cards : ℕ) (s : TableState) (r : HasMachine keys c
   keeps_info c f may =
       let n = get_or s.words (address c f) 0 in
       let h = r.views id v here in
-      let is : word r.words c f ≡ n = sym (r.settled c f (known_settled keys cards s r id v here c may.knows)) in
+      let is : word r.words c f ≡ n = sym (r.settled c f (known_settled keys cards s r id v here c may.0)) in
       is_no_event keys cards s r id v here (call.Info c f)
       (kept_told keys cards s r id v here (after_info c f n v) refl (record {
-        entries = info_entries c f n may.knows may.asked is;
+        entries = info_entries c f n may.0 may.1 is;
         here = λ y key at told. info_more c f n v.told (Key y key) (h.here y key at told);
         hand = h.hand;
         read = h.read;
@@ -122,7 +122,7 @@ module _ (keys : List ℕ) (cards : ℕ) (s : TableState) (r : HasMachine keys c
         knew = h.knew;
         walk = h.walk;
       }) (address c f))
-      refl refl (tells_node c f n may.knows is, tells_depth c f n may.knows is)
+      refl refl (tells_node c f n may.0 is, tells_depth c f n may.0 is)
 
   -- frozen_child
   pub keeps_frozen_child : (c p : ℕ) (right : Bool) → KnowsPlace v (Marked c) c field.P p → IsEvent keys cards s r id v (call.FrozenChild c p right)

@@ -91,20 +91,20 @@ module _ (keys : List ℕ) (cards : ℕ) (s : TableState) (r : HasMachine keys c
       let a = act.Mark c in
       let u = worker_of v.worker in
       let n = found_at keys cards s r id v here (card p) field.Update in
-      let said = known_delete keys cards s r id v here c (inl may.knows) in
-      let p_is : w.p c ≡ p = told_is keys cards s r id v here c field.P p may.parent in
-      let was_is : w.was c ≡ was = told_is keys cards s r id v here c field.Was was may.read in
+      let said = known_delete keys cards s r id v here c (inl may.0.knows) in
+      let p_is : w.p c ≡ p = told_is keys cards s r id v here c field.P p may.0.place in
+      let was_is : w.was c ≡ was = told_is keys cards s r id v here c field.Was was may.1 in
       let born = subst (Born r.stages) p_is said.parent.born in
       let is = update_found keys cards s r id v here (w.p c) p p_is said.parent.inner said.parent.born in
       let reads : MayRead w r.stages p = subst (MayRead w r.stages) p_is
-      ((relies keys cards s r id v here).delete (DFlagged c) (ap (λ (z : Worker). z.knows (DFlagged c)) (mine_is keys cards s r id v here) ∙ may.knows) refl).parent in
+      ((relies keys cards s r id v here).delete (DFlagged c) (ap (λ (z : Worker). z.knows (DFlagged c)) (mine_is keys cards s r id v here) ∙ may.0.knows) refl).parent in
       let is_p : w.update p ≡ n = ap w.update (sym p_is) ∙ is in
       let happens : Happens cards a (mine keys cards s r id v here) (won_or_lost (n == was))
       (becomes keys cards s r id v here (exchanged_words keys cards s r id v here (card p) field.Update (marked c) (n == was))
       (after_mark (n == was) c p (unpacked n) v)) = record {
         owned = λ h. h;
         row = record {
-          may = may.knows;
+          may = may.0.knows;
           says = ap (λ z. won_or_lost (n == z)) (sym was_is) ∙ update_says w (w.p c) p (w.was c) (marked c) n p_is said.parent.inner is;
           gives = λ t. record {
             words = (ap (λ z. exchanged_words keys cards s r id v here (card p) field.Update (marked c) (n == z)) (sym was_is)

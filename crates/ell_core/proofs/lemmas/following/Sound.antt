@@ -80,7 +80,7 @@ module _ (m : Machine) (stage : Stages) (sound : Invariant m stage) where
       record {
         one_owner = sound.workers.one_owner;
         apart = sound.workers.apart;
-        owned = λ k held. sound.workers.owned k held.real (tree_key_leads m.words ordered k held);
+        owned = λ k held. sound.workers.owned k held.1.real (tree_key_leads m.words ordered k held);
         present = λ i k value owns.
             (let says = sound.workers.present i k value owns in
             let same = ap (λ f. f k) (effective-at m.words stage sound.words (m.worker i) (sound.workers.each i)) in (

@@ -24,7 +24,9 @@ use Rattle.ell_core.specs.statements.RunLaws.{MayBeThere}
 use Rattle.ell_core.specs.state.Opening.{Setup, gives, Faultless, opening_ledger, opening, is_given, start_entry, shares}
 use Rattle.ell_layout.specs.Start.{start_leaf, start_value, start_words}
 use Rattle.ell_core.proofs.lemmas.opening.StartTree.{tree_ordered, card_reached, child_more, child_on, child_node, left_less, right_least, finds_leaf, finds_leaves_only}
-use Rattle.ell_core.proofs.lemmas.opening.StartWords.{has_value, keys_length, leaf_key, leaf_last, leaf_root, leaves_rise, leaves_end, has_branches, clean_update, goes_none, later_blank}
+use Rattle.ell_layout.proofs.lemmas.Start.{keys_length, leaf_last, leaf_root, root_fields}
+use Rattle.ell_core.proofs.lemmas.opening.StartWords.{has_value, leaf_key, leaves_rise, leaves_end, has_branches, clean_update, goes_none, later_blank}
+use Rattle.ell_layout.specs.declared.field.Field.TheVariants.{Key, RightLeafKey}
 use Rattle.ell_core.specs.declared.view.Entry.TheVariants.{Present}
 use Rattle.ell_core.proofs.lemmas.opening.KeyLists.{holds_present}
 
@@ -192,9 +194,9 @@ module _ (start : List (ℕ × ℕ)) (ascending : IsStrictlyIncreasing (keys_of 
   tree_sound : TreeIsSound w (start_stages (length start + 1))
   tree_sound = record {
     ordered = ordered;
-    root_key = refl;
+    root_key = root_fields start Key;
     root_right = refl;
-    right_key = refl;
+    right_key = root_fields start RightLeafKey;
     last = subst (λ n. LeadsTo w n 0) (leaf_last start)
         (leads_any w (start_leaf start (length start)) (start_value start (length start)) 0 (finds (length start) (omega arith)));
     there = λ x inner born calm. subst (IsIn w) (sym (node_of x inner)) (reached (card x) (born_below (length start + 1) (card x) (x % 4) born));

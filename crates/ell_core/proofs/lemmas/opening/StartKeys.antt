@@ -10,7 +10,7 @@ use Rattle.ell_core.specs.statements.Start.{OpeningsHaveTheirStartKeys}
 use Rattle.ell_core.proofs.lemmas.tree.Reached.{tree_pair_leads, leads_tree_pair}
 use Rattle.ell_core.proofs.lemmas.opening.Owners.{ledger_there}
 use Rattle.ell_core.proofs.lemmas.opening.Invariant.{found_start, start_found, start_owned, start_sound}
-use Rattle.ell_core.proofs.lemmas.opening.StartWords.{keys_length}
+use Rattle.ell_layout.proofs.lemmas.Start.{keys_length}
 use Rattle.ell_core.proofs.lemmas.opening.CanOpen.{start_real}
 use Rattle.std.specs.List.Sorted.{IsStrictlyIncreasing}
 use Rattle.ell_core.specs.tree.Tree.{IsTreePair}

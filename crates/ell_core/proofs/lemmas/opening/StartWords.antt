@@ -15,31 +15,18 @@ use Rattle.ell_layout.specs.Cards.{clean}
 use Rattle.ell_core.specs.history.Invariant.{top, Blank}
 use Rattle.ell_layout.proofs.lemmas.Writes.{made_word}
 use Rattle.ell_layout.specs.Branches.{root_branch, branch_of, descend}
-use Rattle.ell_layout.specs.Start.{start_leaf, start_value, root_field, branch_field, start_field, start_words}
+use Rattle.ell_layout.specs.Start.{start_leaf, start_value, branch_field, start_field, start_words}
+use Rattle.ell_layout.proofs.lemmas.Start.{root_field, keys_length, leaf_last, leaf_root, value_past, root_fields}
 use Rattle.ell_core.proofs.lemmas.opening.StartTree.{HasBranch}
 
 -- the leaf at a place has its value
 abbrev pub has_value : List (ℕ × ℕ) → ℕ → ℕ → Type 0
 has_value start i x = (start_words start).value x ≡ start_value start i
 
--- there are as many keys as start pairs
-pub keys_length : (start : List (ℕ × ℕ)) → length (keys_of start) ≡ length start
-keys_length start = length-map start (λ e. e.0)
-
 module _ (start : List (ℕ × ℕ)) where
   -- the keys of the leaves: the start keys, then the two above all keys
   pub leaf_key : (i : ℕ) → i < length start → start_leaf start i ≡ get_or (keys_of start) i 0
   leaf_key i below = let e = keys_length start in get_or_append_left (keys_of start) (infinity1 ∷ infinity2 ∷ []) 0 i (omega arith)
-
-  pub leaf_last : start_leaf start (length start) ≡ infinity1
-  leaf_last = ap (start_leaf start) (sym (keys_length start)) ∙ get_or-append_seam (keys_of start) infinity1 (infinity2 ∷ []) 0
-
-  pub leaf_root : start_leaf start (length start + 1) ≡ infinity2
-  leaf_root = ap (λ n. start_leaf start (n + 1)) (sym (keys_length start)) ∙ get_or-append-add (keys_of start) (infinity1 ∷ infinity2 ∷ []) 1 0
-
-  -- behind the start keys there is no value
-  pub value_past : (i : ℕ) → length start ≤ i → start_value start i ≡ 0
-  value_past i past = let e = length-map start (λ p. p.1) in get_or_past (values_of start) i 0 (omega arith)
 
   -- they rise, where the start keys do and are real ones
   module _ (ascending : IsStrictlyIncreasing (keys_of start)) (real : All (λ k. k ≤ greatest_key) (keys_of start)) where
@@ -67,17 +54,17 @@ module _ (start : List (ℕ × ℕ)) where
           omega arith
       | inr (inl last) ↦
           let r = leaf_real i (omega arith) in
-          let b = ap (start_leaf start) last ∙ leaf_last in
+          let b = ap (start_leaf start) last ∙ leaf_last start in
           omega arith
       | inr (inr past) ↦ elim (cases_lt i (length start)) [
         | inl below ↦
             let r = leaf_real i below in
-            let b = ap (start_leaf start) past ∙ leaf_root in
+            let b = ap (start_leaf start) past ∙ leaf_root start in
             omega arith
         | inr rest ↦
             let e : i ≡ length start = omega arith in
-            let a = ap (start_leaf start) e ∙ leaf_last in
-            let b = ap (start_leaf start) past ∙ leaf_root in
+            let a = ap (start_leaf start) e ∙ leaf_last start in
+            let b = ap (start_leaf start) past ∙ leaf_root start in
             omega arith
       ]
     ]
@@ -85,13 +72,13 @@ module _ (start : List (ℕ × ℕ)) where
     pub leaves_end : (i : ℕ) → i ≤ length start + 1 → start_leaf start i < top
     leaves_end i within = elim (leaf_cases i within) [
       | inl below ↦ (let r = leaf_real i below in omega arith)
-      | inr (inl last) ↦ (let b = ap (start_leaf start) last ∙ leaf_last in omega arith)
-      | inr (inr past) ↦ (let b = ap (start_leaf start) past ∙ leaf_root in omega arith)
+      | inr (inl last) ↦ (let b = ap (start_leaf start) last ∙ leaf_last start in omega arith)
+      | inr (inr past) ↦ (let b = ap (start_leaf start) past ∙ leaf_root start in omega arith)
     ]
 
   -- the word of a field of card 0
   root_word : (field : Field) → word (start_words start) 0 field ≡ root_field (length start) field
-  root_word field = made_word (length start + 1) (start_field start) 0 field
+  root_word field = made_word (length start + 1) (start_field start) 0 field ∙ root_fields start field
 
   -- of another card of the opening tree
   branch_word : (c : ℕ) (field : Field) → c < length start
@@ -110,13 +97,13 @@ module _ (start : List (ℕ × ℕ)) where
   -- card 0 is the root's branch
   root_has : HasBranch (start_leaf start) (start_words start).key (start_words start).child (has_value start) 0 (root_branch (length start + 1))
   root_has = record {
-    node_key = root_word Key ∙ sym (ap (start_leaf start) zero_more ∙ leaf_root);
+    node_key = root_word Key ∙ sym (ap (start_leaf start) zero_more ∙ leaf_root start);
     left = root_word Left;
     right = root_word Right;
-    left_key = λ one. root_word LeftLeafKey ∙ (sym leaf_last ∙ ap (start_leaf start) (let e : length start ≡ 0 = omega arith in e));
-    right_key = λ one. root_word RightLeafKey ∙ sym (ap (start_leaf start) zero_more ∙ leaf_root);
-    left_holds = λ one. root_word LeftValue ∙ sym (value_past 0 (omega arith));
-    right_holds = λ one. root_word RightValue ∙ sym (value_past (0 + (length start + 1)) (omega arith));
+    left_key = λ one. root_word LeftLeafKey ∙ (sym (leaf_last start) ∙ ap (start_leaf start) (let e : length start ≡ 0 = omega arith in e));
+    right_key = λ one. root_word RightLeafKey ∙ sym (ap (start_leaf start) zero_more ∙ leaf_root start);
+    left_holds = λ one. root_word LeftValue ∙ sym (value_past start 0 (omega arith));
+    right_holds = λ one. root_word RightValue ∙ sym (value_past start (0 + (length start + 1)) (omega arith));
   }
     where
       zero_more : 0 + (length start + 1) ≡ length start + 1
@@ -150,7 +137,7 @@ module _ (start : List (ℕ × ℕ)) where
   -- and they go nowhere
   pub goes_none : (c : ℕ) → c < length start + 1 → (word (start_words start) c Gp ≡ 0) × (word (start_words start) c P ≡ 0)
       × (word (start_words start) c L ≡ 0) × (word (start_words start) c Was ≡ 0)
-  goes_none zero below = (refl, refl, refl, refl)
+  goes_none zero below = (root_word Gp, root_word P, root_word L, root_word Was)
   goes_none (suc c) below = let less : c < length start = omega arith in (branch_word c Gp less, branch_word c P less, branch_word c L less, branch_word c Was less)
 
   -- the cards after them are blank

@@ -19,7 +19,6 @@ use Rattle.ell_core.specs.soundness.Sound.{WorkerOwns}
 use Rattle.ell_core.specs.statements.RunLaws.{IsOpening}
 use Rattle.ell_core.specs.statements.Refuted.{WordsAlwaysRise, NextCardIsFixed, FlaggedNodesAreFrozen, NothingIsLearnt, ChildExchangesComeFirst, OneLedgerForAll, InsertsAddTheNextKey, AnswersAreOfTheMapAfter, BusyOwnersFindClean, SplitsMayTeach, LooksAreOfTheLastState, LooksAreOfTheFirstState}
 use Rattle.ell_core.specs.statements.Looks.{Looks, ends, loads, stays}
-use Rattle.ell_core.proofs.lemmas.tree.Reached.{pair_key}
 use Rattle.ell_core.proofs.lemmas.following.Sound.{sound}
 use Rattle.ell_core.proofs.lemmas.runs.Lawful.{passed_has, pairs_change}
 use Rattle.ell_core.proofs.lemmas.runs.Passed.{openings_open, follows_itself}
@@ -61,7 +60,7 @@ next_key_wrong adds =
     let shows = changes_child in
     let right = pairs_change flagged_state (by (act.IChild 1)) (shown.Step Won) changed_state flagged_passed shows in
     let wrong = adds flagged_state (by (act.IChild 1)) 1 changed_state flagged_passed refl shows in
-    ⊎_elim (λ had. right.absent (pair_key flagged_state.words 5 50 had)) (λ e. let h : 5 ≡ infinity2 = e.0 in omega arith)
+    ⊎_elim (λ had. right.absent (50, had)) (λ e. let h : 5 ≡ infinity2 = e.0 in omega arith)
     ((wrong.pairs 5 50).0 ((right.pairs 5 50).1 (inr (refl, refl))))
 
 -- the map after an insert has its key

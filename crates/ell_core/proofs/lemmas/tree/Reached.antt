@@ -136,8 +136,7 @@ module _ (w : Words) (ordered : IsOrdered w.key w.child top) where
       subst (λ n. LeadsToValue w n value 0) held.has (subst (λ v. LeadsToValue w (w.key held.leaf) v 0) held.says (leaf_leads held.leaf held.reached held.outer))
 
   pub tree_key_leads : (k : ℕ) → IsTreeKey w k → LeadsTo w k 0
-  tree_key_leads k held = subst (λ n. LeadsTo w n 0) held.has
-      (leads_any w (w.key held.leaf) (w.value held.leaf) 0 (leaf_leads held.leaf held.reached held.outer))
+  tree_key_leads k held = leads_any w k held.0 0 (tree_pair_leads k held.0 held.1)
 
   -- from a node on course for a key, what is reached of the walk for it lies on the walk from node 0
   pub joins_walk : (k : ℕ) {x y : ℕ} → IsOnCourse w k x → OnWalk w k x y → Reached w y → OnWalk w k 0 y
@@ -156,15 +155,6 @@ leads_tree_pair w k value real leads =
     let found = Meets-finds w k value leads in
     record { leaf = found.leaf; reached = OnWalk-below w k found.on; outer = found.outer; has = found.has; says = found.says; real = real }
 
--- a key of the tree is one with its value
-pub pair_key : (w : Words) (k value : ℕ) → IsTreePair w k value → IsTreeKey w k
-pair_key w k value held = record { leaf = held.leaf; reached = held.reached; outer = held.outer; has = held.has; real = held.real }
-
-pub key_pair : (w : Words) (k : ℕ) → IsTreeKey w k → (value : ℕ) × IsTreePair w k value
-key_pair w k held = (w.value held.leaf, record { leaf = held.leaf; reached = held.reached; outer = held.outer; has = held.has; says = refl; real = held.real })
-
 -- so it is of the key alone
 pub leads_tree_key : (w : Words) (k : ℕ) → k ≤ greatest_key → LeadsTo w k 0 → IsTreeKey w k
-leads_tree_key w k real leads =
-    let there = leads_some w k leads in
-    pair_key w k there.0 (leads_tree_pair w k there.0 real there.1)
+leads_tree_key w k real leads = let there = leads_some w k leads in (there.0, leads_tree_pair w k there.0 real there.1)

@@ -185,11 +185,7 @@ pub ListsKeys-of_pairs : (w : Words) (pairs : List (ℕ × ℕ)) → ListsTreePa
 ListsKeys-of_pairs w pairs listed = record {
   ascending = listed.ascending;
   each = λ key. (
-    λ h. let pair = Contains-from_keys_of pairs key h in
-        let found = (listed.each key pair.0).0 pair.1 in
-        record { leaf = found.leaf; reached = found.reached; outer = found.outer; has = found.has; real = found.real },
-    λ h. Contains-keys_of pairs key (w.value h.leaf)
-        ((listed.each key (w.value h.leaf)).1
-        (record { leaf = h.leaf; reached = h.reached; outer = h.outer; has = h.has; says = refl; real = h.real })),
+    λ h. let pair = Contains-from_keys_of pairs key h in (pair.0, (listed.each key pair.0).0 pair.1),
+    λ h. Contains-keys_of pairs key h.0 ((listed.each key h.0).1 h.1),
   );
 }

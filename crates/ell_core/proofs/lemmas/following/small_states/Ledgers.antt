@@ -5,14 +5,14 @@ use Rattle.ell_core.specs.declared.fact.Fact.TheVariants.{IFlagged}
 use Rattle.ell_core.specs.state.Machine.{Machine}
 use Rattle.ell_layout.specs.Start.{opening_words}
 use Rattle.ell_layout.specs.Words.{IsLeaf}
-use Rattle.ell_core.specs.tree.Tree.{OnWalk, here, next, Finds, IsTreeKey, IsTreePair}
+use Rattle.ell_core.specs.tree.Tree.{OnWalk, here, next, Finds, IsTreePair}
 use Rattle.ell_word.specs.Node.{infinity1}
 use Rattle.ell_core.specs.soundness.Sound.{LedgersAreSound, WalksAreSound, StrangersAreNobody}
 use Rattle.ell_core.specs.soundness.SmallTrees.{five}
 use Rattle.ell_core.specs.statements.Effects.{value_in}
 use Rattle.ell_core.specs.soundness.Unsound.{BreaksLedgers, key_owned_twice, key_without_owner, key_missing_in_ledger, key_kept_in_ledger, key_with_other_value, BreaksSearches, key_found_too_early, key_not_found, search_astray, BreaksStrangers, key_of_stranger, busy_stranger, knowing_stranger}
 use Rattle.ell_core.proofs.lemmas.opening.Ranges.{opening_ordered, opening_empty}
-use Rattle.ell_core.proofs.lemmas.tree.Reached.{pair_key, tree_key_leads}
+use Rattle.ell_core.proofs.lemmas.tree.Reached.{tree_key_leads}
 use Rattle.ell_core.specs.declared.view.Entry.TheVariants.{Present, Absent}
 
 -- a state whose ledgers are unsound is unsound
@@ -38,17 +38,7 @@ pub twice_broken : BreaksLedgers key_owned_twice
 twice_broken = breaks_ledgers key_owned_twice (λ sound. zero_is_not_one
     (sound.one_owner 0 1 5 (λ e. let f : Some Absent ≡ None = e in cc) (λ e. let f : Some Absent ≡ None = e in cc)))
 
--- key 5 is in the tree with that key
-five_there : IsTreeKey five 5
-five_there = record {
-  leaf = 5;
-  reached = record { path = false ∷ false ∷ []; leads = (refl, (refl, refl)) };
-  outer = leaf_five;
-  has = refl;
-  real = omega arith;
-}
-
--- with value 50
+-- key 5 is in the tree with value 50
 fifty_there : IsTreePair five 5 50
 fifty_there = record {
   leaf = 5;
@@ -69,7 +59,7 @@ not_shared_there i = grind (arith, nat_tests)
 
 -- a key of the tree without an owner
 pub owned_broken : BreaksLedgers key_without_owner
-owned_broken = breaks_ledgers key_without_owner (λ sound. let it = sound.owned 5 five_there (not_shared_there) in it.owns (not_owned it.worker))
+owned_broken = breaks_ledgers key_without_owner (λ sound. let it = sound.owned 5 (50, fifty_there) (not_shared_there) in it.owns (not_owned it.worker))
 
 -- a key of the tree that is absent in its owner's ledger
 pub present_broken : BreaksLedgers key_missing_in_ledger
@@ -80,7 +70,7 @@ present_broken = breaks_ledgers key_missing_in_ledger (λ sound.
 pub kept_broken : BreaksLedgers key_kept_in_ledger
 kept_broken = breaks_ledgers key_kept_in_ledger (λ sound.
     let there = (sound.present 0 5 50 (λ e. let f : Some (Present 50) ≡ None = e in cc)).1 refl in
-    opening_empty 5 there.real (tree_key_leads opening_words opening_ordered 5 (pair_key opening_words 5 50 there)))
+    opening_empty 5 there.real (tree_key_leads opening_words opening_ordered 5 (50, there)))
 
 -- a key that is present in the ledger with another value than its leaf's
 pub other_value_broken : BreaksLedgers key_with_other_value
