@@ -24,47 +24,47 @@ use Rattle.ell_cards.specs.declared.call.Call.TheVariants as call
 use Rattle.ell_cards.specs.declared.view.Told.TheVariants.{Met, Key, Value, Info, Frozen}
 use Rattle.ell_cards.specs.declared.view.View.{View}
 use Rattle.ell_cards.specs.Models.{IsTold, IsFree, Does, StandsAt, InTable, KnowsDelete, EndWasUnknown}
-use Rattle.ell_cards.specs.Changes.{learning, if_won, exchanged, after_begin, after_again, after_leave, after_answer, after_upd, after_claim, after_flag, after_mark, gone_from, gone_down, is_this, told_info, after_fill}
+use Rattle.ell_cards.specs.Changes.{learning, if_won, exchanged, after_begin, after_again, after_leave, after_answer, after_upd, after_claim, after_flag, after_mark, gone_from, glance_down, is_this, told_info, after_fill}
 use Rattle.ell_cards.specs.Guards.{MayBegin, MayAnswer, MayRead, MayGoDown, MayAsk, KnowsPlace, MayLookDown, MayClaim, MayFill, MayIFlag, MayDFlag, MayIChild, MayMark, MayDChild}
 
 -- the address of the update word of a node
-abbrev pub update_at : ℕ → ℕ
-update_at x = address (card x) field.Update
+abbrev pub update_address : ℕ → ℕ
+update_address x = address (card x) field.Update
 
 -- the address of a child of a node
-abbrev pub child_at : ℕ → Bool → ℕ
-child_at x right = address (card x) (child_field right)
+abbrev pub child_address : ℕ → Bool → ℕ
+child_address x right = address (card x) (child_field right)
 
 -- the address of the key of a node
-abbrev pub key_at : ℕ → ℕ
-key_at x = address (card x) (key_field (x % 4))
+abbrev pub key_address : ℕ → ℕ
+key_address x = address (card x) (key_field (x % 4))
 
 -- the address of the value of a leaf
-abbrev pub value_at : ℕ → ℕ
-value_at x = address (card x) (value_field (x % 4))
+abbrev pub value_address : ℕ → ℕ
+value_address x = address (card x) (value_field (x % 4))
 
 -- the word that a call touches: of a call that only notes something it is the key of the root, which never changes
 abbrev pub word_of : Call → ℕ
-word_of (call.Upd x) = update_at x
-word_of (call.Down x right) = child_at x right
+word_of (call.Upd x) = update_address x
+word_of (call.Down x right) = child_address x right
 word_of call.Next = 0
-word_of (call.KeyOf x) = key_at x
-word_of (call.ValueOf x) = value_at x
+word_of (call.KeyOf x) = key_address x
+word_of (call.ValueOf x) = value_address x
 word_of (call.Info c f) = address c f
-word_of (call.FrozenChild c p right) = child_at p right
-word_of call.Look = child_at 0 false
-word_of (call.LookDown from key right) = child_at from.node right
+word_of (call.FrozenChild c p right) = child_address p right
+word_of call.Look = child_address 0 false
+word_of (call.LookDown from key right) = child_address from.node right
 word_of (call.Claim c) = 0
 word_of (call.Fill c f value) = address c f
-word_of (call.IFlag c p from) = update_at p
-word_of (call.IChild c p l q right) = child_at p right
-word_of (call.IUnflag c p) = update_at p
-word_of (call.DFlag c gp from) = update_at gp
-word_of (call.Mark c p was) = update_at p
-word_of (call.DChild c gp p s right) = child_at gp right
-word_of (call.DUnflag c gp) = update_at gp
-word_of (call.Backtrack c gp) = update_at gp
-word_of _ = key_at 0
+word_of (call.IFlag c p from) = update_address p
+word_of (call.IChild c p l q right) = child_address p right
+word_of (call.IUnflag c p) = update_address p
+word_of (call.DFlag c gp from) = update_address gp
+word_of (call.Mark c p was) = update_address p
+word_of (call.DChild c gp p s right) = child_address gp right
+word_of (call.DUnflag c gp) = update_address gp
+word_of (call.Backtrack c gp) = update_address gp
+word_of _ = key_address 0
 
 -- what an atomic step does to its word: it loads it, stores a value, or exchanges an expected value for another
 pub data Atomic : Type 0 where
@@ -122,7 +122,7 @@ after call.Look n v = record v {
   looks = v.looks + 1; made = v.made + 1;
 }
 after (call.LookDown from key right) n v = record v {
-  told = Met n ∷ v.told; glances = gone_down from key right n ∷ v.glances; made = v.made + 1;
+  told = Met n ∷ v.told; glances = glance_down from key right n ∷ v.glances; made = v.made + 1;
 }
 after (call.Claim c) n v = after_claim (n == c) c v
 after (call.Fill c f value) n v = after_fill f value v
@@ -210,8 +210,8 @@ pub record TellsLeaf (v : View) (x key : ℕ) : Type 0 where
 
 -- the value of a leaf where the pass stands, whose key it was told to be the operation's, is that of its ledger, if it
 -- has the key
-abbrev pub TellsValue : View → ℕ → ℕ → Type 0
-TellsValue v x value = (op : Op) → Does v op → StandsAt v x → v.here ≡ Some (key_of op) → ledger_of v.worker.ledger (key_of op) ≢ None
+abbrev pub TellsLedgerValue : View → ℕ → ℕ → Type 0
+TellsLedgerValue v x value = (op : Op) → Does v op → StandsAt v x → v.here ≡ Some (key_of op) → ledger_of v.worker.ledger (key_of op) ≢ None
     → contents_in (ledger_of v.worker.ledger) (key_of op) ≡ Some value
 
 -- where a card goes is ever deeper: a delete's parent below its grandparent, and a leaf below the parent
@@ -239,7 +239,7 @@ Tells cards (call.Upd x) v n = ((unpacked n).card ≤ cards) × EndWasUnknown v 
 Tells cards (call.Down x right) v n = (x < n) × InTable cards n
 Tells cards call.Next v n = (1 ≤ n) × (n ≤ cards + 1) × (v.next_at_least ≤ n)
 Tells cards (call.KeyOf x) v n = TellsLeaf v x n
-Tells cards (call.ValueOf x) v n = TellsValue v x n
+Tells cards (call.ValueOf x) v n = TellsLedgerValue v x n
 Tells cards (call.Info c f) v n = TellsNode cards f n × TellsDepth v c f n
 Tells cards (call.FrozenChild c p right) v n = (p < n) × InTable cards n
 Tells cards call.Look v n = (0 < n) × InTable cards n

@@ -133,9 +133,9 @@ found_word expected (Ok won) = expected
 found_word expected (Err found) = packed found
 
 -- the child that an exchange found, by its answer
-abbrev pub found_child : ℕ → Result (Unit {0}) ℕ → ℕ
-found_child expected (Ok won) = expected
-found_child expected (Err found) = found
+abbrev pub child_found : ℕ → Result (Unit {0}) ℕ → ℕ
+child_found expected (Ok won) = expected
+child_found expected (Err found) = found
 
 -- a worker with nothing in hand
 abbrev pub idle_worker : List (ℕ × Entry) → Option (List ℕ) → List Fact → WorkerView
@@ -224,8 +224,8 @@ told_info c L x told = Info c L x ∷ Met x ∷ told
 told_info c f x told = Info c f x ∷ told
 
 -- where those keys have come that go from a node with this key to this child, which is on this side
-abbrev pub gone_down : Glance → ℕ → Bool → ℕ → Glance
-gone_down g key right child = record { node = child; low = from_of right g.low key; high = upto_of right g.high key }
+abbrev pub glance_down : Glance → ℕ → Bool → ℕ → Glance
+glance_down g key right child = record { node = child; low = from_of right g.low key; high = upto_of right g.high key }
 
 -- the value that was told of a leaf the last time, or 0
 abbrev pub told_value : List Told → ℕ → ℕ
@@ -321,9 +321,9 @@ after_mark true c x u v = learning (fact.Marked c) v
 after_mark false c x u v = if is_mark_of c u.state u.card then learning (fact.Marked c) v else unmarking c x u v
 
 -- the keys of a ledger, in its order
-abbrev pub keys_of : List (ℕ × Entry) → List ℕ
-keys_of [] = []
-keys_of (e ∷ es) = e.0 ∷ keys_of es
+abbrev pub ledger_keys : List (ℕ × Entry) → List ℕ
+ledger_keys [] = []
+ledger_keys (e ∷ es) = e.0 ∷ ledger_keys es
 
 -- a pass with nothing in hand, with this share and worker, which has met the root alone
 abbrev pub idle_view : ℕ → WorkerView → View
@@ -366,9 +366,9 @@ put_entry e [] = e ∷ []
 put_entry e (d ∷ ds) = if nat_lt e.0 d.0 then e ∷ d ∷ ds else if e.0 == d.0 then e ∷ ds else d ∷ put_entry e ds
 
 -- two ascending ledgers in one
-abbrev pub united : List (ℕ × Entry) → List (ℕ × Entry) → List (ℕ × Entry)
-united [] ds = ds
-united (e ∷ es) ds = put_entry e (united es ds)
+abbrev pub united_ledgers : List (ℕ × Entry) → List (ℕ × Entry) → List (ℕ × Entry)
+united_ledgers [] ds = ds
+united_ledgers (e ∷ es) ds = put_entry e (united_ledgers es ds)
 
 -- the later of two readings of the claim word, which only grows
 abbrev pub later : Option ℕ → Option ℕ → Option ℕ
@@ -379,7 +379,7 @@ later (Some n) (Some m) = Some (max n m)
 -- join: one pass with the keys, shares and counts of two, all that both knew and won, and the later reading of next
 abbrev pub joined_view : View → View → View
 joined_view v w = record (idle_view ((v.share + w.share) % 2 ^ 64)
-    (idle_worker (united v.worker.ledger w.worker.ledger) (option_or v.worker.ownable w.worker.ownable)
+    (idle_worker (united_ledgers v.worker.ledger w.worker.ledger) (option_or v.worker.ownable w.worker.ownable)
     (v.worker.facts ++ w.worker.facts))) {
       told = v.told ++ w.told; won = v.won ++ w.won; hindrances = v.hindrances ++ w.hindrances;
       next = later v.next w.next; next_at_least = max v.next_at_least w.next_at_least;

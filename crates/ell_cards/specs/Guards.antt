@@ -45,18 +45,18 @@ pub record KnowsAnswerAtLeaf (v : View) (op : Op) (said : Reply) : Type 0 where
   pub says : leaf_answer op there ≡ Some said
 
 -- the card of an operation is known to be over
-abbrev pub IsOver : View → Op → ℕ → Type 0
-IsOver v (Find k) c = ⊥
-IsOver v (Insert k value) c = Knows v (IOver c)
-IsOver v (Delete k) c = Knows v (DOver c)
-IsOver v (Swap k was value) c = Knows v (IOver c)
+abbrev pub CardIsOver : View → Op → ℕ → Type 0
+CardIsOver v (Find k) c = ⊥
+CardIsOver v (Insert k value) c = Knows v (IOver c)
+CardIsOver v (Delete k) c = Knows v (DOver c)
+CardIsOver v (Swap k was value) c = Knows v (IOver c)
 
 -- an answer by the card in hand, which is over
 pub record KnowsAnswerByCard (v : View) (op : Op) (said : Reply) : Type 0 where
   pub card : ℕ
   pub holds : v.worker.card ≡ Some card
   pub flagged : v.worker.flagged ≡ true
-  pub over : IsOver v op card
+  pub over : CardIsOver v op card
   pub says : said ≡ reply_of_change op
 
 -- answer: an operation is in hand, and has this answer

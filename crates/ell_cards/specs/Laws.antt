@@ -5,7 +5,7 @@ use Rattle.ell_word.specs.Node.{IsInternal, card}
 use Rattle.ell_word.specs.Word.{unpacked}
 use Rattle.ell_word.specs.declared.update.State.TheVariants as state
 use Rattle.ell_core.specs.state.Machine.{Machine}
-use Rattle.ell_core.specs.state.Moves.{Split, Join}
+use Rattle.ell_core.specs.state.Handovers.{Split, Join}
 use Rattle.ell_core.specs.soundness.Sound.{IsSound}
 use Rattle.ell_core.specs.tree.Tree.{Reached}
 use Rattle.ell_core.specs.history.Stages.{waits}
@@ -37,15 +37,15 @@ StepsAreEvents = (keys : List ℕ) (cards : ℕ) (s : TableState) (r : HasMachin
     → get_elem? s.views id ≡ some v → May cards c v → IsEvent keys cards s r id v c
 
 -- the state after a split has a machine again: the one before, after a split of that worker
-pub record IsSplit (keys : List ℕ) (cards : ℕ) (s : TableState) (r : HasMachine keys cards s) (id : ℕ) (v : View) (left : List ℕ) : Type 0 where
+pub record SplitIsKept (keys : List ℕ) (cards : ℕ) (s : TableState) (r : HasMachine keys cards s) (id : ℕ) (v : View) (left : List ℕ) : Type 0 where
   pub kept : HasMachine keys cards (state_split s id v left)
   pub later : StagesLater r.stages kept.stages
   pub split : Split (machine_of_table keys cards s r) id (machine_of_table keys cards (state_split s id v left) kept)
 
 -- each split is one of the machine
-abbrev pub SplitsAreMoves : Type 0
-SplitsAreMoves = (keys : List ℕ) (cards : ℕ) (s : TableState) (r : HasMachine keys cards s) (id : ℕ) (v : View) (left : List ℕ)
-    → get_elem? s.views id ≡ some v → IsFree v → IsSplit keys cards s r id v left
+abbrev pub SplitsAreHandovers : Type 0
+SplitsAreHandovers = (keys : List ℕ) (cards : ℕ) (s : TableState) (r : HasMachine keys cards s) (id : ℕ) (v : View) (left : List ℕ)
+    → get_elem? s.views id ≡ some v → IsFree v → SplitIsKept keys cards s r id v left
 
 -- the state after a join has a machine again: the one before, after a join of these workers
 pub record IsJoin (keys : List ℕ) (cards : ℕ) (s : TableState) (r : HasMachine keys cards s) (id other : ℕ) (v w : View) : Type 0 where
@@ -54,8 +54,8 @@ pub record IsJoin (keys : List ℕ) (cards : ℕ) (s : TableState) (r : HasMachi
   pub join : Join (machine_of_table keys cards s r) id other (machine_of_table keys cards (state_joined s id other v w) kept)
 
 -- each join is one of the machine
-abbrev pub JoinsAreMoves : Type 0
-JoinsAreMoves = (keys : List ℕ) (cards : ℕ) (s : TableState) (r : HasMachine keys cards s) (id other : ℕ) (v w : View)
+abbrev pub JoinsAreHandovers : Type 0
+JoinsAreHandovers = (keys : List ℕ) (cards : ℕ) (s : TableState) (r : HasMachine keys cards s) (id other : ℕ) (v w : View)
     → get_elem? s.views id ≡ some v → get_elem? s.views other ≡ some w → id ≢ other → IsFree v → IsFree w
     → IsJoin keys cards s r id other v w
 

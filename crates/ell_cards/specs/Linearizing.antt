@@ -36,7 +36,7 @@ pub record IsTurn (cards : ℕ) (s : TableState) (turns : List Turn) (k : ℕ) (
 
 -- a turn of a run changes the tree by an operation: in it, by whichever pass, the child exchange of a card is won that a pass has in hand for
 -- that operation
-pub record IsChange (cards : ℕ) (s : TableState) (turns : List Turn) (change : ℕ) (op : Op) : Type 0 where
+pub record ChangesBy (cards : ℕ) (s : TableState) (turns : List Turn) (change : ℕ) (op : Op) : Type 0 where
   pub state : TableState
   pub turn : Turn
   pub is : IsTurn cards s turns change state turn
@@ -48,7 +48,7 @@ pub record IsChange (cards : ℕ) (s : TableState) (turns : List Turn) (change :
 -- a call that changes the tree, whether it has ended or not: in one turn a pass begins the operation, and while the pass goes on with it, a
 -- later one changes the tree by it, for the card that the pass has in hand
 pub record ChangesAt (cards : ℕ) (s : TableState) (turns : List Turn) (begin change : ℕ) (op : Op) : Type 0 where
-  pub by : IsChange cards s turns change op
+  pub by : ChangesBy cards s turns change op
   pub begins : get_elem? turns begin ≡ some (Makes by.work.seat (call.Begin op))
   pub later : begin < change
   pub on : KeepsOnBetween by.work.seat turns begin change
@@ -74,8 +74,8 @@ abbrev pub StandsIn : List Item → ℕ → Item → Type 0
 StandsIn order i item = get_elem? order i ≡ some item
 
 -- the sequence has it
-abbrev pub IsIn : List Item → Item → Type 0
-IsIn order item = (i : ℕ) × StandsIn order i item
+abbrev pub HasItem : List Item → Item → Type 0
+HasItem order item = (i : ℕ) × StandsIn order i item
 
 -- an item is a call that has changed the tree and has not ended, with the answer of a change
 pub record IsPending (cards : ℕ) (s : TableState) (turns : List Turn) (item : Item) : Type 0 where
@@ -91,9 +91,9 @@ IsMade cards s turns item = ((end : ℕ) × IsAnswered turns item.begin end item
 -- which calls the sequence of a run has: each that has ended, with its answer; each that has changed the tree, with the
 -- answer of a change; no other; and each once
 pub record HasTheCalls (cards : ℕ) (s : TableState) (turns : List Turn) (order : List Item) : Type 0 where
-  pub ended : (begin end : ℕ) (op : Op) (said : Reply) → IsAnswered turns begin end op said → IsIn order (record { begin = begin; op = op; reply = said })
-  pub changed : (begin change : ℕ) (op : Op) → ChangesAt cards s turns begin change op → IsIn order (record { begin = begin; op = op; reply = reply_of_change op })
-  pub other : (item : Item) → IsIn order item → IsMade cards s turns item
+  pub ended : (begin end : ℕ) (op : Op) (said : Reply) → IsAnswered turns begin end op said → HasItem order (record { begin = begin; op = op; reply = said })
+  pub changed : (begin change : ℕ) (op : Op) → ChangesAt cards s turns begin change op → HasItem order (record { begin = begin; op = op; reply = reply_of_change op })
+  pub other : (item : Item) → HasItem order item → IsMade cards s turns item
   pub once : (i j : ℕ) (x y : Item) → StandsIn order i x → StandsIn order j y → x.begin ≡ y.begin → i ≡ j
 
 -- a call that ended before another began stands before it

@@ -5,7 +5,6 @@ use Rattle.ell_ops.specs.declared.op.Op.{Op}
 use Rattle.ell_ops.specs.Meaning.{key_of}
 use Rattle.ell_core.specs.declared.fact.Fact.TheVariants.{DOver}
 use Rattle.ell_core.specs.declared.fact.Fact.{Fact}
-use Rattle.ell_layout.specs.declared.field.Field.TheVariants.{Left, Right, Update}
 use Rattle.ell_layout.specs.declared.field.Field.{Field}
 use Rattle.ell_layout.specs.Layout.{listed, table_size}
 use Rattle.ell_layout.specs.Words.{Words, word}
@@ -15,19 +14,13 @@ use Rattle.ell_layout.specs.Cards.{marked, stored}
 use Rattle.ell_core.specs.soundness.Sound.{WorkerOwns}
 use Rattle.ell_core.specs.history.Invariant.{Invariant}
 use Rattle.ell_core.specs.history.Stages.{Stages, Born, waits}
+use Rattle.ell_core.specs.statements.Told.{is_fixed}
 use Rattle.ell_core.specs.statements.Walks.{Avoids}
 use Rattle.ell_cards.specs.declared.view.Told.TheVariants.{Met, Key, Value, Info, Frozen}
 use Rattle.ell_cards.specs.declared.view.Told.{Told}
 use Rattle.ell_cards.specs.declared.view.View.{View}
 use Rattle.ell_cards.specs.Models.{IsTold, Knows, KnewBefore, stored_at}
 use Rattle.ell_cards.specs.States.{TableState, seated}
-
--- a field that never changes once its card is claimed
-abbrev pub is_fixed : Field → Bool
-is_fixed Left = false
-is_fixed Right = false
-is_fixed Update = false
-is_fixed _ = true
 
 -- what was told holds of the machine's words: a node that was met came into the tree; a key, a value, or a fixed word of a claimed
 -- card, is what was told; and so is a child of a parent that stays marked

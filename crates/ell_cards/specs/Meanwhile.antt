@@ -139,14 +139,14 @@ SearchesReadMeanwhile = (plan : TablePlan) (r : SearchRun plan) → ReadsMeanwhi
 abbrev pub SearchesMeetMeanwhile : Type 0
 SearchesMeetMeanwhile = (plan : TablePlan) (r : SearchRun plan) → MetMeanwhile plan r
 
--- what a pass knows of moves was made in a run: the cards that its claims have shown to be given out are, and each card that it knows to
--- have come to its end did so
-pub record KnowsWhatMoved (cards : ℕ) (first : TableState) (turns : List Turn) (s : TableState) (run : TableRun cards first turns s) (v : View) : Type 0 where
+-- the milestones of which a pass knows were reached in a run: the cards that its claims have shown to be given out are,
+-- and each card that it knows to have come to its end did so
+pub record KnowsWhatIsReached (cards : ℕ) (first : TableState) (turns : List Turn) (s : TableState) (run : TableRun cards first turns s) (v : View) : Type 0 where
   pub given_out : v.next_at_least ≤ (own_words s).next
   pub ended : (c : ℕ) → EndedBy v.worker.facts c → has_end (run_wins cards first turns s run c) ≡ true
 
 -- so it is of each pass after every run from a start
-abbrev pub KnownMovesWereMade : Type 0
-KnownMovesWereMade = (plan : TablePlan) (first : TableState) → Starts plan first → (turns : List Turn) (s : TableState)
+abbrev pub KnownMilestonesWereReached : Type 0
+KnownMilestonesWereReached = (plan : TablePlan) (first : TableState) → Starts plan first → (turns : List Turn) (s : TableState)
     (run : TableRun plan.last_card first turns s) (seat : ℕ) (v : View) → get_elem? s.views seat ≡ some v
-    → KnowsWhatMoved plan.last_card first turns s run v
+    → KnowsWhatIsReached plan.last_card first turns s run v

@@ -154,6 +154,6 @@ abbrev pub IsCardCount : ℕ → Type 0
 IsCardCount cards = (1 ≤ cards) × (cards ≤ most_cards)
 
 -- when a table of so many cards is refused: for its cards exactly where there may not be so many
-abbrev pub Refuses : ℕ → CardFault → Type 0
-Refuses cards BadCards = ¬ IsCardCount cards
-Refuses cards NoMemory = IsCardCount cards
+abbrev pub RefusesCards : ℕ → CardFault → Type 0
+RefusesCards cards BadCards = ¬ IsCardCount cards
+RefusesCards cards NoMemory = IsCardCount cards

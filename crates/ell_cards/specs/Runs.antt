@@ -6,7 +6,7 @@ use Rattle.ell_core.specs.declared.event.Shown.{Shown}
 use Rattle.ell_core.specs.declared.event.Shown.TheVariants.{Step}
 use Rattle.ell_core.specs.declared.event.Stepped.{Stepped}
 use Rattle.ell_core.specs.state.Machine.{Machine}
-use Rattle.ell_core.specs.state.Moves.{Split, Join}
+use Rattle.ell_core.specs.state.Handovers.{Split, Join}
 use Rattle.ell_core.specs.acts.Runs.{Run}
 use Rattle.ell_core.specs.soundness.Sound.{IsSound}
 use Rattle.ell_cards.specs.Calls.{act_of, said_of, Becomes}

@@ -5,7 +5,7 @@ use Rattle.atomic_table.specs.Table.{Allows, Splits, Joins}
 use Rattle.ell_cards.specs.declared.call.Call.{Call}
 use Rattle.ell_cards.specs.declared.view.View.{View}
 use Rattle.ell_cards.specs.Models.{TablePlan, PassModel, one_more, given_share}
-use Rattle.ell_cards.specs.Changes.{keys_of}
+use Rattle.ell_cards.specs.Changes.{ledger_keys}
 use Rattle.ell_cards.specs.Naming.{IsNamed}
 use Rattle.ell_cards.specs.Calls.{after, Tells}
 use Rattle.ell_cards.specs.Starts.{IsReached}
@@ -43,7 +43,7 @@ pub record SameShare (old new : View) : Type 0 where
 
 -- a pass with these keys may know this, where a pass of its table knew that
 pub record MayHave (cards : ℕ) (old : View) (keys : List ℕ) (v : View) : Type 0 where
-  pub owned : keys ≡ keys_of v.worker.ledger
+  pub owned : keys ≡ ledger_keys v.worker.ledger
   pub ascending : IsStrictlyIncreasing keys
   pub named : IsNamed cards old → IsNamed cards v
 
@@ -56,7 +56,7 @@ PartsShare old left right = (share : Share) → HasShare share old
 -- what a step tells says that the pass owns the keys and has the share that it did, and names what is in the table
 abbrev pub KeepsPass : ℕ → View → (ℕ → View → Type 0) → Type 0
 KeepsPass cards v then =
-    (n : ℕ) (w : View) → then n w → (keys_of w.worker.ledger ≡ keys_of v.worker.ledger) × SameShare v w × IsNamed cards w
+    (n : ℕ) (w : View) → then n w → (ledger_keys w.worker.ledger ≡ ledger_keys v.worker.ledger) × SameShare v w × IsNamed cards w
 
 -- a pass made one step that it has not counted yet: its table and its label are as they were
 pub record SeesBy (old new : PassModel) : Type 0 where
@@ -78,6 +78,6 @@ pub record IsTaken (cards : ℕ) (c : Call) (v : View) (n : ℕ) (w : View) : Ty
   pub tells : Tells cards c v n
   pub own : ReadsItsOwn w
   pub fixed : KeysAreFixed w
-  pub keys : keys_of w.worker.ledger ≡ keys_of v.worker.ledger
+  pub keys : ledger_keys w.worker.ledger ≡ ledger_keys v.worker.ledger
   pub share : SameShare v w
   pub named : IsNamed cards w

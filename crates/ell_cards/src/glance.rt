@@ -1,6 +1,6 @@
 //! A node to which a look has come, and the keys by which it has.
 ghost use Rattle.std.specs.Prelude.{◌≡◌};
-ghost use Rattle.ell_cards.specs.Changes.{gone_down};
+ghost use Rattle.ell_cards.specs.Changes.{glance_down};
 
 /// A node to which a look has come, and the keys by which it has come there: all from `low` on and below `high`.
 #[derive(Clone, Copy)]
@@ -15,7 +15,7 @@ impl Glance {
     /// to the left child, else to the right one.
     #[inline(always)]
     pub fn down(self, key: u64, right: bool, child: u64) -> Glance
-        ensures { result ≡ gone_down self key right child }
+        ensures { result ≡ glance_down self key right child }
     {
         if right {
             Glance {

@@ -7,7 +7,7 @@ ghost use Rattle.ell_core.specs.declared.fact.Fact.TheVariants.{IChanged, IOver,
 ghost use Rattle.ell_layout.specs.declared.field.Field.TheVariants.{Gp, P};
 ghost use Rattle.ell_layout.specs.Cards.{iflag, dflag};
 ghost use Rattle.ell_cards.specs.Models.{Steps, InTable};
-ghost use Rattle.ell_cards.specs.Changes.{after_mark, learning, if_won, exchanged, found_update, found_word, found_child};
+ghost use Rattle.ell_cards.specs.Changes.{after_mark, learning, if_won, exchanged, found_update, found_word, child_found};
 ghost use Rattle.ell_cards.specs.declared.call.Call.TheVariants as call;
 ghost use Rattle.ell_cards.specs.Guards.{KnowsPlace, MayAsk, MayDChild, MayIChild, MayMark};
 ghost use Rattle.ell_cards.specs.Calls.{after, TellsNode, TellsDepth};
@@ -15,7 +15,7 @@ ghost use Rattle.ell_cards.specs.Calls.{after, TellsNode, TellsDepth};
 use crate::call::Call;
 use crate::outcomes::{child_outcome, update_outcome};
 use crate::pass::Pass;
-use crate::places::{child_at, update_at};
+use crate::places::{child_address, update_address};
 use crate::table::CardTable;
 use ell_layout::{Field, update_word};
 use ell_word::{State, Update};
@@ -51,7 +51,7 @@ impl<A: Allocator + Copy> CardTable<A> {
     {
         self.names(pass);
         let call = Call::FrozenChild(card, parent, right);
-        self.load(pass, call, child_at(parent, right))
+        self.load(pass, call, child_address(parent, right))
     }
 
     /// Exchanges the child of an insert's parent, from the leaf to the node that the card brings. Else the error is the
@@ -70,13 +70,13 @@ impl<A: Allocator + Copy> CardTable<A> {
         requires may { MayIChild pass.old.view card parent leaf node right }
         // It makes one step and counts it. The pass then knows exactly what this call tells.
         ensures step { Steps pass.old pass.new (exchanged (if_won (is_ok result) exchange.IChild card)
-            (found_child leaf result) (learning (IChanged card) pass.old.view)) }
+            (child_found leaf result) (learning (IChanged card) pass.old.view)) }
         // If the exchange is lost, it has found another word than the expected one.
         ensures lost { IfErr result (λ found. found ≢ leaf) }
     {
         self.names(pass);
         let call = Call::IChild(card, parent, leaf, node, right);
-        let found = self.exchange(pass, call, child_at(parent, right), leaf, node);
+        let found = self.exchange(pass, call, child_address(parent, right), leaf, node);
         child_outcome(leaf, found)
     }
 
@@ -95,7 +95,7 @@ impl<A: Allocator + Copy> CardTable<A> {
         let flag = update_word(State::IFlag, card);
         let clean = update_word(State::Clean, card);
         let call = Call::IUnflag(card, parent);
-        let found = self.exchange(pass, call, update_at(parent), flag, clean);
+        let found = self.exchange(pass, call, update_address(parent), flag, clean);
         update_outcome(flag, found)
     }
 
@@ -116,7 +116,7 @@ impl<A: Allocator + Copy> CardTable<A> {
         self.names(pass);
         let call = Call::Mark(card, parent, was);
         let mark = update_word(State::Mark, card);
-        let found = self.exchange(pass, call, update_at(parent), was, mark);
+        let found = self.exchange(pass, call, update_address(parent), was, mark);
         update_outcome(was, found)
     }
 
@@ -136,13 +136,13 @@ impl<A: Allocator + Copy> CardTable<A> {
         requires may { MayDChild pass.old.view card grandparent parent sibling right }
         // It makes one step and counts it. The pass then knows exactly what this call tells.
         ensures step { Steps pass.old pass.new (exchanged (if_won (is_ok result) exchange.DChild card)
-            (found_child parent result) (learning (Cut card) pass.old.view)) }
+            (child_found parent result) (learning (Cut card) pass.old.view)) }
         // If the exchange is lost, it has found another word than the expected one.
         ensures lost { IfErr result (λ found. found ≢ parent) }
     {
         self.names(pass);
         let call = Call::DChild(card, grandparent, parent, sibling, right);
-        let found = self.exchange(pass, call, child_at(grandparent, right), parent, sibling);
+        let found = self.exchange(pass, call, child_address(grandparent, right), parent, sibling);
         child_outcome(parent, found)
     }
 
@@ -162,7 +162,7 @@ impl<A: Allocator + Copy> CardTable<A> {
         let flag = update_word(State::DFlag, card);
         let clean = update_word(State::Clean, card);
         let call = Call::DUnflag(card, grandparent);
-        let found = self.exchange(pass, call, update_at(grandparent), flag, clean);
+        let found = self.exchange(pass, call, update_address(grandparent), flag, clean);
         update_outcome(flag, found)
     }
 
@@ -182,7 +182,7 @@ impl<A: Allocator + Copy> CardTable<A> {
         let flag = update_word(State::DFlag, card);
         let clean = update_word(State::Clean, card);
         let call = Call::Backtrack(card, grandparent);
-        let found = self.exchange(pass, call, update_at(grandparent), flag, clean);
+        let found = self.exchange(pass, call, update_address(grandparent), flag, clean);
         update_outcome(flag, found)
     }
 }

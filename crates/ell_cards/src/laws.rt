@@ -10,7 +10,7 @@ ghost use Rattle.ell_cards.specs.SmallRun.{SmallRunIsMade};
 ghost use Rattle.ell_cards.specs.Readings.{ReadingsArePast, ClaimsAreTold};
 ghost use Rattle.ell_cards.specs.Contention.{TriesAreHinderedByOthers};
 ghost use Rattle.ell_cards.specs.Stretches.{FewFlagsWithoutAChange, TablesHaveHeights};
-ghost use Rattle.ell_cards.specs.Meanwhile.{SearchesBeginThere, SearchesReadMeanwhile, SearchesMeetMeanwhile, KnownMovesWereMade};
+ghost use Rattle.ell_cards.specs.Meanwhile.{SearchesBeginThere, SearchesReadMeanwhile, SearchesMeetMeanwhile, KnownMilestonesWereReached};
 ghost use Rattle.ell_cards.specs.Looking.{LooksAreOfOneState, LooksAreInOrder, LooksReadTheirOwn, StretchesAreOfOneState, StretchesAreInOrder};
 ghost use Rattle.ell_cards.specs.Changing.{CallsHaveTheirPoint, CallsAnswerAsAMap, CallsHaveTheirOwnCards, TreesAreMaps, TreesAreOfOneThread, CallsReplyAsOneThread};
 ghost use Rattle.ell_cards.specs.Linearizing.{RunsAreLinearizable, LastAnswersAreOfCalls};
@@ -19,7 +19,7 @@ ghost use Rattle.ell_cards.specs.Answering.{AnswersHaveTheirPoints};
 ghost use Rattle.ell_cards.specs.Taking.{DeletesTakeTheToldValue};
 ghost use Rattle.ell_cards.specs.Sharing.{SharesAddUp};
 ghost use Rattle.ell_cards.specs.Tellings.{NoGreaterNext, NoGreaterUpdate, NoOtherOutcome, NoUntriedClaimLost};
-ghost use Rattle.ell_cards.specs.Laws.{StepsAreEvents, SplitsAreMoves, JoinsAreMoves, MachineIsSound, MachineHasOwnWords};
+ghost use Rattle.ell_cards.specs.Laws.{StepsAreEvents, SplitsAreHandovers, JoinsAreHandovers, MachineIsSound, MachineHasOwnWords};
 ghost use Rattle.ell_cards.specs.Runs.{RunsAreLawful, RunsAreSchedules};
 ghost use Rattle.ell_cards.specs.RunLaws.{TableWinsAreInOrder, StartsAreKept, ReachedHasMachine};
 
@@ -33,10 +33,10 @@ pub fn steps_are_events()
 {}
 
 /// A split of a pass with nothing in hand, and a join of two, are those of the machine that the table has.
-pub fn splits_and_joins_are_moves()
+pub fn splits_and_joins_are_handovers()
     // Each split and each join is one of the machine.
-    ensures splits { SplitsAreMoves }
-    ensures joins { JoinsAreMoves }
+    ensures splits { SplitsAreHandovers }
+    ensures joins { JoinsAreHandovers }
 {}
 
 /// Wherever turns have led a table, its own words, with what its passes know, are a sound state: a lawful tree, whose keys are
@@ -148,7 +148,7 @@ pub fn readings_are_past()
 /// tries, is of a card that had not come to its end at that beginning; once the pass knows that it has, it did so meanwhile. A card whose
 /// claim was lost was given out meanwhile, and a clean word that a lost flag or mark found is of a card that ended meanwhile. While the
 /// pass has a card in hand, nothing that was in its way is of that card. A search begins after each begin and each again. What a pass
-/// knows of moves was made: the cards that its claims have shown to be given out are, and each card that it knows to have come to its
+/// knows of milestones was reached: the cards that its claims have shown to be given out are, and each card that it knows to have come to its
 /// end did so in the run. And of its tries at one operation others can hinder two for each card that is given out to them meanwhile, and
 /// one for each card that was in a hand at the beginning.
 pub fn searches_read_meanwhile()
@@ -157,8 +157,8 @@ pub fn searches_read_meanwhile()
     ensures begin { SearchesBeginThere }
     ensures reads { SearchesReadMeanwhile }
     ensures meets { SearchesMeetMeanwhile }
-    // The moves of which a pass knows were made.
-    ensures moved { KnownMovesWereMade }
+    // The milestones of which a pass knows were reached.
+    ensures reached { KnownMilestonesWereReached }
     // Of the tries that a pass gives up at an operation for a hindrance that is over there are at most two for each
     // card given out to another pass since it began, and one for each card in some hand then.
     ensures few { TriesAreHinderedByOthers }

@@ -8,9 +8,9 @@ ghost use Rattle.ell_ops.specs.KeySet.{set_of};
 ghost use Rattle.ell_word.specs.Node.{greatest_card, most_start};
 ghost use Rattle.ell_core.specs.state.Opening.{last_card};
 ghost use Rattle.ell_core.specs.state.Machine.{ledger_of};
-ghost use Rattle.ell_cards.specs.Models.{Steps, IsFree, IsCardCount, MayPart, Refuses, SplitRefuses, one_more};
+ghost use Rattle.ell_cards.specs.Models.{Steps, IsFree, IsCardCount, MayPart, RefusesCards, SplitRefuses, one_more};
 ghost use Rattle.ell_cards.specs.Changes.{first_of, left_view, right_view, joined_view};
-ghost use Rattle.ell_cards.specs.Inside.{IsOpened};
+ghost use Rattle.ell_cards.specs.Inside.{IsNewTable};
 ghost use Rattle.ell_cards.specs.Stepping.{MaySplit, MayHave, PartsShare};
 ghost use Rattle.ell_cards.specs.Starts.{MayStart, OpensBy};
 
@@ -41,7 +41,7 @@ impl<A: Allocator + Copy> CardTable<A> {
         ensures opened { IfOk result (OpensBy
             (record { keys = keys.now; start = []; last_card = cards; shared = false })) }
         // `BadCards` comes exactly if the cards are not 1 to 1,000,000, and else `NoMemory` alone.
-        ensures refused { IfErr result (Refuses cards) }
+        ensures refused { IfErr result (RefusesCards cards) }
     {
         CardTable::reserve_from(alloc, &[], keys, cards)
     }
@@ -69,7 +69,7 @@ impl<A: Allocator + Copy> CardTable<A> {
         ensures opened { IfOk result (OpensBy
             (record { keys = keys.now; start = start.now; last_card = last_card start.now cards; shared = false })) }
         // `BadCards` comes exactly if the cards are not 1 to 1,000,000, and else `NoMemory` alone.
-        ensures refused { IfErr result (Refuses cards) }
+        ensures refused { IfErr result (RefusesCards cards) }
     {
         if !is_card_count(cards) {
             return Err(CardFault::BadCards);
@@ -106,7 +106,7 @@ impl<A: Allocator + Copy> CardTable<A> {
           shared = false;
         })) }
         // `BadCards` comes exactly if the cards are not 1 to 1,000,000, and else `NoMemory` alone.
-        ensures refused { IfErr result (Refuses cards) }
+        ensures refused { IfErr result (RefusesCards cards) }
     {
         if !is_card_count(cards) {
             return Err(CardFault::BadCards);
@@ -143,7 +143,7 @@ impl<A: Allocator + Copy> CardTable<A> {
         ensures opened { IfOk result (OpensBy
             (record { keys = keys.now; start = start.now; last_card = last_card start.now cards; shared = true })) }
         // `BadCards` comes exactly if the cards are not 1 to 1,000,000, and else `NoMemory` alone.
-        ensures refused { IfErr result (Refuses cards) }
+        ensures refused { IfErr result (RefusesCards cards) }
     {
         if !is_card_count(cards) {
             return Err(CardFault::BadCards);
@@ -359,7 +359,7 @@ fn opened<A: Allocator + Copy>(
     requires cards { plan.now.last_card ≤ greatest_card }
     requires few { length plan.now.start < greatest_card }
     requires may { MayStart plan.now }
-    ensures { IfOk result (λ made. IsOpened plan.now.last_card made.0.shared.table_id made.1.table_id made.1.me
+    ensures { IfOk result (λ made. IsNewTable plan.now.last_card made.0.shared.table_id made.1.table_id made.1.me
         (first_of plan.now) × (made.0.shared.key ≡ plan.now)) }
 {
     let mut words = so_many(zeros, table_size(plan.last_card))?;

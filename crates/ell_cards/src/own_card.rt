@@ -10,7 +10,7 @@ ghost use Rattle.ell_cards.specs.Guards.{MayClaim, MayFill, MayIFlag, MayDFlag};
 use crate::call::Call;
 use crate::outcomes::update_outcome;
 use crate::pass::Pass;
-use crate::places::update_at;
+use crate::places::update_address;
 use crate::table::CardTable;
 use ell_layout::{Field, update_word};
 use ell_word::{State, Update, pack};
@@ -66,7 +66,7 @@ impl<A: Allocator + Copy> CardTable<A> {
         let expected = pack(from);
         let flag = update_word(State::IFlag, card);
         let call = Call::IFlag(card, parent, from);
-        let found = self.exchange(pass, call, update_at(parent), expected, flag);
+        let found = self.exchange(pass, call, update_address(parent), expected, flag);
         update_outcome(expected, found)
     }
 
@@ -94,7 +94,7 @@ impl<A: Allocator + Copy> CardTable<A> {
         let expected = pack(from);
         let flag = update_word(State::DFlag, card);
         let call = Call::DFlag(card, grandparent, from);
-        let found = self.exchange(pass, call, update_at(grandparent), expected, flag);
+        let found = self.exchange(pass, call, update_address(grandparent), expected, flag);
         update_outcome(expected, found)
     }
 }

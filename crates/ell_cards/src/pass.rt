@@ -3,7 +3,7 @@ ghost use Rattle.std.specs.Prelude.{◌≡◌, ◌↔◌, ℕ, IsTrue, []};
 ghost use Rattle.std.specs.List.Sorted.{IsStrictlyIncreasing};
 ghost use Rattle.ell_layout.specs.Layout.{table_size};
 ghost use Rattle.ell_cards.specs.Models.{Counts, MayPart, Owns, PassModel, one_more, whole_share};
-ghost use Rattle.ell_cards.specs.Changes.{keys_of};
+ghost use Rattle.ell_cards.specs.Changes.{ledger_keys};
 ghost use Rattle.ell_cards.specs.Naming.{IsNamed};
 
 use crate::share::{Share, WHOLE_SHARE};
@@ -54,7 +54,7 @@ impl<A: Allocator + Copy> Pass<A> {
     /// The keys that the pass owns, strictly ascending.
     pub fn keys(&self) -> &[u64]
         // Returns the keys of the pass, strictly ascending.
-        ensures keys { result.now ≡ keys_of self.now.view.worker.ledger }
+        ensures keys { result.now ≡ ledger_keys self.now.view.worker.ledger }
         ensures ascending { IsStrictlyIncreasing result.now }
     {
         self.keys.as_slice()

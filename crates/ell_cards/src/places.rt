@@ -2,44 +2,44 @@
 ghost use Rattle.std.specs.Prelude.{◌≡◌, ◌≤◌};
 ghost use Rattle.ell_word.specs.Node.{greatest_card, card};
 ghost use Rattle.ell_layout.specs.Words.{IsLeaf};
-ghost use Rattle.ell_cards.specs.Calls.{update_at, child_at, key_at, value_at};
+ghost use Rattle.ell_cards.specs.Calls.{update_address, child_address, key_address, value_address};
 
 use ell_layout::{Field, child_field, key_field, value_field};
 use ell_word::card_of;
 
 /// The address of the update word of a node.
 #[inline(always)]
-pub(crate) fn update_at(node: u64) -> usize
+pub(crate) fn update_address(node: u64) -> usize
     requires { card node ≤ greatest_card }
-    ensures { result ≡ update_at node }
+    ensures { result ≡ update_address node }
 {
     Field::Update.address(card_of(node))
 }
 
 /// The address of a child of a node.
 #[inline(always)]
-pub(crate) fn child_at(node: u64, right: bool) -> usize
+pub(crate) fn child_address(node: u64, right: bool) -> usize
     requires { card node ≤ greatest_card }
-    ensures { result ≡ child_at node right }
+    ensures { result ≡ child_address node right }
 {
     child_field(right).address(card_of(node))
 }
 
 /// The address of the key of a node.
 #[inline(always)]
-pub(crate) fn key_at(node: u64) -> usize
+pub(crate) fn key_address(node: u64) -> usize
     requires { card node ≤ greatest_card }
-    ensures { result ≡ key_at node }
+    ensures { result ≡ key_address node }
 {
     key_field(node).address(card_of(node))
 }
 
 /// The address of the value of a leaf.
 #[inline(always)]
-pub(crate) fn value_at(leaf: u64) -> usize
+pub(crate) fn value_address(leaf: u64) -> usize
     requires card { card leaf ≤ greatest_card }
     requires outer { IsLeaf leaf }
-    ensures { result ≡ value_at leaf }
+    ensures { result ≡ value_address leaf }
 {
     value_field(leaf).address(card_of(leaf))
 }
@@ -47,7 +47,7 @@ pub(crate) fn value_at(leaf: u64) -> usize
 /// The address of the key of the root: a word that never changes, in a line that each search reads.
 #[inline(always)]
 pub(crate) fn root_key() -> usize
-    ensures { result ≡ key_at 0 }
+    ensures { result ≡ key_address 0 }
 {
-    key_at(0)
+    key_address(0)
 }

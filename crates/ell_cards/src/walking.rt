@@ -10,13 +10,13 @@ ghost use Rattle.ell_cards.specs.Models.{Sees, Steps, IsTold, InTable, EndWasUnk
 ghost use Rattle.ell_cards.specs.Changes.{after_begin, after_again, after_leave, after_answer, after_upd};
 ghost use Rattle.ell_cards.specs.declared.call.Call.TheVariants as call;
 ghost use Rattle.ell_cards.specs.Guards.{MayBegin, MayAnswer, MayRead, MayGoDown, MayLookDown};
-ghost use Rattle.ell_cards.specs.Calls.{after, TellsLeaf, TellsValue};
+ghost use Rattle.ell_cards.specs.Calls.{after, TellsLeaf, TellsLedgerValue};
 ghost use Rattle.ell_cards.specs.Looking.{KeysAreFixed, ReadsItsOwn};
 
 use crate::call::Call;
 use crate::glance::Glance;
 use crate::pass::Pass;
-use crate::places::{child_at, key_at, root_key, update_at, value_at};
+use crate::places::{child_address, key_address, root_key, update_address, value_address};
 use crate::table::CardTable;
 use ell_ops::{Op, Reply};
 use ell_word::{Update, unpack};
@@ -88,7 +88,7 @@ impl<A: Allocator + Copy> CardTable<A> {
         ensures unknown { EndWasUnknown pass.old.view result.state result.card }
     {
         self.names(pass);
-        unpack(self.see(pass, Call::Upd(node), update_at(node)))
+        unpack(self.see(pass, Call::Upd(node), update_address(node)))
     }
 
     /// Goes down from the internal node where the pass stands to the child on its key's side: a greater node of the table.
@@ -103,7 +103,7 @@ impl<A: Allocator + Copy> CardTable<A> {
         ensures there { InTable self.now.plan.last_card result }
     {
         self.names(pass);
-        self.see(pass, Call::Down(node, right), child_at(node, right))
+        self.see(pass, Call::Down(node, right), child_address(node, right))
     }
 
     /// Reads the claim word: the number of the next card, one more than the number of the last card where all are claimed.
@@ -133,7 +133,7 @@ impl<A: Allocator + Copy> CardTable<A> {
         ensures there { InTable self.now.plan.last_card result }
     {
         self.names(pass);
-        self.see(pass, Call::Look, child_at(0, false))
+        self.see(pass, Call::Look, child_address(0, false))
     }
 
     /// Goes down in a look from an internal node to which it has come, now or earlier, with the node's key, to the
@@ -149,7 +149,7 @@ impl<A: Allocator + Copy> CardTable<A> {
         ensures there { InTable self.now.plan.last_card result }
     {
         self.names(pass);
-        let word = child_at(from.node, right);
+        let word = child_address(from.node, right);
         self.see(pass, Call::LookDown(from, key, right), word)
     }
 
@@ -172,7 +172,7 @@ impl<A: Allocator + Copy> CardTable<A> {
         ensures fixed { KeysAreFixed pass.new.view }
     {
         self.names(pass);
-        self.see(pass, Call::KeyOf(node), key_at(node))
+        self.see(pass, Call::KeyOf(node), key_address(node))
     }
 
     /// Reads the value of a leaf that the pass has met. Of the leaf where it stands, whose key is known to be the operation's, it is
@@ -185,13 +185,13 @@ impl<A: Allocator + Copy> CardTable<A> {
         // It makes one step, which the caller has to count. The pass then knows exactly what this call tells.
         ensures step { Sees pass.old pass.new (after (call.ValueOf leaf) result pass.old.view) }
         // The value of the operation's own key is that of the ledger.
-        ensures value { TellsValue pass.old.view leaf result }
+        ensures value { TellsLedgerValue pass.old.view leaf result }
         // What a look has found of an own key is what the ledger has.
         ensures looked { ReadsItsOwn pass.new.view }
         // The pass was told no two keys of one node.
         ensures fixed { KeysAreFixed pass.new.view }
     {
         self.names(pass);
-        self.see(pass, Call::ValueOf(leaf), value_at(leaf))
+        self.see(pass, Call::ValueOf(leaf), value_address(leaf))
     }
 }

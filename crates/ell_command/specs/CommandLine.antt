@@ -208,15 +208,15 @@ name_of Stripe = codes "stripe"
 name_of Range = codes "range"
 
 -- the number that the text of an option says
-abbrev pub number_of : Option Text → Option ℕ
-number_of = option_map (λ text. digits_value 10 (without_leading_plus text))
+abbrev pub number_said : Option Text → Option ℕ
+number_said = option_map (λ text. digits_value 10 (without_leading_plus text))
 
 -- the settings are those that the options say
 pub record AreSaid (rows : List Row) (settings : Settings) : Type 0 where
-  pub workers : number_of (one_of (codes "workers") rows) ≡ Some settings.workers
+  pub workers : number_said (one_of (codes "workers") rows) ≡ Some settings.workers
   pub parting : first_of (codes "parting") rows ≡ Some (name_of settings.parting)
-  pub cards : number_of (one_of (codes "cards") rows) ≡ settings.cards
-  pub tries : number_of (one_of (codes "tries") rows) ≡ Some settings.tries
+  pub cards : number_said (one_of (codes "cards") rows) ≡ settings.cards
+  pub tries : number_said (one_of (codes "tries") rows) ≡ Some settings.tries
 
 -- the options want a report
 abbrev pub WantReport : List Row → Type 0

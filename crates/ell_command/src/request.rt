@@ -11,7 +11,7 @@ ghost use Rattle.ell_command.specs.CommandLine.{AreTakenToRun, AsksForHelp, Asks
 ghost use Rattle.ell_command.specs.CommandLine.{AsksToReplay, AsksToRun, BorrowedNames, IsElltree};
 ghost use Rattle.ell_command.specs.CommandLine.{IsMistakeOrMemory, IsNumberUpTo, IsPlainRun};
 ghost use Rattle.ell_command.specs.CommandLine.{IsRequestOf, NamesPartings};
-ghost use Rattle.ell_command.specs.CommandLine.{cards_rule, faults_of, name_of, number_of, options_of};
+ghost use Rattle.ell_command.specs.CommandLine.{cards_rule, faults_of, name_of, number_said, options_of};
 ghost use Rattle.ell_command.specs.CommandLine.{parting_rule, replay_shape, report_rule};
 ghost use Rattle.ell_command.specs.CommandLine.{rows_in, run_shape, subcommand_for, subcommand_in};
 ghost use Rattle.ell_command.specs.CommandLine.{tries_rule, workers_rule};
@@ -198,7 +198,7 @@ fn number_in(options: &ArgMatches<'_>, name: &str) -> Option<u32>
     ensures some { (most : ℕ) → most < 2 ^ 32
         → IsNumberUpTo most (one_of name.now (rows_of (found_of options.now)))
         → IsSomeAnd result (λ number. (1 ≤ number) × (number ≤ most)
-        × (number_of (one_of name.now (rows_of (found_of options.now))) ≡ Some number)) }
+        × (number_said (one_of name.now (rows_of (found_of options.now))) ≡ Some number)) }
 {
     options.get_one(name)
 }

@@ -1,4 +1,4 @@
--- a state of the machine: its words, cards, facts, workers, the opening, seat moves
+-- a state of the machine: its words, cards, facts, workers, the opening, handovers
 pub mod state
 -- what each event does: its row of the event table, refusals, schedules
 pub mod acts

@@ -4,5 +4,5 @@ pub mod Facts
 pub mod Machine
 -- The opening state, and the lists of owned keys that it takes.
 pub mod Opening
--- Seat moves: workers with nothing in hand are split and joined. No word and no other worker changes.
-pub mod Moves
+-- Handovers: workers with nothing in hand are split and joined. No word and no other worker changes.
+pub mod Handovers

@@ -7,7 +7,7 @@ use Rattle.ell_core.specs.state.Opening.{last_card}
 use Rattle.ell_cards.specs.Models.{IsCardCount}
 use Rattle.ell_cards.specs.declared.view.View.{View}
 use Rattle.ell_tree.specs.Ledgers.{TreeModel}
-use Rattle.ell_tree.specs.Moves.{moves_known}
+use Rattle.ell_tree.specs.Milestones.{milestones_known}
 use Rattle.ell_tree.specs.Node.{most_start}
 use Rattle.ell_tree.specs.Scans.{AreFoundIn, AreInOrder}
 use Rattle.ell_handle.specs.Groups.{HaveNumber}
@@ -36,7 +36,7 @@ pub record HasFoundMany (t : TreeModel) (v : View) (count : ℕ) : Type 0 where
   pub many : length pairs ≡ count
 
 -- a tree may begin with these pairs
-pub record MayBegin (pairs : List (ℕ × ℕ)) : Type 0 where
+pub record MayBeginWith (pairs : List (ℕ × ℕ)) : Type 0 where
   pub start : IsStart pairs
   pub keys : AreKeys [] pairs
 
@@ -53,7 +53,7 @@ pub record AreOpenedShared (start : List (ℕ × ℕ)) (cards number : ℕ) (han
   pub plan : tree.tree.plan ≡ record { keys = []; start = start; last_card = last_card start cards; shared = true }
   pub number_is : tree.number ≡ number
   pub one : All (λ (h : Handle). arc_value h.shared ≡ tree) handles
-  pub fresh : All (λ (h : Handle). (most : ℕ) → moves_known most h.pass.view ≡ 0) handles
+  pub fresh : All (λ (h : Handle). (most : ℕ) → milestones_known most h.pass.view ≡ 0) handles
 
 -- why there are no such handles
 abbrev pub OpeningRefuses : ℕ → Refusal → Type 0

@@ -4,10 +4,10 @@ use Rattle.std.specs.List.{All, AllPairs, flat_map}
 use Rattle.std.specs.Option.{option_or}
 use Rattle.ell_ops.specs.Contents.{Contents, nothing}
 use Rattle.ell_ops.specs.KeySet.{set_of}
-use Rattle.ell_cards.specs.Changes.{keys_of}
+use Rattle.ell_cards.specs.Changes.{ledger_keys}
 use Rattle.ell_cards.specs.Models.{IsCardCount}
 use Rattle.ell_tree.specs.Ledgers.{Owns, PassModel, present_in}
-use Rattle.ell_tree.specs.Moves.{moves_known}
+use Rattle.ell_tree.specs.Milestones.{milestones_known}
 use Rattle.ell_handle.specs.Renewal.{IsRenewed, IsTooMuch}
 use Rattle.ell_handle.specs.declared.handle.Handle.{Handle}
 use Rattle.ell_handle.specs.declared.handle.SharedTree.{SharedTree}
@@ -25,7 +25,7 @@ present_in_all (h ∷ hs) = or_there (present_in h.pass) (present_in_all hs)
 
 -- the keys that handles own
 abbrev pub keys_of_all : List Handle → List ℕ
-keys_of_all handles = flat_map (λ (h : Handle). keys_of h.pass.view.worker.ledger) handles
+keys_of_all handles = flat_map (λ (h : Handle). ledger_keys h.pass.view.worker.ledger) handles
 
 -- a handle owns the keys of another, and they are present or absent as they were
 pub record HasSame (old new : Handle) : Type 0 where
@@ -59,7 +59,7 @@ pub record AreRenewed (old : List Handle) (cards number : ℕ) (new : List Handl
   pub keys : (k : ℕ) → set_of tree.tree.plan.keys k ≡ set_of (keys_of_all old) k
   pub number_is : tree.number ≡ number
   pub one : All (λ (h : Handle). arc_value h.shared ≡ tree) new
-  pub fresh : All (λ (h : Handle). (most : ℕ) → moves_known most h.pass.view ≡ 0) new
+  pub fresh : All (λ (h : Handle). (most : ℕ) → milestones_known most h.pass.view ≡ 0) new
 
 -- the keys of a handle's tree are not shared
 abbrev pub HasOwnedKeys : Handle → Type 0
@@ -83,14 +83,14 @@ pub record IsPart (whole handle part : Handle) : Type 0 where
   pub tree : arc_value part.shared ≡ arc_value whole.shared
   pub owned : (k : ℕ) → Owns part.pass k ↔ Owns handle.pass k
   pub map : (k : ℕ) → Owns handle.pass k → present_in part.pass k ≡ present_in whole.pass k
-  pub moves : (cards : ℕ) → moves_known cards part.pass.view ≡ moves_known cards whole.pass.view
+  pub milestones : (cards : ℕ) → milestones_known cards part.pass.view ≡ milestones_known cards whole.pass.view
 
 -- the rest has the other keys, as the whole had them
 pub record IsRest (whole handle rest : Handle) : Type 0 where
   pub tree : arc_value rest.shared ≡ arc_value whole.shared
   pub owned : (k : ℕ) → Owns rest.pass k ↔ (Owns whole.pass k × (¬ Owns handle.pass k))
   pub map : (k : ℕ) → Owns rest.pass k → present_in rest.pass k ≡ present_in whole.pass k
-  pub moves : (cards : ℕ) → moves_known cards rest.pass.view ≡ moves_known cards whole.pass.view
+  pub milestones : (cards : ℕ) → milestones_known cards rest.pass.view ≡ milestones_known cards whole.pass.view
 
 -- why there is no such part, where there is one on this condition
 abbrev pub PartRefuses : Type 0 → Refusal → Type 0

@@ -34,7 +34,7 @@ AnotherRefuses h NoMemory = ¬ IsLeast h
 AnotherRefuses h _ = ⊥
 
 -- two handles are of one tree by its number, and by whether its keys are shared
-pub record MayJoin (one other : Handle) : Type 0 where
+pub record AreJoinable (one other : Handle) : Type 0 where
   pub number : (arc_value other.shared).number ≡ (arc_value one.shared).number
   pub mode : (tree_of other).plan.shared ≡ (tree_of one).plan.shared
 

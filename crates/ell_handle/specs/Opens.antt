@@ -16,7 +16,7 @@ use Rattle.ell_handle.specs.declared.refusal.Refusal.TheVariants.{BadCards, BadK
 
 -- the keys of a tree are these and the start keys, and no other key is shared; a pass owns all of them: the start keys are present with their
 -- values, the others absent
-pub record OwnsAll (keys : List ℕ) (start : List (ℕ × ℕ)) (t : TreeModel) (p : PassModel) : Type 0 where
+pub record OwnsWholePlan (keys : List ℕ) (start : List (ℕ × ℕ)) (t : TreeModel) (p : PassModel) : Type 0 where
   pub all : Lists (union (set_of (keys_of start)) (set_of keys)) t.plan.keys
   pub begins : t.plan.start ≡ start
   pub owned : t.plan.shared ≡ false
@@ -24,7 +24,7 @@ pub record OwnsAll (keys : List ℕ) (start : List (ℕ × ℕ)) (t : TreeModel)
 
 -- a handle is the first of a new tree that has these keys and start keys, so many cards besides, and this number
 pub record IsOpened (keys : List ℕ) (start : List (ℕ × ℕ)) (cards number : ℕ) (h : Handle) : Type 0 where
-  pub owns : OwnsAll keys start (arc_value h.shared).tree h.pass
+  pub owns : OwnsWholePlan keys start (arc_value h.shared).tree h.pass
   pub last : (arc_value h.shared).tree.plan.last_card ≡ last_card start cards
   pub number_is : (arc_value h.shared).number ≡ number
 
@@ -52,9 +52,9 @@ pub record MayOpen (keys : List ℕ) (start : List (ℕ × ℕ)) (cards : ℕ) :
   pub count : IsCardCount cards
 
 -- when a tree is refused, and why
-abbrev pub Refuses : List ℕ → List (ℕ × ℕ) → ℕ → Refusal → Type 0
-Refuses keys start cards BadStart = ¬ IsStart start
-Refuses keys start cards BadKey = IsStart start × (¬ AreKeys keys start)
-Refuses keys start cards BadCards = IsStart start × (AreKeys keys start × (¬ IsCardCount cards))
-Refuses keys start cards NoMemory = MayOpen keys start cards
-Refuses keys start cards _ = ⊥
+abbrev pub RefusesTree : List ℕ → List (ℕ × ℕ) → ℕ → Refusal → Type 0
+RefusesTree keys start cards BadStart = ¬ IsStart start
+RefusesTree keys start cards BadKey = IsStart start × (¬ AreKeys keys start)
+RefusesTree keys start cards BadCards = IsStart start × (AreKeys keys start × (¬ IsCardCount cards))
+RefusesTree keys start cards NoMemory = MayOpen keys start cards
+RefusesTree keys start cards _ = ⊥

@@ -10,7 +10,7 @@ use Rattle.ell_handle.specs.declared.refusal.Refusal.{Refusal}
 use Rattle.ell_handle.specs.declared.refusal.Refusal.TheVariants.{Busy, Foreign, NoTries, Spent}
 
 -- a change of a key may be tried
-pub record MayChange (key tries : ℕ) (h : Handle) : Type 0 where
+pub record MayTryChange (key tries : ℕ) (h : Handle) : Type 0 where
   pub some : 1 ≤ tries
   pub may : MayUse h key
 
@@ -39,6 +39,6 @@ pub record IsSpent (op : Op) (tries : ℕ) (old new : Handle) : Type 0 where
 abbrev pub ChangeRefuses : Op → ℕ → Handle → Handle → Refusal → Type 0
 ChangeRefuses op tries old new NoTries = (tries ≡ 0) × (new ≡ old)
 ChangeRefuses op tries old new Foreign = (1 ≤ tries) × ((¬ MayUse old (key_of op)) × (new ≡ old))
-ChangeRefuses op tries old new Busy = MayChange (key_of op) tries old × IsHindered op tries old new
-ChangeRefuses op tries old new Spent = MayChange (key_of op) tries old × IsSpent op tries old new
+ChangeRefuses op tries old new Busy = MayTryChange (key_of op) tries old × IsHindered op tries old new
+ChangeRefuses op tries old new Spent = MayTryChange (key_of op) tries old × IsSpent op tries old new
 ChangeRefuses op tries old new _ = ⊥

@@ -6,7 +6,7 @@ use Rattle.ell_tree.specs.Ledgers.{Owns}
 use Rattle.ell_tree.specs.Promises.{IsOthersDoing}
 use Rattle.ell_tree.specs.declared.operations.NotDone.TheVariants as not_done
 use Rattle.ell_handle.specs.Reads.{MayUse, last_card_of, tree_of}
-use Rattle.ell_handle.specs.Tries.{MayChange}
+use Rattle.ell_handle.specs.Tries.{MayTryChange}
 use Rattle.ell_handle.specs.declared.handle.Handle.{Handle}
 use Rattle.ell_handle.specs.declared.refusal.Refusal.{Refusal}
 use Rattle.ell_handle.specs.declared.refusal.Refusal.TheVariants.{Busy, Foreign, NoTries, Spent}
@@ -58,6 +58,6 @@ pub record EndsSpent (key : ℕ) (old new : Handle) : Type 0 where
 abbrev pub ValueRefuses : ℕ → ℕ → Handle → Handle → Refusal → Type 0
 ValueRefuses key tries old new NoTries = (tries ≡ 0) × (new ≡ old)
 ValueRefuses key tries old new Foreign = (1 ≤ tries) × ((¬ MayUse old key) × (new ≡ old))
-ValueRefuses key tries old new Busy = MayChange key tries old × EndsBusy key tries old new
-ValueRefuses key tries old new Spent = MayChange key tries old × EndsSpent key old new
+ValueRefuses key tries old new Busy = MayTryChange key tries old × EndsBusy key tries old new
+ValueRefuses key tries old new Spent = MayTryChange key tries old × EndsSpent key old new
 ValueRefuses key tries old new _ = ⊥

@@ -8,7 +8,7 @@ ghost use Rattle.ell_tree.specs.Looks.{IsFoundIn, OnlyLooks, look_steps};
 ghost use Rattle.ell_tree.specs.Promises.{SpendsCards};
 ghost use Rattle.ell_handle.specs.Groups.{StaysPut};
 ghost use Rattle.ell_handle.specs.Reads.{KeepsKeys, MayUse, OnlyAsks, OnlyFinds, OnlyLooksUp, TellsCardsLeft, last_card_of, tree_of};
-ghost use Rattle.ell_handle.specs.Tries.{ChangeRefuses, MayChange, TookTries, TryRefuses};
+ghost use Rattle.ell_handle.specs.Tries.{ChangeRefuses, MayTryChange, TookTries, TryRefuses};
 ghost use Rattle.ell_handle.specs.Values.{whether_updated};
 ghost use Rattle.ell_handle.specs.declared.refusal.Refusal.TheVariants.{BadKey, Foreign};
 
@@ -72,7 +72,7 @@ impl Handle {
         // `NoTries` comes exactly without tries, and then `Foreign` exactly for a key neither owned nor shared. `Busy`
         // and `Spent` are the tree's: by `Busy` others hindered each try, of which there are at most `2 * cards`. A
         // call that is refused leaves keys, map and tree.
-        ensures may { OnOk result (MayChange key tries self.old) }
+        ensures may { OnOk result (MayTryChange key tries self.old) }
         ensures why { IfErr result (ChangeRefuses (Insert key value) tries self.old self.new) }
         ensures refused { OnErr result (StaysPut self.old self.new) }
         // The keys and the tree stay.
@@ -99,7 +99,7 @@ impl Handle {
         // `NoTries` comes exactly without tries, and then `Foreign` exactly for a key neither owned nor shared. `Busy`
         // and `Spent` are the tree's: by `Busy` others hindered each try, of which there are at most `2 * cards`. A
         // call that is refused leaves keys, map and tree.
-        ensures may { OnOk result (MayChange key tries self.old) }
+        ensures may { OnOk result (MayTryChange key tries self.old) }
         ensures why { IfErr result (ChangeRefuses (Delete key) tries self.old self.new) }
         ensures refused { OnErr result (StaysPut self.old self.new) }
         // The keys and the tree stay.
@@ -129,7 +129,7 @@ impl Handle {
         // `NoTries` comes exactly without tries, and then `Foreign` exactly for a key neither owned nor shared. `Busy`
         // and `Spent` are the tree's: by `Busy` others hindered each try, of which there are at most `2 * cards`. A
         // call that is refused leaves keys, map and tree.
-        ensures may { OnOk result (MayChange key tries self.old) }
+        ensures may { OnOk result (MayTryChange key tries self.old) }
         ensures why { IfErr result (ChangeRefuses (Delete key) tries self.old self.new) }
         ensures refused { OnErr result (StaysPut self.old self.new) }
         // The keys and the tree stay.
@@ -157,7 +157,7 @@ impl Handle {
 
     // Whether a change of a key may be tried.
     pub(crate) fn may_change(&self, key: u64, tries: u32) -> Result<(), Refusal>
-        ensures may { OnOk result (MayChange key tries self.now) }
+        ensures may { OnOk result (MayTryChange key tries self.now) }
         ensures why { IfErr result (TryRefuses key tries self.now) }
     {
         if tries == 0 {

@@ -2,8 +2,8 @@
 ghost use Rattle.std.specs.Prelude.{◌≡◌, ◌<◌, ◌≤◌, ◌↔◌, ℕ, None, Some, IsTrue, IfErr, IfOk, IfSome, OnErr, OnOk, length, map, slice_get};
 ghost use Rattle.std.specs.List.{AllZip};
 ghost use Rattle.std.specs.Arc.{arc_value};
-ghost use Rattle.ell_tree.specs.Moves.{moves_known};
-ghost use Rattle.ell_handle.specs.Fresh.{AnotherFails, AreOfOneShared, AreOpenedShared, AreRenewedShared, HasFoundAll, HasFoundMany, MayBegin, OpeningRefuses, PairsRefuse, SharedGroupRefuses};
+ghost use Rattle.ell_tree.specs.Milestones.{milestones_known};
+ghost use Rattle.ell_handle.specs.Fresh.{AnotherFails, AreOfOneShared, AreOpenedShared, AreRenewedShared, HasFoundAll, HasFoundMany, MayBeginWith, OpeningRefuses, PairsRefuse, SharedGroupRefuses};
 ghost use Rattle.ell_handle.specs.Groups.{StaysPut};
 ghost use Rattle.ell_handle.specs.Reads.{tree_of};
 
@@ -65,7 +65,7 @@ fn are_of_one(handles: &[Handle]) -> bool
 // What a scan finds of all keys of a handle's tree.
 fn all_pairs(handle: &mut Handle, alloc: Global) -> Result<Vec<(u64, u64)>, Refusal>
     ensures found { IfOk result (λ pairs. HasFoundAll (tree_of handle.old) handle.new.pass.view pairs.items) }
-    ensures may { IfOk result (λ pairs. MayBegin pairs.items) }
+    ensures may { IfOk result (λ pairs. MayBeginWith pairs.items) }
     ensures why { IfErr result (PairsRefuse (tree_of handle.old) handle.new.pass.view) }
     ensures stays { StaysPut handle.old handle.new }
 {
@@ -122,7 +122,7 @@ fn open_shared_handles(
     number: u64,
 ) -> Result<Vec<Handle>, Refusal>
     requires some { 0 < count }
-    requires may { MayBegin start.now }
+    requires may { MayBeginWith start.now }
     ensures opened { IfOk result (λ handles. AreOpenedShared start.now cards number handles.items) }
     ensures count { IfOk result (λ handles. length handles.items ≡ count) }
     ensures why { IfErr result (OpeningRefuses cards) }
@@ -142,8 +142,8 @@ fn open_shared_handles(
 fn another_of(whole: Handle, alloc: Global) -> Result<(Handle, Handle), Refusal>
     ensures first { IfOk result (λ both. arc_value both.0.shared ≡ arc_value whole.shared) }
     ensures second { IfOk result (λ both. arc_value both.1.shared ≡ arc_value whole.shared) }
-    ensures first_moves { IfOk result (λ both. (most : ℕ) → moves_known most both.0.pass.view ≡ moves_known most whole.pass.view) }
-    ensures second_moves { IfOk result (λ both. (most : ℕ) → moves_known most both.1.pass.view ≡ moves_known most whole.pass.view) }
+    ensures first_milestones { IfOk result (λ both. (most : ℕ) → milestones_known most both.0.pass.view ≡ milestones_known most whole.pass.view) }
+    ensures second_milestones { IfOk result (λ both. (most : ℕ) → milestones_known most both.1.pass.view ≡ milestones_known most whole.pass.view) }
     ensures why { IfErr result AnotherFails }
 {
     match whole.another(alloc) {

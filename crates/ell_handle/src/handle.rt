@@ -4,7 +4,7 @@ ghost use Rattle.std.specs.Arc.{arc_value};
 ghost use Rattle.std.specs.List.{All};
 ghost use Rattle.std.specs.List.Sorted.{IsStrictlyIncreasing};
 ghost use Rattle.ell_ops.specs.Meaning.{greatest_key};
-ghost use Rattle.ell_cards.specs.Changes.{keys_of, ownable_if};
+ghost use Rattle.ell_cards.specs.Changes.{ledger_keys, ownable_if};
 ghost use Rattle.ell_tree.specs.Ledgers.{IsIdle, Owns};
 ghost use Rattle.ell_handle.specs.Tables.{HasKey};
 
@@ -104,7 +104,7 @@ impl Handle {
     /// The keys that the handle owns, strictly ascending.
     pub fn keys(&self) -> &[u64]
         // Returns the keys that the handle owns, strictly ascending.
-        ensures keys { result.now ≡ keys_of self.now.pass.view.worker.ledger }
+        ensures keys { result.now ≡ ledger_keys self.now.pass.view.worker.ledger }
         ensures ascending { IsStrictlyIncreasing result.now }
     {
         self.pass.keys()

@@ -4,12 +4,12 @@ ghost use Rattle.std.specs.Arc.{arc_value};
 ghost use Rattle.std.specs.List.{All};
 ghost use Rattle.ell_ops.specs.Contents.{contents_of};
 ghost use Rattle.ell_ops.specs.KeySet.{set_of};
-ghost use Rattle.ell_cards.specs.Changes.{keys_of as ledger_keys};
+ghost use Rattle.ell_cards.specs.Changes.{ledger_keys};
 ghost use Rattle.ell_tree.specs.Ledgers.{Owns, present_in};
 ghost use Rattle.ell_tree.specs.PassParts.{IsUnion};
 ghost use Rattle.ell_handle.specs.Groups.{HasSame, HaveNumber};
-ghost use Rattle.ell_handle.specs.Opens.{IsOpened, IsOpenedShared, MayOpen, Refuses};
-ghost use Rattle.ell_handle.specs.HandleParts.{AnotherRefuses, AreParts, IsLeast, JoinRefuses, MayJoin, SplitRefuses};
+ghost use Rattle.ell_handle.specs.Opens.{IsOpened, IsOpenedShared, MayOpen, RefusesTree};
+ghost use Rattle.ell_handle.specs.HandleParts.{AnotherRefuses, AreParts, IsLeast, JoinRefuses, AreJoinable, SplitRefuses};
 ghost use Rattle.ell_handle.specs.declared.refusal.Refusal.TheVariants.{NoMemory};
 
 use crate::handle::{Handle, SharedTree};
@@ -41,7 +41,7 @@ impl Handle {
         // exactly for a key above the greatest one, then `BadCards` exactly if the cards are not 1 to 1,000,000, and
         // else `NoMemory` alone.
         ensures may { OnOk result (MayOpen keys.now start.now cards) }
-        ensures refused { IfErr result (Refuses keys.now start.now cards) }
+        ensures refused { IfErr result (RefusesTree keys.now start.now cards) }
     {
         may_open(keys, start, cards)?;
         let first = keys_of(alloc, start)?;
@@ -77,7 +77,7 @@ impl Handle {
         // exactly for a key above the greatest one, then `BadCards` exactly if the cards are not 1 to 1,000,000, and
         // else `NoMemory` alone.
         ensures may { OnOk result (MayOpen [] start.now cards) }
-        ensures refused { IfErr result (Refuses [] start.now cards) }
+        ensures refused { IfErr result (RefusesTree [] start.now cards) }
     {
         may_open(&[], start, cards)?;
         let (tree, pass) = Tree::reserve_shared(alloc, start, &[], cards)?;
@@ -190,8 +190,8 @@ impl Handle {
         ensures tree { IfOk result (λ both. both.shared ≡ self.shared) }
         // `OtherTree` comes exactly if the numbers of the trees differ, or one shares keys and the other does not, and
         // else `NoMemory` alone. Both then come back.
-        ensures one { OnOk result (MayJoin self other) }
-        ensures why { IfErr result (λ refused. JoinRefuses (MayJoin self other) refused.2) }
+        ensures one { OnOk result (AreJoinable self other) }
+        ensures why { IfErr result (λ refused. JoinRefuses (AreJoinable self other) refused.2) }
         ensures refused { IfErr result (λ refused. (refused.0 ≡ self) × (refused.1 ≡ other)) }
     {
         if other.shared.number != self.shared.number
@@ -238,7 +238,7 @@ impl Handle {
 // Whether a tree may be opened over these keys and start keys with so many cards, and else why not.
 fn may_open(keys: &[u64], start: &[(u64, u64)], cards: u64) -> Result<(), Refusal>
     ensures may { OnOk result (MayOpen keys.now start.now cards) }
-    ensures refused { IfErr result (λ why. Refuses keys.now start.now cards why × (why ≢ NoMemory)) }
+    ensures refused { IfErr result (λ why. RefusesTree keys.now start.now cards why × (why ≢ NoMemory)) }
 {
     if !is_start(start) {
         return Err(Refusal::BadStart);

@@ -2,7 +2,7 @@
 ghost use Rattle.std.specs.Prelude.{◌≡◌, ◌≢◌, ◌<◌, ◌↔◌, ℕ, length, slice_index, Err, IsTrue, IfOk, IfErr, OnOk, OnErr};
 ghost use Rattle.std.specs.Arc.{arc_value};
 ghost use Rattle.ell_ops.specs.Contents.{ListsPairs};
-ghost use Rattle.ell_cards.specs.Changes.{keys_of};
+ghost use Rattle.ell_cards.specs.Changes.{ledger_keys};
 ghost use Rattle.ell_tree.specs.Ledgers.{Owns, present_in};
 ghost use Rattle.ell_handle.specs.Groups.{HasSame, StaysPut};
 ghost use Rattle.ell_handle.specs.Reads.{HasSharedKeys, tree_of};
@@ -89,12 +89,12 @@ impl Handle {
 
     /// The key at a place among the handle's keys, with its value, if the key is present.
     pub fn pair(&mut self, place: usize) -> Option<(u64, u64)>
-        requires place { place < length (keys_of self.old.pass.view.worker.ledger) }
+        requires place { place < length (ledger_keys self.old.pass.view.worker.ledger) }
         // Returns the key at this place of the owned ones with its value, if it is present.
         ensures pair { result ≡
-            pair_at (present_in self.old.pass) (slice_index (keys_of self.old.pass.view.worker.ledger) place) }
+            pair_at (present_in self.old.pass) (slice_index (ledger_keys self.old.pass.view.worker.ledger) place) }
         // Keys, map and tree stay.
-        ensures keys { keys_of self.new.pass.view.worker.ledger ≡ keys_of self.old.pass.view.worker.ledger }
+        ensures keys { ledger_keys self.new.pass.view.worker.ledger ≡ ledger_keys self.old.pass.view.worker.ledger }
         ensures map { (k : ℕ) → present_in self.new.pass k ≡ present_in self.old.pass k }
         ensures tree { self.new.shared ≡ self.old.shared }
     {

@@ -7,7 +7,7 @@ ghost use Rattle.ell_tree.specs.Ends.{Answers};
 ghost use Rattle.ell_tree.specs.Promises.{SpendsCards};
 ghost use Rattle.ell_handle.specs.Groups.{StaysPut};
 ghost use Rattle.ell_handle.specs.Reads.{KeepsKeys, tree_of};
-ghost use Rattle.ell_handle.specs.Tries.{ChangeRefuses, MayChange, TookTries};
+ghost use Rattle.ell_handle.specs.Tries.{ChangeRefuses, MayTryChange, TookTries};
 ghost use Rattle.ell_handle.specs.Values.{SaysIfExchanged, TookRounds, ValueRefuses, value_seen, whether_exchanged, whether_put, whether_updated};
 
 use crate::handle::Handle;
@@ -36,7 +36,7 @@ impl Handle {
         // `NoTries` comes exactly without tries, and then `Foreign` exactly for a key neither owned nor shared. `Busy`
         // and `Spent` are the tree's: by `Busy` others hindered each try, of which there are at most `2 * cards`. A
         // call that is refused leaves keys, map and tree.
-        ensures may { OnOk result (MayChange key tries self.old) }
+        ensures may { OnOk result (MayTryChange key tries self.old) }
         ensures why { IfErr result (ChangeRefuses (Swap key current new) tries self.old self.new) }
         ensures refused { OnErr result (StaysPut self.old self.new) }
         // The keys and the tree stay.
@@ -71,7 +71,7 @@ impl Handle {
         // `NoTries` comes exactly without tries, and then `Foreign` exactly for a key neither owned nor shared. `Busy`
         // and `Spent` are the tree's, and change nothing: by `Busy` on an owned key others hindered each try, of which
         // there are at most `2 * cards`. A call that is refused leaves keys, map and tree.
-        ensures may { OnOk result (MayChange key tries self.old) }
+        ensures may { OnOk result (MayTryChange key tries self.old) }
         ensures why { IfErr result (ValueRefuses key tries self.old self.new) }
         ensures refused { OnErr result (StaysPut self.old self.new) }
         // The keys and the tree stay.
@@ -106,7 +106,7 @@ impl Handle {
         // `NoTries` comes exactly without tries, and then `Foreign` exactly for a key neither owned nor shared. `Busy`
         // and `Spent` are the tree's, and change nothing: by `Busy` on an owned key others hindered each try, of which
         // there are at most `2 * cards`. A call that is refused leaves keys, map and tree.
-        ensures may { OnOk result (MayChange key tries self.old) }
+        ensures may { OnOk result (MayTryChange key tries self.old) }
         ensures why { IfErr result (ValueRefuses key tries self.old self.new) }
         ensures refused { OnErr result (StaysPut self.old self.new) }
         // The keys and the tree stay.
@@ -134,7 +134,7 @@ impl Handle {
         // `NoTries` comes exactly without tries, and then `Foreign` exactly for a key neither owned nor shared. `Busy`
         // and `Spent` are the tree's, and change nothing: by `Busy` on an owned key others hindered each try, of which
         // there are at most `2 * cards`. A call that is refused leaves keys, map and tree.
-        ensures may { OnOk result (MayChange key tries self.old) }
+        ensures may { OnOk result (MayTryChange key tries self.old) }
         ensures why { IfErr result (ValueRefuses key tries self.old self.new) }
         ensures refused { OnErr result (StaysPut self.old self.new) }
         // The keys and the tree stay.

@@ -42,12 +42,12 @@ abbrev pub part : PartedOps → ℕ → List (ℕ × Op)
 part parting worker = filter (λ item. slice_index parting.owners item.0 == worker) (enumerate_from 0 parting.ops)
 
 -- the set of the keys in a list of operations
-abbrev pub keys_of : List Op → KeySet
-keys_of ops = set_of (map key_of ops)
+abbrev pub keys_of_ops : List Op → KeySet
+keys_of_ops ops = set_of (map key_of ops)
 
 -- the set of the keys in a part
-abbrev pub keys_in : List (ℕ × Op) → KeySet
-keys_in items = set_of (map (λ item. key_of item.1) items)
+abbrev pub keys_of_part : List (ℕ × Op) → KeySet
+keys_of_part items = set_of (map (λ item. key_of item.1) items)
 
 -- in stripes: a key goes to the worker whose number is its remainder by the number of workers
 abbrev pub striped : List Op → ℕ → List ℕ
@@ -59,7 +59,7 @@ ranged keys ops workers = map (λ op. rank keys (key_of op) / div_ceil (length k
 
 -- the owners are those in ranges, by the list of the distinct keys, ascending
 abbrev pub IsRanged : PartedOps → Type 0
-IsRanged parting = (keys : List ℕ) → Lists (keys_of parting.ops) keys → parting.owners ≡ ranged keys parting.ops parting.workers
+IsRanged parting = (keys : List ℕ) → Lists (keys_of_ops parting.ops) keys → parting.owners ≡ ranged keys parting.ops parting.workers
 
 -- each list, seen by `items`, is the part of the worker at whose place it stands
 abbrev pub AreParts : {V : Type 0} → (V → List (ℕ × Op)) → PartedOps → List V → Type 0
@@ -67,7 +67,7 @@ AreParts {V} items parting parts = (worker : ℕ) (list : V) → slice_get parts
 
 -- each list, seen by `items`, has the keys of the part of the worker at whose place it stands, each once, ascending
 abbrev pub AreKeys : {V : Type 0} → (V → List ℕ) → PartedOps → List V → Type 0
-AreKeys {V} items parting keys = (worker : ℕ) (list : V) → slice_get keys worker ≡ Some list → Lists (keys_in (part parting worker)) (items list)
+AreKeys {V} items parting keys = (worker : ℕ) (list : V) → slice_get keys worker ≡ Some list → Lists (keys_of_part (part parting worker)) (items list)
 
 -- the lists, seen by `items` and `numbers`, are the parts and the keys of a lawful parting
 pub record AreListsOf {P K : Type 0} (items : P → List (ℕ × Op)) (numbers : K → List ℕ) (parting : PartedOps) (parts : List P) (keys : List K) : Type 0 where

@@ -3,7 +3,7 @@ ghost use Rattle.std.specs.Prelude.{◌≡◌, ◌<◌, ◌↔◌, IsTrue, lengt
 ghost use Rattle.std.specs.Int.{div_ceil};
 ghost use Rattle.ell_ops.specs.KeySet.{Lists};
 ghost use Rattle.ell_ops.specs.Meaning.{most_workers};
-ghost use Rattle.ell_parts.specs.PartedOps.{IsWorkerCount, keys_of, striped, ranged};
+ghost use Rattle.ell_parts.specs.PartedOps.{IsWorkerCount, keys_of_ops, striped, ranged};
 ghost use Rattle.ell_parts.specs.Ranges.{AreStarts};
 ghost use Rattle.ell_parts.specs.Faults.{AreTogether, IsSplit};
 
@@ -62,7 +62,7 @@ pub(crate) fn ranged_owners<A: Allocator + Copy>(
     workers: u32,
 ) -> Result<Vec<u32, A>, AllocError>
     requires count { IsWorkerCount workers }
-    requires keys { Lists (keys_of ops.now) keys.now }
+    requires keys { Lists (keys_of_ops ops.now) keys.now }
     ensures { IfOk result (λ owners. owners.items ≡ ranged keys.now ops.now workers) }
 {
     let starts = range_starts(alloc, keys, workers)?;

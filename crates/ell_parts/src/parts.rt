@@ -1,7 +1,7 @@
 //! A list of operations, parted among workers.
 ghost use Rattle.std.specs.Prelude.{◌≡◌, ◌<◌, ◌↔◌, length, IfOk, IfErr, IsTrue, All, []};
 ghost use Rattle.ell_ops.specs.KeySet.{Lists};
-ghost use Rattle.ell_parts.specs.PartedOps.{PartedOps, IsLawful, IsPartedBy, IsRanged, part, parted, striped, keys_in, AreParts, AreKeys};
+ghost use Rattle.ell_parts.specs.PartedOps.{PartedOps, IsLawful, IsPartedBy, IsRanged, part, parted, striped, keys_of_part, AreParts, AreKeys};
 ghost use Rattle.ell_parts.specs.Faults.{IsFault, IsRefusedByCount};
 
 use crate::fault::PartFault;
@@ -73,7 +73,7 @@ impl<A: Allocator> Parts<'_, A> {
     pub fn keys(&self, worker: u32) -> &[u64]
         requires { worker < self.now.workers }
         // Returns the keys of the worker's part, each once, strictly ascending.
-        ensures { Lists (keys_in (part self.now worker)) result.now }
+        ensures { Lists (keys_of_part (part self.now worker)) result.now }
     {
         &self.keys[worker as usize]
     }

@@ -30,6 +30,6 @@ pub use Rattle.ell_text.specs.Input
 pub use Rattle.ell_parts.specs.PartedOps
 pub use Rattle.ell_tree.specs.Ends
 pub use Rattle.ell_tree.specs.Ledgers
-pub use Rattle.ell_tree.specs.Moves
+pub use Rattle.ell_tree.specs.Milestones
 -- How many cards the operations of a run can take.
 pub mod Reservation

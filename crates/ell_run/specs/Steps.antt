@@ -3,15 +3,15 @@ use Rattle.std.specs.List.{sum_by}
 use Rattle.ell_parts.specs.PartedOps.{PartedOps, part}
 use Rattle.ell_tree.specs.Ends.{try_steps}
 use Rattle.ell_tree.specs.Ledgers.{PassModel}
-use Rattle.ell_tree.specs.Moves.{moves_known}
+use Rattle.ell_tree.specs.Milestones.{milestones_known}
 
 -- so many finds, inserts and deletes of a pass took the steps of one try each, and one step more, and those of another try only for
 -- each move that the pass came to know of; so by both counts, that of the steps in a row and that of all steps
 pub record IsPaid (cards calls : ℕ) (before after : PassModel) : Type 0 where
-  pub steps : after.steps + moves_known cards before.view * try_steps cards ≤
-      before.steps + (moves_known cards after.view + calls) * try_steps cards + calls
-  pub made : after.view.made + moves_known cards before.view * try_steps cards ≤
-      before.view.made + (moves_known cards after.view + calls) * try_steps cards + calls
+  pub steps : after.steps + milestones_known cards before.view * try_steps cards ≤
+      before.steps + (milestones_known cards after.view + calls) * try_steps cards + calls
+  pub made : after.view.made + milestones_known cards before.view * try_steps cards ≤
+      before.view.made + (milestones_known cards after.view + calls) * try_steps cards + calls
 
 -- the most steps of a worker with so many operations: a try of each, and a try more for each move of a card
 abbrev pub worker_steps : ℕ → ℕ → ℕ

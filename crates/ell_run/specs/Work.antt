@@ -4,7 +4,7 @@ use Rattle.std.specs.List.Sorted.{IsStrictlyIncreasing}
 use Rattle.ell_ops.specs.declared.op.Op.{Op}
 use Rattle.ell_ops.specs.KeySet.{KeySet, Lists}
 use Rattle.ell_ops.specs.Meaning.{key_of, final}
-use Rattle.ell_parts.specs.PartedOps.{PartedOps, IsLawful, part, keys_in}
+use Rattle.ell_parts.specs.PartedOps.{PartedOps, IsLawful, part, keys_of_part}
 use Rattle.ell_tree.specs.Ledgers.{PassModel, TreeModel, Owns, IsIdle, answers, hindrances, present_in}
 use Rattle.ell_tree.specs.PassParts.{IsLeftPart, IsRightPart}
 use Rattle.ell_run.specs.ByParts.{ops_in}
@@ -13,12 +13,12 @@ use Rattle.ell_run.specs.Pieces.{ArePieces, IsPiece, all_not_done, all_workers, 
 use Rattle.ell_ops.specs.declared.reply.Reply.{Reply}
 
 -- the pass owns the keys of numbered operations
-abbrev pub OwnsAll : PassModel → List (ℕ × Op) → Type 0
-OwnsAll pass items = All (λ item. Owns pass (key_of item.1)) items
+abbrev pub OwnsKeysOf : PassModel → List (ℕ × Op) → Type 0
+OwnsKeysOf pass items = All (λ item. Owns pass (key_of item.1)) items
 
 -- the keys of the parts of workers
 abbrev pub keys_for : PartedOps → List ℕ → KeySet
-keys_for parting workers = λ key. list_any (λ worker. keys_in (part parting worker) key) workers
+keys_for parting workers = λ key. list_any (λ worker. keys_of_part (part parting worker) key) workers
 
 -- the tree begins with these pairs, and shares no key
 pub record IsUnsharedFrom (start : List (ℕ × ℕ)) (tree : TreeModel) : Type 0 where
@@ -32,7 +32,7 @@ pub record AreReady (tree : TreeModel) (parting : PartedOps) (workers : List ℕ
   pub ascending : IsStrictlyIncreasing workers
   pub own : pass.table ≡ tree.id
   pub idle : IsIdle pass
-  pub owned : All (λ worker. OwnsAll pass (part parting worker)) workers
+  pub owned : All (λ worker. OwnsKeysOf pass (part parting worker)) workers
 
 -- a pass was split: its left part has the keys of these workers, and its right part the rest
 pub record AreHalves (parting : PartedOps) (low : List ℕ) (pass left right : PassModel) : Type 0 where

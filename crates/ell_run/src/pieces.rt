@@ -7,7 +7,7 @@ ghost use Rattle.ell_tree.specs.Ledgers.{IsIdlePassOf, PassModel};
 ghost use Rattle.ell_tree.specs.Promises.{MayDo};
 ghost use Rattle.ell_run.specs.Pieces.{all_workers, busy, lists_of, numbered};
 ghost use Rattle.ell_run.specs.Steps.{IsPaid, worker_steps};
-ghost use Rattle.ell_run.specs.Work.{IsWorked, IsWorkedOff, OwnsAll};
+ghost use Rattle.ell_run.specs.Work.{IsWorked, IsWorkedOff, OwnsKeysOf};
 
 use ell_ops::{NoMemory, Op, Reply};
 use ell_parts::Parts;
@@ -28,7 +28,7 @@ pub(crate) fn work_off<A: Allocator + Copy, G: StepGate>(
     gate: &G,
 ) -> Result<Piece<A>, NoMemory>
     requires may { IsIdlePassOf tree.now pass.old }
-    requires owned { OwnsAll pass.old part.now }
+    requires owned { OwnsKeysOf pass.old part.now }
     requires tries { 1 ≤ tries }
     // The piece has the right replies to a front of the part, and the pass has the map after it. The next operation, if
     // there is one, was not done.
@@ -41,12 +41,12 @@ pub(crate) fn work_off<A: Allocator + Copy, G: StepGate>(
     let mut piece = Vec::with_capacity(alloc, part.len())?;
     for (position, op) in part {
         let Ok(reply) = do_op(tree, pass, *op, tries, gate) else {
-            tree.known_moves_are_few(pass);
+            tree.known_milestones_are_few(pass);
             return Ok(piece);
         };
         piece.push((*position, reply))?;
     }
-    tree.known_moves_are_few(pass);
+    tree.known_milestones_are_few(pass);
     Ok(piece)
 }
 

@@ -3,7 +3,7 @@ ghost use Rattle.std.specs.Prelude.{◌≡◌, ◌<◌, ◌≤◌, ◌++◌, ℕ
 ghost use denote.Param.Send.{Frees, IsSend, IsSync};
 ghost use Rattle.ell_ops.specs.KeySet.{Lists};
 ghost use Rattle.ell_ops.specs.Meaning.{key_of};
-ghost use Rattle.ell_parts.specs.PartedOps.{IsLawful, PartedOps, keys_of};
+ghost use Rattle.ell_parts.specs.PartedOps.{IsLawful, PartedOps, keys_of_ops};
 ghost use Rattle.ell_tree.specs.Ledgers.{IsIdlePassOf, Owns, PassModel};
 ghost use Rattle.ell_run.specs.Pieces.{busy, lists_of};
 ghost use Rattle.ell_run.specs.WorkFault.{StopsWork};
@@ -67,7 +67,7 @@ pub(crate) fn work_apart<R: Threads + Sync, A: Allocator + Copy + Send + Sync, G
 ) -> Result<(Pass<A>, Vec<Piece<A>, A>), WorkFault>
     requires idle { IsIdlePassOf tree.now pass }
     requires lawful { IsLawful parts.now }
-    requires keys { Lists (keys_of parts.now.ops) keys.now }
+    requires keys { Lists (keys_of_ops parts.now.ops) keys.now }
     requires owned { All (λ key. Owns pass key) keys.now }
     requires tries { 1 ≤ tries }
     // The pass and the pieces are as after `work`; each bound of steps is two more.

@@ -5,7 +5,7 @@ ghost use Rattle.ell_cards.specs.declared.view.Told.TheVariants.{Key, Met};
 ghost use Rattle.ell_cards.specs.Changes.{after_upd};
 ghost use Rattle.ell_cards.specs.Calls.{after};
 ghost use Rattle.ell_cards.specs.declared.call.Call.TheVariants as call;
-ghost use Rattle.ell_cards.specs.Calls.{TellsLeaf, TellsValue};
+ghost use Rattle.ell_cards.specs.Calls.{TellsLeaf, TellsLedgerValue};
 ghost use Rattle.ell_cards.specs.Guards.{MayGoDown, MayRead};
 ghost use Rattle.ell_cards.specs.Models.{IsTold, Steps};
 
@@ -77,7 +77,7 @@ pub(crate) fn value_of<A: Allocator + Copy>(
     requires met { IsTold pass.old.view (Met leaf) }
     requires outer { IsLeaf leaf }
     ensures step { Steps pass.old pass.new (after (call.ValueOf leaf) result pass.old.view) }
-    ensures value { TellsValue pass.old.view leaf result }
+    ensures value { TellsLedgerValue pass.old.view leaf result }
 {
     let value = table.value_of(pass, leaf);
     pass.count(1);

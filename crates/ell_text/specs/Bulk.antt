@@ -19,7 +19,7 @@ use Rattle.ell_text.specs.declared.version.Version.TheVariants.{One, Two}
 use Rattle.ell_text.specs.Limits.{most_operations}
 use Rattle.ell_text.specs.Line.{line_of, says_version}
 use Rattle.ell_text.specs.Lines.{is_skipped, lines}
-use Rattle.ell_text.specs.Version.{IsVersion, number_of, version_numbered}
+use Rattle.ell_text.specs.Version.{IsVersion, version_number, version_numbered}
 
 -- What lines say: the version, the keys that are there before the first operation with their values, and the operations.
 pub record BulkValue : Type 0 where
@@ -55,7 +55,7 @@ version_of (line ∷ more) = if is_skipped line then version_of more else if say
 -- what some lines say in a version: their start keys and their operations, each in order, read as if a start line might stand anywhere: one behind an operation is at fault, whatever it says
 abbrev pub said_by : Version → List (List ℕ) → BulkValue
 said_by version text = record {
-  version = number_of version;
+  version = version_number version;
   start = filter_map (λ line. start_in (line_of version Opening line)) text;
   ops = filter_map (λ line. operation_in (line_of version Opening line)) text;
 }

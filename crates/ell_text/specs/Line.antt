@@ -21,7 +21,7 @@ use Rattle.ell_text.specs.declared.version.Version.{Version}
 use Rattle.ell_text.specs.declared.version.Version.TheVariants.{One, Two}
 use Rattle.ell_text.specs.Lines.{is_skipped, is_space, lines}
 use Rattle.ell_text.specs.Limits.{greatest_value}
-use Rattle.ell_text.specs.Number.{IsNumberInFront, key_in, value_in}
+use Rattle.ell_text.specs.Number.{IsNumberInFront, key_in, key_spelled}
 
 -- the kind of operation that a name names
 abbrev pub kind_of : List ℕ → Option OpKind
@@ -66,7 +66,7 @@ key_behind true rest = or_bad_key (key_in (before_first is_space rest))
 -- the value that stands behind that key: where there is to be none, it is 0
 abbrev pub value_behind : Bool → List ℕ → Result ℕ LineFault
 value_behind false rest = Ok 0
-value_behind true rest = or_bad_value (value_in (after_first is_space rest))
+value_behind true rest = or_bad_value (key_spelled (after_first is_space rest))
 
 -- what a line of a kind says of a key and a value
 abbrev pub line_on : LineKind → ℕ → ℕ → Line

@@ -26,8 +26,8 @@ abbrev pub key_in : List ℕ → Result ℕ NumberFault
 key_in bytes = number_in greatest_key bytes
 
 -- the value of a key that all of the bytes spell
-abbrev pub value_in : List ℕ → Result ℕ NumberFault
-value_in bytes = number_in greatest_value bytes
+abbrev pub key_spelled : List ℕ → Result ℕ NumberFault
+key_spelled bytes = number_in greatest_value bytes
 
 -- digits in front of the rest of some bytes spell a number of at most max
 pub record IsNumberInFront (max : ℕ) (bytes : List ℕ) (number : ℕ) (rest : List ℕ) : Type 0 where

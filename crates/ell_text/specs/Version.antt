@@ -11,6 +11,6 @@ abbrev pub version_numbered : ℕ → Version
 version_numbered number = if number == 2 then Two else One
 
 -- the number of a version
-abbrev pub number_of : Version → ℕ
-number_of One = 1
-number_of Two = 2
+abbrev pub version_number : Version → ℕ
+version_number One = 1
+version_number Two = 2

@@ -2,7 +2,7 @@
 ghost use Rattle.std.specs.Prelude.{◌≡◌, ◌<◌, ◌≤◌, IfOk, IfSome, length};
 ghost use Rattle.ell_ops.specs.Meaning.{greatest_key, key_of};
 ghost use Rattle.ell_text.specs.Line.{IsFirstLine, LineFits, line_behind_name, line_of, or_bad_key, or_bad_value, said_in};
-ghost use Rattle.ell_text.specs.Number.{key_in, value_in};
+ghost use Rattle.ell_text.specs.Number.{key_in, key_spelled};
 
 use crate::lines::{cut_first_line, is_skipped, split_at_space};
 use crate::number::{NumberFault, read_key, read_value};
@@ -199,7 +199,7 @@ fn read_line_key(bytes: &[u8]) -> Result<u64, LineFault>
 }
 
 fn read_line_value(bytes: &[u8]) -> Result<u64, LineFault>
-    ensures { result ≡ or_bad_value (value_in bytes.now) }
+    ensures { result ≡ or_bad_value (key_spelled bytes.now) }
 {
     read_value(bytes).map_err(|_| LineFault::BadValue)
 }

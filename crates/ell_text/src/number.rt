@@ -3,7 +3,7 @@ ghost use Rattle.std.specs.Prelude.{◌≡◌, ◌^◌, ◌≤◌, IfOk, IfSome,
 ghost use Rattle.std.specs.Char.{is_ascii_digit};
 ghost use Rattle.std.specs.List.{list_all};
 ghost use Rattle.ell_ops.specs.Meaning.{greatest_key};
-ghost use Rattle.ell_text.specs.Number.{IsNumberInFront, is_number, key_in, number_in, value_in, value_of};
+ghost use Rattle.ell_text.specs.Number.{IsNumberInFront, is_number, key_in, number_in, key_spelled, value_of};
 
 use ell_ops::KEY_MAX;
 use std::str;
@@ -30,7 +30,7 @@ pub(crate) fn read_key(bytes: &[u8]) -> Result<u64, NumberFault>
 
 /// Reads the value of a key: a number that 64 bits hold.
 pub(crate) fn read_value(bytes: &[u8]) -> Result<u64, NumberFault>
-    ensures { result ≡ value_in bytes.now }
+    ensures { result ≡ key_spelled bytes.now }
 {
     read_number(bytes, u64::MAX)
 }

@@ -36,8 +36,8 @@ pub mod Looks
 pub mod Cursors
 -- a try that something hindered is counted once it is given up
 pub mod Hindrances
--- how many moves of cards a pass knows of, and why each try that is hindered shows it one more
-pub mod Moves
+-- how many milestones of cards a pass knows of, and why each try that is hindered shows it one more
+pub mod Milestones
 -- an insert or a swap where its search ended, and once it is done
 pub mod Putting
 -- calls that are made of several operations

@@ -1,6 +1,6 @@
 use Rattle.std.specs.Prelude.{◌≡◌, ℕ, ◌+◌, ◌≤◌, if◌then◌else◌, Bool, true, false, List, [], ◌∷◌, Result, Ok, Err}
 use Rattle.ell_core.specs.declared.exchange.Exchange.{Exchange}
-use Rattle.ell_core.specs.declared.exchange.Exchange.TheVariants.{Claim}
+use Rattle.ell_cards.specs.Contention.{is_claim}
 use Rattle.ell_ops.specs.declared.op.Op.{Op}
 use Rattle.ell_cards.specs.Models.{PassModel}
 use Rattle.ell_tree.specs.Ends.{changes_by}
@@ -8,11 +8,6 @@ use Rattle.ell_tree.specs.declared.trying.Claimed.{Claimed}
 use Rattle.ell_tree.specs.declared.trying.Claimed.TheVariants as claimed
 use Rattle.ell_tree.specs.declared.trying.Tried.{Tried}
 use Rattle.ell_tree.specs.declared.trying.Tried.TheVariants as tried
-
--- whether an exchange is a claim, which takes a card
-abbrev pub is_claim : Exchange → Bool
-is_claim Claim = true
-is_claim _ = false
 
 -- how many claims there are among these exchanges
 abbrev pub claims_in : List (Exchange × ℕ) → ℕ
@@ -59,7 +54,7 @@ TakesOneIf false old new = TakesNoCard old new
 
 -- which cards a try takes: one, if it was answered and has changed the map
 abbrev pub TryTakes : Op → PassModel → PassModel → Tried → Type 0
-TryTakes op old new (tried.Answered moved) = TakesOneIf (changes_by op moved) old new
+TryTakes op old new (tried.Answered had) = TakesOneIf (changes_by op had) old new
 TryTakes op old new tried.Spent = TakesNoCard old new
 TryTakes op old new tried.Hindered = TakesAtMost 1 old new
 

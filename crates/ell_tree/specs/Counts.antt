@@ -1,7 +1,7 @@
 use Rattle.std.specs.Prelude.{◌≡◌, ℕ, ◌+◌, ◌-◌, ◌*◌, ◌≤◌}
 use Rattle.ell_cards.specs.Models.{PassModel, some_more}
 use Rattle.ell_tree.specs.Ends.{try_steps}
-use Rattle.ell_tree.specs.Moves.{moves_known}
+use Rattle.ell_tree.specs.Milestones.{milestones_known}
 
 -- a pass has at most so many steps more, by both its counts: the steps in a row that led to it, and all steps that were made, those of
 -- the passes that it was joined with too
@@ -18,8 +18,8 @@ pub record HasUncounted (old new : PassModel) (n : ℕ) : Type 0 where
   pub steps : new.steps ≡ old.steps
   pub made : new.view.made ≡ old.view.made + n
 
--- an insert or a delete took the steps of one try, and one step more, and those of another try only for each move that the pass came
+-- an insert or a delete took the steps of one try, and one step more, and those of another try only for each milestone that the pass came
 -- to know of
 pub record IsAmortized (cards : ℕ) (old new : PassModel) : Type 0 where
-  pub steps : new.steps + moves_known cards old.view * try_steps cards ≤ old.steps + (moves_known cards new.view + 1) * try_steps cards + 1
-  pub made : new.view.made + moves_known cards old.view * try_steps cards ≤ old.view.made + (moves_known cards new.view + 1) * try_steps cards + 1
+  pub steps : new.steps + milestones_known cards old.view * try_steps cards ≤ old.steps + (milestones_known cards new.view + 1) * try_steps cards + 1
+  pub made : new.view.made + milestones_known cards old.view * try_steps cards ≤ old.view.made + (milestones_known cards new.view + 1) * try_steps cards + 1

@@ -28,7 +28,7 @@ abbrev pub IsUpper : ℕ → View → ℕ → Type 0
 IsUpper cards v high = (high ≡ greatest_key + 1) ⊎ IsNodeKey cards v high
 
 -- from a node that a look has come to it may go on
-pub record IsKept (cards : ℕ) (v : View) (g : Glance) : Type 0 where
+pub record MayGoOnFrom (cards : ℕ) (v : View) (g : Glance) : Type 0 where
   pub come : HasCome v g.node g.low g.high
   pub met : IsTold v (Met g.node)
   pub there : InTable cards g.node
@@ -44,17 +44,17 @@ kept_at c i = slice_index_or c.kept i (record { node = 0; low = 0; high = 0 })
 -- so it may from where a cursor began, to which all real keys come, and from each node that it keeps
 pub record AreKept (cards : ℕ) (v : View) (c : Cursor) : Type 0 where
   pub many : length c.kept ≡ 32
-  pub first : IsKept cards v c.first
+  pub first : MayGoOnFrom cards v c.first
   pub least : c.first.low ≡ 0
   pub most : c.first.high ≡ greatest_key + 1
-  pub each : (i : ℕ) → i < 32 → IsKept cards v (kept_at c i)
+  pub each : (i : ℕ) → i < 32 → MayGoOnFrom cards v (kept_at c i)
 
 -- a glance is one of a cursor's
 abbrev pub IsAmong : Cursor → Glance → Type 0
 IsAmong c g = (g ≡ c.first) ⊎ ((i : ℕ) × (i < 32) × (g ≡ kept_at c i))
 
 -- a look goes on: it only looks, and what it has come to it has come to
-pub record LooksOn (old new : PassModel) (n : ℕ) : Type 0 where
+pub record KeepsLooking (old new : PassModel) (n : ℕ) : Type 0 where
   pub only : OnlyLooks old new n
   pub glances : (g : Glance) → Has old.view.glances g → Has new.view.glances g
   pub looks : new.view.looks ≡ old.view.looks

@@ -59,7 +59,7 @@ replied (Err why) = Err why
 
 -- whether it changes the map, by the value that it adds or takes away
 abbrev pub whether : Result (Option ℕ) NotDone → Result Bool NotDone
-whether (Ok moved) = Ok (is_some moved)
+whether (Ok had) = Ok (is_some had)
 whether (Err why) = Err why
 
 -- what a swap says, as a reply
@@ -80,19 +80,19 @@ whether_swapped was (Err why) = Err why
 -- changes the map, and a swap by the one that it finds
 abbrev pub reply_by : Op → Option ℕ → Reply
 reply_by (Swap key was value) there = found there
-reply_by _ moved = yes_if (is_some moved)
+reply_by _ had = yes_if (is_some had)
 
 abbrev pub replied_by : Op → Result (Option ℕ) NotDone → Result Reply NotDone
-replied_by op (Ok moved) = Ok (reply_by op moved)
+replied_by op (Ok had) = Ok (reply_by op had)
 replied_by op (Err why) = Err why
 
 -- and whether it changes the map
 abbrev pub changes_by : Op → Option ℕ → Bool
 changes_by (Swap key was value) there = is_value was there
-changes_by _ moved = is_some moved
+changes_by _ had = is_some had
 
 abbrev pub changed_by : Op → Result (Option ℕ) NotDone → Result Bool NotDone
-changed_by op (Ok moved) = Ok (changes_by op moved)
+changed_by op (Ok had) = Ok (changes_by op had)
 changed_by op (Err why) = Err why
 
 -- the value that a delete of a key took, if it took one: of an own key, just that which the pass had. Whoever may change the key, in every run
@@ -102,11 +102,11 @@ pub record TakesValue (t : TreeModel) (key : ℕ) (old new : PassModel) (taken :
   pub took : IfSome taken (IsTakenInRuns t.plan new.view key)
 
 -- the value that a change added, took or found: what is promised of a delete's
-abbrev pub Moves : TreeModel → Op → PassModel → PassModel → Option ℕ → Type 0
-Moves t (Find key) old new moved = Unit {0}
-Moves t (Insert key value) old new moved = Unit {0}
-Moves t (Delete key) old new moved = TakesValue t key old new moved
-Moves t (Swap key was value) old new there = Unit {0}
+abbrev pub TakesIfDelete : TreeModel → Op → PassModel → PassModel → Option ℕ → Type 0
+TakesIfDelete t (Find key) old new had = Unit {0}
+TakesIfDelete t (Insert key value) old new had = Unit {0}
+TakesIfDelete t (Delete key) old new had = TakesValue t key old new had
+TakesIfDelete t (Swap key was value) old new there = Unit {0}
 
 -- how an insert, a delete or a swap ends; whatever was in its way is over
 abbrev pub Ends : TreeModel → ℕ → Op → PassModel → PassModel → Result Reply NotDone → Type 0

@@ -15,7 +15,7 @@ use Rattle.ell_tree.specs.declared.helping.DeleteFlag.{DeleteFlag}
 use Rattle.ell_tree.specs.declared.helping.Ending.{Ending}
 use Rattle.ell_tree.specs.declared.helping.Ending.TheVariants.{Done, Backed, Behind}
 use Rattle.ell_tree.specs.Hindrances.{Meets, MeetsUpTo}
-use Rattle.ell_tree.specs.Keeping.{Works, IsInnerMet, IsSeenAt}
+use Rattle.ell_tree.specs.Keeping.{KeepsAllButMet, IsInnerMet, IsSeenAt}
 
 -- the flag of an insert is known, and where its card goes
 pub record IsInsert (v : View) (c p l k j : ℕ) : Type 0 where
@@ -38,7 +38,7 @@ pub record IsParent (cards : ℕ) (v : View) (c p : ℕ) : Type 0 where
   pub node : IsInnerMet cards v p
 
 -- the mark of a delete is known, and where its card goes
-pub record IsMarked (v : View) (c gp p : ℕ) : Type 0 where
+pub record KnowsMark (v : View) (c gp p : ℕ) : Type 0 where
   pub knows : Knows v (fact.Marked c)
   pub met : IsTold v (Met gp)
   pub grandparent : IsTold v (Info c field.Gp gp)
@@ -73,19 +73,19 @@ pub record IsBacked (c : ℕ) (v w : View) : Type 0 where
 
 -- how a delete ends whose flag was won, and in how many steps
 abbrev pub DeleteEnds : ℕ → ℕ → ℕ → PassModel → PassModel → Ending → Type 0
-DeleteEnds cards c p old new Done = Works old new 8 × Meets old.view new.view × Knows new.view (fact.DOver c)
-DeleteEnds cards c p old new Backed = Works old new 10 × Meets old.view new.view × IsBacked c old.view new.view
+DeleteEnds cards c p old new Done = KeepsAllButMet old new 8 × Meets old.view new.view × Knows new.view (fact.DOver c)
+DeleteEnds cards c p old new Backed = KeepsAllButMet old new 10 × Meets old.view new.view × IsBacked c old.view new.view
 DeleteEnds cards c p old new (Behind flag) =
-    Works old new 2 × MeetsUpTo flag.card old.view new.view × IsBacked c old.view new.view × IsFlag cards new.view flag × (flag.grandparent ≡ p)
+    KeepsAllButMet old new 2 × MeetsUpTo flag.card old.view new.view × IsBacked c old.view new.view × IsFlag cards new.view flag × (flag.grandparent ≡ p)
 
 -- one delete is helped to its end, which leads to another's flag that is deeper, or there is no more to do
 abbrev pub HelpEnds : ℕ → DeleteFlag → PassModel → PassModel → Ending → Type 0
 HelpEnds cards flag old new Done =
-    Works old new 12 × Meets old.view new.view × (card flag.grandparent + 1 ≤ cards) × Knows new.view (fact.DOver flag.card)
+    KeepsAllButMet old new 12 × Meets old.view new.view × (card flag.grandparent + 1 ≤ cards) × Knows new.view (fact.DOver flag.card)
 HelpEnds cards flag old new Backed =
-    Works old new 12 × Meets old.view new.view × (card flag.grandparent + 1 ≤ cards) × Knows new.view (fact.Backed flag.card)
+    KeepsAllButMet old new 12 × Meets old.view new.view × (card flag.grandparent + 1 ≤ cards) × Knows new.view (fact.Backed flag.card)
 HelpEnds cards flag old new (Behind next) =
-    Works old new 4 × MeetsUpTo next.card old.view new.view × IsFlag cards new.view next × (flag.grandparent < next.grandparent)
+    KeepsAllButMet old new 4 × MeetsUpTo next.card old.view new.view × IsFlag cards new.view next × (flag.grandparent < next.grandparent)
     × Knows new.view (fact.Backed flag.card)
 
 -- the most steps of a chain of helps that begins with a delete's flag at this node

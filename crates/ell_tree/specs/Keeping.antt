@@ -29,31 +29,31 @@ pub record LosesNothing (v w : View) : Type 0 where
   pub earlier : (hs : List Hindrance) → v.hindrances ≡ v.met ++ hs → w.hindrances ≡ w.met ++ hs
 
 -- a pass made at most so many steps, and kept these
-pub record Goes (old new : PassModel) (n : ℕ) : Type 0 where
+pub record Keeps (old new : PassModel) (n : ℕ) : Type 0 where
   pub table : new.table ≡ old.table
   pub label : new.label ≡ old.label
   pub view : LosesNothing old.view new.view
   pub took : Took old new n
 
 -- and took no card, has the same card in hand, and met nothing in its way
-pub record Seeks (old new : PassModel) (n : ℕ) : Type 0 where
-  pub goes : Goes old new n
+pub record KeepsAllButSearch (old new : PassModel) (n : ℕ) : Type 0 where
+  pub keeps : Keeps old new n
   pub taken : TakesNoCard old new
   pub card : new.view.worker.card ≡ old.view.worker.card
   pub flagged : new.view.worker.flagged ≡ old.view.worker.flagged
   pub hindrances : new.view.hindrances ≡ old.view.hindrances
 
 -- or took no card, has the same card in hand, and its search stands where it stood
-pub record Works (old new : PassModel) (n : ℕ) : Type 0 where
-  pub goes : Goes old new n
+pub record KeepsAllButMet (old new : PassModel) (n : ℕ) : Type 0 where
+  pub keeps : Keeps old new n
   pub taken : TakesNoCard old new
   pub card : new.view.worker.card ≡ old.view.worker.card
   pub flagged : new.view.worker.flagged ≡ old.view.worker.flagged
   pub search : new.view.worker.search ≡ old.view.worker.search
 
 -- and met nothing in its way either
-pub record Walks (old new : PassModel) (n : ℕ) : Type 0 where
-  pub goes : Goes old new n
+pub record KeepsAll (old new : PassModel) (n : ℕ) : Type 0 where
+  pub keeps : Keeps old new n
   pub taken : TakesNoCard old new
   pub card : new.view.worker.card ≡ old.view.worker.card
   pub flagged : new.view.worker.flagged ≡ old.view.worker.flagged

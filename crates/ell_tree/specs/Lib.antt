@@ -11,7 +11,7 @@ pub mod Closing
 -- what was in the way, and when it is over
 pub mod Hindrances
 -- cards that are given out and come to their end, as a pass knows
-pub mod Moves
+pub mod Milestones
 -- how many steps a pass made
 pub mod Counts
 -- how many cards a pass took

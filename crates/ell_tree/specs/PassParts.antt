@@ -5,7 +5,7 @@ use Rattle.ell_cards.specs.Models.{PassModel, given_share, one_more, whole_share
 pub use Rattle.ell_cards.specs.Changes.{later, ownable_if}
 pub use Rattle.std.specs.Option.{option_or}
 use Rattle.ell_tree.specs.CardsTaken.{cards_taken}
-use Rattle.ell_tree.specs.Moves.{moves_known}
+use Rattle.ell_tree.specs.Milestones.{milestones_known}
 use Rattle.ell_tree.specs.Ledgers.{TreeModel, ledger, present_in, answers, hindrances, IsIdle}
 pub use Rattle.ell_core.specs.state.Opening.{start_entry}
 use Rattle.ell_core.specs.declared.view.Entry.{Entry}
@@ -24,7 +24,7 @@ pub record IsFirst (t : TreeModel) (p : PassModel) : Type 0 where
   pub steps : p.steps ≡ 0
   pub made : p.view.made ≡ 0
   pub label : p.label ≡ 0
-  pub moves : (cards : ℕ) → moves_known cards p.view ≡ 0
+  pub milestones : (cards : ℕ) → milestones_known cards p.view ≡ 0
   pub share : p.view.share ≡ whole_share
   pub ownable : p.view.worker.ownable ≡ ownable_if t.plan.shared t.plan.keys
   pub idle : IsIdle p
@@ -40,7 +40,7 @@ pub record IsLeftPart (keys : List ℕ) (p part : PassModel) : Type 0 where
   pub steps : part.steps ≡ one_more p.steps
   pub made : part.view.made ≡ p.view.made + 1
   pub label : part.label ≡ p.label
-  pub moves : (cards : ℕ) → moves_known cards part.view ≡ moves_known cards p.view
+  pub milestones : (cards : ℕ) → milestones_known cards part.view ≡ milestones_known cards p.view
   pub share : part.view.share ≡ p.view.share - given_share p.view.share
   pub ownable : part.view.worker.ownable ≡ p.view.worker.ownable
   pub idle : IsIdle part
@@ -56,7 +56,7 @@ pub record IsRightPart (keys : List ℕ) (p part : PassModel) : Type 0 where
   pub steps : part.steps ≡ one_more p.steps
   pub made : part.view.made ≡ 0
   pub label : part.label ≡ p.label
-  pub moves : (cards : ℕ) → moves_known cards part.view ≡ moves_known cards p.view
+  pub milestones : (cards : ℕ) → milestones_known cards part.view ≡ milestones_known cards p.view
   pub share : part.view.share ≡ given_share p.view.share
   pub ownable : part.view.worker.ownable ≡ p.view.worker.ownable
   pub idle : IsIdle part
@@ -78,7 +78,7 @@ pub record IsUnion (left right both : PassModel) : Type 0 where
   pub steps : both.steps ≡ one_more (max left.steps right.steps)
   pub made : both.view.made ≡ left.view.made + right.view.made + 1
   pub label : both.label ≡ left.label
-  pub moves : (cards : ℕ) → (moves_known cards left.view ≤ moves_known cards both.view) × (moves_known cards right.view ≤ moves_known cards both.view)
+  pub milestones : (cards : ℕ) → (milestones_known cards left.view ≤ milestones_known cards both.view) × (milestones_known cards right.view ≤ milestones_known cards both.view)
   pub share : both.view.share ≡ (left.view.share + right.view.share) % 2 ^ 64
   pub ownable : both.view.worker.ownable ≡ option_or left.view.worker.ownable right.view.worker.ownable
   pub idle : IsIdle both

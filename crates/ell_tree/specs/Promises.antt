@@ -7,7 +7,7 @@ use Rattle.ell_tree.specs.Counts.{IsAmortized, Took}
 use Rattle.ell_tree.specs.Ends.{CountsTries, change_steps}
 use Rattle.ell_tree.specs.Hindrances.{Meets}
 use Rattle.ell_tree.specs.Ledgers.{IsIdle, Owns, PassModel, TreeModel}
-use Rattle.ell_tree.specs.Moves.{moves_known}
+use Rattle.ell_tree.specs.Milestones.{milestones_known}
 
 -- a pass may find or change a key of this tree: it is a pass of the tree, with nothing in hand, and owns the key, or the key is shared
 pub record MayDo (t : TreeModel) (key : ℕ) (p : PassModel) : Type 0 where
@@ -16,7 +16,7 @@ pub record MayDo (t : TreeModel) (key : ℕ) (p : PassModel) : Type 0 where
   pub may : MayChange (worker_of p.view.worker) key
 
 -- an insert, a delete or a swap kept to its bounds: it took no more steps than so many tries take; no more than one try
--- takes, and another for each move that its pass came to know of; and it counted no more tries as hindered than these
+-- takes, and another for each milestone that its pass came to know of; and it counted no more tries as hindered than these
 pub record IsWithin (t : TreeModel) (tries : ℕ) (old new : PassModel) : Type 0 where
   pub most : Took old new (change_steps t.plan.last_card tries)
   pub amortized : IsAmortized t.plan.last_card old new
@@ -26,7 +26,7 @@ pub record IsWithin (t : TreeModel) (tries : ℕ) (old new : PassModel) : Type 0
 -- was given out, or came to its end, of which it did not know that; and in every run of the tree others did something for each
 pub record IsOthersDoing (t : TreeModel) (tries : ℕ) (old new : PassModel) : Type 0 where
   pub each : new.view.hindered ≡ old.view.hindered + tries
-  pub moved : moves_known t.plan.last_card old.view + tries ≤ moves_known t.plan.last_card new.view
+  pub milestones : milestones_known t.plan.last_card old.view + tries ≤ milestones_known t.plan.last_card new.view
   pub by_others : AreHinderedByOthers t.plan old.view.hindered new.view tries
 
 -- the cards that an insert, a delete or a swap of a key took: one a try at most; by how it ended; and none, if it
@@ -41,4 +41,4 @@ pub record IsQuiet (t : TreeModel) (old new : PassModel) : Type 0 where
   pub calm : new.view.hindrances ≡ old.view.hindrances
   pub meets : Meets old.view new.view
   pub hindered : new.view.hindered ≡ old.view.hindered
-  pub moved : moves_known t.plan.last_card old.view ≤ moves_known t.plan.last_card new.view
+  pub milestones : milestones_known t.plan.last_card old.view ≤ milestones_known t.plan.last_card new.view

@@ -38,8 +38,8 @@ abbrev pub below : ℕ → Passed → Option Seen → Search
 below child x above = record { node = Some child; read = None; parent = Some (seen x); grandparent = above }
 
 -- what a search read at a node that it passed is known
-abbrev pub Passes : ℕ → View → Passed → Type 0
-Passes cards w x = IsSeenAt cards w x.node x.update
+abbrev pub KnowsPassed : ℕ → View → Passed → Type 0
+KnowsPassed cards w x = IsSeenAt cards w x.node x.update
 
 -- what it read there is clean, or of a card whose end the pass did not know when its search began
 abbrev pub EndWasUnknownAt : View → Passed → Type 0
@@ -50,8 +50,8 @@ pub record Stands (cards : ℕ) (w : View) (node : ℕ) (parent : Passed) (grand
   pub search : w.worker.search ≡ below node parent (seen_any grandparent)
   pub met : IsTold w (Met node)
   pub there : InTable cards node
-  pub passed : Passes cards w parent
-  pub passed_above : IfSome grandparent (λ x. Passes cards w x)
+  pub passed : KnowsPassed cards w parent
+  pub passed_above : IfSome grandparent (λ x. KnowsPassed cards w x)
   pub unknown : EndWasUnknownAt w parent
   pub unknown_above : IfSome grandparent (EndWasUnknownAt w)
 
@@ -71,8 +71,8 @@ there_at place k = if place.key == k then Some place.value else None
 -- a grandparent
 pub record EndsAt (cards : ℕ) (w : View) (op : Op) (place : LeafFound) : Type 0 where
   pub at : IsAt w place
-  pub passed : Passes cards w place.parent
-  pub passed_above : IfSome place.grandparent (λ x. Passes cards w x)
+  pub passed : KnowsPassed cards w place.parent
+  pub passed_above : IfSome place.grandparent (λ x. KnowsPassed cards w x)
   pub unknown : EndWasUnknownAt w place.parent
   pub unknown_above : IfSome place.grandparent (EndWasUnknownAt w)
   pub there : ledger_of w.worker.ledger (key_of op) ≢ None → contents_in (ledger_of w.worker.ledger) (key_of op) ≡ there_at place (key_of op)

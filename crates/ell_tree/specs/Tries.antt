@@ -32,7 +32,7 @@ use Rattle.ell_tree.specs.CardsTaken.{TakesNoCard}
 use Rattle.ell_tree.specs.Ends.{Answers, TakesValue, reply_by}
 use Rattle.ell_tree.specs.Hindrances.{AreOver, Meets, StillKnows, way_of}
 use Rattle.ell_tree.specs.Keeping.{IsSeenAt}
-use Rattle.ell_tree.specs.Moves.{GivesOut, SeesMove}
+use Rattle.ell_tree.specs.Milestones.{GivesOut, SeesMilestone}
 use Rattle.ell_tree.specs.Searches.{AtRoot, seen, seen_any, there_at}
 
 -- an operation that may change the map: an insert, a delete or a swap
@@ -98,12 +98,12 @@ pub record Halts (op : Op) (old new : PassModel) : Type 0 where
 
 -- how a try ends
 abbrev pub TryEnds : TreeModel → Op → PassModel → PassModel → Tried → Type 0
-TryEnds t op old new (tried.Answered moved) =
-    Answers t op (reply_by op moved) old new × Meets old.view new.view × (new.view.next_at_least ≤ t.plan.last_card + 1)
+TryEnds t op old new (tried.Answered had) =
+    Answers t op (reply_by op had) old new × Meets old.view new.view × (new.view.next_at_least ≤ t.plan.last_card + 1)
 TryEnds t op old new tried.Spent = Halts op old new × (new.view.next ≡ Some (t.plan.last_card + 1))
 TryEnds t op old new tried.Hindered =
     Halts op old new × (length old.view.hindrances + 1 ≤ length (way_of op new.view) + length new.view.hindrances)
-    × SeesMove t.plan.last_card old.view new.view
+    × SeesMilestone t.plan.last_card old.view new.view
 
 -- what a try of a delete took
 abbrev pub TryTook : TreeModel → ℕ → PassModel → PassModel → Tried → Type 0
@@ -112,11 +112,11 @@ TryTook t key old new tried.Spent = Unit {0}
 TryTook t key old new tried.Hindered = Unit {0}
 
 -- what a try added, took or found
-abbrev pub TryMoves : TreeModel → Op → PassModel → PassModel → Tried → Type 0
-TryMoves t (Find key) old new ended = Unit {0}
-TryMoves t (Insert key value) old new ended = Unit {0}
-TryMoves t (Delete key) old new ended = TryTook t key old new ended
-TryMoves t (Swap key was value) old new ended = Unit {0}
+abbrev pub TryTakesValue : TreeModel → Op → PassModel → PassModel → Tried → Type 0
+TryTakesValue t (Find key) old new ended = Unit {0}
+TryTakesValue t (Insert key value) old new ended = Unit {0}
+TryTakesValue t (Delete key) old new ended = TryTook t key old new ended
+TryTakesValue t (Swap key was value) old new ended = Unit {0}
 
 -- a card was taken for an operation whose search ended at a place: it is to say this, nothing of it was stored, and its words
 -- that never change are told
@@ -136,8 +136,8 @@ found_for (Some was) there = there
 
 -- what is told of its key to whoever puts this, where a search ended: to a swap its value, if it is there; to an insert
 -- nothing
-abbrev pub found_by : Put → LeafFound → Option ℕ
-found_by what place = found_for what.was (there_at place what.key)
+abbrev pub told_of_put : Put → LeafFound → Option ℕ
+told_of_put what place = found_for what.was (there_at place what.key)
 
 -- and what is said once it is done: yes, or the value that was replaced
 abbrev pub put_reply : Option ℕ → Reply
@@ -181,7 +181,7 @@ pub record IsFlagged (flag : ℕ → Fact) (c : ℕ) (v w : View) : Type 0 where
   pub hindrances : w.hindrances ≡ v.hindrances
 
 -- a flag was lost: the card was laid aside, and what was found at the node was in the way
-pub record IsUnflagged (cards x : ℕ) (found : Update) (v w : View) : Type 0 where
+pub record LosesFlag (cards x : ℕ) (found : Update) (v w : View) : Type 0 where
   pub seen : IsSeenAt cards w x found
   pub no_card : w.worker.card ≡ None
   pub nowhere : w.worker.search.node ≡ None
@@ -190,4 +190,4 @@ pub record IsUnflagged (cards x : ℕ) (found : Update) (v w : View) : Type 0 wh
 -- a flag was set or lost
 abbrev pub Flags : ℕ → (ℕ → Fact) → ℕ → ℕ → PassModel → PassModel → Result (Unit {0}) Update → Type 0
 Flags cards flag c x old new (Ok won) = IsFlagged flag c old.view new.view
-Flags cards flag c x old new (Err found) = IsUnflagged cards x found old.view new.view
+Flags cards flag c x old new (Err found) = LosesFlag cards x found old.view new.view

@@ -7,7 +7,7 @@ ghost use Rattle.ell_cards.specs.Looking.{KeysAreFixed};
 ghost use Rattle.ell_tree.specs.Counts.{CountsAll, HasUncounted};
 ghost use Rattle.ell_tree.specs.Ledgers.{IsIdlePassOf};
 ghost use Rattle.ell_tree.specs.Looks.{stretch_steps};
-ghost use Rattle.ell_tree.specs.Cursors.{AreKept, BeginsALook, FindsAbout, IsAmong, IsKept, LooksOn};
+ghost use Rattle.ell_tree.specs.Cursors.{AreKept, BeginsALook, FindsAbout, IsAmong, MayGoOnFrom, KeepsLooking};
 
 use crate::gate::{Kind, StepGate};
 use ell_cards::{CardTable, Glance, Pass};
@@ -77,7 +77,7 @@ impl Cursor {
         ensures fixed { KeysAreFixed pass.new.view }
         // It counts each step that it makes.
         ensures counted { CountsAll pass.old pass.new }
-        ensures on { LooksOn pass.old pass.new (stretch_steps table.now.plan.last_card) }
+        ensures on { KeepsLooking pass.old pass.new (stretch_steps table.now.plan.last_card) }
     {
         table.facts_stay_inside(pass);
         let label = pass.label();
@@ -141,14 +141,14 @@ fn found_at<A: Allocator + Copy, G: StepGate>(
 ) -> (About, u64)
     requires own { pass.old.table ≡ table.now.id }
     requires outer { IsLeaf leaf.node }
-    requires kept { IsKept table.now.plan.last_card pass.old.view leaf }
+    requires kept { MayGoOnFrom table.now.plan.last_card pass.old.view leaf }
     requires from { leaf.low ≤ key }
     requires upto { key < leaf.high }
     ensures found { FindsAbout table.now.plan.last_card pass.new.view key result.0 }
     ensures fixed { KeysAreFixed pass.new.view }
     ensures uncounted { HasUncounted pass.old pass.new result.1 }
     ensures few { result.1 ≤ 2 }
-    ensures on { LooksOn pass.old pass.new 2 }
+    ensures on { KeepsLooking pass.old pass.new 2 }
 {
     gate.before(pass.label(), Kind::Look);
     let leaf_key = table.key_of(pass, leaf.node);

@@ -13,7 +13,7 @@ ghost use Rattle.ell_tree.specs.CardsTaken.{TakesNoCard, TryTakes};
 ghost use Rattle.ell_tree.specs.Ends.{try_steps};
 ghost use Rattle.ell_tree.specs.Helps.{IsBacked, IsParent, help_steps};
 ghost use Rattle.ell_tree.specs.Hindrances.{Meets};
-ghost use Rattle.ell_tree.specs.Keeping.{Goes, IsInnerMet, Works};
+ghost use Rattle.ell_tree.specs.Keeping.{Keeps, IsInnerMet, KeepsAllButMet};
 ghost use Rattle.ell_tree.specs.Searches.{AtRoot};
 ghost use Rattle.ell_tree.specs.Tries.{Fills, Flags, HasCard, TryEnds, TryTook};
 
@@ -96,7 +96,7 @@ fn flag_delete<A: Allocator + Copy, G: StepGate>(
     requires card { (key : ℕ) × HasCard (Delete key) place
         (delete_filling above.node place.parent.node place.leaf (packed place.parent.update)) pass.old.view card }
     requires node { IsInnerMet table.now.plan.last_card pass.old.view above.node }
-    ensures goes { Goes pass.old pass.new 5 }
+    ensures keeps { Keeps pass.old pass.new 5 }
     ensures taken { TakesNoCard pass.old pass.new }
     ensures flags { Flags table.now.plan.last_card DFlagged card above.node pass.old pass.new result }
 {
@@ -128,7 +128,7 @@ fn fill_delete<A: Allocator + Copy, G: StepGate>(
 }
 
 // HelpDelete of the own card, whose flag was won: whether its parent was cut out.
-#[tactic(auto, using(crate::proofs::lemmas::Keeping::walks_told, crate::proofs::lemmas::Keeping::walks_knows))]
+#[tactic(auto, using(crate::proofs::lemmas::Keeping::keeps_all_told, crate::proofs::lemmas::Keeping::keeps_all_knows))]
 fn finish_own<A: Allocator + Copy, G: StepGate>(
     table: &CardTable<A>,
     pass: &mut Pass<A>,
@@ -144,7 +144,7 @@ fn finish_own<A: Allocator + Copy, G: StepGate>(
     requires node { IsInnerMet table.now.plan.last_card pass.old.view grandparent }
     requires parent { IsParent table.now.plan.last_card pass.old.view card parent.node }
     requires read { IsTold pass.old.view (Info card field.Was (packed parent.update)) }
-    ensures works { Works pass.old pass.new (help_steps table.now.plan.last_card + 2) }
+    ensures keeps_but_met { KeepsAllButMet pass.old pass.new (help_steps table.now.plan.last_card + 2) }
     ensures meets { Meets pass.old.view pass.new.view }
     ensures done { OnTrue result (Knows pass.new.view (DOver card)) }
     ensures backed { OnFalse result (IsBacked card pass.old.view pass.new.view) }

@@ -1,15 +1,15 @@
 //! Helping whoever stands in the way, by the words of its card (paper of 2010, figures 8 and 9: Help, HelpInsert, HelpDelete and
 //! HelpMarked).
-#![tactic(auto, using(crate::proofs::lemmas::Keeping::walks_told, crate::proofs::lemmas::Keeping::walks_knows))]
+#![tactic(auto, using(crate::proofs::lemmas::Keeping::keeps_all_told, crate::proofs::lemmas::Keeping::keeps_all_knows))]
 
 ghost use Rattle.std.specs.Prelude.{◌≡◌};
 ghost use Rattle.ell_core.specs.declared.fact.Fact.TheVariants as fact;
 ghost use Rattle.ell_layout.specs.declared.field.Field.TheVariants as field;
 ghost use Rattle.ell_cards.specs.declared.view.Told.TheVariants as told;
 ghost use Rattle.ell_cards.specs.Models.{IsTold, Knows};
-ghost use Rattle.ell_tree.specs.Helps.{DeleteEnds, HasSibling, HelpEnds, IsFlag, IsInsert, IsMarked, IsParent, chain_steps, help_steps};
+ghost use Rattle.ell_tree.specs.Helps.{DeleteEnds, HasSibling, HelpEnds, IsFlag, IsInsert, KnowsMark, IsParent, chain_steps, help_steps};
 ghost use Rattle.ell_tree.specs.Hindrances.{IsDeleteEnded, IsEnded, Meets};
-ghost use Rattle.ell_tree.specs.Keeping.{IsSeenAt, Walks, Works};
+ghost use Rattle.ell_tree.specs.Keeping.{IsSeenAt, KeepsAll, KeepsAllButMet};
 
 use crate::gate::StepGate;
 use crate::steps::{
@@ -49,7 +49,7 @@ pub(crate) fn help<A: Allocator + Copy, G: StepGate>(
 )
     requires own { pass.old.table ≡ table.now.id }
     requires seen { IsSeenAt table.now.plan.last_card pass.old.view node update }
-    ensures works { Works pass.old pass.new (help_steps table.now.plan.last_card) }
+    ensures keeps_but_met { KeepsAllButMet pass.old pass.new (help_steps table.now.plan.last_card) }
     ensures meets { Meets pass.old.view pass.new.view }
     ensures ended { IsEnded pass.new.view update.state update.card }
 {
@@ -80,7 +80,7 @@ pub(crate) fn help_insert<A: Allocator + Copy, G: StepGate>(
     requires flagged { Knows pass.old.view (fact.IFlagged card) }
     requires met { IsTold pass.old.view (told.Met parent) }
     requires parent { IsTold pass.old.view (told.Info card field.P parent) }
-    ensures walks { Walks pass.old pass.new 6 }
+    ensures keeps_all { KeepsAll pass.old pass.new 6 }
     ensures over { Knows pass.new.view (fact.IOver card) }
 {
     let leaf = read_info(table, pass, card, Field::L, gate);
@@ -102,7 +102,7 @@ pub(crate) fn finish_insert<A: Allocator + Copy, G: StepGate>(
 )
     requires own { pass.old.table ≡ table.now.id }
     requires insert { IsInsert pass.old.view card parent leaf card_key left_key }
-    ensures walks { Walks pass.old pass.new 3 }
+    ensures keeps_all { KeepsAll pass.old pass.new 3 }
     ensures over { Knows pass.new.view (fact.IOver card) }
 {
     let above = read_key(table, pass, parent, gate);
@@ -121,7 +121,7 @@ pub(crate) fn help_marked<A: Allocator + Copy, G: StepGate>(
     requires own { pass.old.table ≡ table.now.id }
     requires marked { Knows pass.old.view (fact.Marked card) }
     requires parent { IsTold pass.old.view (told.Info card field.P parent) }
-    ensures walks { Walks pass.old pass.new 8 }
+    ensures keeps_all { KeepsAll pass.old pass.new 8 }
     ensures over { Knows pass.new.view (fact.DOver card) }
 {
     let grandparent = read_info(table, pass, card, Field::Gp, gate);
@@ -138,8 +138,8 @@ fn finish_marked<A: Allocator + Copy, G: StepGate>(
     gate: &G,
 )
     requires own { pass.old.table ≡ table.now.id }
-    requires marked { IsMarked pass.old.view card grandparent parent }
-    ensures walks { Walks pass.old pass.new 7 }
+    requires marked { KnowsMark pass.old.view card grandparent parent }
+    ensures keeps_all { KeepsAll pass.old pass.new 7 }
     ensures over { Knows pass.new.view (fact.DOver card) }
 {
     let sibling = find_sibling(table, pass, card, parent, gate);
@@ -159,7 +159,7 @@ fn find_sibling<A: Allocator + Copy, G: StepGate>(
     requires own { pass.old.table ≡ table.now.id }
     requires marked { Knows pass.old.view (fact.Marked card) }
     requires parent { IsTold pass.old.view (told.Info card field.P parent) }
-    ensures walks { Walks pass.old pass.new 4 }
+    ensures keeps_all { KeepsAll pass.old pass.new 4 }
     ensures sibling { HasSibling pass.new.view card result }
 {
     let leaf = read_info(table, pass, card, Field::L, gate);
@@ -182,7 +182,7 @@ pub(crate) fn help_delete<A: Allocator + Copy, G: StepGate>(
 )
     requires own { pass.old.table ≡ table.now.id }
     requires flag { IsFlag table.now.plan.last_card pass.old.view flag }
-    ensures works { Works pass.old pass.new (chain_steps table.now.plan.last_card flag.grandparent) }
+    ensures keeps_but_met { KeepsAllButMet pass.old pass.new (chain_steps table.now.plan.last_card flag.grandparent) }
     ensures meets { Meets pass.old.view pass.new.view }
     ensures ended { IsDeleteEnded pass.new.view flag.card }
 {

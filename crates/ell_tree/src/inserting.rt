@@ -5,9 +5,9 @@ ghost use Rattle.ell_core.specs.acts.Searching.{put_of};
 ghost use Rattle.ell_core.specs.declared.fact.Fact.TheVariants.{IFlagged};
 ghost use Rattle.ell_tree.specs.CardsTaken.{TakesNoCard, TryTakes};
 ghost use Rattle.ell_tree.specs.Ends.{try_steps};
-ghost use Rattle.ell_tree.specs.Keeping.{Goes, IsInnerMet};
+ghost use Rattle.ell_tree.specs.Keeping.{Keeps, IsInnerMet};
 ghost use Rattle.ell_tree.specs.Searches.{AtRoot};
-ghost use Rattle.ell_tree.specs.Tries.{found_by, put_reply, Fills, Flags, HasCardToPut, TryEnds};
+ghost use Rattle.ell_tree.specs.Tries.{told_of_put, put_reply, Fills, Flags, HasCardToPut, TryEnds};
 
 use crate::gate::{Kind, StepGate};
 use crate::helping::{finish_insert, help};
@@ -41,7 +41,7 @@ pub(crate) fn try_put<A: Allocator + Copy, G: StepGate>(
 {
     let place = search(table, pass, op, gate);
     if !what.may_replace(place.key, place.value) {
-        let found = found_by(what, place);
+        let found = told_of_put(what, place);
         answer(table, pass, Reply::found(found), gate);
         return Tried::Answered(found);
     }
@@ -75,8 +75,8 @@ pub(crate) fn try_put<A: Allocator + Copy, G: StepGate>(
 }
 
 // What a swap finds of its key where its search ended; an insert is told nothing.
-fn found_by(what: Put, place: LeafFound) -> Option<u64>
-    ensures { result ≡ found_by what place }
+fn told_of_put(what: Put, place: LeafFound) -> Option<u64>
+    ensures { result ≡ told_of_put what place }
 {
     match what.was {
         Some(_) if place.key == what.key => Some(place.value),
@@ -107,7 +107,7 @@ fn flag_insert<A: Allocator + Copy, G: StepGate>(
     requires limit { card ≤ greatest_card }
     requires card { HasCardToPut what place pass.old.view card }
     requires node { IsInnerMet table.now.plan.last_card pass.old.view place.parent.node }
-    ensures goes { Goes pass.old pass.new 11 }
+    ensures keeps { Keeps pass.old pass.new 11 }
     ensures taken { TakesNoCard pass.old pass.new }
     ensures flags { Flags table.now.plan.last_card IFlagged card place.parent.node pass.old pass.new result }
 {

@@ -9,12 +9,12 @@ ghost use Rattle.ell_cards.specs.Changes.{tries_hindered};
 ghost use Rattle.ell_cards.specs.Models.{Does};
 ghost use Rattle.ell_tree.specs.CardsTaken.{TakesNoCard, TryTakes};
 ghost use Rattle.ell_tree.specs.Counts.{Took};
-ghost use Rattle.ell_tree.specs.Ends.{Answers, Ends, Moves, changed_by, find_steps, replied_by, try_steps};
+ghost use Rattle.ell_tree.specs.Ends.{Answers, Ends, TakesIfDelete, changed_by, find_steps, replied_by, try_steps};
 ghost use Rattle.ell_tree.specs.Hindrances.{way_of};
 ghost use Rattle.ell_tree.specs.declared.operations.NotDone.TheVariants.{Busy};
 ghost use Rattle.ell_tree.specs.Promises.{IsOthersDoing, IsQuiet, IsWithin, MayDo, SpendsCards};
 ghost use Rattle.ell_tree.specs.Searches.{AtRoot};
-ghost use Rattle.ell_tree.specs.Tries.{Begins, IsChange, TryEnds, TryMoves};
+ghost use Rattle.ell_tree.specs.Tries.{Begins, IsChange, TryEnds, TryTakesValue};
 
 use crate::deleting::try_delete;
 use crate::gate::{Kind, StepGate};
@@ -77,7 +77,7 @@ pub(crate) fn change<A: Allocator + Copy, G: StepGate>(
     requires change { IsChange op }
     requires tries { 1 ≤ tries }
     ensures ends { Ends table.now tries op pass.old pass.new (replied_by op result) }
-    ensures moves { IfOk result (Moves table.now op pass.old pass.new) }
+    ensures takes { IfOk result (TakesIfDelete table.now op pass.old pass.new) }
     ensures others { result ≡ Err Busy → IsOthersDoing table.now tries pass.old pass.new }
     ensures steps { IsWithin table.now tries pass.old pass.new }
     ensures cards { SpendsCards (key_of op) tries pass.old pass.new (changed_by op result) }
@@ -89,9 +89,9 @@ pub(crate) fn change<A: Allocator + Copy, G: StepGate>(
     for round in 0..tries {
         restart(table, pass, round == 0, gate);
         match try_once(table, pass, op, gate) {
-            Tried::Answered(moved) => {
+            Tried::Answered(had) => {
                 gate.after(label, true);
-                return Ok(moved);
+                return Ok(had);
             }
             Tried::Spent => {
                 leave(table, pass, gate);
@@ -137,10 +137,10 @@ fn try_once<A: Allocator + Copy, G: StepGate>(
     // It makes at most `7 * cards + 26` steps.
     ensures steps { pass.new.steps + 1 ≤ pass.old.steps + try_steps table.now.plan.last_card }
     ensures made { pass.new.view.made + 1 ≤ pass.old.view.made + try_steps table.now.plan.last_card }
-    // It is answered as the operation, or has met something in its way and learnt a move, or finds no card left. It
+    // It is answered as the operation, or has met something in its way and learned of a milestone, or finds no card left. It
     // takes one card at most.
     ensures ends { TryEnds table.now op pass.old pass.new result }
-    ensures moves { TryMoves table.now op pass.old pass.new result }
+    ensures takes { TryTakesValue table.now op pass.old pass.new result }
     ensures taken { TryTakes op pass.old pass.new result }
     ensures least { pass.old.view.next_at_least ≤ pass.new.view.next_at_least }
     ensures hindered { pass.new.view.hindered ≡ pass.old.view.hindered }

@@ -3,8 +3,8 @@ ghost use Rattle.std.specs.Prelude.{◌≡◌, ◌<◌, ◌+◌, ◌*◌, None};
 ghost use Rattle.ell_cards.specs.Models.{Does, InTable, IsTold, StandsAt};
 ghost use Rattle.ell_cards.specs.declared.view.Told.TheVariants.{Met};
 ghost use Rattle.ell_tree.specs.Counts.{CountsAll, HasUncounted};
-ghost use Rattle.ell_tree.specs.Keeping.{IsInnerMet, Seeks};
-ghost use Rattle.ell_tree.specs.Searches.{AtRoot, EndsAt, EndWasUnknownAt, Passes, below};
+ghost use Rattle.ell_tree.specs.Keeping.{IsInnerMet, KeepsAllButSearch};
+ghost use Rattle.ell_tree.specs.Searches.{AtRoot, EndsAt, EndWasUnknownAt, KnowsPassed, below};
 
 use crate::gate::{Kind, StepGate};
 use ell_cards::{CardTable, Pass};
@@ -41,7 +41,7 @@ pub(crate) fn search<A: Allocator + Copy, G: StepGate>(
 ) -> LeafFound
     requires own { pass.old.table ≡ table.now.id }
     requires root { AtRoot op pass.old.view }
-    ensures seeks { Seeks pass.old pass.new (3 * table.now.plan.last_card + 5) }
+    ensures keeps_but_search { KeepsAllButSearch pass.old pass.new (3 * table.now.plan.last_card + 5) }
     // It counts each step that it makes.
     ensures counted { CountsAll pass.old pass.new }
     ensures ends { EndsAt table.now.plan.last_card pass.new.view op result }
@@ -61,7 +61,7 @@ fn walk<A: Allocator + Copy, G: StepGate>(
 ) -> (LeafFound, u64)
     requires own { pass.old.table ≡ table.now.id }
     requires root { AtRoot op pass.old.view }
-    ensures seeks { Seeks pass.old pass.new (3 * table.now.plan.last_card + 5) }
+    ensures keeps_but_search { KeepsAllButSearch pass.old pass.new (3 * table.now.plan.last_card + 5) }
     ensures uncounted { HasUncounted pass.old pass.new result.1 }
     ensures ends { EndsAt table.now.plan.last_card pass.new.view op result.0 }
 {
@@ -117,14 +117,14 @@ fn descend<A: Allocator + Copy, G: StepGate>(
     requires stands { StandsAt pass.old.view node }
     requires unread { pass.old.view.worker.search.read ≡ None }
     requires node { IsInnerMet table.now.plan.last_card pass.old.view node }
-    ensures seeks { Seeks pass.old pass.new 3 }
+    ensures keeps_but_search { KeepsAllButSearch pass.old pass.new 3 }
     ensures uncounted { HasUncounted pass.old pass.new 3 }
     ensures here { result.0.node ≡ node }
     ensures deeper { node < result.1 }
     ensures there { InTable table.now.plan.last_card result.1 }
     ensures search { pass.new.view.worker.search ≡ below result.1 result.0 pass.old.view.worker.search.parent }
     ensures met { IsTold pass.new.view (Met result.1) }
-    ensures passed { Passes table.now.plan.last_card pass.new.view result.0 }
+    ensures passed { KnowsPassed table.now.plan.last_card pass.new.view result.0 }
     ensures unknown { EndWasUnknownAt pass.new.view result.0 }
 {
     let label = pass.label();

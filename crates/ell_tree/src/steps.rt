@@ -15,9 +15,9 @@ ghost use Rattle.ell_cards.specs.Calls.{TellsDepth, TellsNode};
 ghost use Rattle.ell_tree.specs.CardsTaken.{TakesNoCard};
 ghost use Rattle.ell_tree.specs.Counts.{Took};
 ghost use Rattle.ell_tree.specs.Ends.{Answers};
-ghost use Rattle.ell_tree.specs.Helps.{HasSibling, IsLost, IsMarked, IsParent, found_instead, met_by_mark};
+ghost use Rattle.ell_tree.specs.Helps.{HasSibling, IsLost, KnowsMark, IsParent, found_instead, met_by_mark};
 ghost use Rattle.ell_tree.specs.Hindrances.{way_of};
-ghost use Rattle.ell_tree.specs.Keeping.{Walks, Works};
+ghost use Rattle.ell_tree.specs.Keeping.{KeepsAll, KeepsAllButMet};
 ghost use Rattle.ell_tree.specs.Tries.{Begins, Lays};
 
 use crate::gate::{Kind, StepGate};
@@ -114,7 +114,7 @@ pub(crate) fn read_key<A: Allocator + Copy, G: StepGate>(
 ) -> KeyedNode
     requires own { pass.old.table ≡ table.now.id }
     requires met { IsTold pass.old.view (told.Met node) }
-    ensures walks { Walks pass.old pass.new 1 }
+    ensures keeps_all { KeepsAll pass.old pass.new 1 }
     ensures node { result.node ≡ node }
     ensures told { IsTold pass.new.view (told.Key node result.key) }
 {
@@ -134,7 +134,7 @@ pub(crate) fn read_info<A: Allocator + Copy, G: StepGate>(
 ) -> u64
     requires own { pass.old.table ≡ table.now.id }
     requires may { MayAsk pass.old.view card field }
-    ensures walks { Walks pass.old pass.new 1 }
+    ensures keeps_all { KeepsAll pass.old pass.new 1 }
     ensures told { IsTold pass.new.view (told.Info card field result) }
     ensures met { NamesNode field → IsTold pass.new.view (told.Met result) }
     ensures node { TellsNode table.now.plan.last_card field result }
@@ -155,7 +155,7 @@ pub(crate) fn read_child<A: Allocator + Copy, G: StepGate>(
 ) -> u64
     requires own { pass.old.table ≡ table.now.id }
     requires may { KnowsPlace pass.old.view (fact.Marked card) card field.P parent }
-    ensures walks { Walks pass.old pass.new 1 }
+    ensures keeps_all { KeepsAll pass.old pass.new 1 }
     ensures told { IsTold pass.new.view (told.Frozen card right result) }
     ensures met { IsTold pass.new.view (told.Met result) }
 {
@@ -181,7 +181,7 @@ pub(crate) fn change_child<A: Allocator + Copy, G: StepGate>(
     requires leaf { IsTold pass.old.view (told.Info card field.L leaf) }
     requires card_key { IsTold pass.old.view (told.Info card field.Key card_key) }
     requires left_key { IsTold pass.old.view (told.Info card field.LeftLeafKey left_key) }
-    ensures walks { Walks pass.old pass.new 1 }
+    ensures keeps_all { KeepsAll pass.old pass.new 1 }
     ensures changed { Knows pass.new.view (fact.IChanged card) }
 {
     gate.before(pass.label(), Kind::Exchange(Exchange::IChild));
@@ -202,7 +202,7 @@ pub(crate) fn clear_insert<A: Allocator + Copy, G: StepGate>(
     requires own { pass.old.table ≡ table.now.id }
     requires changed { Knows pass.old.view (fact.IChanged card) }
     requires parent { IsTold pass.old.view (told.Info card field.P parent) }
-    ensures walks { Walks pass.old pass.new 1 }
+    ensures keeps_all { KeepsAll pass.old pass.new 1 }
     ensures over { Knows pass.new.view (fact.IOver card) }
 {
     gate.before(pass.label(), Kind::Exchange(Exchange::IUnflag));
@@ -222,7 +222,7 @@ pub(crate) fn set_mark<A: Allocator + Copy, G: StepGate>(
     requires flagged { Knows pass.old.view (fact.DFlagged card) }
     requires parent { IsParent table.now.plan.last_card pass.old.view card parent }
     requires read { IsTold pass.old.view (told.Info card field.Was was) }
-    ensures works { Works pass.old pass.new 1 }
+    ensures keeps_but_met { KeepsAllButMet pass.old pass.new 1 }
     ensures hindrances { pass.new.view.hindrances ≡ met_by_mark card result pass.old.view }
     ensures marked { result ≡ None → Knows pass.new.view (fact.Marked card) }
     ensures lost { IfSome result (λ found. IsLost table.now.plan.last_card card parent found pass.new.view) }
@@ -263,10 +263,10 @@ pub(crate) fn cut_parent<A: Allocator + Copy, G: StepGate>(
     gate: &G,
 )
     requires own { pass.old.table ≡ table.now.id }
-    requires marked { IsMarked pass.old.view card grandparent.node parent }
+    requires marked { KnowsMark pass.old.view card grandparent.node parent }
     requires above { IsTold pass.old.view (told.Key grandparent.node grandparent.key) }
     requires sibling { HasSibling pass.old.view card sibling }
-    ensures walks { Walks pass.old pass.new 1 }
+    ensures keeps_all { KeepsAll pass.old pass.new 1 }
     ensures cut { Knows pass.new.view (fact.Cut card) }
 {
     gate.before(pass.label(), Kind::Exchange(Exchange::DChild));
@@ -285,7 +285,7 @@ pub(crate) fn clear_delete<A: Allocator + Copy, G: StepGate>(
     requires own { pass.old.table ≡ table.now.id }
     requires cut { Knows pass.old.view (fact.Cut card) }
     requires grandparent { IsTold pass.old.view (told.Info card field.Gp grandparent) }
-    ensures walks { Walks pass.old pass.new 1 }
+    ensures keeps_all { KeepsAll pass.old pass.new 1 }
     ensures over { Knows pass.new.view (fact.DOver card) }
 {
     gate.before(pass.label(), Kind::Exchange(Exchange::DUnflag));
@@ -303,7 +303,7 @@ pub(crate) fn go_back<A: Allocator + Copy, G: StepGate>(
     requires own { pass.old.table ≡ table.now.id }
     requires unmarkable { Knows pass.old.view (fact.Unmarkable card) }
     requires grandparent { IsTold pass.old.view (told.Info card field.Gp grandparent) }
-    ensures walks { Walks pass.old pass.new 1 }
+    ensures keeps_all { KeepsAll pass.old pass.new 1 }
     ensures backed { Knows pass.new.view (fact.Backed card) }
 {
     gate.before(pass.label(), Kind::Exchange(Exchange::Backtrack));

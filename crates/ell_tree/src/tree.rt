@@ -8,14 +8,14 @@ ghost use Rattle.ell_ops.specs.KeySet.{set_of};
 ghost use Rattle.ell_ops.specs.Meaning.{greatest_key, found};
 ghost use Rattle.ell_word.specs.Node.{most_start};
 ghost use Rattle.ell_core.specs.state.Opening.{last_card};
-ghost use Rattle.ell_cards.specs.Models.{IsCardCount, MayPart, Refuses, SplitRefuses, whole_share};
+ghost use Rattle.ell_cards.specs.Models.{IsCardCount, MayPart, RefusesCards, SplitRefuses, whole_share};
 ghost use Rattle.ell_tree.specs.CardsLeft.{AreLeftAtMost, ReadsCardsLeft};
 ghost use Rattle.ell_tree.specs.CardsTaken.{TakesNoCard};
 ghost use Rattle.ell_tree.specs.Closing.{ClosesTo};
 ghost use Rattle.ell_tree.specs.Computing.{AreTried, IsNotDone, IsSum, PutsValue, UpdatesValue, update_steps, whether_put};
 ghost use Rattle.ell_tree.specs.Counts.{Took};
 ghost use Rattle.ell_tree.specs.Ends.{Answers, CountsTries, Ends, TakesValue, find_steps, found_or_not_done, replied, whether, whether_swapped};
-ghost use Rattle.ell_tree.specs.Moves.{moves_known};
+ghost use Rattle.ell_tree.specs.Milestones.{milestones_known};
 ghost use Rattle.ell_tree.specs.declared.operations.NotDone.TheVariants.{Busy};
 ghost use Rattle.ell_tree.specs.Ledgers.{IsIdlePassOf, Owns, TreeModel, present_in};
 ghost use Rattle.ell_tree.specs.Looks.{IsFoundIn, OnlyLooks, look_steps};
@@ -66,7 +66,7 @@ impl<A: Allocator + Copy> Tree<A> {
         // The pass owns these keys, of which the start keys are present, has the whole share, and has made no step.
         ensures pass { IfOk result (λ made. IsFirst made.0 made.1) }
         // `BadCards` comes exactly if the cards are not 1 to 1,000,000, and else `NoMemory` alone.
-        ensures refused { IfErr result (Refuses cards) }
+        ensures refused { IfErr result (RefusesCards cards) }
     {
         Tree::reserve_from(alloc, &[], keys, cards)
     }
@@ -101,7 +101,7 @@ impl<A: Allocator + Copy> Tree<A> {
         // The pass owns these keys, of which the start keys are present, has the whole share, and has made no step.
         ensures pass { IfOk result (λ made. IsFirst made.0 made.1) }
         // `BadCards` comes exactly if the cards are not 1 to 1,000,000, and else `NoMemory` alone.
-        ensures refused { IfErr result (Refuses cards) }
+        ensures refused { IfErr result (RefusesCards cards) }
     {
         let (table, pass) = CardTable::reserve_from(alloc, start, keys, cards)?;
         Ok((Tree { table, alloc }, pass))
@@ -137,7 +137,7 @@ impl<A: Allocator + Copy> Tree<A> {
         // The pass owns these keys, of which the start keys are present, has the whole share, and has made no step.
         ensures pass { IfOk result (λ made. IsFirst made.0 made.1) }
         // `BadCards` comes exactly if the cards are not 1 to 1,000,000, and else `NoMemory` alone.
-        ensures refused { IfErr result (Refuses cards) }
+        ensures refused { IfErr result (RefusesCards cards) }
     {
         let (table, pass) = CardTable::reserve_with_zeros(alloc, zeros, start, keys, cards)?;
         Ok((Tree { table, alloc }, pass))
@@ -172,7 +172,7 @@ impl<A: Allocator + Copy> Tree<A> {
         // The pass owns these keys, of which the start keys are present, has the whole share, and has made no step.
         ensures pass { IfOk result (λ made. IsFirst made.0 made.1) }
         // `BadCards` comes exactly if the cards are not 1 to 1,000,000, and else `NoMemory` alone.
-        ensures refused { IfErr result (Refuses cards) }
+        ensures refused { IfErr result (RefusesCards cards) }
     {
         let (table, pass) = CardTable::reserve_shared(alloc, start, keys, cards)?;
         Ok((Tree { table, alloc }, pass))
@@ -191,7 +191,7 @@ impl<A: Allocator + Copy> Tree<A> {
         requires owned { All (λ k. Owns pass k) left_keys.now }
         // The left part has these keys as they were, and keeps the counts, with one step more.
         ensures left { IfOk result (λ parts. IsLeftPart left_keys.now pass parts.0) }
-        // The right part has the other keys and a piece of the share, knows the same moves, and counts anew.
+        // The right part has the other keys and a piece of the share, knows the same milestones, and counts anew.
         ensures right { IfOk result (λ parts. IsRightPart left_keys.now pass parts.1) }
         // `TooManyPasses` comes exactly if the tree shares keys and the share is the least one, and else `NoMemory`
         // alone. The pass then comes back as it was.
@@ -210,7 +210,7 @@ impl<A: Allocator + Copy> Tree<A> {
     ) -> Result<Pass<A>, (Pass<A>, Pass<A>, NoMemory)>
         requires left { IsIdlePassOf self.now left }
         requires right { IsIdlePassOf self.now right }
-        // The pass has the keys and the shares of both, and knows no fewer moves. In a row it counts one step more than
+        // The pass has the keys and the shares of both, and knows no fewer milestones. In a row it counts one step more than
         // the greater of the two counts, and in all one more than their sum.
         ensures joined { IfOk result (IsUnion left right) }
         // If memory is refused, both come back as they were.
@@ -481,11 +481,11 @@ impl<A: Allocator + Copy> Tree<A> {
         // nothing in any run: `Busy` comes only after as many hindrances as tries, `Spent` only if no card is left.
         // What was in its way is over.
         ensures ends { Ends self.now tries (Insert key value) pass.old pass.new (replied result) }
-        // A `Busy` call counts each of its tries as hindered. Each shows the pass a move that it did not know, and in
+        // A `Busy` call counts each of its tries as hindered. Each shows the pass a milestone that it did not know, and in
         // every run they are no more than others' acts allow.
         ensures others { result ≡ Err Busy → IsOthersDoing self.now tries pass.old pass.new }
         // It makes at most `tries * (7 * cards + 27) + 1` steps, and also at most `7 * cards + 28`, and `7 * cards +
-        // 27` for each move that the pass comes to know. It counts at most `tries` tries.
+        // 27` for each milestone that the pass comes to know. It counts at most `tries` tries.
         ensures steps { IsWithin self.now tries pass.old pass.new }
         // It takes one card if it changes the map, at most one more for each hindered try, and never more than `tries`.
         // If it changes nothing of a key of the pass, it takes none.
@@ -515,11 +515,11 @@ impl<A: Allocator + Copy> Tree<A> {
         // answer changes nothing in any run: `Busy` comes only after as many hindrances as tries, `Spent` only if no
         // card is left. What was in its way is over.
         ensures ends { Ends self.now tries (Swap key was value) pass.old pass.new (found_or_not_done result) }
-        // A `Busy` call counts each of its tries as hindered. Each shows the pass a move that it did not know, and in
+        // A `Busy` call counts each of its tries as hindered. Each shows the pass a milestone that it did not know, and in
         // every run they are no more than others' acts allow.
         ensures others { result ≡ Err Busy → IsOthersDoing self.now tries pass.old pass.new }
         // It makes at most `tries * (7 * cards + 27) + 1` steps, and also at most `7 * cards + 28`, and `7 * cards +
-        // 27` for each move that the pass comes to know. It counts at most `tries` tries.
+        // 27` for each milestone that the pass comes to know. It counts at most `tries` tries.
         ensures steps { IsWithin self.now tries pass.old pass.new }
         // It takes one card if it finds `was`, at most one more for each hindered try, and never more than `tries`. If
         // it changes nothing of a key of the pass, it takes none.
@@ -670,11 +670,11 @@ impl<A: Allocator + Copy> Tree<A> {
         // nothing in any run: `Busy` comes only after as many hindrances as tries, `Spent` only if no card is left.
         // What was in its way is over.
         ensures ends { Ends self.now tries (Delete key) pass.old pass.new (replied result) }
-        // A `Busy` call counts each of its tries as hindered. Each shows the pass a move that it did not know, and in
+        // A `Busy` call counts each of its tries as hindered. Each shows the pass a milestone that it did not know, and in
         // every run they are no more than others' acts allow.
         ensures others { result ≡ Err Busy → IsOthersDoing self.now tries pass.old pass.new }
         // It makes at most `tries * (7 * cards + 27) + 1` steps, and also at most `7 * cards + 28`, and `7 * cards +
-        // 27` for each move that the pass comes to know. It counts at most `tries` tries.
+        // 27` for each milestone that the pass comes to know. It counts at most `tries` tries.
         ensures steps { IsWithin self.now tries pass.old pass.new }
         // It takes one card if it changes the map, at most one more for each hindered try, and never more than `tries`.
         // If it changes nothing of a key of the pass, it takes none.
@@ -704,11 +704,11 @@ impl<A: Allocator + Copy> Tree<A> {
         // The value is the one that it took: of a key of the pass the value that the pass had, of any key the one that
         // it had at the call's point, in every run.
         ensures took { IfOk result (TakesValue self.now key pass.old pass.new) }
-        // A `Busy` call counts each of its tries as hindered. Each shows the pass a move that it did not know, and in
+        // A `Busy` call counts each of its tries as hindered. Each shows the pass a milestone that it did not know, and in
         // every run they are no more than others' acts allow.
         ensures others { result ≡ Err Busy → IsOthersDoing self.now tries pass.old pass.new }
         // It makes at most `tries * (7 * cards + 27) + 1` steps, and also at most `7 * cards + 28`, and `7 * cards +
-        // 27` for each move that the pass comes to know. It counts at most `tries` tries.
+        // 27` for each milestone that the pass comes to know. It counts at most `tries` tries.
         ensures steps { IsWithin self.now tries pass.old pass.new }
         // It takes one card if it changes the map, at most one more for each hindered try, and never more than `tries`.
         // If it changes nothing of a key of the pass, it takes none.
@@ -719,11 +719,11 @@ impl<A: Allocator + Copy> Tree<A> {
         Ok(change(&self.table, pass, Op::Delete(key), tries, gate)?)
     }
 
-    /// A law, the contract of a function that does nothing: a pass of the tree knows of two moves of each card at most, whatever it did.
-    pub fn known_moves_are_few(&self, pass: &Pass<A>)
+    /// A law, the contract of a function that does nothing: a pass of the tree knows of two milestones of each card at most, whatever it did.
+    pub fn known_milestones_are_few(&self, pass: &Pass<A>)
         requires own { pass.now.table ≡ self.now.id }
-        // A pass knows of at most `2 * cards` moves.
-        ensures { moves_known self.now.plan.last_card pass.now.view ≤ 2 * self.now.plan.last_card }
+        // A pass knows of at most `2 * cards` milestones.
+        ensures { milestones_known self.now.plan.last_card pass.now.view ≤ 2 * self.now.plan.last_card }
     {
         self.table.claims_stay_inside(pass);
     }

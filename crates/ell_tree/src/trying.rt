@@ -6,7 +6,7 @@ ghost use Rattle.ell_cards.specs.Models.{Does, Steps};
 ghost use Rattle.ell_cards.specs.Guards.{MayFill, Wants};
 ghost use Rattle.ell_cards.specs.Changes.{after_fill};
 ghost use Rattle.ell_tree.specs.CardsTaken.{AskTakes};
-ghost use Rattle.ell_tree.specs.Keeping.{Goes};
+ghost use Rattle.ell_tree.specs.Keeping.{Keeps};
 ghost use Rattle.ell_tree.specs.Searches.{IsAt};
 ghost use Rattle.ell_tree.specs.Tries.{Claims};
 
@@ -53,7 +53,7 @@ pub(crate) fn take_card<A: Allocator + Copy, G: StepGate>(
     requires at { IsAt pass.old.view place }
     requires calm { place.parent.update.state ≡ Clean }
     requires wants { Wants pass.old.view op place.leaf place.key }
-    ensures goes { Goes pass.old pass.new 2 }
+    ensures keeps { Keeps pass.old pass.new 2 }
     ensures claims { Claims table.now.plan.last_card op place pass.old pass.new result }
     ensures taken { AskTakes pass.old pass.new result }
     ensures limit { table.now.plan.last_card ≤ greatest_card }

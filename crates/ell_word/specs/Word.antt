@@ -3,11 +3,11 @@ use Rattle.ell_word.specs.declared.update.State.{State}
 use Rattle.ell_word.specs.declared.update.State.TheVariants.{IFlag, DFlag, Mark, Clean}
 use Rattle.ell_word.specs.declared.update.Update.{Update}
 
-abbrev pub number_of : State → ℕ
-number_of IFlag = 0
-number_of DFlag = 1
-number_of Mark = 2
-number_of Clean = 3
+abbrev pub state_number : State → ℕ
+state_number IFlag = 0
+state_number DFlag = 1
+state_number Mark = 2
+state_number Clean = 3
 
 abbrev pub state_of : ℕ → State
 state_of zero = IFlag
@@ -17,7 +17,7 @@ state_of (suc (suc (suc n))) = Clean
 
 -- the word of an update
 abbrev pub packed : Update → ℕ
-packed update = 4 * update.card + number_of update.state
+packed update = 4 * update.card + state_number update.state
 
 -- the update that a word says
 abbrev pub unpacked : ℕ → Update

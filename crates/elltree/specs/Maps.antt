@@ -1,11 +1,11 @@
 use Rattle.std.specs.Prelude.{◌≡◌, ◌<◌, ◌≤◌, ℕ, Option, Some, None, List, length, map, take, drop}
 use Rattle.std.specs.Arc.{arc_value}
 use Rattle.ell_ops.specs.Contents.{Contents, ListsPairs, nothing}
-use Rattle.ell_cards.specs.Changes.{keys_of}
+use Rattle.ell_cards.specs.Changes.{ledger_keys}
 use Rattle.ell_tree.specs.Ledgers.{Owns, present_in}
 use Rattle.ell_tree.specs.Looks.{IsFoundIn}
 use Rattle.ell_tree.specs.PassParts.{IsUnion}
-use Rattle.ell_handle.specs.HandleParts.{MayJoin}
+use Rattle.ell_handle.specs.HandleParts.{AreJoinable}
 use Rattle.ell_handle.specs.Reads.{tree_of}
 use Rattle.ell_handle.specs.declared.handle.Handle.{Handle}
 use Rattle.elltree.specs.Owned.{Inside}
@@ -33,7 +33,7 @@ OwnsIn None key = ⊥
 
 -- how many keys a handle owns
 abbrev pub owned_in : Option Handle → ℕ
-owned_in (Some handle) = length (keys_of handle.pass.view.worker.ledger)
+owned_in (Some handle) = length (ledger_keys handle.pass.view.worker.ledger)
 owned_in None = 0
 
 -- the steps that were made through a handle
@@ -42,12 +42,12 @@ steps_in (Some handle) = handle.pass.steps
 steps_in None = 0
 
 -- what a handle has found by its last look for a key of its tree: it was so in one state of the tree since the look began
-pub record Finds (handle : Handle) (key : ℕ) (there : Option ℕ) : Type 0 where
+pub record FindsByLook (handle : Handle) (key : ℕ) (there : Option ℕ) : Type 0 where
   pub so : IsFoundIn (tree_of handle) handle.pass.view key there
 
 -- what the handle of a slot has
 abbrev pub IsFoundBy : Option Handle → ℕ → Option ℕ → Type 0
-IsFoundBy (Some handle) key there = Finds handle key there
+IsFoundBy (Some handle) key there = FindsByLook handle key there
 IsFoundBy None key there = ⊥
 
 -- one handle has the keys of two, as they had them
@@ -65,7 +65,7 @@ NumbersTell None right = Unit {0}
 
 -- two handles have different numbers, or the keys of one's tree alone are shared
 abbrev pub NumbersDiffer : Option Handle → Option Handle → Type 0
-NumbersDiffer (Some left) (Some right) = ¬ MayJoin left right
+NumbersDiffer (Some left) (Some right) = ¬ AreJoinable left right
 NumbersDiffer (Some left) None = ⊥
 NumbersDiffer None right = ⊥
 

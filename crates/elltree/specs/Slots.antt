@@ -1,6 +1,6 @@
 use Rattle.std.specs.Prelude.{◌≡◌, ℕ, Option, Some, None, List, if◌then◌else◌}
 use Rattle.ell_ops.specs.KeySet.{set_of}
-use Rattle.ell_cards.specs.Changes.{keys_of}
+use Rattle.ell_cards.specs.Changes.{ledger_keys}
 use Rattle.ell_tree.specs.Ledgers.{Owns, present_in}
 use Rattle.ell_handle.specs.Groups.{HasSame}
 use Rattle.ell_handle.specs.HandleParts.{AreParts}
@@ -39,7 +39,7 @@ pub record IsParted (wanted : List ℕ) (whole part rest : Handle) : Type 0 wher
 
 -- there is another handle of a handle's tree, which has none of its keys; the handle has all, as it had them, and both may join
 pub record HasAnother (whole kept other : Handle) : Type 0 where
-  pub parts : AreParts (keys_of whole.pass.view.worker.ledger) whole kept other
+  pub parts : AreParts (ledger_keys whole.pass.view.worker.ledger) whole kept other
   pub same : HasSame whole kept
   pub bare : (k : ℕ) → ¬ Owns other.pass k
   pub numbers : NumbersTell (Some kept) (Some other)

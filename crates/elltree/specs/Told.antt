@@ -5,14 +5,14 @@ use Rattle.ell_ops.specs.declared.reply.Reply.TheVariants.{Found, No, Yes}
 use Rattle.ell_ops.specs.declared.op.Op.TheVariants.{Delete, Find}
 use Rattle.ell_ops.specs.Contents.{contents_of}
 use Rattle.ell_ops.specs.Meaning.{greatest_key, key_of}
-use Rattle.ell_cards.specs.Changes.{keys_of}
+use Rattle.ell_cards.specs.Changes.{ledger_keys}
 use Rattle.ell_cards.specs.Models.{IsCardCount}
 use Rattle.ell_tree.specs.CardsTaken.{TakesAtMost, TakesByHindered, TakesNoCard, TakesOneAndByHindered}
 use Rattle.ell_tree.specs.Ends.{Answers, TakesValue}
 use Rattle.ell_tree.specs.Ledgers.{Owns, present_in}
 use Rattle.ell_handle.specs.Groups.{HasSame, StaysPut}
 use Rattle.std.specs.List.{All}
-use Rattle.ell_handle.specs.Opens.{IsOpened, IsOpenedShared, MayOpen, Refuses}
+use Rattle.ell_handle.specs.Opens.{IsOpened, IsOpenedShared, MayOpen, RefusesTree}
 use Rattle.ell_handle.specs.HandleParts.{IsLeast}
 use Rattle.ell_handle.specs.Reads.{HasSharedKeys, KeepsKeys, MayUse, OnlyFinds, OnlyLooksUp, tree_of}
 use Rattle.ell_handle.specs.Renewal.{IsRenewed, IsTooMuch, MayRenew}
@@ -102,8 +102,8 @@ pub record TellsPairs (said : ℤ) (count : ℕ) (before after : List Pair) (old
 -- and that of a list of keys
 pub record TellsKeys (said : ℤ) (count : ℕ) (before after : List ℕ) (handle : Handle) : Type 0 where
   pub codes : IsOneOf (said_yes ∷ said_no_room ∷ []) said
-  pub keys : said ≡ said_yes → WritesKeys (keys_of handle.pass.view.worker.ledger) count before after
-  pub no_room : said ≡ said_no_room → length before < length (keys_of handle.pass.view.worker.ledger)
+  pub keys : said ≡ said_yes → WritesKeys (ledger_keys handle.pass.view.worker.ledger) count before after
+  pub no_room : said ≡ said_no_room → length before < length (ledger_keys handle.pass.view.worker.ledger)
 
 -- a call that always answers a handle says yes, or that a slot holds none
 abbrev pub SaysIfAny : Option Handle → ℤ → Type 0
@@ -124,9 +124,9 @@ pub record BeginsShared (start : List (ℕ × ℕ)) (cards number : ℕ) (handle
 -- what the code of an opening tells of these keys, start keys and cards: why there is no such tree, each exactly if it is so
 pub record SaysWhyShut (keys : List ℕ) (start : List (ℕ × ℕ)) (cards : ℕ) (said : ℤ) : Type 0 where
   pub codes : IsOneOf (said_yes ∷ said_open ∷ said_bad_start ∷ said_bad_key ∷ said_bad_cards ∷ said_no_memory ∷ []) said
-  pub bad_start : said ≡ said_bad_start → Refuses keys start cards BadStart
-  pub bad_key : said ≡ said_bad_key → Refuses keys start cards BadKey
-  pub bad_cards : said ≡ said_bad_cards → Refuses keys start cards BadCards
+  pub bad_start : said ≡ said_bad_start → RefusesTree keys start cards BadStart
+  pub bad_key : said ≡ said_bad_key → RefusesTree keys start cards BadKey
+  pub bad_cards : said ≡ said_bad_cards → RefusesTree keys start cards BadCards
   pub no_memory : said ≡ said_no_memory → MayOpen keys start cards
 
 -- what the code of a split by these keys tells of a slot's handle, of the slot with its part and of its own after it: that these have the

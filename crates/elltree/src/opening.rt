@@ -1,6 +1,6 @@
 //! How slots open, part, come together and close.
 ghost use Rattle.std.specs.Prelude.{◌≡◌, ◌≢◌, ◌↔◌, true, None, IfOk, IfErr, OnErr, [], ◌∷◌};
-ghost use Rattle.ell_handle.specs.Opens.{Refuses};
+ghost use Rattle.ell_handle.specs.Opens.{RefusesTree};
 ghost use Rattle.elltree.specs.Codes.{IsOneOf, said_closed, said_open, said_yes};
 ghost use Rattle.elltree.specs.Maps.{NumbersTell, as_pairs, handle_of};
 ghost use Rattle.elltree.specs.Slots.{OfHandle};
@@ -56,7 +56,7 @@ fn open(
 ) -> Result<Box<HandlePlace, Global>, Refusal>
     ensures opened { IfOk result (λ place.
         OfHandle (BeginsWith keys.now (as_pairs start.now) cards number) place.value.handle) }
-    ensures refused { IfErr result (Refuses keys.now (as_pairs start.now) cards) }
+    ensures refused { IfErr result (RefusesTree keys.now (as_pairs start.now) cards) }
 {
     let Ok(pairs) = pairs_of(alloc, start) else {
         return Err(why_refused(keys, start, cards));

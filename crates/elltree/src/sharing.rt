@@ -1,6 +1,6 @@
 //! Trees of shared keys, and further handles of a tree.
 ghost use Rattle.std.specs.Prelude.{◌≡◌, ◌≢◌, ◌↔◌, true, None, IfOk, IfErr, OnErr, []};
-ghost use Rattle.ell_handle.specs.Opens.{Refuses};
+ghost use Rattle.ell_handle.specs.Opens.{RefusesTree};
 ghost use Rattle.elltree.specs.Codes.{said_open, said_yes};
 ghost use Rattle.elltree.specs.Maps.{as_pairs, handle_of};
 ghost use Rattle.elltree.specs.Slots.{OfHandle};
@@ -55,7 +55,7 @@ fn open_shared(
 ) -> Result<Box<HandlePlace, Global>, Refusal>
     ensures opened { IfOk result (λ place.
         OfHandle (BeginsShared (as_pairs start.now) cards number) place.value.handle) }
-    ensures refused { IfErr result (Refuses [] (as_pairs start.now) cards) }
+    ensures refused { IfErr result (RefusesTree [] (as_pairs start.now) cards) }
 {
     let Ok(pairs) = pairs_of(alloc, start) else {
         return Err(why_refused(&[], start, cards));

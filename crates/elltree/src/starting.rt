@@ -1,6 +1,6 @@
 //! Why a host's tree is not opened, as its own arrays tell without memory.
 ghost use Rattle.std.specs.Prelude.{◌↔◌, IsTrue};
-ghost use Rattle.ell_handle.specs.Opens.{AreKeys, IsStart, Refuses};
+ghost use Rattle.ell_handle.specs.Opens.{AreKeys, IsStart, RefusesTree};
 ghost use Rattle.elltree.specs.Maps.{as_pairs};
 
 use crate::Pair;
@@ -11,7 +11,7 @@ use ell_tree::START_MAX;
 
 /// Why no tree is opened where memory for its start keys was refused: want of memory is named only where nothing else is wrong.
 pub(crate) fn why_refused(keys: &[u64], start: &[Pair], cards: u64) -> Refusal
-    ensures { Refuses keys.now (as_pairs start.now) cards result }
+    ensures { RefusesTree keys.now (as_pairs start.now) cards result }
 {
     if !is_start(start) {
         return Refusal::BadStart;

@@ -7,13 +7,13 @@ use Rattle.ell_run.specs.declared.settings.Parting.{Parting}
 use Rattle.ell_run.specs.declared.settings.Parting.TheVariants.{Range, Stripe}
 use Rattle.ell_command.specs.declared.request.Request.{Request}
 use Rattle.ell_command.specs.declared.request.Request.TheVariants.{Replay, Run}
-use Rattle.ell_command.specs.CommandLine.{AsksToReplay, AsksToRun, IsPlainRun, IsRequestOf, app_at, name_of, number_of, options_of, subcommand_for, subcommand_in}
+use Rattle.ell_command.specs.CommandLine.{AsksToReplay, AsksToRun, IsPlainRun, IsRequestOf, app_at, name_of, number_said, options_of, subcommand_for, subcommand_in}
 use Rattle.ell_command.proofs.lemmas.WrittenOut.{replay_is_named, run_is_named}
 
 abbrev plain_options : List Row
 plain_options = options_of (codes "run" ∷ [])
 
-plain_workers : number_of (one_of (codes "workers") plain_options) ≡ Some 4
+plain_workers : number_said (one_of (codes "workers") plain_options) ≡ Some 4
 unfolding clap_on_literals app_at
 plain_workers = refl
 
@@ -21,11 +21,11 @@ plain_parting : first_of (codes "parting") plain_options ≡ Some (codes "stripe
 unfolding clap_on_literals app_at
 plain_parting = refl
 
-plain_cards : number_of (one_of (codes "cards") plain_options) ≡ None
+plain_cards : number_said (one_of (codes "cards") plain_options) ≡ None
 unfolding clap_on_literals app_at
 plain_cards = refl
 
-plain_tries : number_of (one_of (codes "tries") plain_options) ≡ Some 1000
+plain_tries : number_said (one_of (codes "tries") plain_options) ≡ Some 1000
 unfolding clap_on_literals app_at
 plain_tries = refl
 

@@ -16,7 +16,7 @@ pub mod AllEvents
 pub mod Learning
 -- An event that changes one worker, while the keys that lead somewhere stay: the workers are sound after it.
 pub mod OneWorker
--- The premises of the laws of seat moves are met: each parting of an idle worker's ledger is a split, each union a join.
+-- The premises of the laws of handovers are met: each parting of an idle worker's ledger is a split, each union a join.
 pub mod Partings
 -- What an operation puts at its key, and the cards in hand of such operations.
 pub mod Puts
@@ -24,5 +24,5 @@ pub mod Puts
 pub mod Reseats
 -- An event leads where another answer and scene lead that are equal to its own.
 pub mod SameOutcome
--- Seat moves keep the invariant: workers with nothing in hand are split and joined, and their keys go with them.
+-- Handovers keep the invariant: workers with nothing in hand are split and joined, and their keys go with them.
 pub mod Seats

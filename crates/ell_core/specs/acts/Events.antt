@@ -80,6 +80,6 @@ pub record Steps (m : Machine) (e : Event) (said : Stepped) (after : Machine) : 
   pub gives : after ≡ with_scene m e.worker becomes
 
 -- an event of the machine is refused, for the first of the reasons that holds
-abbrev pub Refuses : Machine → Event → CoreFault → Type 0
-Refuses m e NoSuchWorker = m.count ≤ e.worker
-Refuses m e fault = (e.worker < m.count) × Refused m.last_card e.act (scene m e.worker) fault
+abbrev pub RefusesEvent : Machine → Event → CoreFault → Type 0
+RefusesEvent m e NoSuchWorker = m.count ≤ e.worker
+RefusesEvent m e fault = (e.worker < m.count) × Refused m.last_card e.act (scene m e.worker) fault

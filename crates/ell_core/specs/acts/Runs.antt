@@ -3,12 +3,12 @@ use Rattle.ell_core.specs.declared.event.Event.{Event}
 use Rattle.ell_core.specs.declared.event.Shown.{Shown}
 use Rattle.ell_core.specs.declared.event.Shown.TheVariants as shown
 use Rattle.ell_core.specs.state.Machine.{Machine}
-use Rattle.ell_core.specs.acts.Events.{Steps, Refuses}
+use Rattle.ell_core.specs.acts.Events.{Steps, RefusesEvent}
 
 -- an event shows an answer and leads to a state, or shows a refusal and leaves the state
 abbrev pub Shows : Machine → Event → Shown → Machine → Type 0
 Shows m e (shown.Step said) after = Steps m e said after
-Shows m e (shown.Refused fault) after = Refuses m e fault × (after ≡ m)
+Shows m e (shown.Refused fault) after = RefusesEvent m e fault × (after ≡ m)
 
 -- the events, one after the other, show this list and lead to a state
 abbrev pub Run : Machine → List Event → List Shown → Machine → Type 0

@@ -29,7 +29,7 @@ wins_by a hand Won c = win_by a hand c
 wins_by a hand _ c = []
 
 -- a list is a beginning of another
-pub record Begins (all some : List Exchange) : Type 0 where
+pub record BeginsWith (all some : List Exchange) : Type 0 where
   pub rest : List Exchange
   pub together : some ++ rest ≡ all
 
@@ -47,4 +47,4 @@ back_order = exchange.DFlag ∷ exchange.Backtrack ∷ []
 
 -- wins come in one of these orders, as far as they come
 abbrev pub InOrder : List Exchange → Type 0
-InOrder wins = Begins insert_order wins ⊎ (Begins cut_order wins ⊎ Begins back_order wins)
+InOrder wins = BeginsWith insert_order wins ⊎ (BeginsWith cut_order wins ⊎ BeginsWith back_order wins)

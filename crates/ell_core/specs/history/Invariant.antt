@@ -13,9 +13,9 @@ use Rattle.ell_core.specs.state.Facts.{card_of_fact}
 use Rattle.ell_core.specs.state.Machine.{Worker, Machine, entry_of}
 use Rattle.ell_layout.specs.Cards.{iflag, dflag, marked, clean, is_right, child_for, exchange_side, sibling, is_replace_card}
 use Rattle.ell_core.specs.acts.Searching.{IsClean}
-use Rattle.ell_core.specs.state.Moves.{WorkerIsIdle}
+use Rattle.ell_core.specs.state.Handovers.{WorkerIsIdle}
 use Rattle.ell_core.specs.soundness.Sound.{WorkerOwns, MayChange, IsNotShared, IsOwned, IsInHand, StrangersAreNobody}
-use Rattle.ell_core.specs.tree.Ranges.{IsSpanned, IsCutOut, Meets, IsOrdered, OnCourse}
+use Rattle.ell_core.specs.tree.Ranges.{IsSpanned, IsCutOut, FindsLeaf, IsOrdered, OnCourse}
 use Rattle.ell_core.specs.history.Stages.{Stages, Opening, is_claimed, is_start, is_insert, is_delete, is_born, insert_won, insert_open, insert_waits, is_changed, insert_over, delete_won, delete_open, delete_waits, is_markable, is_unmarkable, is_marked, is_cut, delete_past, allows, Born, effective_at}
 use Rattle.ell_core.specs.declared.view.Entry.TheVariants.{Present}
 
@@ -33,11 +33,11 @@ IsOut w x = IsCutOut w.key w.child top x
 
 -- the walk for key k from x ends at a leaf of key k
 abbrev pub LeadsTo : Words → ℕ → ℕ → Type 0
-LeadsTo w k x = Meets w.key w.child (λ leaf. Unit {0}) k x
+LeadsTo w k x = FindsLeaf w.key w.child (λ leaf. Unit {0}) k x
 
 -- it ends at a leaf of key k and this value
 abbrev pub LeadsToValue : Words → ℕ → ℕ → ℕ → Type 0
-LeadsToValue w k value x = Meets w.key w.child (λ leaf. w.value leaf ≡ value) k x
+LeadsToValue w k value x = FindsLeaf w.key w.child (λ leaf. w.value leaf ≡ value) k x
 
 -- x is on course for key k
 abbrev pub IsOnCourse : Words → ℕ → ℕ → Type 0

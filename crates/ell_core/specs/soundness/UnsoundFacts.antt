@@ -19,13 +19,13 @@ abbrev pub taught : Fact → Worker → Worker
 taught fact v = record v { knows = learned v.knows fact }
 
 -- the state, if worker 0 knew a fact more
-abbrev pub knowing : Machine → Fact → Machine
-knowing m fact = record m { worker = put m.worker 0 (taught fact (m.worker 0)) }
+abbrev pub with_fact : Machine → Fact → Machine
+with_fact m fact = record m { worker = put m.worker 0 (taught fact (m.worker 0)) }
 
 -- each of these facts would make the state unsound
 abbrev pub NoneHolds : Machine → List Fact → Type 0
 NoneHolds m [] = Unit {0}
-NoneHolds m (fact ∷ facts) = BreaksFacts (knowing m fact) × NoneHolds m facts
+NoneHolds m (fact ∷ facts) = BreaksFacts (with_fact m fact) × NoneHolds m facts
 
 -- card 1 was claimed and not filled as an insert's: with no left child it is a delete's
 abbrev pub not_an_insert : Machine

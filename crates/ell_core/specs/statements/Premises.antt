@@ -8,7 +8,7 @@ use Rattle.ell_core.specs.declared.event.Event.{Event}
 use Rattle.ell_core.specs.declared.event.Shown.{Shown}
 use Rattle.ell_core.specs.state.Facts.{Knowledge}
 use Rattle.ell_core.specs.state.Machine.{Ledger, Machine, idle, nobody}
-use Rattle.ell_core.specs.state.Moves.{WorkerIsIdle, AreParted, Split, Join}
+use Rattle.ell_core.specs.state.Handovers.{WorkerIsIdle, AreParted, Split, Join}
 use Rattle.ell_core.specs.state.Opening.{Setup, opening}
 use Rattle.ell_core.specs.acts.Runs.{Shows}
 use Rattle.ell_core.specs.history.Stages.{Stages}

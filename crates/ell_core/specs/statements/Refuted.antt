@@ -13,7 +13,7 @@ use Rattle.ell_core.specs.declared.event.Stepped.{Stepped}
 use Rattle.ell_core.specs.declared.event.Stepped.TheVariants.{Won, Answered}
 use Rattle.ell_layout.specs.Words.{put, IsLeaf}
 use Rattle.ell_core.specs.state.Machine.{Worker, Machine}
-use Rattle.ell_core.specs.state.Moves.{WorkerIsIdle, AreParted, KnowsNoMore}
+use Rattle.ell_core.specs.state.Handovers.{WorkerIsIdle, AreParted, KnowsNoMore}
 use Rattle.ell_layout.specs.Cards.{card_key, card_value}
 use Rattle.ell_core.specs.acts.Searching.{IsClean}
 use Rattle.ell_core.specs.acts.Events.{Steps}
@@ -26,7 +26,7 @@ use Rattle.ell_core.specs.history.Later.{SameInfo, SameNode}
 use Rattle.ell_core.specs.statements.Effects.{AddsPair, KnowledgeLasts, contents_in}
 use Rattle.ell_core.specs.statements.RunLaws.{IsPassed, IsOpening, Follow, wins_in}
 use Rattle.ell_core.specs.statements.Looks.{Looks}
-use Rattle.ell_core.specs.acts.Wins.{Begins, cut_order, back_order}
+use Rattle.ell_core.specs.acts.Wins.{BeginsWith, cut_order, back_order}
 use Rattle.ell_ops.specs.declared.reply.Reply.{Reply}
 
 -- update words rise at every event (in truth they may stay)
@@ -53,8 +53,8 @@ child_first = exchange.IChild ∷ exchange.IFlag ∷ exchange.IUnflag ∷ []
 -- each card wins in that order, or in one of a delete's (in truth the flag comes first)
 abbrev pub ChildExchangesComeFirst : Type 0
 ChildExchangesComeFirst = (m : Machine) (events : List Event) (answers : List Shown) (m' : Machine) → IsOpening m
-    → (run : Run m events answers m') (c : ℕ) → Begins child_first (wins_in m events answers m' run c)
-    ⊎ (Begins cut_order (wins_in m events answers m' run c) ⊎ Begins back_order (wins_in m events answers m' run c))
+    → (run : Run m events answers m') (c : ℕ) → BeginsWith child_first (wins_in m events answers m' run c)
+    ⊎ (BeginsWith cut_order (wins_in m events answers m' run c) ⊎ BeginsWith back_order (wins_in m events answers m' run c))
 
 -- all workers come to have the ledger of the one that made a step (in truth each keeps its own)
 abbrev pub OneLedgerForAll : Type 0

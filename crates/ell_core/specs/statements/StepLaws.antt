@@ -15,7 +15,7 @@ use Rattle.ell_core.specs.state.Machine.{Worker, Machine, Scene, scene}
 use Rattle.ell_layout.specs.Cards.{marked}
 use Rattle.ell_core.specs.acts.Searching.{IsClean, Down}
 use Rattle.ell_core.specs.acts.Events.{Steps}
-use Rattle.ell_core.specs.state.Moves.{WorkerIsIdle, Split, Join}
+use Rattle.ell_core.specs.state.Handovers.{WorkerIsIdle, Split, Join}
 use Rattle.ell_core.specs.tree.Tree.{Reached}
 use Rattle.ell_core.specs.soundness.Sound.{WorkerOwns, MayChange, IsSound, flags_at}
 use Rattle.ell_core.specs.history.Stages.{Stages, Born}
@@ -57,7 +57,7 @@ pub record NamesItsCard (w : Words) (x : ℕ) : Type 0 where
       → flags_at w (unpacked (w.update x)).state (unpacked (w.update x)).card ≡ x
 
 -- x is an internal node that came into the tree, so that its children did, and its update word names its card
-pub record MayRead (w : Words) (stage : Stages) (x : ℕ) : Type 0 where
+pub record IsReadable (w : Words) (stage : Stages) (x : ℕ) : Type 0 where
   pub inner : IsInternal x
   pub born : Born stage x
   pub children : (right : Bool) → Born stage (w.child x right) × (x < w.child x right)
@@ -66,26 +66,26 @@ pub record MayRead (w : Words) (stage : Stages) (x : ℕ) : Type 0 where
 -- where an insert's card goes: two nodes that came into the tree, the leaf the deeper one
 pub record IsInserting (w : Words) (stage : Stages) (c : ℕ) : Type 0 where
   pub above : w.p c < w.l c
-  pub parent : MayRead w stage (w.p c)
+  pub parent : IsReadable w stage (w.p c)
   pub leaf : Born stage (w.l c)
 
 -- where a delete's card goes: three nodes that came into the tree, ever deeper
 pub record IsDeepening (w : Words) (stage : Stages) (c : ℕ) : Type 0 where
   pub first : w.gp c < w.p c
   pub second : w.p c < w.l c
-  pub grandparent : MayRead w stage (w.gp c)
-  pub parent : MayRead w stage (w.p c)
+  pub grandparent : IsReadable w stage (w.gp c)
+  pub parent : IsReadable w stage (w.p c)
   pub leaf : Born stage (w.l c)
 
 -- where a claimed card goes: nodes that came into the tree, the first two internal ones; node 0 where a card does not go
 pub record GoesInTree (w : Words) (stage : Stages) (c : ℕ) : Type 0 where
-  pub grandparent : MayRead w stage (w.gp c)
-  pub parent : MayRead w stage (w.p c)
+  pub grandparent : IsReadable w stage (w.gp c)
+  pub parent : IsReadable w stage (w.p c)
   pub leaf : Born stage (w.l c)
 
 -- a node above x that a search has seen may be read, and the word that was read there names a claimed card
 pub record HasSeen (w : Words) (stage : Stages) (seen : Seen) (x : ℕ) : Type 0 where
-  pub node : MayRead w stage seen.node
+  pub node : IsReadable w stage seen.node
   pub less : seen.node < x
   pub names : (unpacked seen.word).card < w.next
 
@@ -118,7 +118,7 @@ is_of_marked _ = false
 -- claimed cards go
 pub record Reliance (m : Machine) (stage : Stages) (i : ℕ) : Type 0 where
   pub stands : (x : ℕ) → (m.worker i).search.node ≡ Some x → Born stage x
-  pub reads : (x : ℕ) → (m.worker i).search.node ≡ Some x → IsInternal x → MayRead m.words stage x
+  pub reads : (x : ℕ) → (m.worker i).search.node ≡ Some x → IsInternal x → IsReadable m.words stage x
   pub has_read : (x word : ℕ) → (m.worker i).search.node ≡ Some x → IsInternal x → (m.worker i).search.read ≡ Some word
       → (unpacked word).card < m.words.next
   pub down : (said : Stepped) (after : Scene) (x y : ℕ) → Down (scene m i) said after → (m.worker i).search.node ≡ Some x

@@ -32,9 +32,9 @@ pub record IsSpanned (key : ℕ → ℕ) (child : ℕ → Bool → ℕ) (top x :
   pub spans : Spans key child top x low high
 
 -- the walk for a key from x ends at a leaf that has the key, and of which this holds
-pub data Meets (key : ℕ → ℕ) (child : ℕ → Bool → ℕ) (holds : ℕ → Type 0) (k : ℕ) : ℕ → Type 0 where
-  at_leaf : {x : ℕ} → ¬ IsInternal x → key x ≡ k → holds x → Meets key child holds k x
-  below : {x y : ℕ} → IsInternal x → y ≡ next_node key child k x → Meets key child holds k y → Meets key child holds k x
+pub data FindsLeaf (key : ℕ → ℕ) (child : ℕ → Bool → ℕ) (holds : ℕ → Type 0) (k : ℕ) : ℕ → Type 0 where
+  at_leaf : {x : ℕ} → ¬ IsInternal x → key x ≡ k → holds x → FindsLeaf key child holds k x
+  below : {x y : ℕ} → IsInternal x → y ≡ next_node key child k x → FindsLeaf key child holds k y → FindsLeaf key child holds k x
 
 -- each reached node has its key among those that lead to it, an internal one not as the first, and children have greater numbers
 pub record IsOrdered (key : ℕ → ℕ) (child : ℕ → Bool → ℕ) (top : ℕ) : Type 0 where

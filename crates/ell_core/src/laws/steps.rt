@@ -20,7 +20,7 @@ pub fn events_are_lawful()
 {}
 
 /// A split and a join of workers with nothing in hand keep the invariant.
-pub fn moves_are_lawful()
+pub fn handovers_are_lawful()
     // Splits and joins keep the invariant.
     ensures split { SplitsAreLawful }
     ensures join { JoinsAreLawful }

@@ -12,14 +12,14 @@ use Rattle.ell_ops.specs.Meaning.{greatest_key}
 use Rattle.ell_ops.proofs.lemmas.Pairs.{one_list_of_pairs}
 use Rattle.ell_core.specs.state.Opening.{last_card}
 use Rattle.ell_core.specs.statements.Effects.{value_in}
-use Rattle.ell_cards.specs.Changes.{keys_of as ledger_keys}
+use Rattle.ell_cards.specs.Changes.{ledger_keys}
 use Rattle.ell_cards.proofs.lemmas.words.Keys.{among_contains, among_owned, at_place, owned_among}
 use Rattle.ell_tree.specs.Ledgers.{Owns, PassModel, TreeModel, present_in}
 use Rattle.ell_tree.specs.Node.{most_start}
 use Rattle.ell_tree.specs.PassParts.{IsFirst, start_entry}
 use Rattle.ell_handle.specs.declared.refusal.Refusal.{Refusal}
 use Rattle.ell_handle.specs.declared.refusal.Refusal.TheVariants.{BadCards, BadKey, BadStart, Busy, Foreign, NoMemory, NoTries, OtherTree, SharedKeys, Spent, TooManyHandles}
-use Rattle.ell_handle.specs.Opens.{AreKeys, IsStart, MayOpen, OwnsAll, Refuses}
+use Rattle.ell_handle.specs.Opens.{AreKeys, IsStart, MayOpen, OwnsWholePlan, RefusesTree}
 use Rattle.ell_handle.specs.Renewal.{IsRenewed, IsTooMuch, RenewalRefuses}
 
 -- start keys of a tree are real
@@ -83,7 +83,7 @@ module _ (p : PassModel) (pairs : List (ℕ × ℕ)) (all : ListsPairs (present_
   not_too_much start much = let more : most_start < length pairs = much pairs all in let few = start.few in absurd (omega arith)
 
   -- why there is no tree of it
-  pub refuses_renewal : (cards : ℕ) (why : Refusal) → ((k : ℕ) → Owns p k → k ≤ greatest_key) → Refuses (ledger_keys p.view.worker.ledger) pairs cards why
+  pub refuses_renewal : (cards : ℕ) (why : Refusal) → ((k : ℕ) → Owns p k → k ≤ greatest_key) → RefusesTree (ledger_keys p.view.worker.ledger) pairs cards why
       → RenewalRefuses (present_in p) cards why
   refuses_renewal cards BadStart real refused = too_much (present_in p) pairs all refused
   refuses_renewal cards BadKey real refused = refused.1 (are_keys real)
@@ -97,7 +97,7 @@ module _ (p : PassModel) (pairs : List (ℕ × ℕ)) (all : ListsPairs (present_
   refuses_renewal cards TooManyHandles real refused = refused
   refuses_renewal cards SharedKeys real refused = refused
 
-  module _ (t : TreeModel) (new : PassModel) (owns : OwnsAll (ledger_keys p.view.worker.ledger) pairs t new) where
+  module _ (t : TreeModel) (new : PassModel) (owns : OwnsWholePlan (ledger_keys p.view.worker.ledger) pairs t new) where
     -- the map of the first pass of a tree of it
     pub same_map : (k : ℕ) → present_in new k ≡ present_in p k
     same_map k = ap (λ there. there k) (owns.first.present owns.owned ∙ (ap contents_of owns.begins ∙ all.each))

@@ -6,14 +6,14 @@ use Rattle.ell_cards.specs.declared.view.View.{View}
 use Rattle.ell_tree.specs.declared.scanning.Scanned.{Scanned}
 use Rattle.ell_tree.specs.Ledgers.{TreeModel}
 use Rattle.ell_tree.specs.Node.{most_start}
-use Rattle.ell_handle.specs.Fresh.{AreOfOneShared, HasFoundAll, MayBegin, PairsRefuse, SharedGroupRefuses}
+use Rattle.ell_handle.specs.Fresh.{AreOfOneShared, HasFoundAll, MayBeginWith, PairsRefuse, SharedGroupRefuses}
 use Rattle.ell_handle.specs.Reads.{tree_of}
 use Rattle.ell_handle.specs.declared.handle.Handle.{Handle}
 use Rattle.ell_handle.specs.declared.refusal.Refusal.{Refusal}
 use Rattle.ell_handle.specs.declared.refusal.Refusal.TheVariants.{BadCards, BadKey, BadStart, Busy, Foreign, NoMemory, NoTries, OtherTree, SharedKeys, Spent, TooManyHandles}
 
 -- a tree may begin with what was found, if it is not too much
-pub may_begin : (t : TreeModel) (v : View) (pairs : List (ℕ × ℕ)) → HasFoundAll t v pairs → length pairs ≤ most_start → MayBegin pairs
+pub may_begin : (t : TreeModel) (v : View) (pairs : List (ℕ × ℕ)) → HasFoundAll t v pairs → length pairs ≤ most_start → MayBeginWith pairs
 may_begin t v pairs found few = record {
   start = record { ascending = found.ordered.ascending; few = few };
   keys = record {

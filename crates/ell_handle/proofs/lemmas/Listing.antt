@@ -11,7 +11,7 @@ use Rattle.ell_ops.proofs.lemmas.Pairs.{one_list_of_pairs}
 use Rattle.ell_core.specs.declared.view.Entry.{Entry}
 use Rattle.ell_core.specs.state.Machine.{ledger_of}
 use Rattle.ell_core.specs.statements.Effects.{value_in}
-use Rattle.ell_cards.specs.Changes.{keys_of as ledger_keys}
+use Rattle.ell_cards.specs.Changes.{ledger_keys}
 use Rattle.ell_cards.proofs.lemmas.words.Keys.{owned_among}
 use Rattle.ell_tree.specs.Ledgers.{PassModel, present_in}
 use Rattle.ell_handle.specs.Renewal.{pair_at}

@@ -3,7 +3,7 @@ use Rattle.std.specs.Arc.{arc_value}
 use Rattle.ell_core.specs.declared.view.Entry.{Entry}
 use Rattle.ell_core.specs.state.Machine.{shared_of}
 use Rattle.ell_core.specs.statements.Effects.{value_in}
-use Rattle.ell_cards.specs.Changes.{keys_of as ledger_keys, ownable_if}
+use Rattle.ell_cards.specs.Changes.{ledger_keys, ownable_if}
 use Rattle.ell_cards.specs.Models.{MayPart}
 use Rattle.ell_cards.specs.Starts.{IsSharedIn}
 use Rattle.ell_cards.proofs.lemmas.lifetimes.Openings.{shared_there}

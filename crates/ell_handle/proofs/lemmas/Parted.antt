@@ -15,11 +15,11 @@ in_rest false e = refl
 
 -- the left part by a list is that by another list of the same keys
 pub left_of : (wanted keys : List ℕ) (p part : PassModel) → Lists (set_of wanted) keys → IsLeftPart keys p part → IsLeftPart wanted p part
-left_of wanted keys p part listed left = record { own = left.own; ledger = λ k. left.ledger k ∙ ap (λ s. cond (s k) (ledger p k) None) listed.each; answers = left.answers; hindrances = left.hindrances; hindered = left.hindered; taken = left.taken; steps = left.steps; made = left.made; label = left.label; moves = left.moves; share = left.share; ownable = left.ownable; idle = left.idle }
+left_of wanted keys p part listed left = record { own = left.own; ledger = λ k. left.ledger k ∙ ap (λ s. cond (s k) (ledger p k) None) listed.each; answers = left.answers; hindrances = left.hindrances; hindered = left.hindered; taken = left.taken; steps = left.steps; made = left.made; label = left.label; milestones = left.milestones; share = left.share; ownable = left.ownable; idle = left.idle }
 
 -- and the right part
 pub right_of : (wanted keys : List ℕ) (p part : PassModel) → Lists (set_of wanted) keys → IsRightPart keys p part → IsRightPart wanted p part
-right_of wanted keys p part listed right = record { own = right.own; ledger = λ k. right.ledger k ∙ ap (λ s. cond (s k) None (ledger p k)) listed.each; answers = right.answers; hindrances = right.hindrances; hindered = right.hindered; taken = right.taken; steps = right.steps; made = right.made; label = right.label; moves = right.moves; share = right.share; ownable = right.ownable; idle = right.idle }
+right_of wanted keys p part listed right = record { own = right.own; ledger = λ k. right.ledger k ∙ ap (λ s. cond (s k) None (ledger p k)) listed.each; answers = right.answers; hindrances = right.hindrances; hindered = right.hindered; taken = right.taken; steps = right.steps; made = right.made; label = right.label; milestones = right.milestones; share = right.share; ownable = right.ownable; idle = right.idle }
 
 -- what the left part of a pass has present
 pub given : (wanted : List ℕ) (p part : PassModel) → IsLeftPart wanted p part → (k : ℕ) → present_in part k ≡ cond (set_of wanted k) (present_in p k) None

@@ -7,10 +7,10 @@ use Rattle.std.proofs.lemmas.List.Quantifiers.{all_pairs_push}
 use Rattle.ell_ops.specs.KeySet.{set_of}
 use Rattle.ell_core.specs.declared.view.Entry.{Entry}
 use Rattle.ell_core.specs.statements.Effects.{value_in}
-use Rattle.ell_cards.specs.Changes.{keys_of as ledger_keys}
+use Rattle.ell_cards.specs.Changes.{ledger_keys}
 use Rattle.ell_cards.proofs.lemmas.words.Keys.{among_contains, among_owned, at_place, owned_among}
 use Rattle.ell_tree.specs.Ledgers.{Owns, ledger, present_in}
-use Rattle.ell_tree.specs.Moves.{moves_known}
+use Rattle.ell_tree.specs.Milestones.{milestones_known}
 use Rattle.ell_tree.specs.PassParts.{IsLeftPart, IsRightPart}
 use Rattle.ell_handle.specs.Groups.{AreApart, IsPart, IsRest, OwnsKeysOf, PartRefuses}
 use Rattle.ell_handle.specs.declared.handle.Handle.{Handle}
@@ -56,7 +56,7 @@ module _ (whole handle : Handle) (wanted : List ℕ) (is : wanted ≡ ledger_key
       λ own none. let has = owns_keys owned in has.owns k own (sym (at k own) ∙ none),
     );
     map = λ k own. ap value_in (at k own);
-    moves = left.moves;
+    milestones = left.milestones;
   }
     where
       at : (k : ℕ) → Owns handle.pass k → ledger part.pass k ≡ ledger whole.pass k
@@ -74,7 +74,7 @@ module _ (whole handle : Handle) (wanted : List ℕ) (is : wanted ≡ ledger_key
       λ both none. both.0 (sym (at k (not_among k both.1)) ∙ none),
     );
     map = λ k own. ap value_in (at k (off k own));
-    moves = right.moves;
+    milestones = right.milestones;
   }
     where
       off : (k : ℕ) → Owns rest.pass k → set_of wanted k ≡ false
@@ -89,7 +89,7 @@ pub record IsShared (whole : Handle) (handles : List Handle) (rest : Handle) (sh
   pub tree : arc_value rest.shared ≡ arc_value whole.shared
   pub owned : (k : ℕ) → Owns rest.pass k ↔ (Owns whole.pass k × All (λ (h : Handle). ¬ Owns h.pass k) handles)
   pub map : (k : ℕ) → Owns rest.pass k → present_in rest.pass k ≡ present_in whole.pass k
-  pub moves : (cards : ℕ) → moves_known cards rest.pass.view ≡ moves_known cards whole.pass.view
+  pub milestones : (cards : ℕ) → milestones_known cards rest.pass.view ≡ milestones_known cards whole.pass.view
   pub apart : AllPairs AreApart handles
 
 pub shared_none : (whole : Handle) → IsShared whole [] whole []
@@ -98,7 +98,7 @@ shared_none whole = record {
   tree = refl;
   owned = λ k. (λ own. (own, λ i d low. absurd (omega arith)), λ both. both.0);
   map = λ k own. refl;
-  moves = λ cards. refl;
+  milestones = λ cards. refl;
   apart = λ i j d less low. absurd (omega arith);
 }
 
@@ -117,7 +117,7 @@ shared_more whole hs rest parts h part others so has is left = record {
     tree = is.tree ∙ so.tree;
     owned = is.owned;
     map = λ k own. is.map k own ∙ so.map k (has.owns k own);
-    moves = λ cards. is.moves cards ∙ so.moves cards;
+    milestones = λ cards. is.milestones cards ∙ so.milestones cards;
   });
   tree = left.tree ∙ so.tree;
   owned = λ k. (
@@ -130,7 +130,7 @@ shared_more whole hs rest parts h part others so has is left = record {
         (left.owned k).1 ((so.owned k).1 (both.0, each.0), each.1),
   );
   map = λ k own. left.map k own ∙ so.map k ((left.owned k).0 own).0;
-  moves = λ cards. left.moves cards ∙ so.moves cards;
+  milestones = λ cards. left.milestones cards ∙ so.milestones cards;
   apart = all_pairs_push AreApart hs h so.apart (λ i d low k one other. ((so.owned k).0 (has.owns k other)).1 i d low one);
 }
 

@@ -13,13 +13,13 @@ use Rattle.ell_ops.specs.KeySet.{Lists, set_of, union}
 use Rattle.ell_ops.specs.Meaning.{greatest_key}
 use Rattle.ell_core.specs.declared.view.Entry.{Entry}
 use Rattle.ell_core.specs.statements.Effects.{value_in}
-use Rattle.ell_cards.specs.Changes.{keys_of as ledger_keys}
+use Rattle.ell_cards.specs.Changes.{ledger_keys}
 use Rattle.ell_cards.proofs.lemmas.words.Keys.{among_owned, at_place, owned_among}
 use Rattle.ell_tree.specs.Ledgers.{Owns, PassModel, TreeModel, ledger, present_in}
 use Rattle.ell_tree.specs.Node.{most_start}
 use Rattle.ell_tree.specs.PassParts.{start_entry}
 use Rattle.ell_handle.specs.Groups.{AreApart, AreRenewed, GroupRefuses, HasSame, HaveNumber, IsPart, OwnsKeysOf, PartRefuses, StaysPut, keys_of_all, or_there, present_in_all}
-use Rattle.ell_handle.specs.Opens.{AreKeys, IsOpened, IsStart, MayOpen, OwnsAll, Refuses}
+use Rattle.ell_handle.specs.Opens.{AreKeys, IsOpened, IsStart, MayOpen, OwnsWholePlan, RefusesTree}
 use Rattle.ell_handle.specs.Renewal.{IsTooMuch}
 use Rattle.ell_handle.specs.declared.handle.Handle.{Handle}
 use Rattle.ell_handle.specs.declared.refusal.Refusal.{Refusal}
@@ -50,7 +50,7 @@ lists_more hs i d left right both low first next lists =
     lists
 
 -- the first handle of a tree of some keys is that of a tree of the same keys in another list
-pub owns_same : (keys others : List ℕ) (pairs : List (ℕ × ℕ)) (t : TreeModel) (p : PassModel) → set_of keys ≡ set_of others → OwnsAll keys pairs t p → OwnsAll others pairs t p
+pub owns_same : (keys others : List ℕ) (pairs : List (ℕ × ℕ)) (t : TreeModel) (p : PassModel) → set_of keys ≡ set_of others → OwnsWholePlan keys pairs t p → OwnsWholePlan others pairs t p
 owns_same keys others pairs t p same owns = record {
   all = subst (λ s. Lists (union (set_of (keys_of pairs)) s) t.plan.keys) same owns.all;
   begins = owns.begins;
@@ -192,7 +192,7 @@ module _ (olds hs : List Handle) (pairs : List (ℕ × ℕ)) (all : ListsPairs (
   not_too_much start much = let more : most_start < length pairs = much pairs all in let few = start.few in absurd (omega arith)
 
   -- why there is no tree of them
-  pub refuses_group : (keys : List ℕ) → set_of keys ≡ set_of (keys_of_all hs) → (cards : ℕ) (why : Refusal) → AllPairs HaveNumber olds → Refuses keys pairs cards why
+  pub refuses_group : (keys : List ℕ) → set_of keys ≡ set_of (keys_of_all hs) → (cards : ℕ) (why : Refusal) → AllPairs HaveNumber olds → RefusesTree keys pairs cards why
       → GroupRefuses olds cards why
   refuses_group keys same cards BadStart numbers refused = (numbers, too_much (present_in_all olds) pairs all refused)
   refuses_group keys same cards BadKey numbers refused = refused.1 (are_keys keys same)
@@ -206,7 +206,7 @@ module _ (olds hs : List Handle) (pairs : List (ℕ × ℕ)) (all : ListsPairs (
   refuses_group keys same cards TooManyHandles numbers refused = refused
   refuses_group keys same cards SharedKeys numbers refused = absurd refused
 
-  module _ (whole : Handle) (owns : OwnsAll (keys_of_all hs) pairs (arc_value whole.shared).tree whole.pass) where
+  module _ (whole : Handle) (owns : OwnsWholePlan (keys_of_all hs) pairs (arc_value whole.shared).tree whole.pass) where
     -- the first handle of a tree of them owns the keys of each
     pub whole_owns : All (OwnsKeysOf whole) hs
     whole_owns i d low = record {
@@ -251,7 +251,7 @@ module _ (olds hs : List Handle) (pairs : List (ℕ × ℕ)) (all : ListsPairs (
       fresh = λ i d low most.
           let inside : i < length hs = subst (λ n. i < n) (sym (length_all_zip (IsPart whole) hs parts zipped)) low in
           let part = AllZip-get_or (IsPart whole) hs parts i d d zipped inside in
-          part.moves most ∙ owns.first.moves most;
+          part.milestones most ∙ owns.first.milestones most;
     }
 
 -- two lists of one length have to do with each other if the places have

@@ -3,7 +3,7 @@ use Rattle.ell_tree.specs.Ledgers.{PassModel, TreeModel}
 use Rattle.ell_tree.specs.Promises.{IsQuiet, IsWithin, SpendsCards}
 use Rattle.ell_tree.proofs.lemmas.Counts.{took_none}
 use Rattle.ell_tree.proofs.lemmas.Meeting.{meets_none}
-use Rattle.ell_tree.proofs.lemmas.Moves.{amortized}
+use Rattle.ell_tree.proofs.lemmas.Milestones.{amortized}
 use Rattle.ell_handle.specs.Values.{TookRounds}
 use Rattle.ell_handle.specs.declared.handle.Handle.{Handle}
 
@@ -29,7 +29,7 @@ quiet_same t p = record {
   calm = refl;
   meets = meets_none p.view p.view refl (λ f h. h);
   hindered = refl;
-  moved = omega arith;
+  milestones = omega arith;
 }
 
 -- nor does it take a step

@@ -10,7 +10,7 @@ use Rattle.std.specs.List.{enumerate_from, filter}
 use Rattle.ell_ops.specs.declared.op.Op.{Op}
 use Rattle.ell_ops.specs.KeySet.{set_of, Lists}
 use Rattle.ell_ops.specs.Meaning.{key_of}
-use Rattle.ell_parts.specs.PartedOps.{PartedOps, IsWorkerCount, IsLawful, part, keys_of, keys_in, striped, ranged, AreParts, AreKeys, AreListsOf}
+use Rattle.ell_parts.specs.PartedOps.{PartedOps, IsWorkerCount, IsLawful, part, keys_of_ops, keys_of_part, striped, ranged, AreParts, AreKeys, AreListsOf}
 use Rattle.ell_order.specs.Rounds.{rank}
 use Rattle.ell_parts.proofs.lemmas.Ranks.{key_is_listed, rank-lt-length, share-lt}
 use Rattle.ell_ops.proofs.lemmas.Places.{slice_get-push_cases, slice_get-set_same, slice_get-set_other}
@@ -60,7 +60,7 @@ AreParts-push items ops owners workers i d parts old new below known place pushe
 
 -- the keys of one more part
 pub AreKeys-push : {P K : Type 0} (ops : P → List (ℕ × Op)) (items : K → List ℕ) (parts : List P) (keys : List K) (from : P) (list : K) (i : ℕ) →
-    length keys ≡ i → i < length parts → from ≡ get_or parts i from → Lists (keys_in (ops from)) (items list) →
+    length keys ≡ i → i < length parts → from ≡ get_or parts i from → Lists (keys_of_part (ops from)) (items list) →
     ((parting : PartedOps) → AreParts ops parting parts → AreKeys items parting keys) → (parting : PartedOps) → AreParts ops parting parts → AreKeys items parting (keys ++ list ∷ [])
 AreKeys-push ops items parts keys from list i count below place listed so_far parting are worker found e =
     ⊎_elim
@@ -68,12 +68,12 @@ AreKeys-push ops items parts keys from list i count below place listed so_far pa
     (λ h. let at : worker ≡ i = h.0 ∙ count in
     let stands : slice_get parts i ≡ Some from = slice_get_read parts (length parts) i from refl below place in
     let of_part : ops from ≡ part parting worker = are i from stands ∙ ap (part parting) (sym at) in
-    subst (λ k. Lists (keys_in (part parting worker)) (items k)) h.1 (subst (λ part. Lists (keys_in part) (items list)) of_part listed))
+    subst (λ k. Lists (keys_of_part (part parting worker)) (items k)) h.1 (subst (λ part. Lists (keys_of_part part) (items list)) of_part listed))
     (slice_get-push_cases keys list worker found e)
 
 -- the keys of a worker's part
 pub keys_at : {K : Type 0} (items : K → List ℕ) (parting : PartedOps) (keys : List K) (worker : ℕ) (list : K) →
-    worker < length keys → list ≡ get_or keys worker list → AreKeys items parting keys → Lists (keys_in (part parting worker)) (items list)
+    worker < length keys → list ≡ get_or keys worker list → AreKeys items parting keys → Lists (keys_of_part (part parting worker)) (items list)
 keys_at items parting keys worker list below place are = are worker list (slice_get_read keys (length keys) worker list refl below place)
 
 -- owners that go by the key are lawful
@@ -117,7 +117,7 @@ lawful_from_checks ops owners workers counted known together = record {
 pub striped_is_lawful : (ops : List Op) (workers : ℕ) → IsWorkerCount workers → IsLawful (record { ops = ops; owners = striped ops workers; workers = workers })
 striped_is_lawful ops workers count = lawful_by_key (λ key. key % workers) ops workers count (λ i op e. let some = count.some in omega arith)
 
-pub ranged_is_lawful : (ops : List Op) (keys : List ℕ) (workers : ℕ) → IsWorkerCount workers → Lists (keys_of ops) keys →
+pub ranged_is_lawful : (ops : List Op) (keys : List ℕ) (workers : ℕ) → IsWorkerCount workers → Lists (keys_of_ops ops) keys →
     IsLawful (record { ops = ops; owners = ranged keys ops workers; workers = workers })
 ranged_is_lawful ops keys workers count listed =
     lawful_by_key (λ key. rank keys key / div_ceil (length keys) workers) ops workers count

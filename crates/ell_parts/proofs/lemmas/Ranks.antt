@@ -14,7 +14,7 @@ use Rattle.std.specs.List.{AllWithin}
 use Rattle.ell_ops.specs.KeySet.{set_of, Lists}
 use Rattle.ell_order.specs.Rounds.{rank}
 use Rattle.ell_order.proofs.lemmas.Ranks.{one_if, rank-cons}
-use Rattle.ell_parts.specs.PartedOps.{keys_of, ranged}
+use Rattle.ell_parts.specs.PartedOps.{keys_of_ops, ranged}
 
 count_above : (other key : ℕ) → ltb other key ≡ false → one_if (ltb other key) ≡ 0
 count_above other key e = ap one_if e
@@ -68,7 +68,7 @@ share-lt n r workers some below =
     (div-lt_iff_lt-mul {k = div_ceil n workers} {x = r} {y = workers} pos).1 (omega arith)
 
 -- a key of the list is among its distinct keys
-pub key_is_listed : (ops : List Op) (keys : List ℕ) (i : ℕ) (d : Op) → i < length ops → Lists (keys_of ops) keys → set_of keys (key_of (get_or ops i d)) ≡ true
+pub key_is_listed : (ops : List Op) (keys : List ℕ) (i : ℕ) (d : Op) → i < length ops → Lists (keys_of_ops ops) keys → set_of keys (key_of (get_or ops i d)) ≡ true
 key_is_listed ops keys i d below listed =
     let key : ℕ = key_of (get_or ops i d) in
     let within : i < length (map key_of ops) = rw (length-map ops key_of) below in

@@ -9,15 +9,15 @@ use Rattle.std.proofs.lemmas.Map.Keys.{any_passes_from_place}
 use Rattle.ell_ops.specs.declared.op.Op.{Op}
 use Rattle.ell_ops.specs.KeySet.{set_of}
 use Rattle.ell_ops.specs.Meaning.{key_of}
-use Rattle.ell_parts.specs.PartedOps.{keys_in}
+use Rattle.ell_parts.specs.PartedOps.{keys_of_part}
 
 -- the keys of one more operation
 abbrev more : List (ℕ × Op) → ℕ × Op → List ℕ
 more items item = map (λ (it : ℕ × Op). key_of it.1) items ++ key_of item.1 ∷ []
 
-pub keys_of_more : (part : List (ℕ × Op)) (i : ℕ) (d : ℕ × Op) → i < length part → keys_in (take (i + 1) part) ≡ set_of (more (take i part) (get_or part i d))
+pub keys_of_more : (part : List (ℕ × Op)) (i : ℕ) (d : ℕ × Op) → i < length part → keys_of_part (take (i + 1) part) ≡ set_of (more (take i part) (get_or part i d))
 keys_of_more part i d below =
-    ap keys_in (take_more part i d below) ∙ ap set_of (map-append (λ (it : ℕ × Op). key_of it.1) (take i part) (get_or part i d ∷ []))
+    ap keys_of_part (take_more part i d below) ∙ ap set_of (map-append (λ (it : ℕ × Op). key_of it.1) (take i part) (get_or part i d ∷ []))
 
 -- a key behind two lists of the same keys
 pub both_more : (keys others : List ℕ) (key : ℕ) → set_of keys ≡ set_of others → set_of (keys ++ key ∷ []) ≡ set_of (others ++ key ∷ [])

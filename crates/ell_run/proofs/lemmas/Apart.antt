@@ -3,7 +3,7 @@ use Rattle.std.proofs.lemmas.Bool.{cond-true}
 use Rattle.std.proofs.lemmas.List.{append-nil}
 use Rattle.ell_ops.specs.KeySet.{Lists, set_of}
 use Rattle.ell_ops.specs.Meaning.{key_of}
-use Rattle.ell_parts.specs.PartedOps.{PartedOps, IsLawful, keys_of}
+use Rattle.ell_parts.specs.PartedOps.{PartedOps, IsLawful, keys_of_ops}
 use Rattle.ell_tree.specs.Ledgers.{PassModel, TreeModel, Owns, IsIdle, ledger}
 use Rattle.ell_tree.specs.PassParts.{IsLeftPart, IsRightPart, IsUnion}
 use Rattle.ell_run.specs.Pieces.{all_workers}
@@ -26,7 +26,7 @@ rest_worked cards tries parting rest idle = record {
   not_done = none_not_done cards tries 0 rest rest refl (omega arith);
 }
 
-module _ (parting : PartedOps) (keys : List ℕ) (pass left right : PassModel) (listed : Lists (keys_of parting.ops) keys) (owned : All (λ key. Owns pass key) keys)
+module _ (parting : PartedOps) (keys : List ℕ) (pass left right : PassModel) (listed : Lists (keys_of_ops parting.ops) keys) (owned : All (λ key. Owns pass key) keys)
     (on_left : IsLeftPart keys pass left) where
   -- the left part of a pass, with the keys of the operations, owns these
   pub owns_left : All (λ op. Owns left (key_of op)) parting.ops

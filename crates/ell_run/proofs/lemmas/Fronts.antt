@@ -16,7 +16,7 @@ use Rattle.ell_tree.specs.Ledgers.{PassModel, TreeModel, Owns, IsIdle, answers, 
 use Rattle.ell_parts.specs.PartedOps.{PartedOps, part}
 use Rattle.ell_run.specs.ByParts.{ops_in}
 use Rattle.ell_run.specs.Pieces.{front, one_not_done, piece_from}
-use Rattle.ell_run.specs.Work.{AreNotDone, IsWorked, IsWorkedOff, OwnsAll, label_after}
+use Rattle.ell_run.specs.Work.{AreNotDone, IsWorked, IsWorkedOff, OwnsKeysOf, label_after}
 use Rattle.ell_run.proofs.lemmas.NotDone.{hindrances_grow, none_not_done, once_not_done}
 use Rattle.ell_order.proofs.lemmas.OnKey.{final-append}
 use Rattle.ell_ops.specs.declared.reply.Reply.{Reply}
@@ -42,7 +42,7 @@ piece_from-push s (x ∷ items) item = ap (λ l. (x.0, reply_of x.1 s) ∷ l) (p
 
 -- one operation further
 pub front_more : (tree : TreeModel) (items : List (ℕ × Op)) (i : ℕ) (d : ℕ × Op) (before mid after : PassModel) (piece : List (ℕ × Reply)) (reply : Reply) → i < length items →
-    OwnsAll before items → IsFrontDone items i before mid piece → Answers tree (get_or items i d).1 reply mid after → Meets mid.view after.view →
+    OwnsKeysOf before items → IsFrontDone items i before mid piece → Answers tree (get_or items i d).1 reply mid after → Meets mid.view after.view →
     IsFrontDone items (i + 1) before after (piece ++ ((get_or items i d).0, reply) ∷ [])
 front_more tree items i d before mid after piece reply below owned h a meets =
     let item = get_or items i d in
@@ -98,7 +98,7 @@ front_all cards tries items i before after piece all h =
 
 -- the next operation is not done
 pub front_not_done : (tree : TreeModel) (cards tries : ℕ) (items : List (ℕ × Op)) (i : ℕ) (d : ℕ × Op) (before mid after : PassModel) (piece : List (ℕ × Reply)) (why : NotDone) →
-    i < length items → OwnsAll before items → IsFrontDone items i before mid piece → LaidDown tree (get_or items i d).1 mid after → NotDoneFor cards tries mid after why →
+    i < length items → OwnsKeysOf before items → IsFrontDone items i before mid piece → LaidDown tree (get_or items i d).1 mid after → NotDoneFor cards tries mid after why →
     IsWorkedOff cards tries items before after piece
 front_not_done tree cards tries items i d before mid after piece why below owned h l not_done_for =
     let few = h.few in

@@ -13,11 +13,11 @@ use Rattle.ell_ops.specs.declared.op.Op.{Op}
 use Rattle.ell_ops.specs.declared.op.Op.TheVariants.{Find}
 use Rattle.ell_ops.specs.KeySet.{Lists}
 use Rattle.ell_ops.specs.Meaning.{key_of, final}
-use Rattle.ell_parts.specs.PartedOps.{PartedOps, IsLawful, part, keys_in}
+use Rattle.ell_parts.specs.PartedOps.{PartedOps, IsLawful, part, keys_of_part}
 use Rattle.ell_tree.specs.Ledgers.{PassModel, TreeModel, Owns, ledger, present_in, Entry}
 use Rattle.ell_tree.specs.PassParts.{IsUnion, or_else}
 use Rattle.ell_run.specs.Pieces.{all_not_done, ops_done}
-use Rattle.ell_run.specs.Work.{AreHalves, AreNotDone, AreReady, IsWorked, OwnsAll, keys_for}
+use Rattle.ell_run.specs.Work.{AreHalves, AreNotDone, AreReady, IsWorked, OwnsKeysOf, keys_for}
 use Rattle.ell_run.proofs.lemmas.ByParts.{part_item}
 use Rattle.ell_run.proofs.lemmas.NotDone.{all_not_done-append, both_not_done}
 use Rattle.ell_order.proofs.lemmas.OnKey.{on_key, on_key-append, final_alike}
@@ -33,7 +33,7 @@ all_fail p xs none k d below =
     (cases_Bool (p (get_or xs k d)))
 
 -- a key that no item of a part is on
-off_key : (items : List (ℕ × Op)) (key : ℕ) → keys_in items key ≡ false → All (λ item. key_of item.1 ≢ key) items
+off_key : (items : List (ℕ × Op)) (key : ℕ) → keys_of_part items key ≡ false → All (λ item. key_of item.1 ≢ key) items
 off_key items key none k d below = λ on.
     let keys = map (λ (item : ℕ × Op). key_of item.1) items in
     let same : get_or keys k 0 ≡ key_of (get_or items k d).1 = get_or-map (λ (item : ℕ × Op). key_of item.1) items k d 0 below in
@@ -53,7 +53,7 @@ pub record HasKey (parting : PartedOps) (workers : List ℕ) (key : ℕ) : Type 
 -- a key of workers is that of some item
 pub has_key : (parting : PartedOps) (workers : List ℕ) (key : ℕ) → keys_for parting workers key ≡ true → HasKey parting workers key
 has_key parting workers key some =
-    let w = Any-from_list_any (λ worker. keys_in (part parting worker) key) workers some in
+    let w = Any-from_list_any (λ worker. keys_of_part (part parting worker) key) workers some in
     let items = part parting w.1 in
     let keys = map (λ (item : ℕ × Op). key_of item.1) items in
     let k = Any-from_list_any (λ other. eqb key other) keys w.4 in
@@ -120,7 +120,7 @@ key_cases tree parting low high pass left right ready h key =
     (λ none. inr (record {
       kept = h.on_right.ledger key ∙ cond-false (list_any (λ x. eqb key x) h.keys) None (ledger pass key) (among ∙ none);
       none = h.on_left.ledger key ∙ cond-false (list_any (λ x. eqb key x) h.keys) (ledger pass key) None (among ∙ none);
-      off = λ j d below. off_key (part parting (get_or low j d)) key (all_fail (λ worker. keys_in (part parting worker) key) low none j d below);
+      off = λ j d below. off_key (part parting (get_or low j d)) key (all_fail (λ worker. keys_of_part (part parting worker) key) low none j d below);
     }))
     (cases_Bool (keys_for parting low key))
 
@@ -171,7 +171,7 @@ module _ (tree : TreeModel) (parting : PartedOps) (low high : List ℕ) (pass le
     idle = h.on_left.idle;
     owned = λ j d below k e within.
         let owned : All (λ item. Owns pass (key_of item.1)) (part parting (get_or low j d)) =
-        subst (λ w. OwnsAll pass (part parting w)) (get_or_first low high j d below) (ready.owned j d (omega (arith, length-append low high))) in
+        subst (λ w. OwnsKeysOf pass (part parting w)) (get_or_first low high j d below) (ready.owned j d (omega (arith, length-append low high))) in
         (owns_alike left pass (key_of (get_or (part parting (get_or low j d)) k e).1) (own_left j d below k e within)).1 (owned k e within);
   }
 
@@ -189,7 +189,7 @@ module _ (tree : TreeModel) (parting : PartedOps) (low high : List ℕ) (pass le
     idle = h.on_right.idle;
     owned = λ j d below k e within.
         let owned : All (λ item. Owns pass (key_of item.1)) (part parting (get_or high j d)) =
-        subst (λ w. OwnsAll pass (part parting w)) (get_or-append-add low high j d) (ready.owned (length low + j) d (omega (arith, length-append low high))) in
+        subst (λ w. OwnsKeysOf pass (part parting w)) (get_or-append-add low high j d) (ready.owned (length low + j) d (omega (arith, length-append low high))) in
         (owns_alike right pass (key_of (get_or (part parting (get_or high j d)) k e).1) (own_right j d below k e within)).1 (owned k e within);
   }
 
@@ -273,5 +273,5 @@ keys_owned tree parting low high pass keys ready listed j d below =
     let has = has_key parting low key among in
     let worker = Contains-append_left low high has.worker has.within in
     let owned : All (λ item. Owns pass (key_of item.1)) (part parting has.worker) =
-    All-contains (λ worker. OwnsAll pass (part parting worker)) (low ++ high) has.worker ready.owned worker in
+    All-contains (λ worker. OwnsKeysOf pass (part parting worker)) (low ++ high) has.worker ready.owned worker in
     subst (Owns pass) has.on (all_at (λ item. Owns pass (key_of item.1)) (part parting has.worker) has.place has.item owned has.there)

@@ -13,7 +13,7 @@ use Rattle.ell_ops.specs.declared.op.Op.{Op}
 use Rattle.ell_ops.specs.declared.op.Op.TheVariants.{Find}
 use Rattle.ell_ops.specs.KeySet.{Lists, set_of, union}
 use Rattle.ell_ops.specs.Meaning.{Fits, greatest_key, key_of}
-use Rattle.ell_parts.specs.PartedOps.{PartedOps, IsLawful, keys_of, part}
+use Rattle.ell_parts.specs.PartedOps.{PartedOps, IsLawful, keys_of_ops, part}
 use Rattle.ell_tree.specs.Ledgers.{PassModel, TreeModel, Owns, IsIdle, ledger, Entry}
 use Rattle.ell_tree.specs.PassParts.{IsFirst, ownable_if, start_entry}
 use Rattle.ell_run.specs.Pieces.{all_workers, busy}
@@ -62,7 +62,7 @@ pub finds_key : (keys : List ℕ) (j d : ℕ) → j < length keys → set_of key
 finds_key keys j d below = list_any_at (λ other. eqb (get_or keys j d) other) keys j d below (eq-eqb (get_or keys j d) (get_or keys j d) refl)
 
 -- the distinct keys of operations fit where the operations do
-pub keys_fit : (ops : List Op) (keys : List ℕ) → Lists (keys_of ops) keys → All Fits ops → All (λ key. key ≤ greatest_key) keys
+pub keys_fit : (ops : List Op) (keys : List ℕ) → Lists (keys_of_ops ops) keys → All Fits ops → All (λ key. key ≤ greatest_key) keys
 keys_fit ops keys listed fit j d below =
     let key = get_or keys j d in
     let at = contains_key (map key_of ops) key (ap (λ s. s key) (sym listed.each) ∙ finds_key keys j d below) in
@@ -72,7 +72,7 @@ keys_fit ops keys listed fit j d below =
     omega arith
 
 -- a pass that owns the keys of operations
-pub owns_ops : (pass : PassModel) (ops : List Op) (keys : List ℕ) → Lists (keys_of ops) keys → All (λ key. Owns pass key) keys → All (λ op. Owns pass (key_of op)) ops
+pub owns_ops : (pass : PassModel) (ops : List Op) (keys : List ℕ) → Lists (keys_of_ops ops) keys → All (λ key. Owns pass key) keys → All (λ op. Owns pass (key_of op)) ops
 owns_ops pass ops keys listed owned j d below =
     let key = key_of (get_or ops j d) in
     let here : get_or (map key_of ops) j 0 ≡ key = get_or-map key_of ops j d 0 below in

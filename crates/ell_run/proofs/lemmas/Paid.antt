@@ -7,16 +7,16 @@ use Rattle.ell_parts.specs.PartedOps.{PartedOps, part}
 use Rattle.ell_tree.specs.Counts.{Took}
 use Rattle.ell_tree.specs.Ends.{find_steps, try_steps}
 use Rattle.ell_tree.specs.Ledgers.{PassModel}
-use Rattle.ell_tree.specs.Moves.{moves_known}
+use Rattle.ell_tree.specs.Milestones.{milestones_known}
 use Rattle.ell_tree.specs.PassParts.{IsUnion}
 use Rattle.ell_run.specs.Steps.{AreWithin, IsPaid, longest, worker_steps}
 use Rattle.ell_run.specs.Work.{AreHalves}
 
 -- a find
 pub paid_find : (cards : ℕ) (before after : PassModel) → Took before after (find_steps cards) →
-    moves_known cards before.view ≤ moves_known cards after.view → IsPaid cards 1 before after
+    milestones_known cards before.view ≤ milestones_known cards after.view → IsPaid cards 1 before after
 paid_find cards before after few more =
-    let all = mul-le-mul_right {m = moves_known cards before.view} {n = moves_known cards after.view} (try_steps cards) more in
+    let all = mul-le-mul_right {m = milestones_known cards before.view} {n = milestones_known cards after.view} (try_steps cards) more in
     record { steps = omega (arith, few.steps, all); made = omega (arith, few.made, all) }
 
 -- one call more
@@ -28,14 +28,14 @@ paid_more cards calls before mid after h one =
 -- of more calls
 pub paid_within : (cards calls count : ℕ) (before after : PassModel) → calls ≤ count → IsPaid cards calls before after → IsPaid cards count before after
 paid_within cards calls count before after few h =
-    let all = mul-le-mul_right {m = moves_known cards after.view + calls} {n = moves_known cards after.view + count} (try_steps cards) (omega (arith, few)) in
+    let all = mul-le-mul_right {m = milestones_known cards after.view + calls} {n = milestones_known cards after.view + count} (try_steps cards) (omega (arith, few)) in
     record { steps = omega (arith, h.steps, all, few); made = omega (arith, h.made, all, few) }
 
 -- the steps of a worker, whose pass knows of two moves of each card at most
-pub paid_steps : (cards calls : ℕ) (before after : PassModel) → IsPaid cards calls before after → moves_known cards after.view ≤ 2 * cards →
+pub paid_steps : (cards calls : ℕ) (before after : PassModel) → IsPaid cards calls before after → milestones_known cards after.view ≤ 2 * cards →
     Took before after (worker_steps cards calls)
 paid_steps cards calls before after h few =
-    let all = mul-le-mul_right {m = moves_known cards after.view} {n = 2 * cards} (try_steps cards) few in
+    let all = mul-le-mul_right {m = milestones_known cards after.view} {n = 2 * cards} (try_steps cards) few in
     record { steps = omega (arith, h.steps, all); made = omega (arith, h.made, all) }
 
 -- the longest part of two rows

@@ -26,7 +26,7 @@ use Rattle.ell_cards.specs.declared.view.Told.TheVariants.{Value}
 use Rattle.ell_cards.specs.Models.{PassModel, TableModel, Steps, latest, IsTold, Knows}
 use Rattle.ell_cards.specs.Changes.{after_begin, after_again, after_upd, after_claim, after_flag, after_mark, is_mark_of, learning, unmarking, if_won, exchanged, found_word, found_update, told_value, with_stores}
 use Rattle.ell_cards.proofs.lemmas.views.Afters.{after_key_of, after_value_of, after_next}
-use Rattle.ell_cards.specs.Guards.{IsOver, MayGoDown, MayAnswer, TellsOf, MayIFlag, MayDFlag, IsFilled}
+use Rattle.ell_cards.specs.Guards.{CardIsOver, MayGoDown, MayAnswer, TellsOf, MayIFlag, MayDFlag, IsFilled}
 use Rattle.ell_test_steps.specs.declared.memory.Remembered.{Remembered}
 use Rattle.ell_test_steps.specs.declared.memory.TheConstants.{FACTS}
 use Rattle.ell_test_steps.specs.declared.memory.Passed.{Passed}
@@ -238,7 +238,7 @@ ready_marked t a b m n c x w u (Err found) h s more =
     (subst (λ (v : View). KnowsLostMark v c found) (sym (view_after a b (exchanged [] (packed found) (after_mark false c x found a.view)) s)) (lost_mark_known a.view c x (packed found) found))
 
 -- the answer by the card in hand, which is remembered over
-pub card_may : (v : View) (m : Remembered) (op is : Op) (c : ℕ) → op ≡ is → m.card ≡ Some c → m.flagged ≡ true → (KnowsAll v m.known → IsOver v is c) → Fits v m → m.op ≡ Some op
+pub card_may : (v : View) (m : Remembered) (op is : Op) (c : ℕ) → op ≡ is → m.card ≡ Some c → m.flagged ≡ true → (KnowsAll v m.known → CardIsOver v is c) → Fits v m → m.op ≡ Some op
     → MayAnswer v (reply_of_change is)
 card_may v m op is c same holds flagged over h busy = record {
   op = is;

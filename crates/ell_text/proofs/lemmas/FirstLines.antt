@@ -17,7 +17,7 @@ use Rattle.ell_text.specs.declared.line.Section.TheVariants.{Head, Opening, Oper
 use Rattle.ell_text.specs.declared.version.Version.{Version}
 use Rattle.ell_text.specs.Line.{HasKindInFront, IsFirstLine, IsValueInFront, has_value, key_behind, line_behind_name, line_from, line_kind_of, line_of, line_on, name_of, or_bad_key, or_bad_value, said_in, says_version, unless_skipped, value_behind}
 use Rattle.ell_text.specs.Lines.{IsBehindLineEnd, is_line_feed, is_skipped, is_space, lines}
-use Rattle.ell_text.specs.Number.{IsNumberInFront, is_number, key_in, value_in}
+use Rattle.ell_text.specs.Number.{IsNumberInFront, is_number, key_in, key_spelled}
 use Rattle.ell_text.proofs.lemmas.Digits.{number_at_least}
 
 -- one part and others
@@ -131,7 +131,7 @@ says_behind true text behind tail key value number some =
       printed = All-append (λ b. 32 ≤ b) number.digits (32 ∷ second.digits) (printed_number number.digits number.spelt)
           (printed_behind_space second.digits (printed_number second.digits second.spelt));
       key_said = ap (λ bytes. or_bad_key (key_in bytes)) (number_before number.digits second.digits number.spelt) ∙ ap or_bad_key number.value;
-      value_said = ap (λ bytes. or_bad_value (value_in bytes)) (number_after number.digits second.digits number.spelt) ∙ ap or_bad_value second.value;
+      value_said = ap (λ bytes. or_bad_value (key_spelled bytes)) (number_after number.digits second.digits number.spelt) ∙ ap or_bad_value second.value;
     }
 
 -- a name, a space, and more

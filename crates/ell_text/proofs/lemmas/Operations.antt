@@ -13,7 +13,7 @@ use Rattle.ell_text.specs.declared.version.Version.TheVariants.{Two}
 use Rattle.ell_text.specs.Bulk.{BulkValue, HasSoundLine, fault_at, fault_of, first, line_behind, line_at as line_in, next_section, nothing_said, operation_in, said, said_by, section_behind, spoken_in, start_in, unless_fault, version_of, with_line, with_read}
 use Rattle.ell_text.specs.Line.{line_of, said_in, says_version, unless_skipped}
 use Rattle.ell_text.specs.Lines.{is_skipped}
-use Rattle.ell_text.specs.Version.{number_of, version_numbered}
+use Rattle.ell_text.specs.Version.{version_number, version_numbered}
 use Rattle.ell_text.proofs.lemmas.Bulks.{at_head, by_name, line_by_name, name_in_opening, no_version, past_head, says_without_fault, with_added, with_nothing, with_pieces}
 use Rattle.ell_text.proofs.lemmas.Versions.{numbered, said_by_skipped, skipped_line, version_behind_skipped, version_behind_spoken, version_of_head, version_of_other, version_of_skipped, version_skipped_more}
 
@@ -24,11 +24,11 @@ cons_option-nil (Some x) = refl
 
 -- what the lines say in a version, with one line more
 said_by_more : (version : Version) (front : List (List ℕ)) (line : List ℕ)
-    → said_by version (front ++ line ∷ []) ≡ with_added (number_of version) (said_by version front) (line_of version Opening line)
+    → said_by version (front ++ line ∷ []) ≡ with_added (version_number version) (said_by version front) (line_of version Opening line)
 said_by_more version front line =
-    ap (λ start. record { version = number_of version; start = start; ops = (said_by version (front ++ line ∷ [])).ops })
+    ap (λ start. record { version = version_number version; start = start; ops = (said_by version (front ++ line ∷ [])).ops })
     (filter_map-append (λ line. start_in (line_of version Opening line)) front (line ∷ []) ∙ ap (λ found. (said_by version front).start ++ found) (cons_option-nil _))
-    ∙ ap (λ ops. record { version = number_of version; start = (said_by version front).start ++ option_to_list (start_in (line_of version Opening line)); ops = ops })
+    ∙ ap (λ ops. record { version = version_number version; start = (said_by version front).start ++ option_to_list (start_in (line_of version Opening line)); ops = ops })
     (filter_map-append (λ line. operation_in (line_of version Opening line)) front (line ∷ []) ∙ ap (λ found. (said_by version front).ops ++ found) (cons_option-nil _))
 
 -- while the head lasts, all lines are skipped
@@ -42,7 +42,7 @@ module _ (front : List (List ℕ)) (line : List ℕ) (number : ℕ) (head : HasH
   skipped_more skipped =
       ap (λ version. said_by version (front ++ line ∷ [])) (version_skipped_more front line skipped)
       ∙ said_by_more (version_of front) front line
-      ∙ ap (with_added (number_of (version_of front)) (said front)) (skipped_line _ Opening line skipped)
+      ∙ ap (with_added (version_number (version_of front)) (said front)) (skipped_line _ Opening line skipped)
       ∙ with_nothing (said front)
       ∙ sym (ap (with_read (said front)) (skipped_line _ (next_section (said front)) line skipped))
 
@@ -67,7 +67,7 @@ module _ (front : List (List ℕ)) (line : List ℕ) (number : ℕ) (head : HasH
   section_of_skipped : list_all is_skipped front ≡ true → next_section (said front) ≡ Head
   section_of_skipped all =
       ap next_section (said_by_skipped (version_of front) front all)
-      ∙ ap (λ version. section_behind (version_numbered (number_of version)) [] []) (version_of_skipped front all)
+      ∙ ap (λ version. section_behind (version_numbered (version_number version)) [] []) (version_of_skipped front all)
 
   -- a line that does not say the version leaves it
   version_stays : is_skipped line ≡ false → says_version (next_section (said front)) line ≡ false → version_of (front ++ line ∷ []) ≡ version_of front
@@ -96,7 +96,7 @@ module _ (front : List (List ℕ)) (line : List ℕ) (number : ℕ) (head : HasH
       let opening : by_name version Opening line ≡ told = name_in_opening version (next_section (said front)) line (λ bad. let both = sym spoke.1 ∙ bad in cc) in
       ap (λ v. said_by v (front ++ line ∷ [])) (version_stays spoken other)
       ∙ said_by_more version front line
-      ∙ ap (with_added (number_of version) (said front)) (line_by_name version Opening line spoken refl ∙ ap (unless_skipped false) opening)
+      ∙ ap (with_added (version_number version) (said front)) (line_by_name version Opening line spoken refl ∙ ap (unless_skipped false) opening)
       ∙ with_pieces (said front) told (no_version version _ _)
       ∙ sym (ap (with_read (said front)) (read_by_name spoken other))
 

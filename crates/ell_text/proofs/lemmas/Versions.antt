@@ -9,10 +9,10 @@ use Rattle.ell_text.specs.declared.version.Version.TheVariants.{One, Two}
 use Rattle.ell_text.specs.Bulk.{operation_in, said_by, start_in, version_of}
 use Rattle.ell_text.specs.Line.{line_of, said_in, says_version, unless_skipped}
 use Rattle.ell_text.specs.Lines.{is_skipped}
-use Rattle.ell_text.specs.Version.{number_of, version_numbered}
+use Rattle.ell_text.specs.Version.{version_number, version_numbered}
 
 -- a version has its number
-pub numbered : (version : Version) → version_numbered (number_of version) ≡ version
+pub numbered : (version : Version) → version_numbered (version_number version) ≡ version
 numbered One = refl
 numbered Two = refl
 
@@ -72,9 +72,9 @@ none_of f (line ∷ text) none all =
 
 -- lines that are skipped say nothing in any version
 pub said_by_skipped : (version : Version) (text : List (List ℕ)) → list_all is_skipped text ≡ true
-    → said_by version text ≡ record { version = number_of version; start = []; ops = [] }
+    → said_by version text ≡ record { version = version_number version; start = []; ops = [] }
 said_by_skipped version text all =
-    ap (λ start. record { version = number_of version; start = start; ops = (said_by version text).ops })
+    ap (λ start. record { version = version_number version; start = start; ops = (said_by version text).ops })
     (none_of (λ line. start_in (line_of version Opening line)) text (λ line skipped. ap start_in (skipped_line version Opening line skipped)) all)
-    ∙ ap (λ ops. record { version = number_of version; start = []; ops = ops })
+    ∙ ap (λ ops. record { version = version_number version; start = []; ops = ops })
     (none_of (λ line. operation_in (line_of version Opening line)) text (λ line skipped. ap operation_in (skipped_line version Opening line skipped)) all)

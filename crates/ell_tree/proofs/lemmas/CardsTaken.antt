@@ -14,12 +14,13 @@ use Rattle.ell_cards.specs.Models.{PassModel, Steps}
 use Rattle.ell_cards.specs.Changes.{learning, if_won, exchanged}
 use Rattle.ell_tree.specs.declared.operations.NotDone.{NotDone}
 use Rattle.ell_tree.specs.declared.trying.Tried.TheVariants.{Answered}
-use Rattle.ell_tree.specs.CardsTaken.{is_claim, claims_in, cards_taken, TakesNoCard, TakesAtMost, TakesCards, TakesOneIf, TryTakes}
+use Rattle.ell_tree.specs.CardsTaken.{claims_in, cards_taken, TakesNoCard, TakesAtMost, TakesCards, TakesOneIf, TryTakes}
+use Rattle.ell_cards.specs.Contention.{is_claim}
 use Rattle.ell_tree.specs.Ends.{Answers, changes_by, reply_by}
 use Rattle.ell_tree.specs.Ledgers.{Owns, TreeModel, present_in}
 use Rattle.ell_tree.proofs.lemmas.Owning.{still_owned}
-use Rattle.ell_tree.specs.Keeping.{Walks}
-use Rattle.ell_tree.proofs.lemmas.Keeping.{walks_step, learning_keeps}
+use Rattle.ell_tree.specs.Keeping.{KeepsAll}
+use Rattle.ell_tree.proofs.lemmas.Keeping.{keeps_all_step, learning_keeps}
 
 -- one claim more, or none
 one_more : (b : Bool) (m n : ℕ) → (if b then m + n + 1 else m + n) ≡ (if b then m + 1 else m) + n
@@ -39,9 +40,9 @@ no_claims false k c es other = refl
 
 -- such an exchange, from which a fact is learnt, takes no card
 pub learning_walks : (old new : PassModel) (won : Bool) (k : Exchange) (c n : ℕ) (f : Fact) → is_claim k ≡ false
-    → Steps old new (exchanged (if_won won k c) n (learning f old.view)) → Walks old new 1
+    → Steps old new (exchanged (if_won won k c) n (learning f old.view)) → KeepsAll old new 1
 learning_walks old new won k c n f other s =
-    walks_step old new (exchanged (if_won won k c) n (learning f old.view)) s (learning_keeps (if_won won k c) n f old.view) refl
+    keeps_all_step old new (exchanged (if_won won k c) n (learning f old.view)) s (learning_keeps (if_won won k c) n f old.view) refl
     (no_claims won k c old.view.won other) refl refl refl refl
 
 -- a step to a view with the same claims
@@ -49,8 +50,8 @@ pub takes_none : (old new : PassModel) (v : View) → Steps old new v → claims
 takes_none old new v s same = ap (λ (p : PassModel). cards_taken p) s ∙ same
 
 -- an answer that changes nothing is not that of a change
-reply_unchanged : (op : Op) (moved : Option ℕ) → IsChange op → changes_by op moved ≡ false → reply_by op moved ≢ reply_of_change op
-reply_unchanged (Find k) moved is none e = is
+reply_unchanged : (op : Op) (had : Option ℕ) → IsChange op → changes_by op had ≡ false → reply_by op had ≢ reply_of_change op
+reply_unchanged (Find k) had is none e = is
 reply_unchanged (Insert k value) (Some v) is none e = absurd cc
 reply_unchanged (Insert k value) None is none e = absurd cc
 reply_unchanged (Delete k) (Some v) is none e = absurd cc
@@ -59,14 +60,14 @@ reply_unchanged (Swap k was value) (Some there) is none e = let same : there ≡
 reply_unchanged (Swap k was value) None is none e = absurd cc
 
 -- a try that changes nothing of an own key is the first one
-pub answers_first : (t : TreeModel) (op : Op) (moved : Option ℕ) (round : ℕ) (first begun after : PassModel) → IsChange op
-    → Answers t op (reply_by op moved) begun after → begun.view.worker.ledger ≡ first.view.worker.ledger
+pub answers_first : (t : TreeModel) (op : Op) (had : Option ℕ) (round : ℕ) (first begun after : PassModel) → IsChange op
+    → Answers t op (reply_by op had) begun after → begun.view.worker.ledger ≡ first.view.worker.ledger
     → (1 ≤ round → Owns first (key_of op) → reply_of op (present_in first) ≡ reply_of_change op)
-    → Owns first (key_of op) → changes_by op moved ≡ false → round ≡ 0
-answers_first t op moved zero first begun after is answers ledger would owns none = refl
-answers_first t op moved (suc r) first begun after is answers ledger would owns none =
+    → Owns first (key_of op) → changes_by op had ≡ false → round ≡ 0
+answers_first t op had zero first begun after is answers ledger would owns none = refl
+answers_first t op had (suc r) first begun after is answers ledger would owns none =
     let says = answers.says (still_owned (key_of op) first begun ledger owns) in
-    absurd (reply_unchanged op moved is none
+    absurd (reply_unchanged op had is none
     (says ∙ (ap (λ (l : List (ℕ × Entry)). reply_of op (contents_in (ledger_of l))) ledger ∙ would (omega arith) owns)))
 
 -- the cards of an operation that was answered at this try
@@ -74,8 +75,8 @@ one_at_most : (changed : Bool) (begun after : PassModel) → TakesOneIf changed 
 one_at_most true begun after h = record { least = omega (arith, h); most = omega (arith, h) }
 one_at_most false begun after h = record { least = omega (arith, h); most = omega (arith, h) }
 
-pub answered_most : (op : Op) (moved : Option ℕ) (begun after : PassModel) → TryTakes op begun after (Answered moved) → TakesAtMost 1 begun after
-answered_most op moved begun after h = one_at_most (changes_by op moved) begun after h
+pub answered_most : (op : Op) (had : Option ℕ) (begun after : PassModel) → TryTakes op begun after (Answered had) → TakesAtMost 1 begun after
+answered_most op had begun after h = one_at_most (changes_by op had) begun after h
 
 cards_if : (changed : Bool) (round : ℕ) (first before begun after : PassModel) → TakesAtMost round first before → TakesNoCard before begun
     → TakesOneIf changed begun after → after.view.hindered ≡ first.view.hindered + round → TakesCards {E = NotDone} first after (Ok changed)
@@ -83,15 +84,15 @@ cards_if true round first before begun after many same one hindered =
     record { one = omega (arith, many.least, same, one); more = omega (arith, many.most, same, one, hindered) }
 cards_if false round first before begun after many same none hindered = omega (arith, many.most, same, none, hindered)
 
-pub answered_cards : (op : Op) (moved : Option ℕ) (round : ℕ) (first before begun after : PassModel) → TakesAtMost round first before
-    → TakesNoCard before begun → TryTakes op begun after (Answered moved) → after.view.hindered ≡ first.view.hindered + round
-    → TakesCards {E = NotDone} first after (Ok (changes_by op moved))
-answered_cards op moved round first before begun after many same one hindered =
-    cards_if (changes_by op moved) round first before begun after many same one hindered
+pub answered_cards : (op : Op) (had : Option ℕ) (round : ℕ) (first before begun after : PassModel) → TakesAtMost round first before
+    → TakesNoCard before begun → TryTakes op begun after (Answered had) → after.view.hindered ≡ first.view.hindered + round
+    → TakesCards {E = NotDone} first after (Ok (changes_by op had))
+answered_cards op had round first before begun after many same one hindered =
+    cards_if (changes_by op had) round first before begun after many same one hindered
 
-pub taken_none : (op : Op) (moved : Option ℕ) (begun after : PassModel) → TryTakes op begun after (Answered moved) → changes_by op moved ≡ false
+pub taken_none : (op : Op) (had : Option ℕ) (begun after : PassModel) → TryTakes op begun after (Answered had) → changes_by op had ≡ false
     → TakesNoCard begun after
-taken_none op moved begun after h none = subst (λ b. TakesOneIf b begun after) none h
+taken_none op had begun after h none = subst (λ b. TakesOneIf b begun after) none h
 
 pub same_Ok : (said : Bool) → ◌≡◌ {A = Result Bool NotDone} (Ok said) (Ok false) → said ≡ false
 same_Ok true e = absurd cc

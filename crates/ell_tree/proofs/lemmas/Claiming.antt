@@ -19,11 +19,11 @@ use Rattle.ell_cards.proofs.lemmas.views.Searches.{may_claim}
 use Rattle.ell_tree.specs.declared.searching.LeafFound.{LeafFound}
 use Rattle.ell_tree.specs.CardsTaken.{claims_in, TakesNoCard, TakesOneCard}
 use Rattle.ell_tree.specs.Hindrances.{Meets}
-use Rattle.ell_tree.specs.Keeping.{LosesNothing, Goes}
+use Rattle.ell_tree.specs.Keeping.{LosesNothing, Keeps}
 use Rattle.ell_tree.specs.Searches.{seen, IsAt}
 use Rattle.ell_tree.specs.Tries.{HasCard, HasNone}
-use Rattle.ell_tree.specs.Moves.{GivesOut}
-use Rattle.ell_tree.proofs.lemmas.Keeping.{goes_step, goes_trans, next_keeps}
+use Rattle.ell_tree.specs.Milestones.{GivesOut}
+use Rattle.ell_tree.proofs.lemmas.Keeping.{keeps_step, keeps_trans, next_keeps}
 
 -- what fills a card tells the same beside whatever was told before
 one_more : (es ds : List Told) (x e : Told) → ((d : Told) → Has es d → Has ds d) → Has (x ∷ es) e → Has (x ∷ ds) e
@@ -91,10 +91,10 @@ module _ (a b d : PassModel) (c : ℕ) (read : Steps a b (after_next c a.view)) 
       is true s = ap (λ (w : View). w.next_at_least) (view_after b d (after_claim true c b.view) s)
       is false s = ap (λ (w : View). w.next_at_least) (view_after b d (after_claim false c b.view) s)
 
-  pub won_goes : Steps b d (after_claim true c b.view) → Goes a d 2
+  pub won_goes : Steps b d (after_claim true c b.view) → Keeps a d 2
   won_goes s =
-      goes_trans a b d 1 1 2 (goes_step a b (after_next c a.view) read (next_keeps c a.view) refl)
-      (goes_step b d (after_claim true c b.view) s (won_keeps c b.view low_there) refl) (omega arith)
+      keeps_trans a b d 1 1 2 (keeps_step a b (after_next c a.view) read (next_keeps c a.view) refl)
+      (keeps_step b d (after_claim true c b.view) s (won_keeps c b.view low_there) refl) (omega arith)
 
   -- the card is in hand then
   pub has_card : (op : Op) (place : LeafFound) → Steps b d (after_claim true c b.view) → Does a.view op → IsAt a.view place
@@ -124,10 +124,10 @@ module _ (a b d : PassModel) (c : ℕ) (read : Steps a b (after_next c a.view)) 
       ap (λ (w : View). claims_in w.won)
       (view_after b d (after_claim false c b.view) s ∙ ap (after_claim false c) (view_after a b (after_next c a.view) read))
 
-  pub lost_goes : Steps b d (after_claim false c b.view) → Goes a d 2
+  pub lost_goes : Steps b d (after_claim false c b.view) → Keeps a d 2
   lost_goes s =
-      goes_trans a b d 1 1 2 (goes_step a b (after_next c a.view) read (next_keeps c a.view) refl)
-      (goes_step b d (after_claim false c b.view) s (lost_keeps c b.view low_there) refl) (omega arith)
+      keeps_trans a b d 1 1 2 (keeps_step a b (after_next c a.view) read (next_keeps c a.view) refl)
+      (keeps_step b d (after_claim false c b.view) s (lost_keeps c b.view low_there) refl) (omega arith)
 
   -- and nothing was in the way
   pub won_calm : Steps b d (after_claim true c b.view) → d.view.hindrances ≡ a.view.hindrances

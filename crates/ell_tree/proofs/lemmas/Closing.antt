@@ -12,7 +12,7 @@ use Rattle.ell_core.specs.tree.Tree.{IsTreeKey, IsTreePair, ListsTreePairs}
 use Rattle.ell_core.specs.tree.Room.{HoldsKeys}
 use Rattle.ell_core.proofs.lemmas.tree.Pairs.{Contains-from_list_any}
 use Rattle.ell_cards.specs.Models.{PassModel}
-use Rattle.ell_cards.specs.Changes.{keys_of}
+use Rattle.ell_cards.specs.Changes.{ledger_keys}
 use Rattle.std.specs.Map.{keys_of as pair_keys, values_of}
 use Rattle.ell_ops.specs.Contents.{contents_of}
 use Rattle.ell_ops.specs.KeySet.{set_of}
@@ -117,21 +117,21 @@ module _ (t : TreeModel) (p : PassModel) (closed : ClosedModel) (ends : TableEnd
   ]
 
   -- as many places as the pass has keys are enough for those of the tree, where none is shared, and two of each card always
-  pub holds_keys : (places : ℕ) → (if t.plan.shared then 2 * closed.last_card + 2 else length (keys_of p.view.worker.ledger)) ≤ places
+  pub holds_keys : (places : ℕ) → (if t.plan.shared then 2 * closed.last_card + 2 else length (ledger_keys p.view.worker.ledger)) ≤ places
       → HoldsKeys (words_of closed.words) places
   holds_keys places room keys lists = by t.plan.shared refl room
     where
-      by : (b : Bool) → t.plan.shared ≡ b → (if b then 2 * closed.last_card + 2 else length (keys_of p.view.worker.ledger)) ≤ places → length keys ≤ places
+      by : (b : Bool) → t.plan.shared ≡ b → (if b then 2 * closed.last_card + 2 else length (ledger_keys p.view.worker.ledger)) ≤ places → length keys ≤ places
       by true mode room =
           let w = words_of closed.words in
           let size = leaf_keys_length w.key closed.last_card in
           let few = no_longer keys (leaf_keys w.key closed.last_card) lists.ascending
-          (λ k has. let there = (lists.each k).0 has in
+          (λ k has. let there = ((lists.each k).0 has).1 in
           subst (Contains (leaf_keys w.key closed.last_card)) there.has (at_leaf w.key closed.last_card there.leaf (ends.shows.nodes there.leaf there.reached) (ends.shows.numbers there.leaf there.reached) there.outer)) in
           omega arith
       by false mode room =
-          let few = no_longer keys (keys_of p.view.worker.ledger) lists.ascending
-          (λ k has. Contains-from_list_any (keys_of p.view.worker.ledger) k
+          let few = no_longer keys (ledger_keys p.view.worker.ledger) lists.ascending
+          (λ k has. Contains-from_list_any (ledger_keys p.view.worker.ledger) k
           (owned_among p.view.worker.ledger k (All-contains (λ x. ledger p x ≢ None) t.plan.keys k all (tree_key mode k ((lists.each k).0 has))))) in
           omega arith
 

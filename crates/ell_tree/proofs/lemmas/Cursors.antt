@@ -11,7 +11,7 @@ use Rattle.ell_core.proofs.lemmas.runs.Stretches.{key_from, key_upto}
 use Rattle.ell_cards.specs.declared.glance.Glance.{Glance}
 use Rattle.ell_cards.specs.declared.view.Told.TheVariants.{Met, Key, Value}
 use Rattle.ell_cards.specs.declared.view.View.{View}
-use Rattle.ell_cards.specs.Changes.{gone_down}
+use Rattle.ell_cards.specs.Changes.{glance_down}
 use Rattle.ell_cards.proofs.lemmas.views.Afters.{after_look, after_look_down, after_key_of, after_value_of}
 use Rattle.ell_cards.specs.Guards.{MayLookDown, TellsOf}
 use Rattle.ell_cards.specs.Looking.{HasFound, HasFoundBetween, ReadsItsOwn}
@@ -21,26 +21,26 @@ use Rattle.ell_tree.specs.Counts.{HasUncounted}
 use Rattle.ell_tree.proofs.lemmas.Counts.{uncounted_one}
 use Rattle.ell_tree.specs.declared.cursor.About.{About}
 use Rattle.ell_tree.specs.declared.cursor.Cursor.{Cursor}
-use Rattle.ell_tree.specs.Cursors.{AreKept, BeginsALook, FindsAbout, IsAmong, IsKept, kept_at, IsLower, IsNodeKey, IsUpper, LooksOn}
+use Rattle.ell_tree.specs.Cursors.{AreKept, BeginsALook, FindsAbout, IsAmong, MayGoOnFrom, kept_at, IsLower, IsNodeKey, IsUpper, KeepsLooking}
 use Rattle.ell_tree.specs.Looks.{stretch_steps}
 use Rattle.ell_tree.specs.Scans.{TellsItsOwn, value_there}
 use Rattle.ell_tree.proofs.lemmas.Looks.{come_part, reads_mine, only_trans, only_none_yet, look_only, down_only, key_only, value_only, only_counted}
 
 -- a look that goes on, and on
-pub on_trans : (a b c : PassModel) (m n k : ℕ) → LooksOn a b m → LooksOn b c n → m + n ≤ k → LooksOn a c k
+pub on_trans : (a b c : PassModel) (m n k : ℕ) → KeepsLooking a b m → KeepsLooking b c n → m + n ≤ k → KeepsLooking a c k
 on_trans a b c m n k h h' le = record {
   only = only_trans a b c m n k h.only h'.only le;
   glances = λ g has. h'.glances g (h.glances g has);
   looks = h'.looks ∙ h.looks;
 }
 
-pub on_none : (a : PassModel) → LooksOn a a 0
+pub on_none : (a : PassModel) → KeepsLooking a a 0
 on_none a = record { only = only_none_yet a; glances = λ g has. has; looks = refl }
 
-pub on_more : (a b : PassModel) (m n : ℕ) → m ≤ n → LooksOn a b m → LooksOn a b n
+pub on_more : (a b : PassModel) (m n : ℕ) → m ≤ n → KeepsLooking a b m → KeepsLooking a b n
 on_more a b m n le h = on_trans a b b m 0 n h (on_none b) (omega arith)
 
-pub key_on : (old new : PassModel) (x k : ℕ) → Sees old new (after_key_of x k old.view) → LooksOn old new 1
+pub key_on : (old new : PassModel) (x k : ℕ) → Sees old new (after_key_of x k old.view) → KeepsLooking old new 1
 key_on old new x k s =
     let view = view_seen old new (after_key_of x k old.view) s in
     record {
@@ -49,7 +49,7 @@ key_on old new x k s =
       looks = ap (λ (v : View). v.looks) view;
     }
 
-pub value_on : (old new : PassModel) (x value : ℕ) → Sees old new (after_value_of x value old.view) → LooksOn old new 1
+pub value_on : (old new : PassModel) (x value : ℕ) → Sees old new (after_value_of x value old.view) → KeepsLooking old new 1
 value_on old new x value s =
     let view = view_seen old new (after_value_of x value old.view) s in
     record {
@@ -58,17 +58,17 @@ value_on old new x value s =
       looks = ap (λ (v : View). v.looks) view;
     }
 
-pub down_on : (old new : PassModel) (from : Glance) (k : ℕ) (right : Bool) (child : ℕ) → Sees old new (after_look_down from k right child old.view) → LooksOn old new 1
+pub down_on : (old new : PassModel) (from : Glance) (k : ℕ) (right : Bool) (child : ℕ) → Sees old new (after_look_down from k right child old.view) → KeepsLooking old new 1
 down_on old new from k right child s =
     let view = view_seen old new (after_look_down from k right child old.view) s in
     record {
       only = down_only old new from k right child s;
-      glances = λ g has. subst (λ (v : View). Has v.glances g) (sym view) (earlier g (gone_down from k right child) old.view.glances has);
+      glances = λ g has. subst (λ (v : View). Has v.glances g) (sym view) (earlier g (glance_down from k right child) old.view.glances has);
       looks = ap (λ (v : View). v.looks) view;
     }
 
 -- a look that goes on, whose steps are counted at its end
-pub on_counted : (a b c : PassModel) (n k : ℕ) → LooksOn a b n → HasUncounted a b k → Counts b c k → LooksOn a c n
+pub on_counted : (a b c : PassModel) (n k : ℕ) → KeepsLooking a b n → HasUncounted a b k → Counts b c k → KeepsLooking a c n
 on_counted a b c n k h u s =
     let view = ap (λ (m : PassModel). m.view) s in
     record {
@@ -78,22 +78,22 @@ on_counted a b c n k h u s =
     }
 
 -- the key of a node stays told
-node_key_on : (cards : ℕ) (p q : PassModel) (n key : ℕ) → LooksOn p q n → IsNodeKey cards p.view key → IsNodeKey cards q.view key
+node_key_on : (cards : ℕ) (p q : PassModel) (n key : ℕ) → KeepsLooking p q n → IsNodeKey cards p.view key → IsNodeKey cards q.view key
 node_key_on cards p q n key h k =
     record { node = k.node; inner = k.inner; there = k.there; below = k.below; told = h.only.told (Key k.node key) k.told }
 
-pub lower_on : (cards : ℕ) (p q : PassModel) (n low : ℕ) → LooksOn p q n → IsLower cards p.view low → IsLower cards q.view low
+pub lower_on : (cards : ℕ) (p q : PassModel) (n low : ℕ) → KeepsLooking p q n → IsLower cards p.view low → IsLower cards q.view low
 lower_on cards p q n low h l = elim l [ inl e ↦ inl e | inr k ↦ inr (node_key_on cards p q n low h k) ]
 
-pub upper_on : (cards : ℕ) (p q : PassModel) (n high : ℕ) → LooksOn p q n → IsUpper cards p.view high → IsUpper cards q.view high
+pub upper_on : (cards : ℕ) (p q : PassModel) (n high : ℕ) → KeepsLooking p q n → IsUpper cards p.view high → IsUpper cards q.view high
 upper_on cards p q n high h u = elim u [ inl e ↦ inl e | inr k ↦ inr (node_key_on cards p q n high h k) ]
 
 -- what a look has come to it has come to
-pub come_on : (p q : PassModel) (n x low high : ℕ) → LooksOn p q n → HasCome p.view x low high → HasCome q.view x low high
+pub come_on : (p q : PassModel) (n x low high : ℕ) → KeepsLooking p q n → HasCome p.view x low high → HasCome q.view x low high
 come_on p q n x low high h c =
     record { glance = c.glance; among = h.glances c.glance c.among; there = c.there; from = c.from; upto = c.upto }
 
-pub kept_on : (cards : ℕ) (p q : PassModel) (n : ℕ) (g : Glance) → LooksOn p q n → IsKept cards p.view g → IsKept cards q.view g
+pub kept_on : (cards : ℕ) (p q : PassModel) (n : ℕ) (g : Glance) → KeepsLooking p q n → MayGoOnFrom cards p.view g → MayGoOnFrom cards q.view g
 kept_on cards p q n g h k = record {
   come = come_on p q n g.node g.low g.high h k.come;
   met = h.only.told (Met g.node) k.met;
@@ -104,7 +104,7 @@ kept_on cards p q n g h k = record {
   real = k.real;
 }
 
-pub all_on : (cards : ℕ) (p q : PassModel) (n : ℕ) (c : Cursor) → LooksOn p q n → AreKept cards p.view c → AreKept cards q.view c
+pub all_on : (cards : ℕ) (p q : PassModel) (n : ℕ) (c : Cursor) → KeepsLooking p q n → AreKept cards p.view c → AreKept cards q.view c
 all_on cards p q n c h k = record {
   many = k.many;
   first = kept_on cards p q n c.first h k.first;
@@ -121,7 +121,7 @@ begins_look old seen new child s counts = record {
 }
 
 pub first_kept : (cards : ℕ) (old new : PassModel) (child : ℕ) → Sees old new (after_look child old.view) → 0 < child → InTable cards child
-    → IsKept cards new.view (record { node = child; low = 0; high = greatest_key + 1 })
+    → MayGoOnFrom cards new.view (record { node = child; low = 0; high = greatest_key + 1 })
 first_kept cards old new child s low there =
     let view = view_seen old new (after_look child old.view) s in
     let g : Glance = record { node = child; low = 0; high = greatest_key + 1 } in
@@ -140,62 +140,62 @@ abbrev nowhere : Glance
 nowhere = record { node = 0; low = 0; high = 0 }
 
 pub begin_kept : (cards : ℕ) (v : View) (c : Cursor) (g : Glance) → c.first ≡ g → c.kept ≡ replicate 32 g → g.low ≡ 0 → g.high ≡ greatest_key + 1
-    → IsKept cards v g → AreKept cards v c
+    → MayGoOnFrom cards v g → AreKept cards v c
 begin_kept cards v c g first each least most k = record {
   many = ap (λ (l : List Glance). length l) each ∙ length-replicate 32 g;
-  first = subst (IsKept cards v) (sym first) k;
+  first = subst (MayGoOnFrom cards v) (sym first) k;
   least = ap (λ (h : Glance). h.low) first ∙ least;
   most = ap (λ (h : Glance). h.high) first ∙ most;
-  each = λ i less. subst (IsKept cards v)
+  each = λ i less. subst (MayGoOnFrom cards v)
       (sym (get_or-replicate 32 i g nowhere less) ∙ ap (λ l. get_or l i nowhere) (sym each)) k;
 }
 
 -- one of those from which a look may go on is one
-pub among_kept : (cards : ℕ) (v : View) (c : Cursor) (g : Glance) → AreKept cards v c → IsAmong c g → IsKept cards v g
-among_kept cards v c g k (inl e) = subst (IsKept cards v) (sym e) k.first
-among_kept cards v c g k (inr h) = subst (IsKept cards v) (sym h.2) (k.each h.0 h.1)
+pub among_kept : (cards : ℕ) (v : View) (c : Cursor) (g : Glance) → AreKept cards v c → IsAmong c g → MayGoOnFrom cards v g
+among_kept cards v c g k (inl e) = subst (MayGoOnFrom cards v) (sym e) k.first
+among_kept cards v c g k (inr h) = subst (MayGoOnFrom cards v) (sym h.2) (k.each h.0 h.1)
 
 -- a cursor that keeps the same, or one more in the place of another
 pub same_kept : (cards : ℕ) (v : View) (c d : Cursor) → d.first ≡ c.first → d.kept ≡ c.kept → AreKept cards v c → AreKept cards v d
 same_kept cards v c d first each k = record {
   many = ap (λ (l : List Glance). length l) each ∙ k.many;
-  first = subst (IsKept cards v) (sym first) k.first;
+  first = subst (MayGoOnFrom cards v) (sym first) k.first;
   least = ap (λ (h : Glance). h.low) first ∙ k.least;
   most = ap (λ (h : Glance). h.high) first ∙ k.most;
-  each = λ i less. subst (IsKept cards v) (sym (ap (λ l. get_or l i nowhere) each)) (k.each i less);
+  each = λ i less. subst (MayGoOnFrom cards v) (sym (ap (λ l. get_or l i nowhere) each)) (k.each i less);
 }
 
-pub one_kept : (cards : ℕ) (v : View) (c d : Cursor) (j : ℕ) (g : Glance) → j < 32 → d.first ≡ c.first → d.kept ≡ set c.kept j g → IsKept cards v g → AreKept cards v c
+pub one_kept : (cards : ℕ) (v : View) (c d : Cursor) (j : ℕ) (g : Glance) → j < 32 → d.first ≡ c.first → d.kept ≡ set c.kept j g → MayGoOnFrom cards v g → AreKept cards v c
     → AreKept cards v d
 one_kept cards v c d j g room first each new k = record {
   many = ap (λ (l : List Glance). length l) each ∙ (length-set c.kept j g ∙ k.many);
-  first = subst (IsKept cards v) (sym first) k.first;
+  first = subst (MayGoOnFrom cards v) (sym first) k.first;
   least = ap (λ (h : Glance). h.low) first ∙ k.least;
   most = ap (λ (h : Glance). h.high) first ∙ k.most;
-  each = λ i less. subst (IsKept cards v) (sym (ap (λ l. get_or l i nowhere) each)) (at i less);
+  each = λ i less. subst (MayGoOnFrom cards v) (sym (ap (λ l. get_or l i nowhere) each)) (at i less);
 }
   where
-    at : (i : ℕ) → i < 32 → IsKept cards v (get_or (set c.kept j g) i nowhere)
+    at : (i : ℕ) → i < 32 → MayGoOnFrom cards v (get_or (set c.kept j g) i nowhere)
     at i less = elim (cases_eq i j) [
       | inl e ↦
           let there : j < length c.kept = subst (λ n. j < n) (sym k.many) room in
-          subst (IsKept cards v) (sym (ap (λ n. get_or (set c.kept j g) n nowhere) e ∙ (rw get_or-set_same refl))) new
-      | inr other ↦ subst (IsKept cards v) (sym (rw get_or-set_other refl)) (k.each i less)
+          subst (MayGoOnFrom cards v) (sym (ap (λ n. get_or (set c.kept j g) n nowhere) e ∙ (rw get_or-set_same refl))) new
+      | inr other ↦ subst (MayGoOnFrom cards v) (sym (rw get_or-set_other refl)) (k.each i less)
     ]
 
 -- a look has come to a node by a key and others, from one from which it went on, in at most two steps for each internal node that there is down to it
 pub record GoesDown (cards : ℕ) (old new : PassModel) (key : ℕ) (here : Glance) (cursor : Cursor) : Type 0 where
   pub count : ℕ
-  pub on : LooksOn old new count
+  pub on : KeepsLooking old new count
   pub few : count + 2 ≤ 2 * ((here.node + 3) / 4)
-  pub stands : IsKept cards new.view here
+  pub stands : MayGoOnFrom cards new.view here
   pub from : here.low ≤ key
   pub upto : key < here.high
   pub kept : AreKept cards new.view cursor
 
-pub goes_first : (cards : ℕ) (old : PassModel) (key : ℕ) (here : Glance) (c d : Cursor) → AreKept cards old.view c → IsAmong c here → here.low ≤ key → key < here.high
+pub keeps_first : (cards : ℕ) (old : PassModel) (key : ℕ) (here : Glance) (c d : Cursor) → AreKept cards old.view c → IsAmong c here → here.low ≤ key → key < here.high
     → d.first ≡ c.first → d.kept ≡ c.kept → GoesDown cards old old key here d
-goes_first cards old key here c d kept among from upto first same =
+keeps_first cards old key here c d kept among from upto first same =
     let stands = among_kept cards old.view c here kept among in
     record {
       count = 0;
@@ -236,10 +236,10 @@ module _ (cards : ℕ) (old a b : PassModel) (key : ℕ) (here : Glance) (cursor
   told_key : IsTold b.view (Key here.node k)
   told_key = subst (λ (v : View). IsTold v (Key here.node k)) (sym asked_view) (latest (Key here.node k) a.view.told)
 
-  asked_on : LooksOn a b 1
+  asked_on : KeepsLooking a b 1
   asked_on = key_on a b here.node k asked
 
-  pub stands_still : IsKept cards b.view here
+  pub stands_still : MayGoOnFrom cards b.view here
   stands_still = kept_on cards a b 1 here asked_on at.stands
 
   pub kept_still : AreKept cards b.view cursor
@@ -249,7 +249,7 @@ module _ (cards : ℕ) (old a b : PassModel) (key : ℕ) (here : Glance) (cursor
   may_go_down inner = record { come = stands_still.come; met = stands_still.met; inner = inner; told = told_key }
 
   pub goes_down : (d : PassModel) (right : Bool) (child : ℕ) (after : Cursor) → Sees b d (after_look_down here k right child b.view) → IsInternal here.node
-      → here.node < child → InTable cards child → right ≡ nat_le k key → AreKept cards b.view after → GoesDown cards old d key (gone_down here k right child) after
+      → here.node < child → InTable cards child → right ≡ nat_le k key → AreKept cards b.view after → GoesDown cards old d key (glance_down here k right child) after
   goes_down d right child after s inner deeper there side kept =
       let view = view_seen b d (after_look_down here k right child b.view) s in
       let on = down_on b d here k right child s in
@@ -260,7 +260,7 @@ module _ (cards : ℕ) (old a b : PassModel) (key : ℕ) (here : Glance) (cursor
         few = (let few = at.few in omega arith);
         stands = record {
           come = subst (λ (v : View). HasCome v child (from_of right here.low k) (upto_of right here.high k)) (sym view)
-              (record { glance = gone_down here k right child; among = latest _ _; there = refl; from = omega arith; upto = omega arith });
+              (record { glance = glance_down here k right child; among = latest _ _; there = refl; from = omega arith; upto = omega arith });
           met = subst (λ (v : View). IsTold v (Met child)) (sym view) (latest (Met child) b.view.told);
           there = there;
           below = omega (arith, deeper);
@@ -274,15 +274,15 @@ module _ (cards : ℕ) (old a b : PassModel) (key : ℕ) (here : Glance) (cursor
       }
 
 -- what is found at a leaf
-module _ (cards : ℕ) (a b : PassModel) (key : ℕ) (leaf : Glance) (k : ℕ) (stands : IsKept cards a.view leaf) (from : leaf.low ≤ key) (upto : key < leaf.high)
+module _ (cards : ℕ) (a b : PassModel) (key : ℕ) (leaf : Glance) (k : ℕ) (stands : MayGoOnFrom cards a.view leaf) (from : leaf.low ≤ key) (upto : key < leaf.high)
     (outer : IsLeaf leaf.node) (asked : Sees a b (after_key_of leaf.node k a.view)) where
   key_told : IsTold b.view (Key leaf.node k)
   key_told = subst (λ (v : View). IsTold v (Key leaf.node k)) (sym (view_seen a b (after_key_of leaf.node k a.view) asked)) (latest (Key leaf.node k) a.view.told)
 
-  leaf_on : LooksOn a b 1
+  leaf_on : KeepsLooking a b 1
   leaf_on = key_on a b leaf.node k asked
 
-  pub leaf_stands : IsKept cards b.view leaf
+  pub leaf_stands : MayGoOnFrom cards b.view leaf
   leaf_stands = kept_on cards a b 1 leaf leaf_on stands
 
   pub finds_none : ReadsItsOwn b.view → (k < leaf.low) ⊎ (leaf.high ≤ k) → FindsAbout cards b.view key (record { low = leaf.low; high = leaf.high; found = None })
@@ -321,9 +321,9 @@ module _ (cards : ℕ) (a b : PassModel) (key : ℕ) (leaf : Glance) (k : ℕ) (
       }
 
 -- a stretch is found in at most so many steps
-pub goes_found : (cards : ℕ) (old a b : PassModel) (key : ℕ) (here : Glance) (cursor : Cursor) → GoesDown cards old a key here cursor → LooksOn a b 2
-    → LooksOn old b (stretch_steps cards)
-goes_found cards old a b key here cursor at on =
+pub keeps_found : (cards : ℕ) (old a b : PassModel) (key : ℕ) (here : Glance) (cursor : Cursor) → GoesDown cards old a key here cursor → KeepsLooking a b 2
+    → KeepsLooking old b (stretch_steps cards)
+keeps_found cards old a b key here cursor at on =
     on_trans old a b at.count 2 (stretch_steps cards) at.on on (let few = at.few in let room = at.stands.there in omega arith)
 
 -- what a look has found of a stretch it has found of each key of it

@@ -48,30 +48,30 @@ delete_wants v k place above at same is calm =
     (same, (seen above, ap (λ (s : Search). s.grandparent) at.search ∙ ap seen_any is, clean_word above.update.state above.update.card calm))
 
 -- what a card tells is told still after its flag
-module _ (v t f : View) (c : ℕ) (op : Op) (place : LeafFound) (busy : Does v op) (at : IsAt v place) (h : HasCard op place (filling_of c v) t c) (keeps : LosesNothing t f) where
+module _ (v t f : View) (c : ℕ) (op : Op) (place : LeafFound) (busy : Does v op) (at : IsAt v place) (h : HasCard op place (filling_of c v) t c) (loses : LosesNothing t f) where
   told_by_card : (filling : List (Field × ℕ)) → filling_of c v ≡ filling → (e : Told) → Has (told_filling c filling []) e → IsTold f e
-  told_by_card filling is e has = keeps.told e (h.told e (subst (λ (fs : List (Field × ℕ)). Has (told_filling c fs []) e) (sym is) has))
+  told_by_card filling is e has = loses.told e (h.told e (subst (λ (fs : List (Field × ℕ)). Has (told_filling c fs []) e) (sym is) has))
 
-module _ (v t f : View) (c : ℕ) (place : LeafFound) (keeps : LosesNothing t f) where
+module _ (v t f : View) (c : ℕ) (place : LeafFound) (loses : LosesNothing t f) where
   pub is_insert : (op : Op) (what : Put) → put_of op ≡ Some what → Does v op → IsAt v place → HasCard op place (filling_of c v) t c
       → Knows f (fact.IFlagged c) → IsTold t (Met place.parent.node)
       → IsInsert f c place.parent.node place.leaf (max what.key place.key) (min what.key place.key)
   is_insert op what is busy at h knows met =
-      let tells = told_by_card v t f c op place busy at h keeps
+      let tells = told_by_card v t f c op place busy at h loses
       (insert_filling c what.key what.value place.parent.node place.leaf place.key place.value) (put_fills c op what v place is busy at) in
       record {
         knows = knows;
-        met = keeps.told (Met place.parent.node) met;
+        met = loses.told (Met place.parent.node) met;
         parent = tells (Info c field.P place.parent.node) (latest _ _);
         leaf = tells (Info c field.L place.leaf) (earlier _ _ _ (latest _ _));
         key = tells (Info c field.Key (max what.key place.key)) (earlier _ _ _ (earlier _ _ _ (latest _ _)));
         left_key = tells (Info c field.LeftLeafKey (min what.key place.key)) (earlier _ _ _ (earlier _ _ _ (earlier _ _ _ (latest _ _))));
       }
 
-module _ (v t f : View) (c k : ℕ) (place : LeafFound) (keeps : LosesNothing t f) where
+module _ (v t f : View) (c k : ℕ) (place : LeafFound) (loses : LosesNothing t f) where
   module _ (above : Passed) (is : place.grandparent ≡ Some above) (busy : Does v (Delete k)) (at : IsAt v place) (h : HasCard (Delete k) place (filling_of c v) t c) where
     delete_tells : (e : Told) → Has (told_filling c (delete_filling above.node place.parent.node place.leaf (packed place.parent.update)) []) e → IsTold f e
-    delete_tells = told_by_card v t f c (Delete k) place busy at h keeps (delete_filling above.node place.parent.node place.leaf (packed place.parent.update))
+    delete_tells = told_by_card v t f c (Delete k) place busy at h loses (delete_filling above.node place.parent.node place.leaf (packed place.parent.update))
         (filling_there c (Delete k) v place busy at
         ∙ ap (λ (o : Option Passed). filling_for c (Some (Delete k)) (Some place.leaf) (Some (seen place.parent)) (seen_any o) place.key (told_value v.told)) is)
 
@@ -79,7 +79,7 @@ module _ (v t f : View) (c k : ℕ) (place : LeafFound) (keeps : LosesNothing t 
     told_grandparent = delete_tells _ (latest _ _)
 
     pub told_parent : (cards : ℕ) → IsInnerMet cards t place.parent.node → IsParent cards f c place.parent.node
-    told_parent cards node = record { told = delete_tells _ (earlier _ _ _ (latest _ _)); node = inner_kept cards t f place.parent.node keeps node }
+    told_parent cards node = record { told = delete_tells _ (earlier _ _ _ (latest _ _)); node = inner_kept cards t f place.parent.node loses node }
 
     pub told_leaf : IsTold f (Info c field.L place.leaf)
     told_leaf = delete_tells _ (earlier _ _ _ (earlier _ _ _ (latest _ _)))

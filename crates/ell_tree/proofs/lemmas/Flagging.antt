@@ -18,11 +18,12 @@ use Rattle.ell_cards.proofs.lemmas.views.Entries.{places_more}
 use Rattle.ell_cards.proofs.lemmas.views.Steps.{view_after}
 use Rattle.ell_tree.specs.declared.searching.Passed.{Passed}
 use Rattle.ell_tree.specs.declared.searching.LeafFound.{LeafFound}
-use Rattle.ell_tree.specs.CardsTaken.{is_claim, claims_in, TakesNoCard}
+use Rattle.ell_tree.specs.CardsTaken.{claims_in, TakesNoCard}
+use Rattle.ell_cards.specs.Contention.{is_claim}
 use Rattle.ell_tree.specs.Counts.{Took}
-use Rattle.ell_tree.specs.Keeping.{LosesNothing, Goes, IsInnerMet}
+use Rattle.ell_tree.specs.Keeping.{LosesNothing, Keeps, IsInnerMet}
 use Rattle.ell_tree.specs.Searches.{seen, seen_any}
-use Rattle.ell_tree.specs.Tries.{HasCard, HasCardToPut, Fills, Flags, IsFlagged, IsUnflagged}
+use Rattle.ell_tree.specs.Tries.{HasCard, HasCardToPut, Fills, Flags, IsFlagged, LosesFlag}
 use Rattle.ell_tree.proofs.lemmas.Counts.{took_one, took_trans}
 use Rattle.ell_tree.proofs.lemmas.Keeping.{place_told}
 use Rattle.ell_tree.proofs.lemmas.CardsTaken.{no_claims}
@@ -105,7 +106,7 @@ module _ (k : Exchange) (flag : ℕ → Fact) (c x : ℕ) (from : Update) where
     flagged_view : d.view ≡ flagging r (with_stores b.view.stores a.view)
     flagged_view = view_after b d (flagging r b.view) step ∙ ap (flagging r) fills.view
 
-    pub flag_goes : Goes a d (n + 1)
+    pub flag_goes : Keeps a d (n + 1)
     flag_goes = record {
       table = ap (λ (p : PassModel). p.table) step ∙ fills.table;
       label = ap (λ (p : PassModel). p.label) step ∙ fills.label;
@@ -133,7 +134,7 @@ module _ (k : Exchange) (flag : ℕ → Fact) (c x : ℕ) (from : Update) where
           nowhere = refl;
           hindrances = refl;
         })
-        by (Err u) e m = subst (IsUnflagged cards x u a.view) (sym e) (record {
+        by (Err u) e m = subst (LosesFlag cards x u a.view) (sym e) (record {
           seen = record {
             node = record { met = places_more x u.state u.card a.view.told (Met x) node.met; inner = node.inner; there = node.there };
             named = m;

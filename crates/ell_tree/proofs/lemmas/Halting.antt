@@ -7,25 +7,25 @@ use Rattle.ell_cards.specs.declared.view.Hindrance.TheVariants.{Found}
 use Rattle.ell_cards.specs.declared.view.View.{View}
 use Rattle.ell_cards.specs.Models.{PassModel}
 use Rattle.ell_tree.specs.Hindrances.{IsEnded, AreOver, StillKnows, Meets}
-use Rattle.ell_tree.specs.Keeping.{Goes, Seeks, Walks}
-use Rattle.ell_tree.specs.Tries.{IsUnflagged}
+use Rattle.ell_tree.specs.Keeping.{Keeps, KeepsAllButSearch, KeepsAll}
+use Rattle.ell_tree.specs.Tries.{LosesFlag}
 use Rattle.ell_tree.proofs.lemmas.Meeting.{meets_none, meets_these, meets_trans, meets_more, over_still, over_together}
 
 -- steps that met nothing
-pub goes_meets : (a b : PassModel) (n : ℕ) → Goes a b n → b.view.hindrances ≡ a.view.hindrances → Meets a.view b.view
-goes_meets a b n h e = meets_none a.view b.view e h.view.knows
+pub keeps_meets : (a b : PassModel) (n : ℕ) → Keeps a b n → b.view.hindrances ≡ a.view.hindrances → Meets a.view b.view
+keeps_meets a b n h e = meets_none a.view b.view e h.view.knows
 
-pub seek_meets : (a b : PassModel) (n : ℕ) → Seeks a b n → Meets a.view b.view
-seek_meets a b n h = goes_meets a b n h.goes h.hindrances
+pub seek_meets : (a b : PassModel) (n : ℕ) → KeepsAllButSearch a b n → Meets a.view b.view
+seek_meets a b n h = keeps_meets a b n h.keeps h.hindrances
 
-pub walk_meets : (a b : PassModel) (n : ℕ) → Walks a b n → Meets a.view b.view
-walk_meets a b n h = goes_meets a b n h.goes h.hindrances
+pub walk_meets : (a b : PassModel) (n : ℕ) → KeepsAll a b n → Meets a.view b.view
+walk_meets a b n h = keeps_meets a b n h.keeps h.hindrances
 
 pub said_meets : (v w : View) → w.hindrances ≡ v.hindrances → w.worker.facts ≡ v.worker.facts → Meets v w
 said_meets v w e facts = meets_none v w e (λ f h. subst (λ (fs : List Fact). known_of fs f ≡ true) (sym facts) h)
 
 -- a flag was lost, and what was found in its place was helped
-pub flag_lost : (cards x : ℕ) (u : Update) (t f n : View) → IsUnflagged cards x u t f → StillKnows t f → Meets f n → IsEnded n u.state u.card
+pub flag_lost : (cards x : ℕ) (u : Update) (t f n : View) → LosesFlag cards x u t f → StillKnows t f → Meets f n → IsEnded n u.state u.card
     → Meets t n × (length t.hindrances + 1 ≤ length n.hindrances)
 flag_lost cards x u t f n h k m ended =
     let one = ap length h.hindrances in

@@ -15,7 +15,7 @@ use Rattle.ell_tree.specs.Hindrances.{IsEnded, AreOver, way_of}
 use Rattle.ell_tree.specs.Searches.{AtRoot}
 use Rattle.ell_tree.specs.Tries.{Halts}
 use Rattle.ell_tree.proofs.lemmas.Meeting.{over_together, root_way}
-use Rattle.ell_tree.proofs.lemmas.Moves.{help_ended}
+use Rattle.ell_tree.proofs.lemmas.Milestones.{help_ended}
 
 -- what was in the way of the try of an operation in hand
 try_way : (op : Op) (v : View) → Does v op → met_in_try v ≡ way_of op v ++ v.met

@@ -20,14 +20,14 @@ use Rattle.ell_cards.specs.Stepping.{SameShare}
 use Rattle.ell_tree.proofs.lemmas.Counts.{took_none, took_one, took_unseen, took_counted, took_within, took_trans}
 use Rattle.ell_tree.specs.Counts.{HasUncounted}
 use Rattle.ell_tree.specs.CardsTaken.{claims_in}
-use Rattle.ell_tree.specs.Keeping.{LosesNothing, Goes, Seeks, Works, Walks, IsInnerMet, TellsPlace, IsSeenAt}
+use Rattle.ell_tree.specs.Keeping.{LosesNothing, Keeps, KeepsAllButSearch, KeepsAllButMet, KeepsAll, IsInnerMet, TellsPlace, IsSeenAt}
 
 -- a share that is the same in two steps is the same
 pub share_trans : (u v w : View) → SameShare u v → SameShare v w → SameShare u w
 share_trans u v w a b = record { share = b.share ∙ a.share; ownable = b.ownable ∙ a.ownable }
 
-pub keeps_trans : (u v w : View) → LosesNothing u v → LosesNothing v w → LosesNothing u w
-keeps_trans u v w a b = record {
+pub loses_trans : (u v w : View) → LosesNothing u v → LosesNothing v w → LosesNothing u w
+loses_trans u v w a b = record {
   ledger = b.ledger ∙ a.ledger;
   operation = b.operation ∙ a.operation;
   answers = b.answers ∙ a.answers;
@@ -40,26 +40,26 @@ keeps_trans u v w a b = record {
   earlier = λ hs e. b.earlier hs (a.earlier hs e);
 }
 
-pub goes_trans : (a b c : PassModel) (m n k : ℕ) → Goes a b m → Goes b c n → m + n ≤ k → Goes a c k
-goes_trans a b c m n k h h' le = record {
+pub keeps_trans : (a b c : PassModel) (m n k : ℕ) → Keeps a b m → Keeps b c n → m + n ≤ k → Keeps a c k
+keeps_trans a b c m n k h h' le = record {
   table = h'.table ∙ h.table;
   label = h'.label ∙ h.label;
-  view = keeps_trans a.view b.view c.view h.view h'.view;
+  view = loses_trans a.view b.view c.view h.view h'.view;
   took = took_trans a b c m n k h.took h'.took le;
 }
 
-pub seeks_trans : (a b c : PassModel) (m n k : ℕ) → Seeks a b m → Seeks b c n → m + n ≤ k → Seeks a c k
-seeks_trans a b c m n k h h' le = record {
-  goes = goes_trans a b c m n k h.goes h'.goes le;
+pub keeps_but_search_trans : (a b c : PassModel) (m n k : ℕ) → KeepsAllButSearch a b m → KeepsAllButSearch b c n → m + n ≤ k → KeepsAllButSearch a c k
+keeps_but_search_trans a b c m n k h h' le = record {
+  keeps = keeps_trans a b c m n k h.keeps h'.keeps le;
   taken = h'.taken ∙ h.taken;
   card = h'.card ∙ h.card;
   flagged = h'.flagged ∙ h.flagged;
   hindrances = h'.hindrances ∙ h.hindrances;
 }
 
-pub works_trans : (a b c : PassModel) (m n k : ℕ) → Works a b m → Works b c n → m + n ≤ k → Works a c k
-works_trans a b c m n k h h' le = record {
-  goes = goes_trans a b c m n k h.goes h'.goes le;
+pub keeps_but_met_trans : (a b c : PassModel) (m n k : ℕ) → KeepsAllButMet a b m → KeepsAllButMet b c n → m + n ≤ k → KeepsAllButMet a c k
+keeps_but_met_trans a b c m n k h h' le = record {
+  keeps = keeps_trans a b c m n k h.keeps h'.keeps le;
   taken = h'.taken ∙ h.taken;
   card = h'.card ∙ h.card;
   flagged = h'.flagged ∙ h.flagged;
@@ -67,28 +67,28 @@ works_trans a b c m n k h h' le = record {
 }
 
 -- with no more than so many steps
-goes_within : (a b : PassModel) (m n : ℕ) → Goes a b m → m ≤ n → Goes a b n
-goes_within a b m n h le = record { table = h.table; label = h.label; view = h.view; took = took_within a b m n h.took le }
+keeps_within : (a b : PassModel) (m n : ℕ) → Keeps a b m → m ≤ n → Keeps a b n
+keeps_within a b m n h le = record { table = h.table; label = h.label; view = h.view; took = took_within a b m n h.took le }
 
-pub works_within : (a b : PassModel) (m n : ℕ) → Works a b m → m ≤ n → Works a b n
-works_within a b m n h le = record {
-  goes = goes_within a b m n h.goes le;
+pub keeps_but_met_within : (a b : PassModel) (m n : ℕ) → KeepsAllButMet a b m → m ≤ n → KeepsAllButMet a b n
+keeps_but_met_within a b m n h le = record {
+  keeps = keeps_within a b m n h.keeps le;
   taken = h.taken;
   card = h.card;
   flagged = h.flagged;
   search = h.search;
 }
 
-pub works_of : (a b : PassModel) (n : ℕ) → Walks a b n → Works a b n
-works_of a b n h = record { goes = h.goes; taken = h.taken; card = h.card; flagged = h.flagged; search = h.search }
+pub keeps_but_met_of : (a b : PassModel) (n : ℕ) → KeepsAll a b n → KeepsAllButMet a b n
+keeps_but_met_of a b n h = record { keeps = h.keeps; taken = h.taken; card = h.card; flagged = h.flagged; search = h.search }
 
 -- where it was quiet at first, and then made other steps
-pub works_more : (a b c : PassModel) (m n k : ℕ) → Works a b m → Walks b c n → m + n ≤ k → Works a c k
-works_more a b c m n k h h' le = works_trans a b c m n k h (works_of b c n h') le
+pub keeps_but_met_more : (a b c : PassModel) (m n k : ℕ) → KeepsAllButMet a b m → KeepsAll b c n → m + n ≤ k → KeepsAllButMet a c k
+keeps_but_met_more a b c m n k h h' le = keeps_but_met_trans a b c m n k h (keeps_but_met_of b c n h') le
 
-pub walks_within : (a b : PassModel) (m n : ℕ) → Walks a b m → m ≤ n → Walks a b n
-walks_within a b m n h le = record {
-  goes = goes_within a b m n h.goes le;
+pub keeps_all_within : (a b : PassModel) (m n : ℕ) → KeepsAll a b m → m ≤ n → KeepsAll a b n
+keeps_all_within a b m n h le = record {
+  keeps = keeps_within a b m n h.keeps le;
   taken = h.taken;
   card = h.card;
   flagged = h.flagged;
@@ -96,9 +96,9 @@ walks_within a b m n h le = record {
   hindrances = h.hindrances;
 }
 
-pub walks_none : (a : PassModel) (n : ℕ) → Walks a a n
-walks_none a n = record {
-  goes = record {
+pub keeps_all_none : (a : PassModel) (n : ℕ) → KeepsAll a a n
+keeps_all_none a n = record {
+  keeps = record {
     table = refl;
     label = refl;
     view = record { ledger = refl; operation = refl; answers = refl; share = record { share = refl; ownable = refl }; knows = λ f h. h; told = λ e h. h; before = refl; least = omega arith; hindered = refl; earlier = λ hs e. e };
@@ -111,18 +111,18 @@ walks_none a n = record {
   hindrances = refl;
 }
 
-pub works_told : (a b : PassModel) (n : ℕ) (e : Told) → Works a b n → IsTold a.view e → IsTold b.view e
-works_told a b n e w h = w.goes.view.told e h
+pub keeps_but_met_told : (a b : PassModel) (n : ℕ) (e : Told) → KeepsAllButMet a b n → IsTold a.view e → IsTold b.view e
+keeps_but_met_told a b n e w h = w.keeps.view.told e h
 
-pub works_knows : (a b : PassModel) (n : ℕ) (f : Fact) → Works a b n → Knows a.view f → Knows b.view f
-works_knows a b n f w h = w.goes.view.knows f h
+pub keeps_but_met_knows : (a b : PassModel) (n : ℕ) (f : Fact) → KeepsAllButMet a b n → Knows a.view f → Knows b.view f
+keeps_but_met_knows a b n f w h = w.keeps.view.knows f h
 
 -- what was told and known stays so
-pub walks_told : (a b : PassModel) (n : ℕ) (e : Told) → Walks a b n → IsTold a.view e → IsTold b.view e
-walks_told a b n e w h = w.goes.view.told e h
+pub keeps_all_told : (a b : PassModel) (n : ℕ) (e : Told) → KeepsAll a b n → IsTold a.view e → IsTold b.view e
+keeps_all_told a b n e w h = w.keeps.view.told e h
 
-pub walks_knows : (a b : PassModel) (n : ℕ) (f : Fact) → Walks a b n → Knows a.view f → Knows b.view f
-walks_knows a b n f w h = w.goes.view.knows f h
+pub keeps_all_knows : (a b : PassModel) (n : ℕ) (f : Fact) → KeepsAll a b n → Knows a.view f → Knows b.view f
+keeps_all_knows a b n f w h = w.keeps.view.knows f h
 
 pub inner_kept : (cards : ℕ) (v w : View) (x : ℕ) → LosesNothing v w → IsInnerMet cards v x → IsInnerMet cards w x
 inner_kept cards v w x k h = record { met = k.told (Met x) h.met; inner = h.inner; there = h.there }
@@ -157,44 +157,44 @@ place_told x state.Mark c v w f t = (
 place_told x state.Clean c v w f t = tt
 
 -- a step to a view that keeps these
-pub goes_step : (old new : PassModel) (v : View) → Steps old new v → LosesNothing old.view v → v.made ≡ old.view.made + 1 → Goes old new 1
-goes_step old new v s k made = subst (λ (m : PassModel). Goes old m 1) (sym s) (record { table = refl; label = refl; view = k; took = took_one old v made })
+pub keeps_step : (old new : PassModel) (v : View) → Steps old new v → LosesNothing old.view v → v.made ≡ old.view.made + 1 → Keeps old new 1
+keeps_step old new v s k made = subst (λ (m : PassModel). Keeps old m 1) (sym s) (record { table = refl; label = refl; view = k; took = took_one old v made })
 
-pub seeks_step : (old new : PassModel) (v : View) → Steps old new v → LosesNothing old.view v → v.made ≡ old.view.made + 1 → claims_in v.won ≡ claims_in old.view.won → v.worker.card ≡ old.view.worker.card
-    → v.worker.flagged ≡ old.view.worker.flagged → v.hindrances ≡ old.view.hindrances → Seeks old new 1
-seeks_step old new v s k made taken card flagged hindrances =
-    subst (λ (m : PassModel). Seeks old m 1) (sym s)
-    (record { goes = record { table = refl; label = refl; view = k; took = took_one old v made }; taken = taken; card = card; flagged = flagged; hindrances = hindrances })
+pub keeps_but_search_step : (old new : PassModel) (v : View) → Steps old new v → LosesNothing old.view v → v.made ≡ old.view.made + 1 → claims_in v.won ≡ claims_in old.view.won → v.worker.card ≡ old.view.worker.card
+    → v.worker.flagged ≡ old.view.worker.flagged → v.hindrances ≡ old.view.hindrances → KeepsAllButSearch old new 1
+keeps_but_search_step old new v s k made taken card flagged hindrances =
+    subst (λ (m : PassModel). KeepsAllButSearch old m 1) (sym s)
+    (record { keeps = record { table = refl; label = refl; view = k; took = took_one old v made }; taken = taken; card = card; flagged = flagged; hindrances = hindrances })
 
 -- a step that is not counted yet, to such a view
-pub seeks_unseen : (old new : PassModel) (v : View) → Sees old new v → LosesNothing old.view v → v.made ≡ old.view.made + 1 → claims_in v.won ≡ claims_in old.view.won → v.worker.card ≡ old.view.worker.card
-    → v.worker.flagged ≡ old.view.worker.flagged → v.hindrances ≡ old.view.hindrances → Seeks old new 1
-seeks_unseen old new v s k made taken card flagged hindrances =
-    subst (λ (m : PassModel). Seeks old m 1) (sym s)
-    (record { goes = record { table = refl; label = refl; view = k; took = took_unseen old v made }; taken = taken; card = card; flagged = flagged; hindrances = hindrances })
+pub keeps_but_search_unseen : (old new : PassModel) (v : View) → Sees old new v → LosesNothing old.view v → v.made ≡ old.view.made + 1 → claims_in v.won ≡ claims_in old.view.won → v.worker.card ≡ old.view.worker.card
+    → v.worker.flagged ≡ old.view.worker.flagged → v.hindrances ≡ old.view.hindrances → KeepsAllButSearch old new 1
+keeps_but_search_unseen old new v s k made taken card flagged hindrances =
+    subst (λ (m : PassModel). KeepsAllButSearch old m 1) (sym s)
+    (record { keeps = record { table = refl; label = refl; view = k; took = took_unseen old v made }; taken = taken; card = card; flagged = flagged; hindrances = hindrances })
 
 -- a search whose steps are counted once it has ended
-pub seeks_counted : (a b c : PassModel) (n k : ℕ) → Seeks a b n → HasUncounted a b k → Counts b c k → Seeks a c n
-seeks_counted a b c n k h u s =
-    subst (λ (m : PassModel). Seeks a m n) (sym s) (record {
-      goes = record { table = h.goes.table; label = h.goes.label; view = h.goes.view; took = took_counted a b (record b { steps = some_more k b.steps }) n k h.goes.took u refl };
+pub keeps_but_search_counted : (a b c : PassModel) (n k : ℕ) → KeepsAllButSearch a b n → HasUncounted a b k → Counts b c k → KeepsAllButSearch a c n
+keeps_but_search_counted a b c n k h u s =
+    subst (λ (m : PassModel). KeepsAllButSearch a m n) (sym s) (record {
+      keeps = record { table = h.keeps.table; label = h.keeps.label; view = h.keeps.view; took = took_counted a b (record b { steps = some_more k b.steps }) n k h.keeps.took u refl };
       taken = h.taken;
       card = h.card;
       flagged = h.flagged;
       hindrances = h.hindrances;
     })
 
-pub works_step : (old new : PassModel) (v : View) → Steps old new v → LosesNothing old.view v → v.made ≡ old.view.made + 1 → claims_in v.won ≡ claims_in old.view.won → v.worker.card ≡ old.view.worker.card
-    → v.worker.flagged ≡ old.view.worker.flagged → v.worker.search ≡ old.view.worker.search → Works old new 1
-works_step old new v s k made taken card flagged search =
-    subst (λ (m : PassModel). Works old m 1) (sym s)
-    (record { goes = record { table = refl; label = refl; view = k; took = took_one old v made }; taken = taken; card = card; flagged = flagged; search = search })
+pub keeps_but_met_step : (old new : PassModel) (v : View) → Steps old new v → LosesNothing old.view v → v.made ≡ old.view.made + 1 → claims_in v.won ≡ claims_in old.view.won → v.worker.card ≡ old.view.worker.card
+    → v.worker.flagged ≡ old.view.worker.flagged → v.worker.search ≡ old.view.worker.search → KeepsAllButMet old new 1
+keeps_but_met_step old new v s k made taken card flagged search =
+    subst (λ (m : PassModel). KeepsAllButMet old m 1) (sym s)
+    (record { keeps = record { table = refl; label = refl; view = k; took = took_one old v made }; taken = taken; card = card; flagged = flagged; search = search })
 
-pub walks_step : (old new : PassModel) (v : View) → Steps old new v → LosesNothing old.view v → v.made ≡ old.view.made + 1 → claims_in v.won ≡ claims_in old.view.won → v.worker.card ≡ old.view.worker.card
-    → v.worker.flagged ≡ old.view.worker.flagged → v.worker.search ≡ old.view.worker.search → v.hindrances ≡ old.view.hindrances → Walks old new 1
-walks_step old new v s k made taken card flagged search hindrances =
-    subst (λ (m : PassModel). Walks old m 1) (sym s) (record {
-      goes = record { table = refl; label = refl; view = k; took = took_one old v made };
+pub keeps_all_step : (old new : PassModel) (v : View) → Steps old new v → LosesNothing old.view v → v.made ≡ old.view.made + 1 → claims_in v.won ≡ claims_in old.view.won → v.worker.card ≡ old.view.worker.card
+    → v.worker.flagged ≡ old.view.worker.flagged → v.worker.search ≡ old.view.worker.search → v.hindrances ≡ old.view.hindrances → KeepsAll old new 1
+keeps_all_step old new v s k made taken card flagged search hindrances =
+    subst (λ (m : PassModel). KeepsAll old m 1) (sym s) (record {
+      keeps = record { table = refl; label = refl; view = k; took = took_one old v made };
       taken = taken;
       card = card;
       flagged = flagged;

@@ -12,9 +12,9 @@ use Rattle.ell_cards.specs.Changes.{learning, if_won, exchanged, found_word, fou
 use Rattle.ell_cards.proofs.lemmas.views.Facts.{knows_new, knows_more, facts_by_more}
 use Rattle.ell_cards.proofs.lemmas.views.Entries.{places_more}
 use Rattle.ell_cards.proofs.lemmas.views.Steps.{view_after}
-use Rattle.ell_tree.specs.Keeping.{LosesNothing, Works, IsInnerMet}
+use Rattle.ell_tree.specs.Keeping.{LosesNothing, KeepsAllButMet, IsInnerMet}
 use Rattle.ell_tree.specs.Helps.{IsLost, found_instead, met_by_mark}
-use Rattle.ell_tree.proofs.lemmas.Keeping.{works_step, learning_keeps, place_told}
+use Rattle.ell_tree.proofs.lemmas.Keeping.{keeps_but_met_step, learning_keeps, place_told}
 
 -- the view after a mark that was answered so
 abbrev marking : ℕ → ℕ → ℕ → Result (Unit {0}) Update → View → View
@@ -44,9 +44,9 @@ module _ (n c p : ℕ) (u : Update) (old new : PassModel) where
   abbrev either : Bool → View
   either b = exchanged [] n (if b then learning (fact.Marked c) old.view else unmarking c p u old.view)
 
-  either_works : (b : Bool) → Steps old new (either b) → Works old new 1
-  either_works true s = works_step old new (either true) s (learning_keeps [] n (fact.Marked c) old.view) refl refl refl refl refl
-  either_works false s = works_step old new (either false) s (unmarking_keeps n c p u old.view) refl refl refl refl refl
+  either_works : (b : Bool) → Steps old new (either b) → KeepsAllButMet old new 1
+  either_works true s = keeps_but_met_step old new (either true) s (learning_keeps [] n (fact.Marked c) old.view) refl refl refl refl refl
+  either_works false s = keeps_but_met_step old new (either false) s (unmarking_keeps n c p u old.view) refl refl refl refl refl
 
   either_met : (b : Bool) → Steps old new (either b) → new.view.hindrances ≡ met_by_mark c (if b then None else Some u) old.view
   either_met true s = ap (λ (w : View). w.hindrances) (view_after old new (either true) s)
@@ -69,8 +69,8 @@ module _ (n c p : ℕ) (u : Update) (old new : PassModel) where
   })
 
 module _ (c p was : ℕ) (old new : PassModel) where
-  pub mark_works : (r : Result (Unit {0}) Update) → Steps old new (marking c p was r old.view) → Works old new 1
-  mark_works (Ok won) s = works_step old new (marking c p was (Ok won) old.view) s (learning_keeps (if_won true exchange.Mark c) was (fact.Marked c) old.view) refl refl refl refl refl
+  pub mark_works : (r : Result (Unit {0}) Update) → Steps old new (marking c p was r old.view) → KeepsAllButMet old new 1
+  mark_works (Ok won) s = keeps_but_met_step old new (marking c p was (Ok won) old.view) s (learning_keeps (if_won true exchange.Mark c) was (fact.Marked c) old.view) refl refl refl refl refl
   mark_works (Err u) s = either_works (found_word was (Err u)) c p u old new (is_mark_of c u.state u.card) s
 
   pub mark_met : (r : Result (Unit {0}) Update) → Steps old new (marking c p was r old.view)

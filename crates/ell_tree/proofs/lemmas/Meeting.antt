@@ -4,7 +4,7 @@ use Rattle.ell_ops.specs.declared.op.Op.TheVariants.{Find, Insert, Delete, Swap}
 use Rattle.ell_word.specs.declared.update.State.{State}
 use Rattle.ell_word.specs.declared.update.State.TheVariants as state
 use Rattle.ell_word.specs.declared.update.Update.{Update}
-use Rattle.ell_word.specs.Word.{packed, unpacked, number_of, state_of}
+use Rattle.ell_word.specs.Word.{packed, unpacked, state_number, state_of}
 use Rattle.ell_core.specs.declared.fact.Fact.TheVariants as fact
 use Rattle.ell_core.specs.declared.put.Put.{Put}
 use Rattle.ell_core.specs.declared.view.Search.{Search}
@@ -95,7 +95,7 @@ nowhere_way (Delete k) v e = subst (λ (n : Option ℕ). in_the_way (Some (Delet
 state_again : (u : Update) → (unpacked (packed u)).state ≡ u.state
 state_again u = by u.state
   where
-    by : (s : State) → state_of ((4 * u.card + number_of s) % 4) ≡ s
+    by : (s : State) → state_of ((4 * u.card + state_number s) % 4) ≡ s
     by state.IFlag = let rest : (4 * u.card + 0) % 4 ≡ 0 = omega arith in ap state_of rest
     by state.DFlag = let rest : (4 * u.card + 1) % 4 ≡ 1 = omega arith in ap state_of rest
     by state.Mark = let rest : (4 * u.card + 2) % 4 ≡ 2 = omega arith in ap state_of rest

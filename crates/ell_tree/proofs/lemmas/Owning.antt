@@ -16,9 +16,9 @@ use Rattle.ell_cards.specs.Models.{PassModel, ledger}
 use Rattle.ell_cards.specs.Stepping.{SameShare}
 use Rattle.ell_tree.specs.declared.searching.LeafFound.{LeafFound}
 use Rattle.ell_tree.specs.declared.trying.Tried.TheVariants.{Answered}
-use Rattle.ell_tree.specs.Ends.{Answers, Moves, TakesValue}
-use Rattle.ell_tree.specs.Tries.{TryMoves}
-use Rattle.ell_tree.specs.Keeping.{Goes}
+use Rattle.ell_tree.specs.Ends.{Answers, TakesIfDelete, TakesValue}
+use Rattle.ell_tree.specs.Tries.{TryTakesValue}
+use Rattle.ell_tree.specs.Keeping.{Keeps}
 use Rattle.ell_tree.specs.Ledgers.{Owns, TreeModel, present_in}
 use Rattle.ell_tree.specs.Searches.{EndsAt, there_at}
 use Rattle.ell_tree.proofs.lemmas.Keeping.{share_trans}
@@ -60,15 +60,15 @@ takes_before t key taken p q r same h = record {
   took = h.took;
 }
 
-pub moves_before : (t : TreeModel) (op : Op) (moved : Option ℕ) (p q r : PassModel) → q.view.worker.ledger ≡ p.view.worker.ledger → TryMoves t op q r (Answered moved)
-    → Moves t op p r moved
-moves_before t (Find key) moved p q r same h = tt
-moves_before t (Insert key value) moved p q r same h = tt
-moves_before t (Delete key) moved p q r same h = takes_before t key moved p q r same h
-moves_before t (Swap key was value) moved p q r same h = tt
+pub takes_before_it : (t : TreeModel) (op : Op) (had : Option ℕ) (p q r : PassModel) → q.view.worker.ledger ≡ p.view.worker.ledger → TryTakesValue t op q r (Answered had)
+    → TakesIfDelete t op p r had
+takes_before_it t (Find key) had p q r same h = tt
+takes_before_it t (Insert key value) had p q r same h = tt
+takes_before_it t (Delete key) had p q r same h = takes_before t key had p q r same h
+takes_before_it t (Swap key was value) had p q r same h = tt
 
-pub goes_answers : (t : TreeModel) (op : Op) (said : Reply) (p q r : PassModel) (n : ℕ) → Goes p q n → Answers t op said q r → Answers t op said p r
-goes_answers t op said p q r n goes h = answers_before t op said p q r goes.table goes.label goes.view.ledger goes.view.answers goes.view.share h
+pub keeps_answers : (t : TreeModel) (op : Op) (said : Reply) (p q r : PassModel) (n : ℕ) → Keeps p q n → Answers t op said q r → Answers t op said p r
+keeps_answers t op said p q r n keeps h = answers_before t op said p q r keeps.table keeps.label keeps.view.ledger keeps.view.answers keeps.view.share h
 
 -- an insert whose search ended at another key would add its own; a swap whose search ended at its key and its first value would swap it; a delete
 -- whose search ended at its key would take it away

@@ -3,9 +3,9 @@ use Rattle.std.specs.List.{All}
 use Rattle.std.specs.Map.{keys_of}
 use Rattle.ell_ops.specs.KeySet.{set_of}
 use Rattle.ell_core.specs.state.Machine.{ledger_of}
-use Rattle.ell_tree.proofs.lemmas.Moves.{moves_more, moves_none, known_left, known_right}
+use Rattle.ell_tree.proofs.lemmas.Milestones.{milestones_more, milestones_none, known_left, known_right}
 use Rattle.ell_cards.specs.Models.{TablePlan, PassModel, TableModel, Steps, one_more}
-use Rattle.ell_cards.specs.Changes.{first_of, left_view, right_view, united, joined_view}
+use Rattle.ell_cards.specs.Changes.{first_of, left_view, right_view, united_ledgers, joined_view}
 use Rattle.ell_cards.proofs.lemmas.lifetimes.Parts.{part_on, part_off}
 use Rattle.ell_core.specs.state.Machine.{entry_of}
 use Rattle.ell_cards.specs.Starts.{OpensBy}
@@ -58,7 +58,7 @@ first_pass plan made given opens = subst (IsFirst made.0) (sym opens.pass) (subs
   steps = refl;
   made = refl;
   label = refl;
-  moves = λ cards. moves_none cards;
+  milestones = λ cards. milestones_none cards;
   idle = refl;
 }))
 
@@ -88,7 +88,7 @@ left_part keys p part s = subst (IsLeftPart keys p) (sym s) (record {
   steps = refl;
   made = refl;
   label = refl;
-  moves = λ cards. refl;
+  milestones = λ cards. refl;
   share = refl;
   ownable = refl;
   idle = refl;
@@ -105,7 +105,7 @@ right_part keys p part s = subst (IsRightPart keys p) (sym s) (record {
   steps = refl;
   made = refl;
   label = refl;
-  moves = λ cards. refl;
+  milestones = λ cards. refl;
   share = refl;
   ownable = refl;
   idle = refl;
@@ -116,7 +116,7 @@ first_or_else : (a b : Option Entry) → a ≢ None → or_else a b ≡ a
 first_or_else (Some x) b some = refl
 first_or_else None b some = absurd (some refl)
 
-both_ledger : (l m : List (ℕ × Entry)) (k : ℕ) → ledger_of (united l m) k ≡ or_else (ledger_of l k) (ledger_of m k)
+both_ledger : (l m : List (ℕ × Entry)) (k : ℕ) → ledger_of (united_ledgers l m) k ≡ or_else (ledger_of l k) (ledger_of m k)
 both_ledger l m k = elim (ledger_united l m k) [
   | inl h ↦ h.0 ∙ sym (first_or_else (ledger_of l k) (ledger_of m k) h.1)
   | inr h ↦ h.1 ∙ sym (ap (λ a. or_else a (ledger_of m k)) h.0)
@@ -136,9 +136,9 @@ union left right both e = subst (IsUnion left right) (sym e) (record {
   steps = refl;
   made = refl;
   label = refl;
-  moves = λ cards. (
-    moves_more cards left.view (joined_view left.view right.view) (λ f h. known_left left.view.worker.facts right.view.worker.facts f h) (omega arith),
-    moves_more cards right.view (joined_view left.view right.view) (λ f h. known_right left.view.worker.facts right.view.worker.facts f h) (omega arith),
+  milestones = λ cards. (
+    milestones_more cards left.view (joined_view left.view right.view) (λ f h. known_left left.view.worker.facts right.view.worker.facts f h) (omega arith),
+    milestones_more cards right.view (joined_view left.view right.view) (λ f h. known_right left.view.worker.facts right.view.worker.facts f h) (omega arith),
   );
   share = refl;
   ownable = refl;

@@ -14,11 +14,11 @@ use Rattle.ell_core.proofs.lemmas.keeping.Puts.{added, replacing}
 use Rattle.ell_cards.specs.declared.view.View.{View}
 use Rattle.ell_cards.specs.declared.view.Told.TheVariants.{Value}
 use Rattle.ell_cards.specs.Models.{IsTold, Knows}
-use Rattle.ell_cards.specs.Guards.{IsOver, Wants}
+use Rattle.ell_cards.specs.Guards.{CardIsOver, Wants}
 use Rattle.ell_tree.specs.declared.searching.LeafFound.{LeafFound}
 use Rattle.ell_tree.specs.Ends.{changes_by, reply_by}
 use Rattle.ell_tree.specs.Searches.{IsAt, there_at}
-use Rattle.ell_tree.specs.Tries.{found_by, put_reply}
+use Rattle.ell_tree.specs.Tries.{told_of_put, put_reply}
 
 -- an insert or a swap, that puts this, and a place where its search ended
 module _ (place : LeafFound) where
@@ -41,9 +41,9 @@ module _ (place : LeafFound) where
 
   -- where it may not take it, this is its answer, which changes nothing
   pub record IsRefused (op : Op) (what : Put) : Type 0 where
-    pub says : leaf_answer op (there_at place (key_of op)) ≡ Some (found (found_by what place))
-    pub reply : found (found_by what place) ≡ reply_by op (found_by what place)
-    pub changes : changes_by op (found_by what place) ≡ false
+    pub says : leaf_answer op (there_at place (key_of op)) ≡ Some (found (told_of_put what place))
+    pub reply : found (told_of_put what place) ≡ reply_by op (told_of_put what place)
+    pub changes : changes_by op (told_of_put what place) ≡ false
 
   insert_refused : (k value : ℕ) → ¬ TakesPut (added k value) place.key place.value → IsRefused (Insert k value) (added k value)
   insert_refused k value not = elim (cases_eq place.key k) [
@@ -98,7 +98,7 @@ put_done (Swap k was value) what is =
     subst (IsDone (Swap k was value)) (same_Some (replacing k was value) what is)
     (record { says = refl; reply = refl; changes = eq-eqb was was refl })
 
-pub put_over : (op : Op) (what : Put) → put_of op ≡ Some what → (v : View) (c : ℕ) → Knows v (IOver c) → IsOver v op c
+pub put_over : (op : Op) (what : Put) → put_of op ≡ Some what → (v : View) (c : ℕ) → Knows v (IOver c) → CardIsOver v op c
 put_over (Find k) what is v c over = absurd cc
 put_over (Insert k value) what is v c over = over
 put_over (Delete k) what is v c over = absurd cc

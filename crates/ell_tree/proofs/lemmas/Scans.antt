@@ -16,7 +16,7 @@ use Rattle.ell_cards.specs.Models.{PassModel}
 use Rattle.ell_cards.proofs.lemmas.runs.Beginnings.{looks_are_of_one_state}
 use Rattle.ell_tree.specs.declared.scanning.Pair.{Pair}
 use Rattle.ell_tree.specs.declared.cursor.About.{About}
-use Rattle.ell_tree.specs.Cursors.{BeginsALook, FindsAbout, IsLower, IsNodeKey, IsUpper, LooksOn}
+use Rattle.ell_tree.specs.Cursors.{BeginsALook, FindsAbout, IsLower, IsNodeKey, IsUpper, KeepsLooking}
 use Rattle.ell_tree.specs.Ledgers.{TreeModel}
 use Rattle.ell_tree.specs.Looks.{stretch_steps}
 use Rattle.ell_tree.specs.Scans.{AreFoundIn, AreInOrder, HaveFound, HasFoundLast, HasFoundNext, IsLastIn, IsNextIn, value_there}
@@ -24,7 +24,7 @@ use Rattle.ell_tree.proofs.lemmas.Cursors.{come_on, found_of_key}
 use Rattle.ell_tree.proofs.lemmas.Stretching.{Stretches, stretches_none, stretches_more}
 
 -- what a look has found of a key stays found while it goes on
-pub found_on : (old new : PassModel) (n key : ℕ) (there : Option ℕ) → LooksOn old new n → HasFound old.view key there → HasFound new.view key there
+pub found_on : (old new : PassModel) (n key : ℕ) (there : Option ℕ) → KeepsLooking old new n → HasFound old.view key there → HasFound new.view key there
 found_on old new n key there on f = record {
   leaf = f.leaf;
   leaf_key = f.leaf_key;
@@ -89,7 +89,7 @@ gathers_none v from upto = record {
   within = λ k d low. absurd (omega arith);
 }
 
-module _ (old new : PassModel) (n from at high upto : ℕ) (pairs : List (ℕ × ℕ)) (g : Gathers old.view from at upto pairs) (on : LooksOn old new n)
+module _ (old new : PassModel) (n from at high upto : ℕ) (pairs : List (ℕ × ℕ)) (g : Gathers old.view from at upto pairs) (on : KeepsLooking old new n)
     (began : from ≤ at) (deeper : at < high) where
   -- no pair so far has a key from here on
   apart : (key : ℕ) → at ≤ key → All (λ k. k ≢ key) (keys_of pairs)
@@ -157,7 +157,7 @@ scans_first cards old now from upto before begins = record {
 
 module _ (cards : ℕ) (old now new : PassModel) (from at upto count : ℕ) (before room : List Pair) (s : Scans cards old now from at upto count before room)
     (about : About) (more : at < upto) (real : upto ≤ greatest_key + 1) (finds : FindsAbout cards new.view at about) (fixed : KeysAreFixed new.view)
-    (on : LooksOn now new (stretch_steps cards)) where
+    (on : KeepsLooking now new (stretch_steps cards)) where
   -- a scan's stretch is one more
   one_stretch : Stretches cards (λ key. nat_le key about.high) (about.high < upto) old new
   one_stretch =
@@ -167,7 +167,7 @@ module _ (cards : ℕ) (old now new : PassModel) (from at upto count : ℕ) (bef
       (lt-leb about.high at deeper) (le-leb about.high about.high (omega arith))
     where
       ends : IsUpper cards new.view about.high → (¬ (about.high < upto)) ⊎ IsNodeKey cards new.view about.high
-      ends (inl last) = inl (λ goes. absurd (omega arith))
+      ends (inl last) = inl (λ keeps. absurd (omega arith))
       ends (inr there) = inr there
 
   -- what it has found of a key of its stretch
@@ -232,7 +232,7 @@ descends_first cards old now upto begins = record {
 }
 
 module _ (cards : ℕ) (old now new : PassModel) (below upto : ℕ) (d : Descends cards old now below upto) (about : About) (more : 0 < below)
-    (finds : FindsAbout cards new.view (below - 1) about) (fixed : KeysAreFixed new.view) (on : LooksOn now new (stretch_steps cards)) where
+    (finds : FindsAbout cards new.view (below - 1) about) (fixed : KeysAreFixed new.view) (on : KeepsLooking now new (stretch_steps cards)) where
   -- its stretch is one more
   pub one_down : Stretches cards (λ key. nat_le about.low key) (0 < about.low) old new
   one_down =
@@ -242,7 +242,7 @@ module _ (cards : ℕ) (old now new : PassModel) (below upto : ℕ) (d : Descend
       (lt-leb below about.low (omega arith)) (le-leb about.low about.low (omega arith))
     where
       ends : IsLower cards new.view about.low → (¬ (0 < about.low)) ⊎ IsNodeKey cards new.view about.low
-      ends (inl first) = inl (λ goes. absurd (omega arith))
+      ends (inl first) = inl (λ keeps. absurd (omega arith))
       ends (inr there) = inr there
 
   -- what it has found of a key of its stretch

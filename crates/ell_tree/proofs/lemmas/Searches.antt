@@ -15,29 +15,29 @@ use Rattle.ell_cards.specs.Models.{PassModel, Sees, latest, Does, IsTold, Stands
 use Rattle.ell_cards.specs.Changes.{after_upd, told_value}
 use Rattle.ell_cards.proofs.lemmas.views.Afters.{after_key_of, after_value_of, after_down}
 use Rattle.ell_cards.specs.Guards.{MayAnswer, TellsOf}
-use Rattle.ell_cards.specs.Calls.{TellsLeaf, TellsValue}
+use Rattle.ell_cards.specs.Calls.{TellsLeaf, TellsLedgerValue}
 use Rattle.ell_cards.proofs.lemmas.views.Entries.{places_more}
 use Rattle.ell_cards.proofs.lemmas.views.Steps.{view_seen}
 use Rattle.ell_cards.proofs.lemmas.views.Searches.{told_here}
 use Rattle.ell_tree.specs.declared.searching.Passed.{Passed}
 use Rattle.ell_tree.specs.declared.searching.LeafFound.{LeafFound}
-use Rattle.ell_tree.specs.Keeping.{LosesNothing, Seeks, IsInnerMet}
+use Rattle.ell_tree.specs.Keeping.{LosesNothing, KeepsAllButSearch, IsInnerMet}
 use Rattle.ell_word.specs.declared.update.State.TheVariants as state
 use Rattle.ell_core.specs.declared.fact.Fact.{Fact}
-use Rattle.ell_tree.specs.Searches.{seen_any, below, Passes, EndWasUnknownAt, Stands, IsAt, there_at, EndsAt}
+use Rattle.ell_tree.specs.Searches.{seen_any, below, KnowsPassed, EndWasUnknownAt, Stands, IsAt, there_at, EndsAt}
 use Rattle.ell_tree.specs.Counts.{HasUncounted}
 use Rattle.ell_tree.proofs.lemmas.Counts.{uncounted_one, uncounted_trans}
-use Rattle.ell_tree.proofs.lemmas.Keeping.{seeks_unseen, seeks_trans, upd_keeps, key_of_keeps, value_of_keeps, down_keeps, keeps_trans, seen_kept, place_told}
+use Rattle.ell_tree.proofs.lemmas.Keeping.{keeps_but_search_unseen, keeps_but_search_trans, upd_keeps, key_of_keeps, value_of_keeps, down_keeps, loses_trans, seen_kept, place_told}
 
 -- an update is read in a step, and so are a key and a value
-pub upd_seeks : (old new : PassModel) (x : ℕ) (u : Update) → Sees old new (after_upd x u old.view) → Seeks old new 1
-upd_seeks old new x u s = seeks_unseen old new (after_upd x u old.view) s (upd_keeps x u old.view) refl refl refl refl refl
+pub upd_seeks : (old new : PassModel) (x : ℕ) (u : Update) → Sees old new (after_upd x u old.view) → KeepsAllButSearch old new 1
+upd_seeks old new x u s = keeps_but_search_unseen old new (after_upd x u old.view) s (upd_keeps x u old.view) refl refl refl refl refl
 
-pub key_seeks : (old new : PassModel) (x key : ℕ) → Sees old new (after_key_of x key old.view) → Seeks old new 1
-key_seeks old new x key s = seeks_unseen old new (after_key_of x key old.view) s (key_of_keeps x key old.view) refl refl refl refl refl
+pub key_seeks : (old new : PassModel) (x key : ℕ) → Sees old new (after_key_of x key old.view) → KeepsAllButSearch old new 1
+key_seeks old new x key s = keeps_but_search_unseen old new (after_key_of x key old.view) s (key_of_keeps x key old.view) refl refl refl refl refl
 
-pub value_seeks : (old new : PassModel) (x value : ℕ) → Sees old new (after_value_of x value old.view) → Seeks old new 1
-value_seeks old new x value s = seeks_unseen old new (after_value_of x value old.view) s (value_of_keeps x value old.view) refl refl refl refl refl
+pub value_seeks : (old new : PassModel) (x value : ℕ) → Sees old new (after_value_of x value old.view) → KeepsAllButSearch old new 1
+value_seeks old new x value s = keeps_but_search_unseen old new (after_value_of x value old.view) s (value_of_keeps x value old.view) refl refl refl refl refl
 
 -- a node goes by in three steps: its update, its key, its child
 module _ (a b d e : PassModel) (x : ℕ) (u : Update) (key child : ℕ)
@@ -51,11 +51,11 @@ module _ (a b d e : PassModel) (x : ℕ) (u : Update) (key child : ℕ)
   gone_view : e.view ≡ after_down x child (after_key_of x key (after_upd x u a.view))
   gone_view = view_seen d e (after_down x child d.view) gone ∙ ap (after_down x child) asked_view
 
-  pub descend_seeks : Seeks a e 3
+  pub descend_seeks : KeepsAllButSearch a e 3
   descend_seeks =
-      seeks_trans a d e 2 1 3
-      (seeks_trans a b d 1 1 2 (upd_seeks a b x u read) (key_seeks b d x key asked) (omega arith))
-      (seeks_unseen d e (after_down x child d.view) gone (down_keeps x child d.view) refl refl refl refl refl) (omega arith)
+      keeps_but_search_trans a d e 2 1 3
+      (keeps_but_search_trans a b d 1 1 2 (upd_seeks a b x u read) (key_seeks b d x key asked) (omega arith))
+      (keeps_but_search_unseen d e (after_down x child d.view) gone (down_keeps x child d.view) refl refl refl refl refl) (omega arith)
 
   pub descend_uncounted : HasUncounted a e 3
   descend_uncounted =
@@ -69,12 +69,12 @@ module _ (a b d e : PassModel) (x : ℕ) (u : Update) (key child : ℕ)
   pub descend_met : IsTold e.view (Met child)
   descend_met = subst (λ (v : View). IsTold v (Met child)) (sym gone_view) (latest _ _)
 
-  pub descend_passed : (cards : ℕ) → IsInnerMet cards a.view x → u.card ≤ cards → Passes cards e.view (record { node = x; update = u })
+  pub descend_passed : (cards : ℕ) → IsInnerMet cards a.view x → u.card ≤ cards → KnowsPassed cards e.view (record { node = x; update = u })
   descend_passed cards node named =
       let v = after_upd x u a.view in
       let w = after_down x child (after_key_of x key v) in
-      subst (λ (y : View). Passes cards y (record { node = x; update = u })) (sym gone_view)
-      (seen_kept cards v w x u (keeps_trans v (after_key_of x key v) w (key_of_keeps x key v) (down_keeps x child (after_key_of x key v))) (record {
+      subst (λ (y : View). KnowsPassed cards y (record { node = x; update = u })) (sym gone_view)
+      (seen_kept cards v w x u (loses_trans v (after_key_of x key v) w (key_of_keeps x key v) (down_keeps x child (after_key_of x key v))) (record {
         node = record { met = places_more x u.state u.card a.view.told (Met x) node.met; inner = node.inner; there = node.there };
         named = named;
         place = place_told x u.state u.card a.view v refl refl;
@@ -95,21 +95,21 @@ unknown_any_kept a b (Some x) k h = unknown_kept a b x k h
 pub unknown_above : (v : View) (o : Option Passed) (x : Passed) → o ≡ Some x → IfSome o (EndWasUnknownAt v) → EndWasUnknownAt v x
 unknown_above v o x e h = subst (λ p. IfSome p (EndWasUnknownAt v)) e h
 
-pub named_above : (cards : ℕ) (v : View) (o : Option Passed) (x : Passed) → o ≡ Some x → IfSome o (λ y. Passes cards v y) → x.update.card ≤ cards
-named_above cards v o x e h = (subst (λ p. IfSome p (λ y. Passes cards v y)) e h).named
+pub named_above : (cards : ℕ) (v : View) (o : Option Passed) (x : Passed) → o ≡ Some x → IfSome o (λ y. KnowsPassed cards v y) → x.update.card ≤ cards
+named_above cards v o x e h = (subst (λ p. IfSome p (λ y. KnowsPassed cards v y)) e h).named
 
 -- what a search passed stays so
-pub passes_kept : (cards : ℕ) (a b : View) (x : Passed) → LosesNothing a b → Passes cards a x → Passes cards b x
+pub passes_kept : (cards : ℕ) (a b : View) (x : Passed) → LosesNothing a b → KnowsPassed cards a x → KnowsPassed cards b x
 passes_kept cards a b x k h = seen_kept cards a b x.node x.update k h
 
-passes_any_kept : (cards : ℕ) (a b : View) (o : Option Passed) → LosesNothing a b → IfSome o (λ x. Passes cards a x) → IfSome o (λ x. Passes cards b x)
+passes_any_kept : (cards : ℕ) (a b : View) (o : Option Passed) → LosesNothing a b → IfSome o (λ x. KnowsPassed cards a x) → IfSome o (λ x. KnowsPassed cards b x)
 passes_any_kept cards a b None k h = tt
 passes_any_kept cards a b (Some x) k h = passes_kept cards a b x k h
 
 -- a search that stood below a parent has that as the grandparent a node deeper
 pub stands_next : (cards : ℕ) (a b : View) (x child : ℕ) (parent passed : Passed) (above : Option Passed) → LosesNothing a b
     → Stands cards a x parent above → b.worker.search ≡ below child passed a.worker.search.parent
-    → IsTold b (Met child) → InTable cards child → Passes cards b passed → EndWasUnknownAt b passed → Stands cards b child passed (Some parent)
+    → IsTold b (Met child) → InTable cards child → KnowsPassed cards b passed → EndWasUnknownAt b passed → Stands cards b child passed (Some parent)
 stands_next cards a b x child parent passed above k h search met there passes unknown = record {
   search = search ∙ ap (λ (s : Search). below child passed s.parent) h.search;
   met = met;
@@ -136,12 +136,12 @@ there_by o place k some same = by (place.key == k) refl
 pub search_ends : (cards : ℕ) (a b d : PassModel) (op : Op) (place : LeafFound) → Sees a b (after_key_of place.leaf place.key a.view)
     → Sees b d (after_value_of place.leaf place.value b.view) → Does a.view op
     → IsLeaf place.leaf → Stands cards a.view place.leaf place.parent place.grandparent → TellsLeaf a.view place.leaf place.key
-    → TellsValue b.view place.leaf place.value → EndsAt cards d.view op place
+    → TellsLedgerValue b.view place.leaf place.value → EndsAt cards d.view op place
 search_ends cards a b d op place s s' busy outer h tells says =
     let stands : StandsAt a.view place.leaf = ap (λ (r : Search). r.node) h.search in
     let keyed = after_key_of place.leaf place.key a.view in
     let w = after_value_of place.leaf place.value keyed in
-    let kept = keeps_trans a.view keyed w (key_of_keeps place.leaf place.key a.view) (value_of_keeps place.leaf place.value keyed) in
+    let kept = loses_trans a.view keyed w (key_of_keeps place.leaf place.key a.view) (value_of_keeps place.leaf place.value keyed) in
     let asked = view_seen a b keyed s in
     let is : d.view ≡ w = view_seen b d (after_value_of place.leaf place.value b.view) s' ∙ ap (after_value_of place.leaf place.value) asked in
     let told = told_here a.view.worker.search.node a.view.here place.leaf place.key stands in
@@ -158,7 +158,7 @@ search_ends cards a b d op place s s' busy outer h tells says =
       unknown = unknown_kept a.view w place.parent kept h.unknown;
       unknown_above = unknown_any_kept a.view w place.grandparent kept h.unknown_above;
       there = λ owns. there_by (contents_in (ledger_of a.view.worker.ledger) (key_of op)) place (key_of op) (tells.present op busy stands outer owns)
-          (λ same. subst (λ (y : View). TellsValue y place.leaf place.value) asked says op busy stands (told ∙ ap Some same) owns);
+          (λ same. subst (λ (y : View). TellsLedgerValue y place.leaf place.value) asked says op busy stands (told ∙ ap Some same) owns);
       deep = λ same none. tells.deep op busy stands outer same (ap (λ (r : Search). r.grandparent) h.search ∙ ap seen_any none);
     })
 

@@ -7,7 +7,7 @@ use Rattle.ell_cards.specs.Contention.{how_many}
 use Rattle.ell_cards.specs.Looking.{KeysAreFixed}
 use Rattle.ell_cards.specs.Models.{Has, latest, earlier, PassModel}
 use Rattle.ell_cards.proofs.lemmas.runs.HowMany.{many_most, many_where}
-use Rattle.ell_tree.specs.Cursors.{BeginsALook, IsNodeKey, LooksOn}
+use Rattle.ell_tree.specs.Cursors.{BeginsALook, IsNodeKey, KeepsLooking}
 use Rattle.ell_tree.specs.Looks.{OnlyLooks, stretch_steps}
 use Rattle.ell_tree.specs.Scans.{scan_steps}
 use Rattle.ell_tree.proofs.lemmas.Looks.{only_none_yet, only_trans}
@@ -127,15 +127,15 @@ stretches_none cards test More old now begins = record {
 
 -- then through one more, which ends at the key of an inner node that passes only now, or the look goes on no more
 pub stretches_more : (cards : ℕ) (was is : ℕ → Bool) (More Then : Type 0) (old now new : PassModel) → Stretches cards was More old now → More
-    → LooksOn now new (stretch_steps cards) → ((key : ℕ) → was key ≡ true → is key ≡ true) → KeysAreFixed new.view
+    → KeepsLooking now new (stretch_steps cards) → ((key : ℕ) → was key ≡ true → is key ≡ true) → KeysAreFixed new.view
     → (key : ℕ) → (¬ Then) ⊎ IsNodeKey cards new.view key → was key ≡ false → is key ≡ true → Stretches cards is Then old new
 stretches_more cards was is More Then old now new s more on passes fixed key ends before after = record {
   count = s.count + 1;
   only = only_trans old now new (s.count * stretch_steps cards + 1) (stretch_steps cards) ((s.count + 1) * stretch_steps cards + 1) s.only on.only
       (omega arith);
   few = (let still = s.fewer more in let least = keys_still cards now new was is on.only.told passes in omega arith);
-  fewer = λ goes. elim ends [
-    | inl none ↦ absurd (none goes)
+  fewer = λ keeps. elim ends [
+    | inl none ↦ absurd (none keeps)
     | inr at ↦
         let still = s.fewer more in
         let one = keys_more cards now new was is on.only.told passes fixed key at before after in

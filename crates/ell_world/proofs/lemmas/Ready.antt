@@ -9,7 +9,7 @@ use Rattle.ell_layout.specs.Cards.{sibling}
 use Rattle.ell_core.specs.history.Stages.{Stages, Born}
 use Rattle.ell_core.specs.history.Invariant.{Blank, Invariant}
 use Rattle.ell_world.specs.Fits.{IsTableNode, IsInner, SceneFits}
-use Rattle.ell_core.specs.statements.StepLaws.{MayRead, Reliance}
+use Rattle.ell_core.specs.statements.StepLaws.{IsReadable, Reliance}
 use Rattle.ell_core.proofs.lemmas.stages.Order.{born_is_node}
 use Rattle.ell_core.proofs.lemmas.words.Sides.{sibling_cases}
 use Rattle.ell_core.proofs.lemmas.following.facts.Claimed.{not_claimed}
@@ -29,7 +29,7 @@ module _ (m : Machine) (stage : Stages) (i : ℕ) (invariant : Invariant m stage
   born_node x born = (in_table (card x) (rely.claimed x born), born_is_node stage x born)
 
   -- a node that may be read is an internal one of the table
-  read_inner : (x : ℕ) → MayRead m.words stage x → IsInner m.last_card x
+  read_inner : (x : ℕ) → IsReadable m.words stage x → IsInner m.last_card x
   read_inner x may = (born_node x may.born, may.inner)
 
   -- the root is

@@ -5,7 +5,7 @@ use mathlib.Core.Option.{Option, some, none}
 use lib.ListN.{get_elem?}
 use Rattle.ell_word.specs.Node.{IsInternal}
 use Rattle.ell_core.specs.state.Machine.{Worker, Machine, ledger_of}
-use Rattle.ell_core.specs.state.Moves.{WorkerIsIdle}
+use Rattle.ell_core.specs.state.Handovers.{WorkerIsIdle}
 use Rattle.ell_core.specs.acts.Searching.{IsClean}
 use Rattle.ell_core.specs.tree.Tree.{Reached}
 use Rattle.ell_core.specs.soundness.Sound.{WorkerOwns}

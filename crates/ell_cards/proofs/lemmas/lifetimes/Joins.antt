@@ -10,18 +10,18 @@ use Rattle.ell_core.specs.declared.fact.Fact.{Fact}
 use Rattle.ell_layout.specs.Words.{put}
 use Rattle.ell_core.specs.state.Facts.{known_of, same_fact}
 use Rattle.ell_core.specs.state.Machine.{Worker, nobody, worker_of, ledger_of, shared_of}
-use Rattle.ell_core.specs.state.Moves.{WorkerIsIdle, AreParted, Join}
+use Rattle.ell_core.specs.state.Handovers.{WorkerIsIdle, AreParted, Join}
 use Rattle.ell_core.specs.soundness.Sound.{WorkerOwns}
 use Rattle.ell_core.proofs.lemmas.following.Lawful.{joins_lawful}
 use Rattle.ell_core.proofs.lemmas.outcomes.Decide.{some_not_none}
 use Rattle.ell_cards.specs.declared.view.View.{View}
-use Rattle.ell_cards.specs.Changes.{united, later, joined_view, spent_view}
+use Rattle.ell_cards.specs.Changes.{united_ledgers, later, joined_view, spent_view}
 use Rattle.std.specs.Option.{option_or}
 use Rattle.ell_cards.specs.Naming.{IsNamed}
 use Rattle.ell_cards.specs.States.{seat_worker, seated}
 use Rattle.ell_cards.specs.Machines.{EntryHolds, ViewHolds}
 use Rattle.ell_cards.specs.Inside.{PassFits}
-use Rattle.ell_cards.specs.Laws.{JoinsAreMoves}
+use Rattle.ell_cards.specs.Laws.{JoinsAreHandovers}
 use Rattle.ell_cards.proofs.lemmas.seats.Entries.{told_either}
 use Rattle.ell_cards.proofs.lemmas.seats.Seats.{inside, seated_put, mine_is, mine_sound}
 use Rattle.ell_cards.proofs.lemmas.lifetimes.Idle.{rest_holds, rest_named, met_root}
@@ -77,7 +77,7 @@ none_of (Some t) h = absurd (h (some_not_none refl))
 
 -- two ledgers of which no key is in both are the parts of the one that they make
 united_parts : (l m : List (ℕ × Entry)) → ((k : ℕ) → ledger_of l k ≢ None → ledger_of m k ≢ None → ⊥)
-    → AreParted (ledger_of (united l m)) (ledger_of l) (ledger_of m)
+    → AreParted (ledger_of (united_ledgers l m)) (ledger_of l) (ledger_of m)
 united_parts l m apart k = elim (ledger_united l m k) [
   | inl a ↦ inl (sym a.0, none_of (ledger_of m k) (apart k a.1))
   | inr b ↦ inr (b.0, sym b.1)
@@ -113,8 +113,8 @@ first_list keys l None b h g is = g is
 first_list keys l (Some m) b h g is = h is
 
 -- a join is one of the machine
-pub joins_are_moves : JoinsAreMoves
-joins_are_moves keys cards s r id other v w here there apart free other_free =
+pub joins_are_handovers : JoinsAreHandovers
+joins_are_handovers keys cards s r id other v w here there apart free other_free =
     let m = seated r.words s.views cards in
     let both = joined_view v w in
     let views = set (set s.views id both) other spent_view in

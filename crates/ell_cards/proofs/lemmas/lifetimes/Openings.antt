@@ -20,7 +20,7 @@ use Rattle.ell_core.proofs.lemmas.opening.OneOwner.{one_worker_opens, one_worker
 use Rattle.ell_core.proofs.lemmas.runs.Wins.{opening_wins}
 use Rattle.ell_cards.specs.declared.view.View.{View}
 use Rattle.std.specs.Map.{keys_of as pair_keys}
-use Rattle.ell_cards.specs.Changes.{keys_of, first_of, ownable_if}
+use Rattle.ell_cards.specs.Changes.{ledger_keys, first_of, ownable_if}
 use Rattle.ell_cards.specs.Inside.{PassFits}
 use Rattle.ell_cards.specs.States.{seat_worker, seated}
 use Rattle.ell_cards.specs.Machines.{EntryHolds, ViewHolds}
@@ -48,7 +48,7 @@ one_opens : (plan : TablePlan) (cards : ℕ) → last_card plan.start cards ≡ 
 one_opens plan cards all = λ t. record { words = start_words plan.start; worker = λ i. sym (alone plan i) t; count = 1; last_card = all t }
 
 -- the keys of the first pass
-pub keys_start : (keys : List ℕ) (start : List (ℕ × ℕ)) → keys_of (keys_at_start keys start) ≡ keys
+pub keys_start : (keys : List ℕ) (start : List (ℕ × ℕ)) → ledger_keys (keys_at_start keys start) ≡ keys
 keys_start [] start = refl
 keys_start (k ∷ ks) start = ap (λ l. k ∷ l) (keys_start ks start)
 
@@ -118,7 +118,7 @@ opening_is_kept plan words may at =
             (λ e told. met_root (EntryHolds w stages) (start_there w stages invariant.words 0 (omega arith) refl) e told) refl refl refl (λ n at. absurd (some_not_none at refl)) (omega arith) (λ f k. k));
         owned = λ j k. each_first first (λ v. WorkerOwns (worker_of v.worker) k → Contains plan.keys k)
             (λ owns. subst (λ (ks : List ℕ). Contains ks k) (keys_start plan.keys plan.start)
-            (among_contains (keys_of (keys_at_start plan.keys plan.start)) k (owned_among (keys_at_start plan.keys plan.start) k owns))) j;
+            (among_contains (ledger_keys (keys_at_start plan.keys plan.start)) k (owned_among (keys_at_start plan.keys plan.start) k owns))) j;
         listed = λ j v l. each_first first (λ v. v.worker.ownable ≡ Some l → l ≡ plan.keys) (list_is plan.shared plan.keys l) j v;
       };
       opening = subst IsOpening (one_opens plan cards all) one.opens;

@@ -2,9 +2,9 @@ use Rattle.std.proofs.Common.{◌≡◌, ◌≢◌, ℕ, suc, ◌+◌, ◌<◌, 
 use Rattle.std.specs.List.{All}
 use Rattle.std.specs.List.Sorted.{IsStrictlyIncreasing}
 use Rattle.ell_core.specs.state.Machine.{Ledger, ledger_of}
-use Rattle.ell_core.specs.state.Moves.{AreParted}
+use Rattle.ell_core.specs.state.Handovers.{AreParted}
 use Rattle.ell_ops.specs.KeySet.{set_of}
-use Rattle.ell_cards.specs.Changes.{keys_of}
+use Rattle.ell_cards.specs.Changes.{ledger_keys}
 use Rattle.ell_core.proofs.lemmas.opening.KeyLists.{place_of}
 use Rattle.ell_ops.proofs.lemmas.Rising.{Over, Rises, rises, over_less}
 use Rattle.ell_cards.proofs.lemmas.words.Ascending.{over_among, not_among, among_rest}
@@ -19,23 +19,23 @@ abbrev pub part_off : List ℕ → List (ℕ × Entry) → List (ℕ × Entry)
 part_off keys l = filter (λ e. not (set_of keys e.0)) l
 
 -- the keys of the part of a ledger on some keys
-pub keys_on : (keys : List ℕ) (l : List (ℕ × Entry)) → keys_of (part_on keys l) ≡ filter (set_of keys) (keys_of l)
+pub keys_on : (keys : List ℕ) (l : List (ℕ × Entry)) → ledger_keys (part_on keys l) ≡ filter (set_of keys) (ledger_keys l)
 keys_on keys [] = refl
 keys_on keys (e ∷ es) = by (set_of keys e.0) (keys_on keys es)
   where
-    by : (t : Bool) → keys_of (part_on keys es) ≡ filter (set_of keys) (keys_of es)
-        → keys_of (if t then e ∷ part_on keys es else part_on keys es) ≡ cond t (e.0 ∷ filter (set_of keys) (keys_of es)) (filter (set_of keys) (keys_of es))
+    by : (t : Bool) → ledger_keys (part_on keys es) ≡ filter (set_of keys) (ledger_keys es)
+        → ledger_keys (if t then e ∷ part_on keys es else part_on keys es) ≡ cond t (e.0 ∷ filter (set_of keys) (ledger_keys es)) (filter (set_of keys) (ledger_keys es))
     by true rest = ap (λ ks. e.0 ∷ ks) rest
     by false rest = rest
 
 -- those of the part off them
-pub keys_off : (keys : List ℕ) (l : List (ℕ × Entry)) → keys_of (part_off keys l) ≡ filter (λ k. not (set_of keys k)) (keys_of l)
+pub keys_off : (keys : List ℕ) (l : List (ℕ × Entry)) → ledger_keys (part_off keys l) ≡ filter (λ k. not (set_of keys k)) (ledger_keys l)
 keys_off keys [] = refl
 keys_off keys (e ∷ es) = by (set_of keys e.0) (keys_off keys es)
   where
-    by : (t : Bool) → keys_of (part_off keys es) ≡ filter (λ k. not (set_of keys k)) (keys_of es)
-        → keys_of (if not t then e ∷ part_off keys es else part_off keys es)
-        ≡ cond (not t) (e.0 ∷ filter (λ k. not (set_of keys k)) (keys_of es)) (filter (λ k. not (set_of keys k)) (keys_of es))
+    by : (t : Bool) → ledger_keys (part_off keys es) ≡ filter (λ k. not (set_of keys k)) (ledger_keys es)
+        → ledger_keys (if not t then e ∷ part_off keys es else part_off keys es)
+        ≡ cond (not t) (e.0 ∷ filter (λ k. not (set_of keys k)) (ledger_keys es)) (filter (λ k. not (set_of keys k)) (ledger_keys es))
     by true rest = rest
     by false rest = ap (λ ks. e.0 ∷ ks) rest
 

@@ -11,18 +11,18 @@ use lib.ListN.{get_elem?}
 use Rattle.atomic_table.proofs.Lists.{at_set, at_snoc, at_last}
 use Rattle.ell_layout.specs.Words.{put}
 use Rattle.ell_core.specs.state.Machine.{Worker, worker_of, ledger_of}
-use Rattle.ell_core.specs.state.Moves.{WorkerIsIdle, AreParted, Split}
+use Rattle.ell_core.specs.state.Handovers.{WorkerIsIdle, AreParted, Split}
 use Rattle.ell_core.specs.soundness.Sound.{WorkerOwns}
 use Rattle.ell_core.proofs.lemmas.following.Lawful.{splits_lawful}
 use Rattle.ell_core.proofs.lemmas.outcomes.Decide.{some_not_none}
 use Rattle.ell_layout.proofs.lemmas.Writes.{put_same, put_other}
 use Rattle.ell_cards.specs.declared.view.View.{View}
 use Rattle.ell_ops.specs.KeySet.{set_of}
-use Rattle.ell_cards.specs.Changes.{keys_of, left_view, right_view}
+use Rattle.ell_cards.specs.Changes.{ledger_keys, left_view, right_view}
 use Rattle.ell_cards.specs.States.{seat_worker, seated}
 use Rattle.ell_cards.specs.Machines.{ViewHolds}
 use Rattle.ell_cards.specs.Stepping.{MayHave, PartsShare}
-use Rattle.ell_cards.specs.Laws.{SplitsAreMoves}
+use Rattle.ell_cards.specs.Laws.{SplitsAreHandovers}
 use Rattle.ell_cards.proofs.lemmas.seats.Seats.{inside, seated_put, mine_is, mine_sound}
 use Rattle.ell_cards.proofs.lemmas.lifetimes.Idle.{rest_holds, rest_named}
 use Rattle.ell_cards.proofs.lemmas.words.Keys.{owned_among}
@@ -64,8 +64,8 @@ module _ (views : List View) (id : ℕ) (v : View) (here : get_elem? views id �
       (at_snoc (set views id left) right u j at)
 
 -- a split is one of the machine
-pub splits_are_moves : SplitsAreMoves
-splits_are_moves keys cards s r id v chosen here free =
+pub splits_are_handovers : SplitsAreHandovers
+splits_are_handovers keys cards s r id v chosen here free =
     let m = seated r.words s.views cards in
     let left = left_view chosen v in
     let right = right_view chosen v in
@@ -123,11 +123,11 @@ parts_share v chosen share has = (
 )
 
 -- keys that a ledger owns are among its keys
-pub owned_all : (l : List (ℕ × Entry)) (keys chosen : List ℕ) → keys ≡ keys_of l → All (λ k. ledger_of l k ≢ None) chosen → All (λ k. set_of keys k ≡ true) chosen
+pub owned_all : (l : List (ℕ × Entry)) (keys chosen : List ℕ) → keys ≡ ledger_keys l → All (λ k. ledger_of l k ≢ None) chosen → All (λ k. set_of keys k ≡ true) chosen
 owned_all l keys chosen are all i d low =
     subst (λ (ks : List ℕ). set_of ks (get_or chosen i d) ≡ true) (sym are) (owned_among l (get_or chosen i d) (all i d low))
 
-module _ (cards : ℕ) (v : View) (keys chosen : List ℕ) (are : keys ≡ keys_of v.worker.ledger) (rising : IsStrictlyIncreasing keys)
+module _ (cards : ℕ) (v : View) (keys chosen : List ℕ) (are : keys ≡ ledger_keys v.worker.ledger) (rising : IsStrictlyIncreasing keys)
     (rise : IsStrictlyIncreasing chosen) (all : All (λ k. ledger_of v.worker.ledger k ≢ None) chosen) where
   -- the left part has the keys that were chosen
   pub left_has : MayHave cards v chosen (left_view chosen v)

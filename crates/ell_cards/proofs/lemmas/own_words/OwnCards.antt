@@ -10,12 +10,12 @@ use Rattle.ell_layout.specs.Words.{Words, IsLeaf}
 use Rattle.ell_core.specs.state.Machine.{Worker}
 use Rattle.ell_layout.specs.Cards.{iflag, dflag, marked, is_delete_card, card_key, card_value, card_child}
 use Rattle.ell_core.specs.state.Facts.{card_of_fact}
-use Rattle.ell_core.specs.soundness.Holds.{IFlagHolds, IChangeHolds, DFlagHolds, MarkHolds, UnmarkableHolds, CutHolds, Holds, is_changed_in, is_cut_in, made, made_in, with_made, effective_of, effective}
+use Rattle.ell_core.specs.soundness.Holds.{IFlagHolds, IChangeHolds, DFlagHolds, MarkHolds, UnmarkableHolds, CutHolds, Holds, is_changed_in, is_cut_in, entry_made, made_in, with_made, effective_of, effective}
 use Rattle.ell_core.specs.soundness.Sound.{flags_at}
 use Rattle.ell_core.specs.history.Stages.{Stage, Stages, allows, waits, is_claimed}
 use Rattle.ell_core.specs.history.Invariant.{WordsAreSound}
 use Rattle.ell_core.specs.history.Later.{SaysTheSame}
-use Rattle.ell_core.specs.statements.StepLaws.{MayRead, GoesInTree}
+use Rattle.ell_core.specs.statements.StepLaws.{IsReadable, GoesInTree}
 use Rattle.ell_cards.proofs.lemmas.own_words.OwnTree.{key_same, value_same, child_same, update_same}
 
 -- a card of which a fact may be known does not wait
@@ -52,7 +52,7 @@ module _ (w t : Words) (stage : Stages) (sound : WordsAreSound w stage) (same : 
       else (if here field.LeftLeafKey i == leaf_key_same i then here field.RightValue i else here field.LeftValue i)
 
   -- the update word at a node where it goes
-  update_there : (x y : ℕ) → x ≡ y → MayRead w stage y → t.update x ≡ w.update y
+  update_there : (x y : ℕ) → x ≡ y → IsReadable w stage y → t.update x ≡ w.update y
   update_there x y is reads = ap t.update is ∙ update_same w t stage sound same y reads.inner reads.born
 
   parent_update : t.update (t.p c) ≡ w.update (w.p c)
@@ -62,7 +62,7 @@ module _ (w t : Words) (stage : Stages) (sound : WordsAreSound w stage) (same : 
   grandparent_update = update_there (t.gp c) (w.gp c) (here field.Gp) goes.grandparent
 
   -- the child there on the side of its key
-  child_there : (x y : ℕ) → x ≡ y → MayRead w stage y → card_child t c x ≡ card_child w c y
+  child_there : (x y : ℕ) → x ≡ y → IsReadable w stage y → card_child t c x ≡ card_child w c y
   child_there x y is reads =
       ap (card_child t c) is
       ∙ ((λ i. t.child y (nat_le (key_same w t stage sound same y reads.born i) (card_key_same i)))
@@ -74,7 +74,7 @@ module _ (w t : Words) (stage : Stages) (sound : WordsAreSound w stage) (same : 
   grandparent_child : card_child t c (t.gp c) ≡ card_child w c (w.gp c)
   grandparent_child = child_there (t.gp c) (w.gp c) (here field.Gp) goes.grandparent
 
-  -- what it has made
+  -- what it has entry_made
   changed_same : is_changed_in t c ≡ is_changed_in w c
   changed_same = λ i. not (parent_child i == here field.L i)
 
@@ -82,7 +82,7 @@ module _ (w t : Words) (stage : Stages) (sound : WordsAreSound w stage) (same : 
   cut_same = λ i. if parent_update i == marked c then not (grandparent_child i == here field.P i) else false
 
   pub made_same : (op : Op) → made_in t op c ≡ made_in w op c
-  made_same op = λ i. made op (changed_same i) (cut_same i)
+  made_same op = λ i. entry_made op (changed_same i) (cut_same i)
 
   -- where it flags and marks
   pub place_same : (s : State) → flags_at t s c ≡ flags_at w s c
@@ -132,7 +132,7 @@ fact_same w t stage sound same (fact.Cut c) calm goes = cut_holds w t stage soun
 fact_same w t stage sound same (fact.DOver c) calm goes = dover_holds w t stage sound same c calm goes
 fact_same w t stage sound same (fact.Backed c) calm goes = backed_holds w t stage sound same c calm goes
 
--- the effective ledger by what the card in hand has made, where that is flagged
+-- the effective ledger by what the card in hand has entry_made, where that is flagged
 pub effective_same : (w t : Words) (v : Worker) → ((op : Op) (c : ℕ) → v.card ≡ Some c → v.flagged ≡ true → made_in t op c ≡ made_in w op c) → effective t v ≡ effective w v
 effective_same w t v same = by v.operation v.card v.flagged same
   where

@@ -14,7 +14,7 @@ use Rattle.ell_core.specs.declared.event.Stepped.TheVariants.{Moved, Answered}
 use Rattle.ell_word.specs.Node.{card}
 use Rattle.ell_core.specs.declared.view.Search.{Search}
 use Rattle.ell_core.specs.state.Machine.{Worker, Machine, no_search, nobody}
-use Rattle.ell_core.specs.state.Moves.{Split, Join}
+use Rattle.ell_core.specs.state.Handovers.{Split, Join}
 use Rattle.ell_layout.proofs.lemmas.Writes.{put_same, put_other}
 use Rattle.ell_core.proofs.lemmas.stages.Sums.{child_changes, sum_by}
 use Rattle.ell_core.proofs.lemmas.following.Backtracks.{Backtracks, Keeps, events_keep, rests_keep}

@@ -15,7 +15,7 @@ use Rattle.ell_cards.specs.Turns.{Turn, Makes, CallIsMade, TableRun}
 use Rattle.ell_cards.specs.TurnEffects.{own_words}
 use Rattle.ell_cards.specs.Starts.{Starts}
 use Rattle.ell_cards.specs.Changing.{HasMap, turn_effect}
-use Rattle.ell_cards.specs.Linearizing.{KeepsOnBetween, IsAnswered, ChangesAt, EndsACall, AnswersEndCalls, IsOfACall, Item, ops_of, replies_of, IsIn, IsMade, HasTheCalls, KeepsTheOrder, ChangesAreOfCalls, RunsAreLinearizable}
+use Rattle.ell_cards.specs.Linearizing.{KeepsOnBetween, IsAnswered, ChangesAt, EndsACall, AnswersEndCalls, IsOfACall, Item, ops_of, replies_of, HasItem, IsMade, HasTheCalls, KeepsTheOrder, ChangesAreOfCalls, RunsAreLinearizable}
 use Rattle.ell_cards.proofs.lemmas.seats.Seats.{inside}
 use Rattle.ell_cards.proofs.lemmas.runs.TurnsOfRuns.{turn_lawful}
 use Rattle.ell_cards.proofs.lemmas.runs.AsMap.{change_map, change_says, turn_effects}
@@ -350,7 +350,7 @@ module _ (plan : TablePlan) (opened : TableState) (starts : Starts plan opened) 
   sequence = items_of all_calls.list
 
   -- each call that changes the tree is there
-  changed_there : (i p : ℕ) (op : Op) → Changes i p op → IsIn sequence (item i op (reply_of_change op))
+  changed_there : (i p : ℕ) (op : Op) → Changes i p op → HasItem sequence (item i op (reply_of_change op))
   changed_there i p op g =
       let h = changed_of plan opened starts turns s' run i p op g in
       let found = every_change.all p h.turn op (omega arith) h.at h.effect in
@@ -363,10 +363,10 @@ module _ (plan : TablePlan) (opened : TableState) (starts : Starts plan opened) 
       (there.0, there.1 ∙ ap (λ (n : Item). some n) (same_item x.item.begin i x.item.op op x.item.reply (reply_of_change op) one.begins one.does (its.says ∙ ap reply_of_change one.does)))
 
   -- and each that has ended
-  ended_there : (i j : ℕ) (op : Op) (said : Reply) → IsAnswered turns i j op said → IsIn sequence (item i op said)
+  ended_there : (i j : ℕ) (op : Op) (said : Reply) → IsAnswered turns i j op said → HasItem sequence (item i op said)
   ended_there i j op said h = elim (every_reading.all i j op said (omega arith) h) [
     | inl found ↦ (let there = item_in all_calls.list found.0 (all_calls.reads found.0 found.1) in (there.0, there.1 ∙ ap (λ (n : Item). some n) found.2))
-    | inr card ↦ subst (λ r. IsIn sequence (item i op r)) (sym card.0) (changed_there i card.1.change op card.1.changes)
+    | inr card ↦ subst (λ r. HasItem sequence (item i op r)) (sym card.0) (changed_there i card.1.change op card.1.changes)
   ]
 
   -- whether a call has ended by one of so many turns

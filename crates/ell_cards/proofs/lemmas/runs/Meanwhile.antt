@@ -13,7 +13,7 @@ use Rattle.ell_core.specs.declared.fact.Fact.TheVariants.{Cut, IOver, DOver, Bac
 use Rattle.ell_core.specs.declared.view.Search.{Search}
 use Rattle.ell_layout.specs.Words.{Words, put}
 use Rattle.ell_core.specs.state.Machine.{Worker, Machine, no_search, nobody, worker_of}
-use Rattle.ell_core.specs.state.Moves.{WorkerIsIdle}
+use Rattle.ell_core.specs.state.Handovers.{WorkerIsIdle}
 use Rattle.ell_core.specs.history.Stages.{Stage, Stages}
 use Rattle.ell_core.specs.history.Invariant.{Invariant, WorkerIsSound}
 use Rattle.ell_core.specs.history.Later.{WordsLater, StagesLater, wins_of}
@@ -44,7 +44,7 @@ use Rattle.ell_cards.specs.Laws.{machine_of_table}
 use Rattle.ell_cards.specs.Turns.{Turn, Makes, Splits, Joins, TableTurns, TableRun, found_by, view_after, state_after}
 use Rattle.ell_cards.specs.TurnEffects.{turn_wins, run_wins}
 use Rattle.ell_cards.specs.RunLaws.{StartIsKept}
-use Rattle.ell_cards.specs.Meanwhile.{is_end, has_end, KeepsOn, KeepOn, BeginsHere, IsBeginning, SearchesBeginThere, SearchRun, ended_before, ended_since, EndsMeanwhile, WordEndsMeanwhile, AreMeanwhile, SearchesReadMeanwhile, SearchesMeetMeanwhile, KnownMovesWereMade}
+use Rattle.ell_cards.specs.Meanwhile.{is_end, has_end, KeepsOn, KeepOn, BeginsHere, IsBeginning, SearchesBeginThere, SearchRun, ended_before, ended_since, EndsMeanwhile, WordEndsMeanwhile, AreMeanwhile, SearchesReadMeanwhile, SearchesMeetMeanwhile, KnownMilestonesWereReached}
 use Rattle.ell_cards.proofs.lemmas.runs.TurnsOfRuns.{turn_lawful}
 use Rattle.ell_core.proofs.lemmas.following.Lawful.{splits_lawful, joins_lawful}
 use Rattle.ell_layout.proofs.lemmas.Listed.{listed_next}
@@ -397,8 +397,8 @@ searches_meet_meanwhile plan q =
     }
 
 -- what a pass knows of moves was made
-pub known_moves_were_made : KnownMovesWereMade
-known_moves_were_made plan first starts turns s run seat v there =
+pub known_milestones_were_reached : KnownMilestonesWereReached
+known_milestones_were_reached plan first starts turns s run seat v there =
     let last = plan.last_card in
     let opens = starts_are_kept plan first starts in
     let led = run_goes plan.keys plan.last_card first opens.kept opens.kept.stages opens.kept.invariant turns s run in

@@ -38,7 +38,7 @@ use Rattle.ell_cards.specs.Models.{TablePlan, Knows}
 use Rattle.ell_cards.specs.Guards.{MayFill, IsFilled}
 use Rattle.ell_cards.specs.Laws.{machine_of_table}
 use Rattle.ell_cards.specs.Changes.{if_won, exchanged, after_flag, learning, unmarking, is_mark_of, after_mark}
-use Rattle.ell_cards.specs.Calls.{word_of, atomic_of, left_by, is_won, after, May, update_at}
+use Rattle.ell_cards.specs.Calls.{word_of, atomic_of, left_by, is_won, after, May, update_address}
 use Rattle.ell_cards.specs.States.{TableState, seat_worker}
 use Rattle.ell_cards.specs.TurnEffects.{own_words}
 use Rattle.ell_cards.specs.Machines.{HasMachine}
@@ -59,7 +59,7 @@ use Rattle.ell_cards.proofs.lemmas.runs.Counts.{Counts, wins_are_counted, Claims
 
 -- the update word that a machine has at a node that came into the tree is the table's
 pub listed_update : (keys : List ℕ) (cards : ℕ) (s : TableState) (r : HasMachine keys cards s) (x : ℕ) → IsInternal x → Born r.stages x
-    → get_or s.words (update_at x) 0 ≡ r.words.update x
+    → get_or s.words (update_address x) 0 ≡ r.words.update x
 listed_update keys cards s r x inner born =
     sym (update_at_node (own_words s) x inner ∙ words_are_listed s.words (card x) field.Update)
     ∙ update_same r.words (own_words s) r.stages r.invariant.words (same_card keys cards s r) x inner born
@@ -186,7 +186,7 @@ module _ (plan : TablePlan) (s : TableState) (h : IsReached plan s) (id : ℕ) (
 -- a flag that the pass in a seat may set for its card in hand at a node, and its word told otherwise
 module _ (plan : TablePlan) (s : TableState) (h : IsReached plan s) (id : ℕ) (v : View) (here : get_elem? s.views id ≡ some v)
     (c : Call) (may : May plan.last_card c v) (n : ℕ) (on : IsReached plan (told_of s id v c n))
-    (d : ℕ) (hand : MayFill v d) (x : ℕ) (passed : IsPassed v x) (at : word_of c ≡ update_at x) where
+    (d : ℕ) (hand : MayFill v d) (x : ℕ) (passed : IsPassed v x) (at : word_of c ≡ update_address x) where
   abbrev before : HasMachine plan.keys plan.last_card s
   before = reached_kept plan s h
 
@@ -336,7 +336,7 @@ module _ (plan : TablePlan) (s : TableState) (h : IsReached plan s) (id : ℕ) (
       stands : is_delete (r.stages c) ≡ true → (if found == was then marked c else found) ≡ r.words.update p
       stands deletes =
           let node = subst (IsInnerBorn r.stages) parent ((r.invariant.words.cards c).delete deletes).parent in
-          sym (get_or-set_same s.words (update_at p) (if found == was then marked c else found) 0
+          sym (get_or-set_same s.words (update_address p) (if found == was then marked c else found) 0
           (steps_stay_inside plan s h id v (call.Mark c p was) here may)) ∙ listed_update plan.keys plan.last_card T r p node.inner node.born
 
       knows_told : (b m : Bool) → (n == was) ≡ b → (n == marked c) ≡ m → KnowsOf (after (call.Mark c p was) n v) c (if b then true else m)

@@ -40,7 +40,7 @@ use Rattle.ell_core.specs.history.Stages.{allows}
 use Rattle.ell_cards.specs.declared.view.View.{View}
 use Rattle.ell_cards.specs.Changes.{after_claim, after_flag, after_mark, is_mark_of, learning, unmarking}
 use Rattle.ell_cards.specs.Models.{Does, Knows}
-use Rattle.ell_cards.specs.Guards.{IsOver, KnowsAnswerAtLeaf}
+use Rattle.ell_cards.specs.Guards.{CardIsOver, KnowsAnswerAtLeaf}
 use Rattle.ell_cards.specs.Calls.{atomic_of, is_won, after}
 use Rattle.ell_cards.specs.States.{TableState}
 use Rattle.ell_cards.specs.Machines.{HasMachine}
@@ -408,7 +408,7 @@ module _ (keys : List ℕ) (cards : ℕ) where
           finds = subst (λ n. IsTreePair (own_words f.state) n (card_value (own_words f.state) c)) key does_it.takes.present;
         }
 
-    point : (op : Op) → Does v op → IsOver v op c → TakesEffect cards op c begun turns s'
+    point : (op : Op) → Does v op → CardIsOver v op c → TakesEffect cards op c begun turns s'
     point (Find k) does over = absurd over
     point (Insert k value) does over = put_point (Insert k value) (added k value) refl does over
     point (Swap k was value) does over = put_point (Swap k was value) (replacing k was value) refl does over
@@ -446,7 +446,7 @@ point_of keys cards s r seat op begun turns s' said called =
           point keys cards begun turn.0 turns s' called.run seat card.card
               (late_of (hands keys cards seat None turn.0.words.next begun turn.0 (omega arith) (view_after s called.begins.view (Begin op)) (now called.begins)
               (λ c e. absurd (some_not_none e refl)) turns s' called.run called.on v there card.card card.holds))
-              v there card.holds card.flagged op does (subst (λ o. IsOver v o card.card) is card.over),
+              v there card.holds card.flagged op does (subst (λ o. CardIsOver v o card.card) is card.over),
         ),
       )
     ]

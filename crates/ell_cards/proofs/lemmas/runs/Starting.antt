@@ -7,7 +7,7 @@ use Rattle.ell_core.specs.acts.Wins.{InOrder}
 use Rattle.ell_core.specs.state.Opening.{keys_at_start}
 use Rattle.atomic_table.specs.Table.{opening}
 use Rattle.ell_cards.specs.declared.call.Call.TheVariants as call
-use Rattle.ell_cards.specs.Changes.{keys_of, first_of}
+use Rattle.ell_cards.specs.Changes.{ledger_keys, first_of}
 use Rattle.ell_cards.specs.States.{TableState}
 use Rattle.ell_cards.specs.Machines.{HasMachine}
 use Rattle.ell_cards.specs.Turns.{Turn, Makes, Splits, Joins, TableTurns, TableRun, state_after}
@@ -54,7 +54,7 @@ first_pass_may_begin plan s starts op has =
           free = refl;
           owned = elim has [
             | inl own ↦ inl (among_owned (keys_at_start plan.keys plan.start) (key_of op)
-                (contains_among (keys_of (keys_at_start plan.keys plan.start)) (key_of op)
+                (contains_among (ledger_keys (keys_at_start plan.keys plan.start)) (key_of op)
                 (subst (λ ks. Contains ks (key_of op)) (sym (keys_start plan.keys plan.start)) own)))
             | inr shared ↦ inr (shared_there plan (key_of op) shared)
           ];

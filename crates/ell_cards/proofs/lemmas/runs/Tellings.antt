@@ -6,7 +6,7 @@ use Rattle.ell_cards.specs.declared.call.Call.TheVariants as call
 use Rattle.ell_cards.specs.declared.view.Told.TheVariants.{Met}
 use Rattle.ell_cards.specs.Changes.{after_claim, after_upd}
 use Rattle.ell_cards.proofs.lemmas.views.Afters.{after_next}
-use Rattle.ell_cards.specs.Calls.{update_at}
+use Rattle.ell_cards.specs.Calls.{update_address}
 use Rattle.ell_cards.specs.Tellings.{told_of, NoGreaterNext, NoUntriedClaimLost, NoGreaterUpdate}
 use Rattle.ell_cards.proofs.lemmas.views.Entries.{places_more}
 use Rattle.ell_core.proofs.lemmas.words.Packed.{packed_again}
@@ -46,7 +46,7 @@ no_greater_update plan s h id v here x may n greater on =
     let met = (searches_are_met plan s h id v here).node x may.stands in
     let born = (r.views id w there).entries (Met x) (places_more x u.state u.card v.told (Met x) met) in
     let same = listed_update plan.keys plan.last_card s' r x may.inner born in
-    let was = still s.words (update_at x) in
+    let was = still s.words (update_address x) in
     elim (cases_option v.worker.operation) [
       | inl op ↦ (let low = (sound.stands op.0 x op.1 may.stands).read (packed u) refl in let is = packed_again n in omega arith)
       | inr e ↦ absurd (some_not_none may.stands (ap (λ k. k.search.node) (sound.free e)))

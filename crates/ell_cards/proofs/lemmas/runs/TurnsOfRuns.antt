@@ -9,8 +9,8 @@ use Rattle.ell_cards.proofs.lemmas.seats.Statements.{InsideByMachine}
 use Rattle.ell_cards.proofs.lemmas.stepping.AllCalls.{steps_are_events}
 use Rattle.ell_cards.proofs.lemmas.seats.Named.{kept_named}
 use Rattle.ell_cards.proofs.lemmas.seats.Taken.{word_fits}
-use Rattle.ell_cards.proofs.lemmas.lifetimes.Splits.{splits_are_moves}
-use Rattle.ell_cards.proofs.lemmas.lifetimes.Joins.{joins_are_moves}
+use Rattle.ell_cards.proofs.lemmas.lifetimes.Splits.{splits_are_handovers}
+use Rattle.ell_cards.proofs.lemmas.lifetimes.Joins.{joins_are_handovers}
 use Rattle.ell_cards.proofs.lemmas.own_words.OwnWords.{own_words_are_sound}
 use Rattle.ell_cards.proofs.lemmas.own_words.OwnKeys.{table_pairs_change_at_wins}
 
@@ -47,7 +47,7 @@ module _ (keys : List ℕ) (cards : ℕ) where
         },
       )
   turn_lawful s r (Splits seat left) s' h =
-      let step = splits_are_moves keys cards s r seat h.view left h.there h.free in
+      let step = splits_are_handovers keys cards s r seat h.view left h.there h.free in
       subst (λ x. (k : HasMachine keys cards x) × TurnIsLawful keys cards s r (Splits seat left) x k) (sym h.gives) (
         step.kept,
         record {
@@ -58,7 +58,7 @@ module _ (keys : List ℕ) (cards : ℕ) where
         },
       )
   turn_lawful s r (Joins seat other) s' h =
-      let step = joins_are_moves keys cards s r seat other h.view h.view' h.there h.there' h.apart h.free h.free' in
+      let step = joins_are_handovers keys cards s r seat other h.view h.view' h.there h.there' h.apart h.free h.free' in
       subst (λ x. (k : HasMachine keys cards x) × TurnIsLawful keys cards s r (Joins seat other) x k) (sym h.gives) (
         step.kept,
         record {

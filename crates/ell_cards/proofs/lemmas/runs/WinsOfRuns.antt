@@ -19,15 +19,15 @@ use Rattle.ell_cards.specs.RunLaws.{TableWinsAreInOrder}
 use Rattle.ell_cards.proofs.lemmas.runs.GoingOn.{run_goes}
 
 -- a call and a run of the machine after it
-after_call : (seat : ℕ) (a : Option Act) (said : Stepped) (m between : Machine) (es : List Event) (xs : List Shown) (m' : Machine)
+after : (seat : ℕ) (a : Option Act) (said : Stepped) (m between : Machine) (es : List Event) (xs : List Shown) (m' : Machine)
     → Becomes seat a said m between → Run between es xs m' → Run m (event_of seat a ++ es) (shown_of a said ++ xs) m'
-after_call seat None said m between es xs m' is run = subst (λ n. Run n es xs m') is run
-after_call seat (Some a) said m between es xs m' steps run = (between, steps, run)
+after seat None said m between es xs m' is run = subst (λ n. Run n es xs m') is run
+after seat (Some a) said m between es xs m' steps run = (between, steps, run)
 
 pub runs_are_schedules : RunsAreSchedules
 runs_are_schedules keys cards s r [] s' r' run calls lawful = lawful
 runs_are_schedules keys cards s r (Makes seat c ∷ ts) s' r' run calls lawful =
-    after_call seat (act_of c (found_by s c)) (said_of c (found_by s c)) (machine_of_table keys cards s r) (machine_of_table keys cards run.0 lawful.0)
+    after seat (act_of c (found_by s c)) (said_of c (found_by s c)) (machine_of_table keys cards s r) (machine_of_table keys cards run.0 lawful.0)
     (events_in cards run.0 ts s' run.2) (shown_in cards run.0 ts s' run.2) (machine_of_table keys cards s' r') lawful.1.machine
     (runs_are_schedules keys cards run.0 lawful.0 ts s' r' run.2 calls lawful.2)
 runs_are_schedules keys cards s r (Splits seat left ∷ ts) s' r' run calls lawful = absurd calls

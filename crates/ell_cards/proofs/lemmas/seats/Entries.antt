@@ -14,7 +14,8 @@ use Rattle.ell_cards.specs.declared.view.Told.{Told}
 use Rattle.ell_cards.specs.declared.view.Told.TheVariants.{Met, Key, Value, Info, Frozen}
 use Rattle.ell_cards.specs.Models.{Has, latest, earlier}
 use Rattle.ell_cards.specs.Changes.{facts_by, places_by, told_value}
-use Rattle.ell_cards.specs.Machines.{is_fixed, EntryHolds}
+use Rattle.ell_cards.specs.Machines.{EntryHolds}
+use Rattle.ell_core.specs.statements.Told.{is_fixed}
 
 -- a fixed word of a claimed card stays
 fixed_word : (old new : Words) (c : ℕ) → WordsLater old new → c < old.next → (f : Field) → is_fixed f ≡ true → word new c f ≡ word old c f

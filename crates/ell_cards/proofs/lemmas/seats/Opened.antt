@@ -4,7 +4,7 @@ use Rattle.ell_layout.specs.Layout.{table_size}
 use Rattle.ell_cards.specs.declared.share.Share.{Share}
 use Rattle.ell_cards.specs.declared.view.View.{View}
 use Rattle.ell_cards.specs.Models.{TablePlan, TableModel, PassModel}
-use Rattle.ell_cards.specs.Changes.{keys_of}
+use Rattle.ell_cards.specs.Changes.{ledger_keys}
 use Rattle.ell_cards.specs.Naming.{IsNamed}
 use Rattle.ell_cards.specs.Inside.{HasShare, PassFits}
 use Rattle.ell_cards.specs.Starts.{IsReached}
@@ -31,7 +31,7 @@ same_share share v w has same = record {
 
 -- a pass after a step is one again
 pub still_fits : (cards words : ℕ) (keys : List ℕ) (share : Share) (v w : View) → PassFits keys share words v → words ≡ table_size cards
-    → (keys_of w.worker.ledger ≡ keys_of v.worker.ledger) × SameShare v w × IsNamed cards w → PassFits keys share words w
+    → (ledger_keys w.worker.ledger ≡ ledger_keys v.worker.ledger) × SameShare v w × IsNamed cards w → PassFits keys share words w
 still_fits cards words keys share v w fits size keeps = record {
   owned = fits.owned ∙ sym keeps.0;
   ascending = fits.ascending;

@@ -14,7 +14,7 @@ use Rattle.ell_cards.specs.declared.call.Call.TheVariants as call
 use Rattle.ell_cards.specs.declared.view.View.{View}
 use Rattle.ell_cards.specs.declared.view.Told.TheVariants.{Met, Info}
 use Rattle.ell_cards.specs.Models.{KnowsCard, PassModel, Sees, Steps}
-use Rattle.ell_cards.specs.Changes.{keys_of, with_entry, answered_ledger, after_claim, after_mark, after_flag, is_mark_of, learning, unmarking}
+use Rattle.ell_cards.specs.Changes.{ledger_keys, with_entry, answered_ledger, after_claim, after_mark, after_flag, is_mark_of, learning, unmarking}
 use Rattle.ell_cards.specs.Calls.{word_of, after, May}
 use Rattle.ell_cards.specs.Naming.{IsNamed}
 use Rattle.ell_cards.specs.Stepping.{KeepsPass, SeesBy, StepsBy, IsTaken, SameShare}
@@ -27,27 +27,27 @@ use Rattle.ell_core.specs.declared.fact.Fact.{Fact}
 use Rattle.ell_word.specs.declared.update.Update.{Update}
 
 -- settling a key leaves the keys
-settled_keys : (k : ℕ) (b : Entry) (l : List (ℕ × Entry)) → keys_of (with_entry k b l) ≡ keys_of l
+settled_keys : (k : ℕ) (b : Entry) (l : List (ℕ × Entry)) → ledger_keys (with_entry k b l) ≡ ledger_keys l
 settled_keys k b [] = refl
 settled_keys k b (e ∷ es) = ap (λ ks. e.0 ∷ ks) (settled_keys k b es)
 
-answered_keys : (o : Option Op) (said : Reply) (l : List (ℕ × Entry)) → keys_of (answered_ledger o said l) ≡ keys_of l
+answered_keys : (o : Option Op) (said : Reply) (l : List (ℕ × Entry)) → ledger_keys (answered_ledger o said l) ≡ ledger_keys l
 answered_keys (Some (Insert k value)) Yes l = settled_keys k (Present value) l
 answered_keys (Some (Delete k)) Yes l = settled_keys k Absent l
 answered_keys (Some (Swap k was value)) (Found there) l = by (there == was)
   where
-    by : (b : Bool) → keys_of (if b then with_entry k (Present value) l else l) ≡ keys_of l
+    by : (b : Bool) → ledger_keys (if b then with_entry k (Present value) l else l) ≡ ledger_keys l
     by true = settled_keys k (Present value) l
     by false = refl
 answered_keys _ _ l = refl
 
 -- no step call changes which keys a pass owns
-pub keys_stay : (c : Call) (n : ℕ) (v : View) → keys_of (after c n v).worker.ledger ≡ keys_of v.worker.ledger
+pub keys_stay : (c : Call) (n : ℕ) (v : View) → ledger_keys (after c n v).worker.ledger ≡ ledger_keys v.worker.ledger
 keys_stay (call.Answer said) n v = answered_keys v.worker.operation said v.worker.ledger
-keys_stay (call.Claim c) n v = ap keys_of (claim_ledger (n == c) c v)
-keys_stay (call.IFlag c p from) n v = ap keys_of (flag_ledger (n == packed from) (IFlagged c) p (unpacked n) v)
-keys_stay (call.DFlag c gp from) n v = ap keys_of (flag_ledger (n == packed from) (DFlagged c) gp (unpacked n) v)
-keys_stay (call.Mark c p was) n v = ap keys_of (mark_ledger (n == was) c p (unpacked n) v)
+keys_stay (call.Claim c) n v = ap ledger_keys (claim_ledger (n == c) c v)
+keys_stay (call.IFlag c p from) n v = ap ledger_keys (flag_ledger (n == packed from) (IFlagged c) p (unpacked n) v)
+keys_stay (call.DFlag c gp from) n v = ap ledger_keys (flag_ledger (n == packed from) (DFlagged c) gp (unpacked n) v)
+keys_stay (call.Mark c p was) n v = ap ledger_keys (mark_ledger (n == was) c p (unpacked n) v)
 keys_stay _ n v = refl
 
 -- nor the keys that may have an owner, as it knows them

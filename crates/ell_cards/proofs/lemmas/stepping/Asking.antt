@@ -17,9 +17,10 @@ use Rattle.ell_cards.specs.Models.{Has, earlier, InTable, KnowsCard}
 use Rattle.ell_cards.specs.Changes.{told_info}
 use Rattle.ell_cards.proofs.lemmas.views.Afters.{after_info, after_frozen_child}
 use Rattle.ell_cards.specs.Guards.{IsAsked, MayAsk, KnowsPlace}
-use Rattle.ell_cards.specs.Calls.{child_at, TellsNode, TellsDepth}
+use Rattle.ell_cards.specs.Calls.{child_address, TellsNode, TellsDepth}
 use Rattle.ell_cards.specs.States.{TableState}
-use Rattle.ell_cards.specs.Machines.{is_fixed, EntryHolds, HasMachine}
+use Rattle.ell_cards.specs.Machines.{EntryHolds, HasMachine}
+use Rattle.ell_core.specs.statements.Told.{is_fixed}
 use Rattle.ell_cards.specs.Laws.{IsEvent}
 use Rattle.ell_cards.proofs.lemmas.views.Entries.{info_more}
 use Rattle.ell_cards.proofs.lemmas.seats.Entries.{with_entry}
@@ -127,7 +128,7 @@ module _ (keys : List ℕ) (cards : ℕ) (s : TableState) (r : HasMachine keys c
   -- frozen_child
   pub keeps_frozen_child : (c p : ℕ) (right : Bool) → KnowsPlace v (Marked c) c field.P p → IsEvent keys cards s r id v (call.FrozenChild c p right)
   keeps_frozen_child c p right may =
-      let n = get_or s.words (child_at p right) 0 in
+      let n = get_or s.words (child_address p right) 0 in
       let h = r.views id v here in
       let w = r.words in
       let known = (mine_sound keys cards s r id v here).facts (Marked c) may.knows in
@@ -149,5 +150,5 @@ module _ (keys : List ℕ) (cards : ℕ) (s : TableState) (r : HasMachine keys c
         least = h.least;
         knew = h.knew;
         walk = h.walk;
-      }) (child_at p right))
+      }) (child_address p right))
       refl refl (omega arith, born_in_table keys cards s r id v here n born)

@@ -20,9 +20,9 @@ use Rattle.ell_cards.specs.declared.view.Told.{Told}
 use Rattle.ell_cards.specs.declared.view.Told.TheVariants.{Met, Value}
 use Rattle.ell_cards.specs.declared.view.View.{View}
 use Rattle.ell_cards.specs.Models.{Has}
-use Rattle.ell_cards.specs.Calls.{key_at}
+use Rattle.ell_cards.specs.Calls.{key_address}
 use Rattle.ell_cards.specs.Changes.{with_entry as with_entry_for, after_begin, after_again, after_leave, after_answer, answered_ledger, with_entry as put_entry}
-use Rattle.ell_cards.specs.Guards.{MayBegin, MayAnswer, TellsOf, KnowsAnswerAtLeaf, KnowsAnswerByCard, IsOver}
+use Rattle.ell_cards.specs.Guards.{MayBegin, MayAnswer, TellsOf, KnowsAnswerAtLeaf, KnowsAnswerByCard, CardIsOver}
 use Rattle.ell_cards.specs.Models.{Knows, KnewBefore}
 use Rattle.ell_layout.specs.Words.{Words}
 use Rattle.ell_core.specs.declared.fact.Fact.{Fact}
@@ -88,7 +88,7 @@ module _ (keys : List ℕ) (cards : ℕ) (s : TableState) (r : HasMachine keys c
       } in
       is_event keys cards s r id v here (call.Begin op) (act.Begin op) Moved r.words
       (looks keys cards s r id v here (act.Begin op) Moved after happens (λ c. refl) root_entries
-      (bare r.words r.stages v after refl refl (λ k h. h) refl (λ n at. absurd (some_not_none at refl)) refl (λ f k. k) (λ f k. k) (λ o x busy at. root_walk o x at)) (key_at 0))
+      (bare r.words r.stages v after refl refl (λ k h. h) refl (λ n at. absurd (some_not_none at refl)) refl (λ f k. k) (λ f k. k) (λ o x busy at. root_walk o x at)) (key_address 0))
       refl refl tt
 
   -- again
@@ -102,7 +102,7 @@ module _ (keys : List ℕ) (cards : ℕ) (s : TableState) (r : HasMachine keys c
       } in
       is_event keys cards s r id v here call.Again act.Again Moved r.words
       (looks keys cards s r id v here act.Again Moved after happens (λ c. refl) root_entries
-      (bare r.words r.stages v after refl refl (λ k h. h) refl (λ n at. absurd (some_not_none at refl)) refl (λ f k. k) (λ f k. k) (λ o x busy at. root_walk o x at)) (key_at 0))
+      (bare r.words r.stages v after refl refl (λ k h. h) refl (λ n at. absurd (some_not_none at refl)) refl (λ f k. k) (λ f k. k) (λ o x busy at. root_walk o x at)) (key_address 0))
       refl refl tt
 
   -- leave
@@ -117,7 +117,7 @@ module _ (keys : List ℕ) (cards : ℕ) (s : TableState) (r : HasMachine keys c
       is_event keys cards s r id v here call.Leave act.Leave Moved r.words
       (looks keys cards s r id v here act.Leave Moved after happens (λ c. refl)
       (r.views id v here).entries
-      (bare r.words r.stages v after refl refl (λ k h. h) refl (λ n at. at) refl (r.views id v here).knew (r.views id v here).knew (λ o x busy at. absurd (some_not_none at refl))) (key_at 0))
+      (bare r.words r.stages v after refl refl (λ k h. h) refl (λ n at. at) refl (r.views id v here).knew (r.views id v here).knew (λ o x busy at. absurd (some_not_none at refl))) (key_address 0))
       refl refl (let low = (r.views id v here).least in let room = r.invariant.limit in omega arith)
 
 -- a ledger with an entry in place of that of a key, if it has the key, as a list and as the machine has it
@@ -146,7 +146,7 @@ answered (Swap k was value) (Found had) l key = by (had == was)
     by false = refl
 
 -- the answer by a card that is over
-over_answers : (v : View) (op : Op) (c : ℕ) (said : Reply) → IsOver v op c → said ≡ reply_of_change op → card_answer op c (known_of v.worker.facts) ≡ Some said
+over_answers : (v : View) (op : Op) (c : ℕ) (said : Reply) → CardIsOver v op c → said ≡ reply_of_change op → card_answer op c (known_of v.worker.facts) ≡ Some said
 over_answers v (Find k) c said over e = absurd over
 over_answers v (Insert k value) c said over e = ap (λ b. if b then Some Yes else None) over ∙ ap Some (sym e)
 over_answers v (Swap k was value) c said over e = ap (λ b. if b then Some (Found was) else None) over ∙ ap Some (sym e)
@@ -208,5 +208,5 @@ module _ (keys : List ℕ) (cards : ℕ) (s : TableState) (r : HasMachine keys c
       (looks keys cards s r id v here act.Answer (Answered said) after happens (λ c. refl)
       (r.views id v here).entries
       (bare r.words r.stages v after refl refl (λ k has none. has ((set_now.owned k).1 none)) refl (λ n at. at) refl (r.views id v here).knew (r.views id v here).knew
-      (λ o x busy at. absurd (some_not_none at refl))) (key_at 0))
+      (λ o x busy at. absurd (some_not_none at refl))) (key_address 0))
       refl refl (set_now, (let low = (r.views id v here).least in let room = r.invariant.limit in omega arith))

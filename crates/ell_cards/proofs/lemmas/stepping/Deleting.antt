@@ -15,7 +15,7 @@ use Rattle.ell_layout.specs.Cards.{dflag, marked, exchange_side, sibling}
 use Rattle.ell_core.specs.acts.Exchanges.{won_or_lost, exchanged_child, found_child, knowing, mark_teaches}
 use Rattle.ell_core.specs.acts.Events.{Happens}
 use Rattle.ell_core.specs.history.Stages.{Born}
-use Rattle.ell_core.specs.statements.StepLaws.{MayRead}
+use Rattle.ell_core.specs.statements.StepLaws.{IsReadable}
 use Rattle.ell_cards.specs.declared.call.Call.TheVariants as call
 use Rattle.ell_cards.specs.declared.view.Told.{Told}
 use Rattle.ell_cards.specs.declared.view.Told.TheVariants.{Key, Frozen}
@@ -75,7 +75,7 @@ module _ (keys : List ℕ) (cards : ℕ) (s : TableState) (r : HasMachine keys c
       }
 
   -- what it was told
-  mark_entries : (c x n : ℕ) → MayRead r.words r.stages x → r.words.update x ≡ n → (b : Bool) (e : Told)
+  mark_entries : (c x n : ℕ) → IsReadable r.words r.stages x → r.words.update x ≡ n → (b : Bool) (e : Told)
       → IsTold (after_mark b c x (unpacked n) v) e → EntryHolds r.words r.stages e
   mark_entries c x n reads is true = (r.views id v here).entries
   mark_entries c x n reads is false = by (is_mark_of c (unpacked n).state (unpacked n).card)
@@ -96,7 +96,7 @@ module _ (keys : List ℕ) (cards : ℕ) (s : TableState) (r : HasMachine keys c
       let was_is : w.was c ≡ was = told_is keys cards s r id v here c field.Was was may.1 in
       let born = subst (Born r.stages) p_is said.parent.born in
       let is = update_found keys cards s r id v here (w.p c) p p_is said.parent.inner said.parent.born in
-      let reads : MayRead w r.stages p = subst (MayRead w r.stages) p_is
+      let reads : IsReadable w r.stages p = subst (IsReadable w r.stages) p_is
       ((relies keys cards s r id v here).delete (DFlagged c) (ap (λ (z : Worker). z.knows (DFlagged c)) (mine_is keys cards s r id v here) ∙ may.0.knows) refl).parent in
       let is_p : w.update p ≡ n = ap w.update (sym p_is) ∙ is in
       let happens : Happens cards a (mine keys cards s r id v here) (won_or_lost (n == was))

@@ -20,7 +20,7 @@ use Rattle.ell_layout.specs.Cards.{iflag, dflag}
 use Rattle.ell_core.specs.acts.Exchanges.{won_or_lost, flagged_worker, flags}
 use Rattle.ell_core.specs.acts.Events.{Happens}
 use Rattle.ell_core.specs.acts.Wins.{wins_by, win_for}
-use Rattle.ell_core.specs.statements.StepLaws.{MayRead}
+use Rattle.ell_core.specs.statements.StepLaws.{IsReadable}
 use Rattle.ell_core.proofs.lemmas.outcomes.Decide.{some_not_none}
 use Rattle.ell_cards.specs.declared.call.Call.TheVariants as call
 use Rattle.ell_cards.specs.declared.view.Told.{Told}
@@ -28,7 +28,7 @@ use Rattle.ell_cards.specs.declared.view.View.{View}
 use Rattle.ell_cards.specs.Models.{IsTold}
 use Rattle.ell_cards.specs.Changes.{after_flag, if_won, exchanged}
 use Rattle.ell_cards.specs.Guards.{MayFill, IsFilled, MayIFlag, MayDFlag}
-use Rattle.ell_cards.specs.Calls.{update_at}
+use Rattle.ell_cards.specs.Calls.{update_address}
 use Rattle.ell_cards.specs.States.{TableState}
 use Rattle.ell_cards.specs.Machines.{EntryHolds, HasMachine}
 use Rattle.ell_cards.specs.Laws.{IsEvent}
@@ -82,13 +82,13 @@ module _ (keys : List ℕ) (cards : ℕ) (s : TableState) (r : HasMachine keys c
         walk = λ op y busy at. absurd (some_not_none at refl);
       }
 
-  flag_entries : (new : Fact) (k : Exchange) (c x : ℕ) → MayRead r.words r.stages x → (b : Bool) (e : Told) → IsTold (flag_view new k c x b) e → EntryHolds r.words r.stages e
+  flag_entries : (new : Fact) (k : Exchange) (c x : ℕ) → IsReadable r.words r.stages x → (b : Bool) (e : Told) → IsTold (flag_view new k c x b) e → EntryHolds r.words r.stages e
   flag_entries new k c x reads true = (r.views id v here).entries
   flag_entries new k c x reads false = found_entries keys cards s r id v here x (found_at keys cards s r id v here (card x) field.Update) v.told reads
       (update_listed keys cards s r id v here x reads.inner reads.born) (r.views id v here).entries
 
   -- the scene after it
-  flag_scene : (new : Fact) (k : Exchange) (c x update value : ℕ) → MayRead r.words r.stages x →
+  flag_scene : (new : Fact) (k : Exchange) (c x update value : ℕ) → IsReadable r.words r.stages x →
       becomes keys cards s r id v here (exchanged_words keys cards s r id v here (card x) field.Update value (found_at keys cards s r id v here (card x) field.Update == update))
       (flag_view new k c x (found_at keys cards s r id v here (card x) field.Update == update))
       ≡ flags (mine keys cards s r id v here) (record { node = x; word = update }) value new
@@ -101,13 +101,13 @@ module _ (keys : List ℕ) (cards : ℕ) (s : TableState) (r : HasMachine keys c
       }
 
   -- a flag exchange of the card in hand, which is filled: a win takes that card out of waiting alone
-  flag_leads : (a : Act) (x update value c : ℕ) (new : Fact) (k : Exchange) → MayRead r.words r.stages x → MayFill v c → IsFilled v
+  flag_leads : (a : Act) (x update value c : ℕ) (new : Fact) (k : Exchange) → IsReadable r.words r.stages x → MayFill v c → IsFilled v
       → ((d : ℕ) → wins_by a v.worker.card Won d ≡ win_for v.worker.card k d) → ((d : ℕ) → wins_by a v.worker.card Lost d ≡ [])
       → Happens cards a (mine keys cards s r id v here) (won_or_lost (found_at keys cards s r id v here (card x) field.Update == update))
       (becomes keys cards s r id v here (exchanged_words keys cards s r id v here (card x) field.Update value (found_at keys cards s r id v here (card x) field.Update == update))
       (flag_view new k c x (found_at keys cards s r id v here (card x) field.Update == update)))
       → IsReached keys cards s r id v here
-      (set s.words (update_at x) (if found_at keys cards s r id v here (card x) field.Update == update then value else found_at keys cards s r id v here (card x) field.Update))
+      (set s.words (update_address x) (if found_at keys cards s r id v here (card x) field.Update == update then value else found_at keys cards s r id v here (card x) field.Update))
       (exchanged_words keys cards s r id v here (card x) field.Update value (found_at keys cards s r id v here (card x) field.Update == update))
       (flag_view new k c x (found_at keys cards s r id v here (card x) field.Update == update)) a
       (won_or_lost (found_at keys cards s r id v here (card x) field.Update == update))

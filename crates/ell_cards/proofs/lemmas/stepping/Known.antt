@@ -11,7 +11,7 @@ use Rattle.ell_core.proofs.lemmas.stages.Order.{insert_won-insert, delete_won-de
 use Rattle.ell_layout.proofs.lemmas.Writes.{update_at_node, child_at_node}
 use Rattle.ell_cards.specs.declared.view.View.{View}
 use Rattle.ell_cards.specs.Models.{Knows, KnowsDelete, KnowsCard}
-use Rattle.ell_cards.specs.Calls.{update_at, child_at}
+use Rattle.ell_cards.specs.Calls.{update_address, child_address}
 use Rattle.ell_cards.specs.States.{TableState}
 use Rattle.ell_cards.specs.Machines.{HasMachine}
 use Rattle.ell_core.proofs.lemmas.stages.Waiting.{born-settled, insert_won-settled, delete_won-settled}
@@ -59,11 +59,11 @@ module _ (keys : List ℕ) (cards : ℕ) (s : TableState) (r : HasMachine keys c
   known_settled c (inr (inr k)) = delete_won-settled (r.stages c) (marked-won (r.stages c) ((mine_sound keys cards s r id v here).facts (Marked c) k))
 
   -- the update word of a node x that is y, as the list has it
-  pub update_found : (x y : ℕ) → x ≡ y → IsInternal x → Born r.stages x → r.words.update x ≡ get_or s.words (update_at y) 0
+  pub update_found : (x y : ℕ) → x ≡ y → IsInternal x → Born r.stages x → r.words.update x ≡ get_or s.words (update_address y) 0
   update_found x y same inner born = update_at_node r.words x inner ∙ (ap (λ z. word r.words (card z) field.Update) same
       ∙ sym (r.settled (card y) field.Update (born-settled (r.stages (card y)) (y % 4) (subst (Born r.stages) same born))))
 
   -- a child of it
-  pub child_found : (x y : ℕ) (right : Bool) → x ≡ y → IsInternal x → Born r.stages x → r.words.child x right ≡ get_or s.words (child_at y right) 0
+  pub child_found : (x y : ℕ) (right : Bool) → x ≡ y → IsInternal x → Born r.stages x → r.words.child x right ≡ get_or s.words (child_address y right) 0
   child_found x y right same inner born = child_at_node r.words x right inner ∙ (ap (λ z. word r.words (card z) (child_field right)) same
       ∙ sym (r.settled (card y) (child_field right) (born-settled (r.stages (card y)) (y % 4) (subst (Born r.stages) same born))))

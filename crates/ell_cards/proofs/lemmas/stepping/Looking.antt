@@ -11,7 +11,7 @@ use Rattle.ell_cards.specs.declared.view.View.{View}
 use Rattle.ell_cards.specs.Models.{IsFree, earlier}
 use Rattle.ell_cards.proofs.lemmas.views.Afters.{after_look, after_look_down}
 use Rattle.ell_cards.specs.Guards.{MayLookDown}
-use Rattle.ell_cards.specs.Calls.{child_at}
+use Rattle.ell_cards.specs.Calls.{child_address}
 use Rattle.ell_cards.specs.States.{TableState}
 use Rattle.ell_cards.specs.Machines.{EntryHolds, HasMachine}
 use Rattle.ell_cards.specs.Laws.{IsEvent}
@@ -22,7 +22,7 @@ use Rattle.ell_cards.proofs.lemmas.stepping.Looks.{born_in_table, child_listed}
 module _ (keys : List ℕ) (cards : ℕ) (s : TableState) (r : HasMachine keys cards s) (id : ℕ) (v : View) (here : get_elem? s.views id ≡ some v) where
   -- the child of an internal node that came into the tree, as it stands in the table
   child_there : (x : ℕ) (right : Bool) → IsInternal x → Born r.stages x
-      → Born r.stages (get_or s.words (child_at x right) 0) × (x < get_or s.words (child_at x right) 0)
+      → Born r.stages (get_or s.words (child_address x right) 0) × (x < get_or s.words (child_address x right) 0)
   child_there x right inner born =
       let children = r.invariant.words.children x inner born in
       subst (λ n. Born r.stages n × (x < n)) (child_listed keys cards s r id v here x right inner born) (children.born right, children.rising right)
@@ -30,7 +30,7 @@ module _ (keys : List ℕ) (cards : ℕ) (s : TableState) (r : HasMachine keys c
   -- look
   pub keeps_look : IsFree v → IsEvent keys cards s r id v call.Look
   keeps_look may =
-      let n = get_or s.words (child_at 0 false) 0 in
+      let n = get_or s.words (child_address 0 false) 0 in
       let h = r.views id v here in
       let child = child_there 0 false refl (root_born r.words r.stages r.invariant.words) in
       is_no_event keys cards s r id v here call.Look
@@ -42,13 +42,13 @@ module _ (keys : List ℕ) (cards : ℕ) (s : TableState) (r : HasMachine keys c
         least = h.least;
         knew = h.knew;
         walk = h.walk;
-      }) (child_at 0 false))
+      }) (child_address 0 false))
       refl refl (child.1, born_in_table keys cards s r id v here n child.0)
 
   -- look_down
   pub keeps_look_down : (from : Glance) (key : ℕ) (right : Bool) → MayLookDown v from key → IsEvent keys cards s r id v (call.LookDown from key right)
   keeps_look_down from key right may =
-      let n = get_or s.words (child_at from.node right) 0 in
+      let n = get_or s.words (child_address from.node right) 0 in
       let h = r.views id v here in
       let child = child_there from.node right may.inner (h.entries (Met from.node) may.met) in
       is_no_event keys cards s r id v here (call.LookDown from key right)
@@ -60,5 +60,5 @@ module _ (keys : List ℕ) (cards : ℕ) (s : TableState) (r : HasMachine keys c
         least = h.least;
         knew = h.knew;
         walk = h.walk;
-      }) (child_at from.node right))
+      }) (child_address from.node right))
       refl refl (child.1, born_in_table keys cards s r id v here n child.0)

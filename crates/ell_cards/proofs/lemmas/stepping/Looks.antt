@@ -30,7 +30,7 @@ use Rattle.ell_layout.specs.Cards.{child_for, is_right}
 use Rattle.ell_core.specs.acts.Searching.{value_at as value_there}
 use Rattle.ell_core.specs.acts.Events.{Happens}
 use Rattle.ell_core.specs.history.Stages.{Stage, Opening, Born, insert_open, delete_open, is_marked}
-use Rattle.ell_core.specs.statements.StepLaws.{MayRead}
+use Rattle.ell_core.specs.statements.StepLaws.{IsReadable}
 use Rattle.ell_core.specs.statements.Effects.{value_in, contents_in}
 use Rattle.ell_core.proofs.lemmas.outcomes.Decide.{some_not_none}
 use Rattle.ell_core.proofs.lemmas.stages.Order.{born_is_node}
@@ -44,7 +44,7 @@ use Rattle.ell_cards.specs.Changes.{places_by, after_upd, is_this}
 use Rattle.ell_cards.proofs.lemmas.views.Afters.{after_down, after_next, after_key_of, after_value_of}
 use Rattle.ell_cards.proofs.lemmas.views.Searches.{seen_at}
 use Rattle.ell_cards.specs.Guards.{MayRead as MayUpd, MayGoDown}
-use Rattle.ell_cards.specs.Calls.{TellsLeaf, TellsValue, update_at, child_at, key_at, value_at}
+use Rattle.ell_cards.specs.Calls.{TellsLeaf, TellsLedgerValue, update_address, child_address, key_address, value_address}
 use Rattle.ell_cards.specs.States.{TableState}
 use Rattle.ell_cards.specs.Machines.{EntryHolds, over_before, HasMachine}
 use Rattle.ell_cards.specs.Laws.{IsEvent}
@@ -76,20 +76,20 @@ some_if false value = refl
 
 module _ (keys : List ℕ) (cards : ℕ) (s : TableState) (r : HasMachine keys cards s) (id : ℕ) (v : View) (here : get_elem? s.views id ≡ some v) where
   -- a node that came into the tree has its key in the table
-  pub key_listed : (x : ℕ) → Born r.stages x → r.words.key x ≡ get_or s.words (key_at x) 0
+  pub key_listed : (x : ℕ) → Born r.stages x → r.words.key x ≡ get_or s.words (key_address x) 0
   key_listed x born = key_at_node r.words x (born_is_node r.stages x born) ∙ sym (r.settled (card x) (key_field (x % 4)) (born-settled (r.stages (card x)) (x % 4) born))
 
   -- a leaf its value
-  pub value_listed : (x : ℕ) → IsLeaf x → Born r.stages x → r.words.value x ≡ get_or s.words (value_at x) 0
+  pub value_listed : (x : ℕ) → IsLeaf x → Born r.stages x → r.words.value x ≡ get_or s.words (value_address x) 0
   value_listed x outer born =
       value_at_leaf r.words x (born_is_node r.stages x born) outer ∙ sym (r.settled (card x) (value_field (x % 4)) (born-settled (r.stages (card x)) (x % 4) born))
 
   -- an internal one its children and its update word
-  pub child_listed : (x : ℕ) (right : Bool) → IsInternal x → Born r.stages x → r.words.child x right ≡ get_or s.words (child_at x right) 0
+  pub child_listed : (x : ℕ) (right : Bool) → IsInternal x → Born r.stages x → r.words.child x right ≡ get_or s.words (child_address x right) 0
   child_listed x right inner born =
       child_at_node r.words x right inner ∙ sym (r.settled (card x) (child_field right) (born-settled (r.stages (card x)) (x % 4) born))
 
-  pub update_listed : (x : ℕ) → IsInternal x → Born r.stages x → r.words.update x ≡ get_or s.words (update_at x) 0
+  pub update_listed : (x : ℕ) → IsInternal x → Born r.stages x → r.words.update x ≡ get_or s.words (update_address x) 0
   update_listed x inner born =
       update_at_node r.words x inner ∙ sym (r.settled (card x) field.Update (born-settled (r.stages (card x)) (x % 4) born))
 
@@ -114,12 +114,12 @@ module _ (keys : List ℕ) (cards : ℕ) (s : TableState) (r : HasMachine keys c
       (ap (λ (u : Worker). u.search.node) same ∙ stands) outer))
 
   -- an update word that was found at a node names a card of the table
-  pub names_card : (x n : ℕ) → MayRead r.words r.stages x → r.words.update x ≡ n → (unpacked n).card ≤ cards
+  pub names_card : (x n : ℕ) → IsReadable r.words r.stages x → r.words.update x ≡ n → (unpacked n).card ≤ cards
   names_card x n reads is = subst (λ m. (unpacked m).card ≤ cards) is
       (let low = reads.names.claimed in let room = r.invariant.limit in omega arith)
 
   -- what was told with what an update tells at a node
-  pub found_entries : (x n : ℕ) (told : List Told) → MayRead r.words r.stages x → r.words.update x ≡ n
+  pub found_entries : (x n : ℕ) (told : List Told) → IsReadable r.words r.stages x → r.words.update x ≡ n
       → ((e : Told) → Has told e → EntryHolds r.words r.stages e)
       → (e : Told) → Has (places_by x (unpacked n).state (unpacked n).card told) e → EntryHolds r.words r.stages e
   found_entries x n told reads is old =
@@ -176,7 +176,7 @@ module _ (keys : List ℕ) (cards : ℕ) (s : TableState) (r : HasMachine keys c
   -- upd
   pub keeps_upd : (x : ℕ) → MayUpd v x → IsEvent keys cards s r id v (call.Upd x)
   keeps_upd x may =
-      let n = get_or s.words (update_at x) 0 in
+      let n = get_or s.words (update_address x) 0 in
       let after = after_upd x (unpacked n) v in
       let reads = (relies keys cards s r id v here).reads x (ap (λ (u : Worker). u.search.node) (mine_is keys cards s r id v here) ∙ may.stands) may.inner in
       let is = update_listed x may.inner reads.born in
@@ -213,13 +213,13 @@ module _ (keys : List ℕ) (cards : ℕ) (s : TableState) (r : HasMachine keys c
         knew = λ f k. facts_by_more (unpacked n).state (unpacked n).card v.worker.facts f ((r.views id v here).knew f k);
         walk = λ op y busy at. (stands_born keys cards s r id v here y at, (r.views id v here).walk op y busy at);
       })
-      (update_at x))
+      (update_address x))
       refl refl (names_card x n reads is, read_unknown x n may.stands may.inner reads.born is)
 
   -- down
   pub keeps_down : (x : ℕ) (right : Bool) → MayGoDown v x right → IsEvent keys cards s r id v (call.Down x right)
   keeps_down x right may =
-      let n = get_or s.words (child_at x right) 0 in
+      let n = get_or s.words (child_address x right) 0 in
       let after = after_down x n v in
       let born = stands_born keys cards s r id v here x may.stands in
       let seen : Seen = record { node = x; word = may.word } in
@@ -269,7 +269,7 @@ module _ (keys : List ℕ) (cards : ℕ) (s : TableState) (r : HasMachine keys c
                   (next may.inner (subst (λ z. OnWalk r.words (key_of may.op) z (r.words.p c)) (sym is) on))),
             );
       })
-      (child_at x right))
+      (child_address x right))
       refl refl (subst (λ y. x < y) is (children.rising (is_right r.words x (key_of may.op))), born_in_table n child_born)
 
   -- next
@@ -287,7 +287,7 @@ module _ (keys : List ℕ) (cards : ℕ) (s : TableState) (r : HasMachine keys c
   -- key_of
   pub keeps_key_of : (x : ℕ) → IsTold v (Met x) → IsEvent keys cards s r id v (call.KeyOf x)
   keeps_key_of x met =
-      let n = get_or s.words (key_at x) 0 in
+      let n = get_or s.words (key_address x) 0 in
       let h = r.views id v here in
       let born = h.entries (Met x) met in
       let is = key_listed x born in
@@ -300,7 +300,7 @@ module _ (keys : List ℕ) (cards : ℕ) (s : TableState) (r : HasMachine keys c
         least = h.least;
         knew = h.knew;
         walk = h.walk;
-      }) (key_at x))
+      }) (key_address x))
       refl refl (leaf n is)
     where
       tells : (n y key : ℕ) → v.worker.search.node ≡ Some y → (b : Bool) → is_this v.worker.search.node x ≡ b
@@ -324,7 +324,7 @@ module _ (keys : List ℕ) (cards : ℕ) (s : TableState) (r : HasMachine keys c
   -- value_of
   pub keeps_value_of : (x : ℕ) → IsTold v (Met x) → IsLeaf x → IsEvent keys cards s r id v (call.ValueOf x)
   keeps_value_of x met outer =
-      let n = get_or s.words (value_at x) 0 in
+      let n = get_or s.words (value_address x) 0 in
       let h = r.views id v here in
       let born = h.entries (Met x) met in
       let is = value_listed x outer born in
@@ -337,9 +337,9 @@ module _ (keys : List ℕ) (cards : ℕ) (s : TableState) (r : HasMachine keys c
         least = h.least;
         knew = h.knew;
         walk = h.walk;
-      }) (value_at x))
+      }) (value_address x))
       refl refl (leaf n is)
     where
-      leaf : (n : ℕ) → r.words.value x ≡ n → TellsValue v x n
+      leaf : (n : ℕ) → r.words.value x ≡ n → TellsLedgerValue v x n
       leaf n is op busy stands told owns = leaf_contents op x busy stands outer owns
           ∙ (ap (λ b. if b then Some (r.words.value x) else None) (eq-eqb (r.words.key x) (key_of op) (here_key x (key_of op) stands told)) ∙ ap Some is)

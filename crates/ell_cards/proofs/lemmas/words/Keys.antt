@@ -12,7 +12,7 @@ use Rattle.ell_core.specs.state.Opening.{keys_at_start}
 use Rattle.ell_core.proofs.lemmas.opening.KeyLists.{place_of, holds_present}
 pub use Rattle.ell_core.proofs.lemmas.opening.KeyLists.{at_place}
 use Rattle.ell_core.proofs.lemmas.outcomes.Decide.{some_not_none}
-use Rattle.ell_cards.specs.Changes.{keys_of}
+use Rattle.ell_cards.specs.Changes.{ledger_keys}
 use Rattle.ell_core.specs.declared.view.Entry.{Entry}
 use Rattle.ell_core.specs.declared.view.Entry.TheVariants.{Present}
 use Rattle.ell_core.specs.state.Opening.{start_entry}
@@ -25,22 +25,22 @@ pub contains_among : (keys : List ℕ) (k : ℕ) → Contains keys k → set_of 
 contains_among keys k at = subst (λ x. set_of keys x ≡ true) at.2 (at_place keys at.0 k at.1)
 
 -- a key of a ledger is owned
-pub among_owned : (l : List (ℕ × Entry)) (k : ℕ) → set_of (keys_of l) k ≡ true → ledger_of l k ≢ None
+pub among_owned : (l : List (ℕ × Entry)) (k : ℕ) → set_of (ledger_keys l) k ≡ true → ledger_of l k ≢ None
 among_owned [] k among = absurd (true≢false (sym among))
 among_owned (e ∷ es) k among = by (k == e.0) among (among_owned es k)
   where
-    by : (t : Bool) → (t || set_of (keys_of es) k) ≡ true → (set_of (keys_of es) k ≡ true → ledger_of es k ≢ None)
+    by : (t : Bool) → (t || set_of (ledger_keys es) k) ≡ true → (set_of (ledger_keys es) k ≡ true → ledger_of es k ≢ None)
         → cond t (Some e.1) (ledger_of es k) ≢ None
     by true h rest none = some_not_none refl none
     by false h rest none = rest h none
 
 -- an owned key is one of the ledger's
-pub owned_among : (l : List (ℕ × Entry)) (k : ℕ) → ledger_of l k ≢ None → set_of (keys_of l) k ≡ true
+pub owned_among : (l : List (ℕ × Entry)) (k : ℕ) → ledger_of l k ≢ None → set_of (ledger_keys l) k ≡ true
 owned_among [] k owns = absurd (owns refl)
 owned_among (e ∷ es) k owns = by (k == e.0) owns (owned_among es k)
   where
-    by : (t : Bool) → cond t (Some e.1) (ledger_of es k) ≢ None → (ledger_of es k ≢ None → set_of (keys_of es) k ≡ true)
-        → (t || set_of (keys_of es) k) ≡ true
+    by : (t : Bool) → cond t (Some e.1) (ledger_of es k) ≢ None → (ledger_of es k ≢ None → set_of (ledger_keys es) k ≡ true)
+        → (t || set_of (ledger_keys es) k) ≡ true
     by true h rest = refl
     by false h rest = rest h
 

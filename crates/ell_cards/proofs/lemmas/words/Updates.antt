@@ -6,7 +6,7 @@ use Rattle.ell_cards.specs.Changes.{is_mark_of}
 use Rattle.ell_word.specs.declared.update.State.{State}
 use Rattle.ell_word.specs.declared.update.State.TheVariants.{IFlag, DFlag, Mark, Clean}
 use Rattle.ell_word.specs.declared.update.Update.{Update}
-use Rattle.ell_word.specs.Word.{number_of, state_of, packed, unpacked}
+use Rattle.ell_word.specs.Word.{state_number, state_of, packed, unpacked}
 
 -- an update is the mark of a card where its word is
 pub is_mark : (c n : ℕ) → is_mark_of c (unpacked n).state (unpacked n).card ≡ (n == marked c)
@@ -28,14 +28,14 @@ is_mark c n = by (n % 4) refl (omega arith)
 pub card_again : (u : Update) → (unpacked (packed u)).card ≡ u.card
 card_again u = by u.state
   where
-    by : (s : State) → (4 * u.card + number_of s) / 4 ≡ u.card
+    by : (s : State) → (4 * u.card + state_number s) / 4 ≡ u.card
     by IFlag = omega arith
     by DFlag = omega arith
     by Mark = omega arith
     by Clean = omega arith
 
 -- a clean update has a clean word
-pub clean_word : (s : State) (c : ℕ) → s ≡ Clean → IsClean (4 * c + number_of s)
+pub clean_word : (s : State) (c : ℕ) → s ≡ Clean → IsClean (4 * c + state_number s)
 clean_word IFlag c h = cc
 clean_word DFlag c h = cc
 clean_word Mark c h = cc

@@ -9,7 +9,7 @@ use Rattle.ell_word.specs.declared.update.State.TheVariants as state
 use Rattle.ell_core.specs.state.Machine.{Machine}
 use Rattle.ell_core.specs.acts.Searching.{IsClean}
 use Rattle.ell_layout.specs.Words.{IsLeaf}
-use Rattle.ell_core.specs.state.Moves.{WorkerIsIdle}
+use Rattle.ell_core.specs.state.Handovers.{WorkerIsIdle}
 use Rattle.ell_core.specs.tree.Tree.{Reached}
 use Rattle.ell_core.specs.soundness.Sound.{WorkerOwns, MayChange, IsInHand}
 use Rattle.ell_core.specs.tree.Ranges.{at_leaf}

@@ -19,7 +19,7 @@ use Rattle.ell_core.specs.acts.Searching.{Down}
 use Rattle.ell_core.specs.soundness.Sound.{flags_at}
 use Rattle.ell_core.specs.history.Stages.{Stage, Stages, Born, is_claimed, is_start, is_insert, is_delete, is_marked, allows}
 use Rattle.ell_core.specs.history.Invariant.{WordsAreSound, SeenIsSound, StandIsSound, KindsAreSound, Unflagged, WorkerIsSound, Invariant}
-use Rattle.ell_core.specs.statements.StepLaws.{NamesItsCard, MayRead, IsInserting, IsDeepening, GoesInTree, HasSeen, StandsBelow, is_of_insert, is_of_marked, StepsMayRely, OwnerFindsClean}
+use Rattle.ell_core.specs.statements.StepLaws.{NamesItsCard, IsReadable, IsInserting, IsDeepening, GoesInTree, HasSeen, StandsBelow, is_of_insert, is_of_marked, StepsMayRely, OwnerFindsClean}
 use Rattle.ell_core.proofs.lemmas.following.Owners.{all_clean, leaf_key_tells}
 use Rattle.ell_core.proofs.lemmas.stages.LaterKeys.{root_born}
 use Rattle.ell_core.proofs.lemmas.following.waiting.Cards.{busy, hand_claimed}
@@ -47,7 +47,7 @@ module _ (w : Words) (stage : Stages) (sound : WordsAreSound w stage) where
   }
 
   -- such a node may be read
-  may_read : (x : ℕ) → IsInternal x → Born stage x → MayRead w stage x
+  may_read : (x : ℕ) → IsInternal x → Born stage x → IsReadable w stage x
   may_read x inner born = let children = sound.children x inner born in record {
     inner = inner;
     born = born;
@@ -151,8 +151,8 @@ has_seen w stage k seen x sound h = record {
 goes_nowhere : (w : Words) (stage : Stages) (c : ℕ) → WordsAreSound w stage → w.gp c ≡ 0 → w.p c ≡ 0 → w.l c ≡ 0 → GoesInTree w stage c
 goes_nowhere w stage c sound gp p l =
     let root = may_read w stage sound 0 refl (root_born w stage sound) in record {
-      grandparent = subst (MayRead w stage) (sym gp) root;
-      parent = subst (MayRead w stage) (sym p) root;
+      grandparent = subst (IsReadable w stage) (sym gp) root;
+      parent = subst (IsReadable w stage) (sym p) root;
       leaf = subst (Born stage) (sym l) (root_born w stage sound);
     }
 
@@ -162,7 +162,7 @@ goes_in_tree w stage sound kinds c below = elim (cases_Bool (is_start (stage c))
   | inl e ↦ (let at = kinds.start c e in goes_nowhere w stage c sound at.gp at.parent at.leaf)
   | inr n ↦ elim (kinds.kinds c below n) [
     | inl insert ↦ (let at = inserting w stage sound c insert in record {
-      grandparent = subst (MayRead w stage) (sym ((sound.cards c).insert insert).gp) (may_read w stage sound 0 refl (root_born w stage sound));
+      grandparent = subst (IsReadable w stage) (sym ((sound.cards c).insert insert).gp) (may_read w stage sound 0 refl (root_born w stage sound));
       parent = at.parent;
       leaf = at.leaf;
     })

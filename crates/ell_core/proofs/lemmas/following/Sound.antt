@@ -1,7 +1,7 @@
 use Rattle.std.proofs.Common.{◌≡◌, ◌≢◌, ℕ, zero, suc, ◌%◌, ◌<◌, Bool, true, List, [], ◌∷◌, inl, inr, refl, sym, ap, ◌∙◌, subst, arith}
 use Rattle.ell_ops.specs.Meaning.{key_of}
 use Rattle.ell_word.specs.Node.{IsInternal, card}
-use Rattle.ell_word.specs.Word.{number_of, state_of, packed, unpacked}
+use Rattle.ell_word.specs.Word.{state_number, state_of, packed, unpacked}
 use Rattle.ell_word.specs.declared.update.State.{State}
 use Rattle.ell_word.specs.declared.update.State.TheVariants as state
 use Rattle.ell_layout.specs.Words.{Words}
@@ -44,7 +44,7 @@ module _ (w : Words) (stage : Stages) (sound : WordsAreSound w stage) where
   ]
 
 -- the number of a state
-number_of-state_of : (n : ℕ) → n < 4 → number_of (state_of n) ≡ n
+number_of-state_of : (n : ℕ) → n < 4 → state_number (state_of n) ≡ n
 number_of-state_of zero h = refl
 number_of-state_of (suc zero) h = refl
 number_of-state_of (suc (suc zero)) h = refl
@@ -55,7 +55,7 @@ pub word_by_state : (word : ℕ) (s : State) → (unpacked word).state ≡ s
     → word ≡ packed (record { state = s; card = (unpacked word).card })
 word_by_state word s h =
     let a = number_of-state_of (word % 4) (omega arith) in
-    let b = ap number_of h in
+    let b = ap state_number h in
     omega arith
 
 -- the invariant holds of the state

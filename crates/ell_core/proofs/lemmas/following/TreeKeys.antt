@@ -8,7 +8,7 @@ use Rattle.ell_core.specs.state.Machine.{Scene}
 use Rattle.ell_core.specs.acts.Exchanges.{exchanged_update}
 use Rattle.ell_core.specs.acts.Events.{Row}
 use Rattle.ell_core.specs.tree.Tree.{IsTreePair}
-use Rattle.ell_core.specs.tree.Ranges.{Meets}
+use Rattle.ell_core.specs.tree.Ranges.{FindsLeaf}
 use Rattle.ell_core.specs.history.Stages.{Stages}
 use Rattle.ell_core.specs.history.Invariant.{TreeIsSound, LeadsTo, LeadsToValue}
 use Rattle.ell_core.specs.statements.Effects.{AddsPair, ReplacesPair, TakesPair, SamePairs}
@@ -79,7 +79,7 @@ pub record SameLinks (old new : Words) : Type 0 where
 
 -- the same walks lead to keys and values in them
 links_lead : (old new : Words) → SameLinks old new → (k v x : ℕ) → LeadsToValue new k v x ≡ LeadsToValue old k v x
-links_lead old new same k v x = λ t. Meets (same.key t) (same.child t) (λ leaf. same.value t leaf ≡ v) k x
+links_lead old new same k v x = λ t. FindsLeaf (same.key t) (same.child t) (λ leaf. same.value t leaf ≡ v) k x
 
 -- so the same are led to
 pub links_keep : (old new : Words) → SameLinks old new → (k v x : ℕ) → LeadsToValue new k v x ↔ LeadsToValue old k v x

@@ -5,7 +5,7 @@ use Rattle.ell_core.specs.declared.fact.Fact.{Fact}
 use Rattle.ell_layout.specs.Words.{Words}
 use Rattle.ell_core.specs.state.Facts.{card_of_fact}
 use Rattle.ell_core.specs.state.Machine.{Worker, Machine, nobody}
-use Rattle.ell_core.specs.state.Moves.{WorkerIsIdle}
+use Rattle.ell_core.specs.state.Handovers.{WorkerIsIdle}
 use Rattle.ell_core.specs.soundness.Sound.{WorkerOwns, MayChange, IsNotShared, IsOwned, IsInHand}
 use Rattle.ell_core.specs.history.Stages.{Stages, allows, effective_at}
 use Rattle.ell_core.specs.history.Invariant.{LeadsTo, LeadsToValue, WorkerIsSound, Invariant}

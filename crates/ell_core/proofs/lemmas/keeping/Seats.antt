@@ -3,7 +3,7 @@ use Rattle.std.proofs.lemmas.Bool.{false≢true, cases_eq, or_cases}
 use Rattle.std.proofs.lemmas.Bool.Decides.{nat_tests}
 use Rattle.ell_layout.specs.Words.{put}
 use Rattle.ell_core.specs.state.Machine.{Worker, Machine, nobody}
-use Rattle.ell_core.specs.state.Moves.{WorkerIsIdle, KnowsNoMore, Split, Join}
+use Rattle.ell_core.specs.state.Handovers.{WorkerIsIdle, KnowsNoMore, Split, Join}
 use Rattle.ell_core.specs.soundness.Sound.{WorkerOwns}
 use Rattle.ell_core.specs.history.Stages.{Stages}
 use Rattle.ell_core.specs.history.Invariant.{Invariant}

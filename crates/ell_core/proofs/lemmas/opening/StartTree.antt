@@ -3,7 +3,7 @@ use Rattle.std.proofs.lemmas.Bool.{cases_lt, cases_eq, eq-eqb, ne_eqb, le-leb, l
 use Rattle.ell_word.specs.Node.{IsInternal, IsNode, card, internal, left_leaf, right_leaf}
 use Rattle.ell_layout.specs.declared.branch.Branch.{Branch}
 use Rattle.ell_layout.specs.Branches.{left_branch, right_branch, descend, branch_of, left_child, right_child}
-use Rattle.ell_core.specs.tree.Ranges.{low_of, high_of, Spans, root, goes, Meets, at_leaf, below, IsOrdered, IsSpanned}
+use Rattle.ell_core.specs.tree.Ranges.{low_of, high_of, Spans, root, goes, FindsLeaf, at_leaf, below, IsOrdered, IsSpanned}
 use Rattle.ell_layout.proofs.lemmas.Branches.{branch_card, branch_holds, branch_left, branch_right, branch_within, cards_within, above}
 
 -- a card has the node of a branch: its key is that of the first leaf on its right; and of each leaf holds what is to
@@ -277,7 +277,7 @@ module _ (leaves : ℕ) (some : 0 < leaves) (leaf key : ℕ → ℕ) (child : �
     pub inside : at ≤ leaves
     pub is : leaf at ≡ k
 
-  meets_leaf_key : {that : ℕ → Type 0} (k x low high : ℕ) → Meets key child that k x → Place x low high → IsLeafKey k
+  meets_leaf_key : {that : ℕ → Type 0} (k x low high : ℕ) → FindsLeaf key child that k x → Place x low high → IsLeafKey k
   meets_leaf_key k x low high (at_leaf outer e _) (inl at) = absurd (let is = at.is in outer (omega arith))
   meets_leaf_key k x low high (at_leaf outer e _) (inr at) = record { at = at.at; inside = at.inside; is = sym at.is ∙ e }
   meets_leaf_key k x low high (below {x = _} {y = y} inner e rest) (inr at) = absurd (at.outer inner)
@@ -306,13 +306,13 @@ module _ (leaves : ℕ) (some : 0 < leaves) (leaf key : ℕ → ℕ) (child : �
       ]
 
   -- the walk goes on to a child
-  walks : {that : ℕ → Type 0} (c : ℕ) (right : Bool) (k : ℕ) → nat_le (key (internal c)) k ≡ right → Meets key child that k (child (internal c) right)
-      → Meets key child that k (internal c)
+  walks : {that : ℕ → Type 0} (c : ℕ) (right : Bool) (k : ℕ) → nat_le (key (internal c)) k ≡ right → FindsLeaf key child that k (child (internal c) right)
+      → FindsLeaf key child that k (internal c)
   walks c right k side rest = below (omega arith) (sym (ap (child (internal c)) side)) rest
 
   -- the walk for a key of the leaves of a branch finds it
   finds : (n c i : ℕ) → leaves ≤ c + n → c < leaves → (branch_of leaves c).first ≤ i
-      → i < (branch_of leaves c).first + ((branch_of leaves c).left + (branch_of leaves c).right) → Meets key child (holds i) (leaf i) (internal c)
+      → i < (branch_of leaves c).first + ((branch_of leaves c).left + (branch_of leaves c).right) → FindsLeaf key child (holds i) (leaf i) (internal c)
   finds zero c i enough inside from to = absurd (omega arith)
   finds (suc n) c i enough inside from to =
       let b = branch_of leaves c in
@@ -335,7 +335,7 @@ module _ (leaves : ℕ) (some : 0 < leaves) (leaf key : ℕ → ℕ) (child : �
               let first : (branch_of leaves (c + 1)).first ≡ b.first = ap (λ (t : Branch). t.first) next in
               let left = ap (λ (t : Branch). t.left) next in
               let right = ap (λ (t : Branch). t.right) next in
-              subst (Meets key child (holds i) (leaf i)) (sym (left_reached c inside (omega arith)))
+              subst (FindsLeaf key child (holds i) (leaf i)) (sym (left_reached c inside (omega arith)))
               (finds n (c + 1) i (omega arith) (omega arith) (omega arith) (omega arith))
         ])
         | inr past ↦ walks c true (leaf i) (goes_right c i inside past (omega arith)) (elim (cases_eq b.right 1) [
@@ -349,17 +349,17 @@ module _ (leaves : ℕ) (some : 0 < leaves) (leaf key : ℕ → ℕ) (child : �
               let first : (branch_of leaves (c + b.left)).first ≡ b.first + b.left = ap (λ (t : Branch). t.first) next in
               let left = ap (λ (t : Branch). t.left) next in
               let right = ap (λ (t : Branch). t.right) next in
-              subst (Meets key child (holds i) (leaf i)) (sym (right_reached c inside (omega arith)))
+              subst (FindsLeaf key child (holds i) (leaf i)) (sym (right_reached c inside (omega arith)))
               (finds n (c + b.left) i (omega arith) (omega arith) (omega arith) (omega arith))
         ])
       ]
 
   -- so the walk from the root finds the keys of all leaves, and no other
-  pub finds_leaf : (i : ℕ) → i ≤ leaves → Meets key child (holds i) (leaf i) 0
+  pub finds_leaf : (i : ℕ) → i ≤ leaves → FindsLeaf key child (holds i) (leaf i) 0
   unfolding descend
   finds_leaf i inside = finds leaves 0 i (omega arith) some (omega arith) (omega arith)
 
-  pub finds_leaves_only : {that : ℕ → Type 0} (k : ℕ) → Meets key child that k 0 → IsLeafKey k
+  pub finds_leaves_only : {that : ℕ → Type 0} (k : ℕ) → FindsLeaf key child that k 0 → IsLeafKey k
   finds_leaves_only k found = meets_leaf_key k 0 0 top found (places (root refl refl refl))
 
   -- each reached node is on a card of the tree

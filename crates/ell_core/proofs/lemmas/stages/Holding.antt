@@ -11,7 +11,7 @@ use Rattle.ell_layout.specs.Words.{Words}
 use Rattle.ell_core.specs.state.Facts.{card_of_fact}
 use Rattle.ell_core.specs.state.Machine.{Ledger, Worker}
 use Rattle.ell_layout.specs.Cards.{iflag, dflag, marked, is_right, is_delete_card, card_child}
-use Rattle.ell_core.specs.soundness.Holds.{IFlagHolds, IChangeHolds, DFlagHolds, MarkHolds, UnmarkableHolds, CutHolds, Holds, made, is_changed_in, is_cut_in, made_in, with_made, effective_of, effective}
+use Rattle.ell_core.specs.soundness.Holds.{IFlagHolds, IChangeHolds, DFlagHolds, MarkHolds, UnmarkableHolds, CutHolds, Holds, entry_made, is_changed_in, is_cut_in, made_in, with_made, effective_of, effective}
 use Rattle.ell_core.specs.history.Stages.{Stage, Stages, is_insert, is_delete, insert_won, insert_open, insert_waits, is_changed, insert_over, delete_won, delete_open, delete_waits, is_unmarkable, is_marked, is_cut, delete_past, delete_over, is_backed, allows, made_by_stage, effective_at_of, effective_at}
 use Rattle.ell_core.specs.history.Stages as at
 use Rattle.ell_core.specs.history.Invariant.{insert_key, delete_key, insert_side, delete_side, WordsAreSound, Flagged, WorkerIsSound}
@@ -49,16 +49,16 @@ no_less : (flag update : ℕ) → (update ≡ flag) ⊎ (flag < update) → flag
 no_less flag update (inl e) = omega arith
 no_less flag update (inr h) = omega arith
 
--- what an insert or a swap has made does not depend on cuts, nor what a delete has made on changes
-made_insert : (k value : ℕ) (changed : Bool) (cut cut' : Bool) → made (Insert k value) changed cut ≡ made (Insert k value) changed cut'
+-- what an insert or a swap has entry_made does not depend on cuts, nor what a delete has entry_made on changes
+made_insert : (k value : ℕ) (changed : Bool) (cut cut' : Bool) → entry_made (Insert k value) changed cut ≡ entry_made (Insert k value) changed cut'
 made_insert k value true cut cut' = refl
 made_insert k value false cut cut' = refl
 
-made_swap : (k was value : ℕ) (changed : Bool) (cut cut' : Bool) → made (Swap k was value) changed cut ≡ made (Swap k was value) changed cut'
+made_swap : (k was value : ℕ) (changed : Bool) (cut cut' : Bool) → entry_made (Swap k was value) changed cut ≡ entry_made (Swap k was value) changed cut'
 made_swap k was value true cut cut' = refl
 made_swap k was value false cut cut' = refl
 
-made_delete : (k : ℕ) (cut : Bool) (changed changed' : Bool) → made (Delete k) changed cut ≡ made (Delete k) changed' cut
+made_delete : (k : ℕ) (cut : Bool) (changed changed' : Bool) → entry_made (Delete k) changed cut ≡ entry_made (Delete k) changed' cut
 made_delete k true changed changed' = refl
 made_delete k false changed changed' = refl
 
@@ -184,7 +184,7 @@ module _ (w : Words) (stage : Stages) (sound : WordsAreSound w stage) where
   fact_holds (fact.Backed c) h =
       let backed = backed-unmarkable (stage c) h in (unmarkable_holds c backed.0, (sound.deletes c).past backed.1)
 
-  -- the words of a card that won its flag show whether its child exchange was made
+  -- the words of a card that won its flag show whether its child exchange was entry_made
   changed_in : (c : ℕ) → insert_won (stage c) ≡ true → is_changed_in w c ≡ is_changed (stage c)
   changed_in c h =
       let child = insert_card_child c (insert_won-insert (stage c) h) in
@@ -201,18 +201,18 @@ module _ (w : Words) (stage : Stages) (sound : WordsAreSound w stage) where
       (λ g. child ∙ says.waits g) (λ g. subst (λ n. w.p c < n) (sym child) (says.cut g).past)
       (λ g. (says.marked g).mark) (mark_means c kind)
 
-  -- so what they show that it has made, its stage has made
+  -- so what they show that it has entry_made, its stage has entry_made
   pub insert_made : (k value c : ℕ) → insert_won (stage c) ≡ true → made_in w (Insert k value) c ≡ made_by_stage (Insert k value) (stage c)
   insert_made k value c h =
-      ap (λ b. made (Insert k value) b (is_cut_in w c)) (changed_in c h) ∙ made_insert k value (is_changed (stage c)) (is_cut_in w c) (is_cut (stage c))
+      ap (λ b. entry_made (Insert k value) b (is_cut_in w c)) (changed_in c h) ∙ made_insert k value (is_changed (stage c)) (is_cut_in w c) (is_cut (stage c))
 
   swap_made : (k was value c : ℕ) → insert_won (stage c) ≡ true → made_in w (Swap k was value) c ≡ made_by_stage (Swap k was value) (stage c)
   swap_made k was value c h =
-      ap (λ b. made (Swap k was value) b (is_cut_in w c)) (changed_in c h) ∙ made_swap k was value (is_changed (stage c)) (is_cut_in w c) (is_cut (stage c))
+      ap (λ b. entry_made (Swap k was value) b (is_cut_in w c)) (changed_in c h) ∙ made_swap k was value (is_changed (stage c)) (is_cut_in w c) (is_cut (stage c))
 
   pub delete_made : (k c : ℕ) → delete_won (stage c) ≡ true → made_in w (Delete k) c ≡ made_by_stage (Delete k) (stage c)
   delete_made k c h =
-      ap (made (Delete k) (is_changed_in w c)) (cut_in c h) ∙ made_delete k (is_cut (stage c)) (is_changed_in w c) (is_changed (stage c))
+      ap (entry_made (Delete k) (is_changed_in w c)) (cut_in c h) ∙ made_delete k (is_cut (stage c)) (is_changed_in w c) (is_changed (stage c))
 
   -- the same of the card that a worker has in hand, flagged
   flagged_made : (v : Worker) (op : Op) (c : ℕ) → Flagged w stage v op c → made_in w op c ≡ made_by_stage op (stage c)

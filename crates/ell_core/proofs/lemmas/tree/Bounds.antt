@@ -1,21 +1,21 @@
 use Rattle.std.proofs.Common.{◌≡◌, ℕ, ◌<◌, ◌≤◌, Bool, true, false, nat_le, refl, sym, ◌∙◌, subst, arith}
 use Rattle.std.proofs.lemmas.Bool.Decides.{nat_tests}
 use Rattle.ell_word.specs.Node.{IsInternal}
-use Rattle.ell_core.specs.tree.Ranges.{next_node, low_of, high_of, Spans, root, goes, Meets, at_leaf, below, IsOrdered}
+use Rattle.ell_core.specs.tree.Ranges.{next_node, low_of, high_of, Spans, root, goes, FindsLeaf, at_leaf, below, IsOrdered}
 
 -- a walk that ends at the leaf where it starts has the leaf's key
-pub leaf_key : (key : ℕ → ℕ) (child : ℕ → Bool → ℕ) {holds : ℕ → Type 0} (k x : ℕ) → ¬ IsInternal x → Meets key child holds k x → key x ≡ k
+pub leaf_key : (key : ℕ → ℕ) (child : ℕ → Bool → ℕ) {holds : ℕ → Type 0} (k x : ℕ) → ¬ IsInternal x → FindsLeaf key child holds k x → key x ≡ k
 leaf_key key child k x outer (at_leaf _ has _) = has
 leaf_key key child k x outer (below inner _ _) = absurd (outer inner)
 
 -- and what holds of it holds of the leaf
-pub leaf_holds : (key : ℕ → ℕ) (child : ℕ → Bool → ℕ) {holds : ℕ → Type 0} (k x : ℕ) → ¬ IsInternal x → Meets key child holds k x → holds x
+pub leaf_holds : (key : ℕ → ℕ) (child : ℕ → Bool → ℕ) {holds : ℕ → Type 0} (k x : ℕ) → ¬ IsInternal x → FindsLeaf key child holds k x → holds x
 leaf_holds key child k x outer (at_leaf _ _ that) = that
 leaf_holds key child k x outer (below inner _ _) = absurd (outer inner)
 
 -- where one thing holds of the leaves of which another does, it holds at the end of the same walks
 pub Meets-map : (key : ℕ → ℕ) (child : ℕ → Bool → ℕ) {holds also : ℕ → Type 0} (k : ℕ) → ((x : ℕ) → holds x → also x) → {x : ℕ}
-    → Meets key child holds k x → Meets key child also k x
+    → FindsLeaf key child holds k x → FindsLeaf key child also k x
 Meets-map key child k more (at_leaf {x = x} outer has that) = at_leaf outer has (more x that)
 Meets-map key child k more (below inner e rest) = below inner e (Meets-map key child k more rest)
 
@@ -38,9 +38,9 @@ module _ (key : ℕ → ℕ) (child : ℕ → Bool → ℕ) (top : ℕ) (ordered
   side_within m k low high false e a b = (a, grind (arith, nat_tests))
 
   -- a key in the range of x that is met from x is met from node 0
-  pub Meets-up : {holds : ℕ → Type 0} {k x low high : ℕ} → Spans key child top x low high → low ≤ k → k < high → Meets key child holds k x
-      → Meets key child holds k 0
-  Meets-up {holds = holds} {k = k} (root e _ _) a b f = subst (Meets key child holds k) e f
+  pub Meets-up : {holds : ℕ → Type 0} {k x low high : ℕ} → Spans key child top x low high → low ≤ k → k < high → FindsLeaf key child holds k x
+      → FindsLeaf key child holds k 0
+  Meets-up {holds = holds} {k = k} (root e _ _) a b f = subst (FindsLeaf key child holds k) e f
   Meets-up {k = k} (goes {x = x} {low = low} {high = high} t r i e g h) a b f =
       let w = child_within x low high t r in
       let a2 : low_of t low (key x) ≤ k = omega arith in
@@ -49,14 +49,14 @@ module _ (key : ℕ → ℕ) (child : ℕ → Bool → ℕ) (top : ℕ) (ordered
       Meets-up r (omega arith) (omega arith) (below i (cc) f)
 
   -- a key that is met from a node is met from the next one on its walk
-  pub below_of : {holds : ℕ → Type 0} {k x y : ℕ} → IsInternal x → y ≡ next_node key child k x → Meets key child holds k x → Meets key child holds k y
+  pub below_of : {holds : ℕ → Type 0} {k x y : ℕ} → IsInternal x → y ≡ next_node key child k x → FindsLeaf key child holds k x → FindsLeaf key child holds k y
   below_of i e (at_leaf h _ _) = absurd (h i)
-  below_of {holds = holds} {k = k} i e (below _ d f) = subst (Meets key child holds k) (d ∙ sym e) f
+  below_of {holds = holds} {k = k} i e (below _ d f) = subst (FindsLeaf key child holds k) (d ∙ sym e) f
 
   -- a key in the range of x that is met from node 0 is met from x
-  pub Meets-down : {holds : ℕ → Type 0} {k x low high : ℕ} → Spans key child top x low high → low ≤ k → k < high → Meets key child holds k 0
-      → Meets key child holds k x
-  Meets-down {holds = holds} {k = k} (root e _ _) a b f = subst (Meets key child holds k) (sym e) f
+  pub Meets-down : {holds : ℕ → Type 0} {k x low high : ℕ} → Spans key child top x low high → low ≤ k → k < high → FindsLeaf key child holds k 0
+      → FindsLeaf key child holds k x
+  Meets-down {holds = holds} {k = k} (root e _ _) a b f = subst (FindsLeaf key child holds k) (sym e) f
   Meets-down {k = k} (goes {x = x} {low = low} {high = high} t r i e g h) a b f =
       let w = child_within x low high t r in
       let a2 : low_of t low (key x) ≤ k = omega arith in
@@ -65,7 +65,7 @@ module _ (key : ℕ → ℕ) (child : ℕ → Bool → ℕ) (top : ℕ) (ordered
       below_of i (cc) (Meets-down r (omega arith) (omega arith) f)
 
   -- a key that is met from x lies in the range of x
-  pub Meets-within : {holds : ℕ → Type 0} {k x low high : ℕ} → Meets key child holds k x → Spans key child top x low high → (low ≤ k) × (k < high)
+  pub Meets-within : {holds : ℕ → Type 0} {k x low high : ℕ} → FindsLeaf key child holds k x → Spans key child top x low high → (low ≤ k) × (k < high)
   Meets-within {low = low} {high = high} (at_leaf {x = x} h e _) r =
       let w = ordered.within x low high r in (omega arith, omega arith)
   Meets-within {k = k} {low = low} {high = high} (below {x = x} i e f) r =
@@ -74,12 +74,12 @@ module _ (key : ℕ → ℕ) (child : ℕ → Bool → ℕ) (top : ℕ) (ordered
       (omega arith, omega arith)
 
   -- the leaf where a key is met
-  pub met_leaf : {holds : ℕ → Type 0} {k x low high : ℕ} → Meets key child holds k x → Spans key child top x low high
+  pub met_leaf : {holds : ℕ → Type 0} {k x low high : ℕ} → FindsLeaf key child holds k x → Spans key child top x low high
       → (y a b : ℕ) × Spans key child top y a b × (¬ IsInternal y) × (key y ≡ k)
   met_leaf {low = low} {high = high} (at_leaf {x = x} h e _) r = (x, low, high, r, h, e)
   met_leaf {k = k} (below {x = x} i e f) r = met_leaf f (goes (nat_le (key x) k) r i e refl refl)
 
   -- the key of a leaf that is reached is met from node 0
-  pub leaf_is_met : {holds : ℕ → Type 0} {x low high : ℕ} → Spans key child top x low high → ¬ IsInternal x → holds x → Meets key child holds (key x) 0
+  pub leaf_is_met : {holds : ℕ → Type 0} {x low high : ℕ} → Spans key child top x low high → ¬ IsInternal x → holds x → FindsLeaf key child holds (key x) 0
   leaf_is_met {x = x} {low = low} {high = high} r h that =
       let w = ordered.within x low high r in Meets-up r w.0 w.1 (at_leaf h refl that)

@@ -1,6 +1,6 @@
 use Rattle.std.proofs.Common.{◌≡◌, ℕ, ◌<◌, ◌≤◌, Bool, nat_le, sym, ap, ◌∙◌, subst}
 use Rattle.ell_word.specs.Node.{IsInternal}
-use Rattle.ell_core.specs.tree.Ranges.{next_node, low_of, high_of, Spans, root, goes, IsOrdered, Meets, at_leaf, below, OnCourse, here, off, dead}
+use Rattle.ell_core.specs.tree.Ranges.{next_node, low_of, high_of, Spans, root, goes, IsOrdered, FindsLeaf, at_leaf, below, OnCourse, here, off, dead}
 
 module _ (Born : ℕ → Type 0) (key key_after : ℕ → ℕ) (child after : ℕ → Bool → ℕ) (top : ℕ) (start : Born 0)
     (closed : (x : ℕ) (t : Bool) → IsInternal x → Born x → Born (child x t))
@@ -25,7 +25,7 @@ module _ (Born : ℕ → Type 0) (key key_after : ℕ → ℕ) (child after : �
 
   -- a key is met as before
   pub Meets-same : {holds holds_after : ℕ → Type 0} → ((x : ℕ) → Born x → holds x → holds_after x) → (k : ℕ) {x : ℕ} → Born x
-      → Meets key child holds k x → Meets key_after after holds_after k x
+      → FindsLeaf key child holds k x → FindsLeaf key_after after holds_after k x
   Meets-same still k o (at_leaf {x = x} h e p) = at_leaf h (same_key x o ∙ e) (still x o p)
   Meets-same still k o (below {x = x} i e f) =
       below i (e ∙ sym (next_same k x o)) (Meets-same still k (subst Born (sym e) (closed x (nat_le (key x) k) i o)) f)
@@ -51,7 +51,7 @@ module _ (Born : ℕ → Type 0) (key key_after : ℕ → ℕ) (child after : �
 
   -- a key that is met afterwards was met before
   pub Meets-back : {holds holds_after : ℕ → Type 0} → ((x : ℕ) → Born x → holds_after x → holds x) → (k : ℕ) {x : ℕ} → Born x
-      → Meets key_after after holds_after k x → Meets key child holds k x
+      → FindsLeaf key_after after holds_after k x → FindsLeaf key child holds k x
   Meets-back still k o f =
       Meets-same Born key_after key after child top start closed_after (λ x o. sym (same_key x o))
       (λ x t o. sym (same_child x t o)) still k o f

@@ -1,6 +1,6 @@
 use Rattle.std.proofs.Common.{◌≡◌, ◌≢◌, ℕ, ◌%◌, ◌<◌, ◌≤◌, Bool, true, false, nat_le, refl, sym, ap, ◌∙◌, subst, inl, inr, ◌⊎◌, ◌↔◌, arith}
 use Rattle.ell_word.specs.Node.{IsInternal}
-use Rattle.ell_core.specs.tree.Ranges.{next_node, low_of, high_of, Spans, root, goes, Meets, at_leaf, below, IsOrdered, Relinked}
+use Rattle.ell_core.specs.tree.Ranges.{next_node, low_of, high_of, Spans, root, goes, FindsLeaf, at_leaf, below, IsOrdered, Relinked}
 use Rattle.ell_core.proofs.lemmas.tree.Bounds.{leaf_key, leaf_holds, Meets-up, Meets-down}
 
 -- the shape of the change: the child of p on the side s, a leaf l, becomes the internal node q, whose leaves have the keys
@@ -111,7 +111,7 @@ module _ (key : ℕ → ℕ) (child after : ℕ → Bool → ℕ) (top p : ℕ) 
 
   -- what holds of the old leaf, and of its copy just where it holds of the old leaf
   module _ {holds : ℕ → Type 0} (copy : (t : Bool) → key (child q t) ≡ key l → holds (child q t) ↔ holds l) where
-    other_leaf : (j : ℕ) → j ≢ k → (x : ℕ) → x ≡ q → Meets key after holds j x → (key l ≡ j) × holds l
+    other_leaf : (j : ℕ) → j ≢ k → (x : ℕ) → x ≡ q → FindsLeaf key after holds j x → (key l ≡ j) × holds l
     other_leaf j ne x a (at_leaf h e p) = absurd (h (ap (λ v. v % 4) a ∙ shape.node))
     other_leaf j ne x a (below i e (at_leaf h d p)) =
         let t = nat_le (key x) j in
@@ -124,34 +124,34 @@ module _ (key : ℕ → ℕ) (child after : ℕ → Bool → ℕ) (top p : ℕ) 
         absurd (shape.leaves t (ap (λ v. v % 4) same ∙ h))
 
     -- the leaf of the new node on a key's side has the key, and so it is met there
-    new_met : (j : ℕ) → key (next_node key child j q) ≡ j → holds (next_node key child j q) → Meets key after holds j q
+    new_met : (j : ℕ) → key (next_node key child j q) ≡ j → holds (next_node key child j q) → FindsLeaf key after holds j q
     new_met j e p =
         let t = nat_le (key q) j in
         below shape.node refl (at_leaf (λ h. shape.leaves t (ap (λ v. v % 4) (sym (kept t)) ∙ h)) (ap key (kept t) ∙ e) (subst holds (sym (kept t)) p))
 
-    copied : (j : ℕ) → key l ≡ j → holds l → Meets key after holds j q
+    copied : (j : ℕ) → key l ≡ j → holds l → FindsLeaf key after holds j q
     copied j e p =
         let has : key (next_node key child j q) ≡ j = subst (λ v. key (child q (nat_le (key q) v)) ≡ v) e shape.old_key in
         new_met j has ((copy (nat_le (key q) j) (has ∙ sym e)).1 p)
 
     -- every other key is met from x as before
-    pub Meets-inserted : (j : ℕ) → j ≢ k → {x : ℕ} → Meets key child holds j x → Meets key after holds j x
+    pub Meets-inserted : (j : ℕ) → j ≢ k → {x : ℕ} → FindsLeaf key child holds j x → FindsLeaf key after holds j x
     Meets-inserted j ne (at_leaf h e p) = at_leaf h e p
     Meets-inserted j ne (below {x = x} {y = y} i e f) = elim (shape.relinks.others x (nat_le (key x) j)) [
       | inl h ↦
-          let at_l : Meets key child holds j l = subst (Meets key child holds j) (cc) f in
+          let at_l : FindsLeaf key child holds j l = subst (FindsLeaf key child holds j) (cc) f in
           let was : key l ≡ j = leaf_key key child j l shape.leaf at_l in
-          below i refl (subst (Meets key after holds j) (cc) (copied j was (leaf_holds key child j l shape.leaf at_l)))
+          below i refl (subst (FindsLeaf key after holds j) (cc) (copied j was (leaf_holds key child j l shape.leaf at_l)))
       | inr h ↦ below i (cc) (Meets-inserted j ne f)
     ]
 
     -- and no other was met
-    pub Meets-before : (j : ℕ) → j ≢ k → {x : ℕ} → Meets key after holds j x → Meets key child holds j x
+    pub Meets-before : (j : ℕ) → j ≢ k → {x : ℕ} → FindsLeaf key after holds j x → FindsLeaf key child holds j x
     Meets-before j ne (at_leaf h e p) = at_leaf h e p
     Meets-before j ne (below {x = x} {y = y} i e f) = elim (shape.relinks.others x (nat_le (key x) j)) [
       | inl h ↦
           let had = other_leaf j ne y (cc) f in
-          below i refl (subst (Meets key child holds j) (cc) (at_leaf shape.leaf had.0 had.1))
+          below i refl (subst (FindsLeaf key child holds j) (cc) (at_leaf shape.leaf had.0 had.1))
       | inr h ↦ below i (cc) (Meets-before j ne f)
     ]
 
@@ -159,7 +159,7 @@ module _ (key : ℕ → ℕ) (child after : ℕ → Bool → ℕ) (top p : ℕ) 
       (internal : IsInternal p)
       (from : low_of s low (key p) ≤ k) (until : k < high_of s high (key p)) {holds : ℕ → Type 0} where
     -- the key of the new leaf is met afterwards
-    pub Meets-new : holds (next_node key child k q) → Meets key after holds k 0
+    pub Meets-new : holds (next_node key child k q) → FindsLeaf key after holds k 0
     Meets-new that = elim (Spans-stays reached) [
       | inl h ↦ absurd (shape.leaf (cc))
       | inr r ↦
@@ -167,12 +167,12 @@ module _ (key : ℕ → ℕ) (child after : ℕ → Bool → ℕ) (top p : ℕ) 
           Meets-up key after top (IsOrdered-insert ordered) q_spans from until (below shape.node refl (new_leaf_met that))
     ]
       where
-        new_leaf_met : holds (child q (nat_le (key q) k)) → Meets key after holds k (after q (nat_le (key q) k))
+        new_leaf_met : holds (child q (nat_le (key q) k)) → FindsLeaf key after holds k (after q (nat_le (key q) k))
         new_leaf_met p = at_leaf (λ h. shape.leaves (nat_le (key q) k) (ap (λ v. v % 4) (sym (kept (nat_le (key q) k))) ∙ h))
             (ap key (kept (nat_le (key q) k)) ∙ shape.new_key) (subst holds (sym (kept (nat_le (key q) k))) p)
 
     -- and was not before
-    pub absent_before : key l ≢ k → ¬ Meets key child holds k 0
+    pub absent_before : key l ≢ k → ¬ FindsLeaf key child holds k 0
     absent_before ne f =
         let l_spans = goes s reached internal (sym shape.was) refl refl in
         ne (leaf_key key child k l shape.leaf (Meets-down key child top ordered l_spans from until f))

@@ -1,6 +1,6 @@
 use Rattle.std.proofs.Common.{◌≡◌, ◌≢◌, ℕ, ◌<◌, ◌≤◌, Bool, true, false, not, nat_le, refl, sym, ap, ◌∙◌, subst, inl, inr, ◌⊎◌, arith}
 use Rattle.ell_word.specs.Node.{IsInternal}
-use Rattle.ell_core.specs.tree.Ranges.{low_of, high_of, Spans, root, goes, Meets, at_leaf, below, IsOrdered, Relinked}
+use Rattle.ell_core.specs.tree.Ranges.{low_of, high_of, Spans, root, goes, FindsLeaf, at_leaf, below, IsOrdered, Relinked}
 use Rattle.ell_core.proofs.lemmas.tree.Bounds.{leaf_key, Meets-down, Meets-within, child_within, side_of, below_of, leaf_is_met}
 
 -- a side is another or it is not
@@ -153,7 +153,7 @@ module _ (key : ℕ → ℕ) (child after : ℕ → Bool → ℕ) (top g : ℕ) 
   Spans-left (goes u r i e f h) = left_step _ _ _ _ _ _ u r (Spans-left r) i e f h
 
   -- every key but that of l is met from x as before
-  pub Meets-removed : {holds : ℕ → Type 0} (j : ℕ) → j ≢ key l → {x : ℕ} → Meets key child holds j x → Meets key after holds j x
+  pub Meets-removed : {holds : ℕ → Type 0} (j : ℕ) → j ≢ key l → {x : ℕ} → FindsLeaf key child holds j x → FindsLeaf key after holds j x
   Meets-removed j ne (at_leaf h e p) = at_leaf h e p
   Meets-removed j ne (below {x = x} i e (at_leaf h d p)) = elim (shape.relinks.others x (nat_le (key x) j)) [
     | inl o ↦ absurd (h (cc))
@@ -162,8 +162,8 @@ module _ (key : ℕ → ℕ) (child after : ℕ → Bool → ℕ) (top g : ℕ) 
   Meets-removed {holds = holds} j ne (below {x = x} i e (below {x = y} {y = z} h d f)) =
       elim (shape.relinks.others x (nat_le (key x) j)) [
         | inl o ↦ elim (same_or_not (nat_le (key y) j) t) [
-          | inl u ↦ below i refl (subst (Meets key after holds j) (cc) (Meets-removed j ne f))
-          | inr u ↦ absurd (ne (sym (leaf_key key child j l shape.leaf (subst (Meets key child holds j) (cc) f))))
+          | inl u ↦ below i refl (subst (FindsLeaf key after holds j) (cc) (Meets-removed j ne f))
+          | inr u ↦ absurd (ne (sym (leaf_key key child j l shape.leaf (subst (FindsLeaf key child holds j) (cc) f))))
         ]
         | inr o ↦ below i (cc) (Meets-removed j ne (below h d f))
       ]
@@ -181,11 +181,11 @@ module _ (key : ℕ → ℕ) (child after : ℕ → Bool → ℕ) (top g : ℕ) 
     l_spans = goes (not t) p_spans shape.inner (sym shape.leaf_there) refl refl
 
     -- and no other was met
-    pub Meets-kept : {holds : ℕ → Type 0} (j : ℕ) → j ≢ key l → {x : ℕ} → Meets key after holds j x → Meets key child holds j x
+    pub Meets-kept : {holds : ℕ → Type 0} (j : ℕ) → j ≢ key l → {x : ℕ} → FindsLeaf key after holds j x → FindsLeaf key child holds j x
     Meets-kept j ne (at_leaf h e p) = at_leaf h e p
     Meets-kept {holds = holds} j ne (below {x = x} i e f) = elim (shape.relinks.others x (nat_le (key x) j)) [
       | inl o ↦
-          let f2 : Meets key child holds j w = subst (Meets key child holds j) (cc) (Meets-kept j ne f) in
+          let f2 : FindsLeaf key child holds j w = subst (FindsLeaf key child holds j) (cc) (Meets-kept j ne f) in
           let v = Meets-within key child top ordered f2 w_spans in
           let d : nat_le (key p) j ≡ t = side_of key child top ordered (key p) j _ _ t v.0 v.1 in
           below {y = p} i (cc) (below {y = w} shape.inner (cc) f2)
@@ -193,7 +193,7 @@ module _ (key : ℕ → ℕ) (child after : ℕ → Bool → ℕ) (top g : ℕ) 
     ]
 
     -- below g all children are as they were
-    frame : {holds : ℕ → Type 0} (j : ℕ) {x : ℕ} {a b : ℕ} → Spans key child top x a b → g < x → Meets key after holds j x → Meets key child holds j x
+    frame : {holds : ℕ → Type 0} (j : ℕ) {x : ℕ} {a b : ℕ} → Spans key child top x a b → g < x → FindsLeaf key after holds j x → FindsLeaf key child holds j x
     frame j r c (at_leaf h e p) = at_leaf h e p
     frame j {x} {a} {b} r c (below {y = y} i e f) = elim (shape.relinks.others x (nat_le (key x) j)) [
       | inl o ↦ absurd (omega arith)
@@ -204,7 +204,7 @@ module _ (key : ℕ → ℕ) (child after : ℕ → Bool → ℕ) (top g : ℕ) 
     ]
 
     -- the key of l is met no longer
-    pub gone : {holds : ℕ → Type 0} → ¬ Meets key after holds (key l) 0
+    pub gone : {holds : ℕ → Type 0} → ¬ FindsLeaf key after holds (key l) 0
     gone f =
         let b = ordered.within l _ _ l_spans in
         let in_p = child_within key child top ordered p _ _ (not t) p_spans in
@@ -226,5 +226,5 @@ module _ (key : ℕ → ℕ) (child after : ℕ → Bool → ℕ) (top g : ℕ) 
         ]
 
     -- and was met before
-    pub met_before : {holds : ℕ → Type 0} → holds l → Meets key child holds (key l) 0
+    pub met_before : {holds : ℕ → Type 0} → holds l → FindsLeaf key child holds (key l) 0
     met_before that = leaf_is_met key child top ordered l_spans shape.leaf that

@@ -1,6 +1,6 @@
 use Rattle.std.proofs.Common.{◌≡◌, ◌≢◌, ℕ, ◌<◌, ◌≤◌, Bool, nat_le, refl, sym, ap, ◌∙◌, subst, inl, inr, ◌⊎◌}
 use Rattle.ell_word.specs.Node.{IsInternal}
-use Rattle.ell_core.specs.tree.Ranges.{low_of, high_of, Spans, root, goes, Meets, at_leaf, below, IsOrdered, Relinked, OnCourse, here, off, dead}
+use Rattle.ell_core.specs.tree.Ranges.{low_of, high_of, Spans, root, goes, FindsLeaf, at_leaf, below, IsOrdered, Relinked, OnCourse, here, off, dead}
 use Rattle.ell_core.proofs.lemmas.tree.Bounds.{leaf_key, Meets-up}
 use Rattle.ell_core.proofs.lemmas.tree.OneRange.{two_leaves}
 
@@ -64,20 +64,20 @@ module _ (key : ℕ → ℕ) (child after : ℕ → Bool → ℕ) (top p : ℕ) 
 
   module _ {holds : ℕ → Type 0} where
     -- every other key is met from x as before
-    pub Meets-replaced : (j : ℕ) → j ≢ key l → {x : ℕ} → Meets key child holds j x → Meets key after holds j x
+    pub Meets-replaced : (j : ℕ) → j ≢ key l → {x : ℕ} → FindsLeaf key child holds j x → FindsLeaf key after holds j x
     Meets-replaced j ne (at_leaf h e that) = at_leaf h e that
     Meets-replaced j ne (below {x = x} {y = y} i e f) = elim (shape.relinks.others x (nat_le (key x) j)) [
       | inl h ↦ (let is : y ≡ l = e ∙ (ap (λ v. child v (nat_le (key x) j)) h.0 ∙ (ap (child p) h.1 ∙ shape.was)) in
-          absurd (ne (sym (leaf_key key child j l shape.leaf (subst (Meets key child holds j) is f)))))
+          absurd (ne (sym (leaf_key key child j l shape.leaf (subst (FindsLeaf key child holds j) is f)))))
       | inr h ↦ below i (e ∙ sym h) (Meets-replaced j ne f)
     ]
 
     -- and no other was met
-    pub Meets-unreplaced : (j : ℕ) → j ≢ key l → {x : ℕ} → Meets key after holds j x → Meets key child holds j x
+    pub Meets-unreplaced : (j : ℕ) → j ≢ key l → {x : ℕ} → FindsLeaf key after holds j x → FindsLeaf key child holds j x
     Meets-unreplaced j ne (at_leaf h e that) = at_leaf h e that
     Meets-unreplaced j ne (below {x = x} {y = y} i e f) = elim (shape.relinks.others x (nat_le (key x) j)) [
       | inl h ↦ (let is : y ≡ q = e ∙ (ap (λ v. after v (nat_le (key x) j)) h.0 ∙ (ap (after p) h.1 ∙ shape.relinks.there)) in
-          absurd (ne (sym (leaf_key key after j q shape.node (subst (Meets key after holds j) is f)) ∙ shape.same)))
+          absurd (ne (sym (leaf_key key after j q shape.node (subst (FindsLeaf key after holds j) is f)) ∙ shape.same)))
       | inr h ↦ below i (e ∙ h) (Meets-unreplaced j ne f)
     ]
 
@@ -94,10 +94,10 @@ module _ (key : ℕ → ℕ) (child after : ℕ → Bool → ℕ) (top p : ℕ) 
     ]
 
     -- the key is met before and after, where it holds of the old leaf and of the new one
-    pub Meets-old : {holds : ℕ → Type 0} → holds l → Meets key child holds (key l) 0
+    pub Meets-old : {holds : ℕ → Type 0} → holds l → FindsLeaf key child holds (key l) 0
     Meets-old that = let v = ordered.within l _ _ l_spans in Meets-up key child top ordered l_spans v.0 v.1 (at_leaf shape.leaf refl that)
 
-    pub Meets-new : {holds : ℕ → Type 0} → holds q → Meets key after holds (key l) 0
+    pub Meets-new : {holds : ℕ → Type 0} → holds q → FindsLeaf key after holds (key l) 0
     Meets-new that =
         let v = ordered.within l _ _ l_spans in
         Meets-up key after top (IsOrdered-replace ordered) q_spans v.0 v.1 (at_leaf shape.node shape.same that)

@@ -1,8 +1,8 @@
 use Rattle.std.proofs.Common.{◌≡◌, ℕ, zero, suc, ◌+◌, ◌*◌, ◌/◌, ◌%◌, ◌<◌, refl, ap, ◌∙◌, arith}
-use Rattle.ell_word.specs.Word.{number_of, state_of, packed, unpacked}
+use Rattle.ell_word.specs.Word.{state_number, state_of, packed, unpacked}
 
 -- the state's number is the remainder
-number_again : (n : ℕ) → n < 4 → number_of (state_of n) ≡ n
+number_again : (n : ℕ) → n < 4 → state_number (state_of n) ≡ n
 number_again zero small = refl
 number_again (suc zero) small = refl
 number_again (suc (suc zero)) small = refl

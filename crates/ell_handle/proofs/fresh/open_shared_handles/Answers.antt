@@ -2,7 +2,7 @@ use Rattle.std.proofs.Common.{◌≡◌, ℕ, All, arith, ap, length, subst, sym
 use Rattle.std.specs.Arc.{arc_value}
 use Rattle.std.proofs.lemmas.List.{length_push}
 use Rattle.std.proofs.lemmas.List.Elements.{All-push}
-use Rattle.ell_tree.specs.Moves.{moves_known}
+use Rattle.ell_tree.specs.Milestones.{milestones_known}
 use Rattle.ell_handle.specs.declared.handle.Handle.{Handle}
 use Rattle.ell_handle.proofs.fresh.open_shared_handles.Goals as goal
 
@@ -10,7 +10,7 @@ use Rattle.ell_handle.proofs.fresh.open_shared_handles.Goals as goal
 pub loop-preserved : goal.loop-preserved
 loop-preserved c =
     let has_tree = λ (h : Handle). arc_value h.shared ≡ arc_value c.in_ok-whole.whole.shared in
-    let knows_none = λ (h : Handle). (most : ℕ) → moves_known most h.pass.view ≡ 0 in
+    let knows_none = λ (h : Handle). (most : ℕ) → milestones_known most h.pass.view ≡ 0 in
     let items = c.in_ok-push.ensures.items in
     record {
       whole = c.in_ok-rest.ensures.first ∙ c.loop.invariant.whole;
@@ -25,7 +25,7 @@ loop-preserved c =
 pub returns-clause-opened : goal.returns-clause-opened
 returns-clause-opened c =
     let has_tree = λ (h : Handle). arc_value h.shared ≡ arc_value c.in_ok-whole.whole.shared in
-    let knows_none = λ (h : Handle). (most : ℕ) → moves_known most h.pass.view ≡ 0 in
+    let knows_none = λ (h : Handle). (most : ℕ) → milestones_known most h.pass.view ≡ 0 in
     let opened = c.in_ok-whole.ensures.opened in
     let items = c.in_ok-push-2.ensures.items in
     record {

@@ -4,7 +4,7 @@ use Rattle.ell_ops.specs.declared.op.Op.{Op}
 use Rattle.ell_ops.specs.declared.op.Op.TheVariants.{Find}
 use Rattle.ell_ops.specs.KeySet.{set_of}
 use Rattle.ell_ops.specs.Meaning.{key_of}
-use Rattle.ell_parts.specs.PartedOps.{keys_in}
+use Rattle.ell_parts.specs.PartedOps.{keys_of_part}
 use Rattle.ell_parts.proofs.lemmas.Turns.{both_more, keys_of_more, same_more}
 use Rattle.ell_parts.proofs.keys.keys_in_turn.Goals as goal
 use Rattle.ell_parts.proofs.keys.keys_in_turn.Goals.{then-not-is_last+in_ok-push, else-not-is_last}
@@ -19,7 +19,7 @@ loop-op-preserved g c =
     let item = get_or part i (0, Find 0) in
     let before : List ℕ = map (λ (it : ℕ × Op). key_of it.1) (take i part) in
     let own : key ≡ key_of item.1 = c.key-key.ensures in
-    let all : set_of (keys ++ key ∷ []) ≡ keys_in (take (i + 1) part) =
+    let all : set_of (keys ++ key ∷ []) ≡ keys_of_part (take (i + 1) part) =
     both_more keys before key c.loop-op.invariant ∙ ap (λ k. set_of (before ++ k ∷ [])) own ∙ sym (keys_of_more part i (0, Find 0) below) in
     elim c.if-not-is_last.branch [
       | then-not-is_last+in_ok-push w ↦ ap (λ v. set_of v.items) w.keys-is ∙ ap set_of w.in_ok-push.ensures.items ∙ all

@@ -22,7 +22,7 @@ returns-clause-bounded g c =
     let few = c.loop-position.invariant.0.few in
     paid_steps c.args.tree.now.plan.last_card _ c.args.pass.now c.loop-position.pass
     (paid_within c.args.tree.now.plan.last_card c.loop-position.position-index _ c.args.pass.now c.loop-position.pass few c.loop-position.invariant.1)
-    c.known_moves_are_few-2.ensures
+    c.known_milestones_are_few-2.ensures
 
 pub returns-in_default-clause-worked : goal.returns-in_default-clause-worked
 returns-in_default-clause-worked g c =
@@ -36,4 +36,4 @@ returns-in_default-clause-bounded g c =
     paid_steps cards _ c.args.pass.now c.do_op.new.pass
     (paid_within cards (c.loop-position.position-index + 1) _ c.args.pass.now c.do_op.new.pass (omega (arith, within))
     (paid_more cards c.loop-position.position-index c.args.pass.now c.loop-position.pass c.do_op.new.pass c.loop-position.invariant.1 c.do_op.ensures.paid))
-    c.known_moves_are_few.ensures
+    c.known_milestones_are_few.ensures

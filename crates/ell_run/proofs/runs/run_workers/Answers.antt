@@ -2,7 +2,7 @@ use Rattle.std.proofs.Common.{All, map, ap, true≢false, sym, subst, ◌<◌, �
 use Rattle.ell_ops.specs.KeySet.{Lists}
 use Rattle.ell_ops.specs.Contents.{contents_of}
 use Rattle.ell_ops.specs.Meaning.{greatest_key}
-use Rattle.ell_parts.specs.PartedOps.{keys_of}
+use Rattle.ell_parts.specs.PartedOps.{keys_of_ops}
 use Rattle.ell_tree.specs.Ledgers.{Owns}
 use Rattle.ell_run.proofs.lemmas.Busy.{busy_known}
 use Rattle.ell_run.proofs.lemmas.Closed.{left_behind}
@@ -25,7 +25,7 @@ reserve-requires-clause-used_real g c =
 pub work_apart-worked-requires-clause-keys : goal.work_apart-worked-requires-clause-keys
 work_apart-worked-requires-clause-keys g c = λ κs outlives.
     let parting = c.args.parts.now in
-    subst (Lists (keys_of parting.ops)) (sym c.deref-3.ensures.value)
+    subst (Lists (keys_of_ops parting.ops)) (sym c.deref-3.ensures.value)
     (busy_listed parting c.deref.result.now c.in_ok-used.used.items c.in_ok-workers.ensures.lawful (c.deref.ensures.value ∙ c.in_ok-workers.ensures.busy)
     c.in_ok-used.ensures)
 

@@ -11,7 +11,7 @@ use Rattle.ell_tree.specs.CardsTaken.{TakesByHindered}
 use Rattle.ell_core.proofs.lemmas.outcomes.Decide.{some_not_none}
 use Rattle.ell_tree.proofs.lemmas.Computing.{untouched_by, untouched_laid, untouched_self, untouched_trans, concludes, find_leaves, reads_own, reads_after, reads_last, reads_count, laid_last, may_still}
 use Rattle.ell_tree.proofs.lemmas.Counts.{took_within, took_trans}
-use Rattle.ell_tree.proofs.lemmas.Moves.{moves_most}
+use Rattle.ell_tree.proofs.lemmas.Milestones.{milestones_most}
 use Rattle.ell_tree.proofs.lemmas.Rounds.{rounds_within, one_round_more, spends_none, by_rounds, not_some}
 use Rattle.ell_tree.proofs.computing.compute.Goals as goal
 use Rattle.ell_tree.proofs.computing.compute.Goals.{in-Ok-Lost, in-Err-Busy}
@@ -38,7 +38,7 @@ loop-round-init g c =
       took = took_within old new (find_steps t.plan.last_card) _ finds.steps (omega arith);
       counted = record { least = omega (arith, finds.quiet.hindered); most = omega (arith, finds.quiet.hindered) };
       hindered = λ owns. omega (arith, finds.quiet.hindered);
-      moved = λ owns. omega (arith, finds.quiet.moved);
+      milestones = λ owns. omega (arith, finds.quiet.milestones);
       tried = λ owns some. absurd (omega arith);
       made = omega (arith, finds.answers.answered, finds.quiet.hindered);
       cards = record { least = omega (arith, finds.cards); most = omega (arith, finds.cards) };
@@ -75,7 +75,7 @@ loop-round-preserved g c = elim c.match-replace.branch [
         took = took_trans old l.pass new (find_steps cards + l._round * round_steps cards) (round_steps cards) _ i.took c.replace.ensures.steps (one_round_more cards l._round);
         counted = record { least = omega (arith, counts.least, i.counted.least); most = omega (arith, counts.most, i.counted.most) };
         hindered = λ owns. absurd (apart owns);
-        moved = λ owns. absurd (apart owns);
+        milestones = λ owns. absurd (apart owns);
         tried = λ owns. absurd (apart owns);
         made = let one = reads_count t key there l.pass new lost.1 in omega (arith, one, counts.least, i.made);
         cards = record { least = omega (arith, spends.most.least, i.cards.least); most = omega (arith, spends.most.most, i.cards.most) };
@@ -108,7 +108,7 @@ loop-round-preserved g c = elim c.match-replace.branch [
         took = took_trans old l.pass new (find_steps cards + l._round * round_steps cards) (round_steps cards) _ i.took c.replace.ensures.steps (one_round_more cards l._round);
         counted = record { least = omega (arith, counts.least, i.counted.least); most = omega (arith, counts.most, i.counted.most) };
         hindered = λ owns. omega (arith, others.each, i.hindered owns);
-        moved = λ owns. omega (arith, others.moved, i.moved owns);
+        milestones = λ owns. omega (arith, others.milestones, i.milestones owns);
         tried = λ owns more. some;
         made = omega (arith, laid.answered, others.each, i.made);
         cards = record { least = omega (arith, spends.most.least, i.cards.least); most = omega (arith, spends.most.most, i.cards.most) };
@@ -153,7 +153,7 @@ returns-then-is_some-clause-others g c = λ owns not_done.
     let each : l.pass.view.hindered ≡ c.args.pass.now.view.hindered + c.args.tries = omega (arith, all, l.invariant.hindered owns) in
     record {
       each = each;
-      moved = omega (arith, all, l.invariant.moved owns);
+      milestones = omega (arith, all, l.invariant.milestones owns);
       by_others = more_tries t.plan c.args.pass.now.view.hindered l.pass.view c.args.tries each;
     }
 
@@ -162,8 +162,8 @@ returns-then-is_some-clause-enough g c = λ owns many not_done.
     let l = c.loop-round in
     let cards = c.args.table.now.plan.last_card in
     let all : l._round ≡ c.args.tries = omega (arith, c.loop-round-test.false, l.auto._round-end) in
-    let most = moves_most cards l.pass.view c.claims_stay_inside.ensures in
-    omega (arith, many, most, all, l.invariant.moved owns)
+    let most = milestones_most cards l.pass.view c.claims_stay_inside.ensures in
+    omega (arith, many, most, all, l.invariant.milestones owns)
 
 pub returns-then-is_some-clause-tried : goal.returns-then-is_some-clause-tried
 returns-then-is_some-clause-tried g c = λ not_done.

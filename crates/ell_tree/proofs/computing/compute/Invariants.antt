@@ -4,7 +4,7 @@ use Rattle.ell_tree.specs.Computing.{IsUntouched, LastChangesNothing, ReadsValue
 use Rattle.ell_tree.specs.Counts.{Took}
 use Rattle.ell_tree.specs.Ends.{CountsTries, find_steps}
 use Rattle.ell_tree.specs.Ledgers.{Owns, answers, present_in}
-use Rattle.ell_tree.specs.Moves.{moves_known}
+use Rattle.ell_tree.specs.Milestones.{milestones_known}
 use Rattle.ell_tree.specs.Promises.{MayDo}
 use Rattle.ell_tree.proofs.computing.compute.Given as goal
 
@@ -21,8 +21,8 @@ invariant-loop-round g l = record {
   took : Took l.fn.pass l.pass (find_steps l.fn.table.plan.last_card + l._round * round_steps l.fn.table.plan.last_card);
   counted : CountsTries l._round l.fn.pass l.pass;
   hindered : Owns l.fn.pass l.fn.key → l.pass.view.hindered ≡ l.fn.pass.view.hindered + l._round;
-  moved : Owns l.fn.pass l.fn.key
-      → moves_known l.fn.table.plan.last_card l.fn.pass.view + l._round ≤ moves_known l.fn.table.plan.last_card l.pass.view;
+  milestones : Owns l.fn.pass l.fn.key
+      → milestones_known l.fn.table.plan.last_card l.fn.pass.view + l._round ≤ milestones_known l.fn.table.plan.last_card l.pass.view;
   tried : Owns l.fn.pass l.fn.key → 1 ≤ l._round → l.made ≢ None;
   made : l.fn.pass.view.hindered + answers l.fn.pass + l._round < l.pass.view.hindered + answers l.pass;
   cards : TakesAtMost l._round l.fn.pass l.pass;

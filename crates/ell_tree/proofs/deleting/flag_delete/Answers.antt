@@ -13,7 +13,7 @@ returns g c =
     let f = c.fill_delete in
     let above = c.args.above in
     record {
-      goes = flag_goes exchange.DFlag DFlagged c.args.card above.node above.update c.args.pass.now f.new.pass c.dflag.new.pass 4 c.dflag.result f.ensures c.dflag.ensures.step;
+      keeps = flag_goes exchange.DFlag DFlagged c.args.card above.node above.update c.args.pass.now f.new.pass c.dflag.new.pass 4 c.dflag.result f.ensures c.dflag.ensures.step;
       taken = flag_takes exchange.DFlag DFlagged c.args.card above.node above.update c.args.pass.now f.new.pass c.dflag.new.pass 4 c.dflag.result f.ensures c.dflag.ensures.step refl;
       flags = flag_ends exchange.DFlag DFlagged c.args.card above.node above.update c.args.pass.now f.new.pass c.dflag.new.pass 4 c.dflag.result f.ensures c.dflag.ensures.step
           c.args.table.now.plan.last_card c.requires.card.1.may.holds c.requires.node c.dflag.ensures.card;

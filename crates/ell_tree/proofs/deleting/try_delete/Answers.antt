@@ -12,12 +12,12 @@ use Rattle.ell_tree.specs.Hindrances.{way_of}
 use Rattle.ell_tree.specs.Searches.{seen_any, below}
 use Rattle.ell_tree.proofs.lemmas.Keeping.{inner_kept}
 use Rattle.ell_tree.proofs.lemmas.Keeping.{share_trans}
-use Rattle.ell_tree.proofs.lemmas.Owning.{goes_answers, had_none, had_value, would_delete}
+use Rattle.ell_tree.proofs.lemmas.Owning.{keeps_answers, had_none, had_value, would_delete}
 use Rattle.ell_tree.proofs.lemmas.Meeting.{meets_trans, meets_more, above_way, parent_way, nowhere_way, way_over, way_free, no_way}
-use Rattle.ell_tree.proofs.lemmas.Halting.{goes_meets, seek_meets, said_meets, flag_lost}
+use Rattle.ell_tree.proofs.lemmas.Halting.{keeps_meets, seek_meets, said_meets, flag_lost}
 use Rattle.ell_tree.proofs.lemmas.Filling.{delete_wants, told_grandparent, told_leaf, told_parent, told_was}
 use Rattle.ell_tree.proofs.lemmas.Hindrances.{root_in_try}
-use Rattle.ell_tree.proofs.lemmas.Moves.{sees_end, gives_out}
+use Rattle.ell_tree.proofs.lemmas.Milestones.{sees_end, gives_out}
 use Rattle.ell_tree.proofs.lemmas.Searches.{unknown_above, named_above}
 use Rattle.ell_tree.proofs.deleting.try_delete.Goals as goal
 
@@ -29,22 +29,22 @@ take_card-requires-clause-wants g c =
 pub finish_own-requires-clause-grandparent : goal.finish_own-requires-clause-grandparent
 finish_own-requires-clause-grandparent g c =
     let s = c.search-place in
-    told_grandparent s.new.pass.view c.take_card.new.pass.view c.flag_delete.new.pass.view c.in-Card.card c.args.key s.result c.flag_delete.ensures.goes.view
-    c.in-Some.above c.in-Some.is (s.ensures.seeks.goes.view.operation ∙ c.requires.root.busy) s.ensures.ends.at c.in-Card.ensures.claims.0
+    told_grandparent s.new.pass.view c.take_card.new.pass.view c.flag_delete.new.pass.view c.in-Card.card c.args.key s.result c.flag_delete.ensures.keeps.view
+    c.in-Some.above c.in-Some.is (s.ensures.keeps_but_search.keeps.view.operation ∙ c.requires.root.busy) s.ensures.ends.at c.in-Card.ensures.claims.0
 
 pub finish_own-requires-clause-parent : goal.finish_own-requires-clause-parent
 finish_own-requires-clause-parent g c =
     let s = c.search-place in
-    told_parent s.new.pass.view c.take_card.new.pass.view c.flag_delete.new.pass.view c.in-Card.card c.args.key s.result c.flag_delete.ensures.goes.view
-    c.in-Some.above c.in-Some.is (s.ensures.seeks.goes.view.operation ∙ c.requires.root.busy) s.ensures.ends.at c.in-Card.ensures.claims.0
+    told_parent s.new.pass.view c.take_card.new.pass.view c.flag_delete.new.pass.view c.in-Card.card c.args.key s.result c.flag_delete.ensures.keeps.view
+    c.in-Some.above c.in-Some.is (s.ensures.keeps_but_search.keeps.view.operation ∙ c.requires.root.busy) s.ensures.ends.at c.in-Card.ensures.claims.0
     c.args.table.now.plan.last_card
-    (inner_kept c.args.table.now.plan.last_card s.new.pass.view c.take_card.new.pass.view s.result.parent.node c.take_card.ensures.goes.view s.ensures.ends.passed.node)
+    (inner_kept c.args.table.now.plan.last_card s.new.pass.view c.take_card.new.pass.view s.result.parent.node c.take_card.ensures.keeps.view s.ensures.ends.passed.node)
 
 pub finish_own-requires-clause-read : goal.finish_own-requires-clause-read
 finish_own-requires-clause-read g c =
     let s = c.search-place in
-    told_was s.new.pass.view c.take_card.new.pass.view c.flag_delete.new.pass.view c.in-Card.card c.args.key s.result c.flag_delete.ensures.goes.view
-    c.in-Some.above c.in-Some.is (s.ensures.seeks.goes.view.operation ∙ c.requires.root.busy) s.ensures.ends.at c.in-Card.ensures.claims.0
+    told_was s.new.pass.view c.take_card.new.pass.view c.flag_delete.new.pass.view c.in-Card.card c.args.key s.result c.flag_delete.ensures.keeps.view
+    c.in-Some.above c.in-Some.is (s.ensures.keeps_but_search.keeps.view.operation ∙ c.requires.root.busy) s.ensures.ends.at c.in-Card.ensures.claims.0
 
 -- the key was not there
 pub returns-then-place-key-clause-ends : goal.returns-then-place-key-clause-ends
@@ -52,9 +52,9 @@ returns-then-place-key-clause-ends g c =
     let a = c.args.pass.now in
     let s = c.search-place in
     let said = c.answer in
-    let answers = said.ensures.answers (Delete c.args.key) (s.ensures.seeks.goes.view.operation ∙ c.requires.root.busy) in (
-      goes_answers c.args.table.now (Delete c.args.key) _ a s.new.pass said.new.pass _ s.ensures.seeks.goes answers,
-      meets_trans a.view s.new.pass.view said.new.pass.view (seek_meets a s.new.pass _ s.ensures.seeks)
+    let answers = said.ensures.answers (Delete c.args.key) (s.ensures.keeps_but_search.keeps.view.operation ∙ c.requires.root.busy) in (
+      keeps_answers c.args.table.now (Delete c.args.key) _ a s.new.pass said.new.pass _ s.ensures.keeps_but_search.keeps answers,
+      meets_trans a.view s.new.pass.view said.new.pass.view (seek_meets a s.new.pass _ s.ensures.keeps_but_search)
           (said_meets s.new.pass.view said.new.pass.view said.ensures.hindrances said.ensures.facts),
       said.ensures.room,
     )
@@ -68,10 +68,10 @@ returns-then-ne-clause-ends g c =
     let above = c.in-Some.above in
     let new = c.help.new.pass in
     let stands : above.update.state ≢ Clean = search rules in
-    let meets = meets_trans a.view s.new.pass.view new.view (seek_meets a s.new.pass _ s.ensures.seeks) c.help.ensures.meets in
+    let meets = meets_trans a.view s.new.pass.view new.view (seek_meets a s.new.pass _ s.ensures.keeps_but_search) c.help.ensures.meets in
     let way = way_over new.view above.update.state above.update.card (way_of (Delete c.args.key) new.view)
     (above_way c.args.key place.leaf place.parent above new.view
-    (c.help.ensures.works.search ∙ (s.ensures.ends.at.search ∙ ap (λ o. below place.leaf place.parent (seen_any o)) c.in-Some.is)) stands)
+    (c.help.ensures.keeps_but_met.search ∙ (s.ensures.ends.at.search ∙ ap (λ o. below place.leaf place.parent (seen_any o)) c.in-Some.is)) stands)
     stands c.help.ensures.ended in
     let more = meets_more a.view new.view meets in (
       record {
@@ -79,18 +79,18 @@ returns-then-ne-clause-ends g c =
         label = search rules;
         ledger = search rules;
         answers = search rules;
-        share = share_trans a.view s.new.pass.view new.view s.ensures.seeks.goes.view.share c.help.ensures.works.goes.view.share;
+        share = share_trans a.view s.new.pass.view new.view s.ensures.keeps_but_search.keeps.view.share c.help.ensures.keeps_but_met.keeps.view.share;
         meets = meets;
-        in_try = c.help.ensures.works.goes.view.earlier a.view.hindrances (s.ensures.seeks.goes.view.earlier a.view.hindrances (root_in_try (Delete c.args.key) a.view c.requires.root));
+        in_try = c.help.ensures.keeps_but_met.keeps.view.earlier a.view.hindrances (s.ensures.keeps_but_search.keeps.view.earlier a.view.hindrances (root_in_try (Delete c.args.key) a.view c.requires.root));
         way = way.0;
-        would = would_delete c.args.table.now.plan.last_card a s.new.pass s.ensures.seeks.goes.view.ledger s.result c.args.key s.ensures.ends (search rules);
+        would = would_delete c.args.table.now.plan.last_card a s.new.pass s.ensures.keeps_but_search.keeps.view.ledger s.result c.args.key s.ensures.ends (search rules);
         stops = search rules;
       },
       omega (arith, way.1, more),
-      sees_end c.args.table.now.plan.last_card a.view s.new.pass.view new.view above.update.state above.update.card s.ensures.seeks.goes.view.before
+      sees_end c.args.table.now.plan.last_card a.view s.new.pass.view new.view above.update.state above.update.card s.ensures.keeps_but_search.keeps.view.before
           (unknown_above s.new.pass.view place.grandparent above c.in-Some.is s.ensures.ends.unknown_above)
           (named_above c.args.table.now.plan.last_card s.new.pass.view place.grandparent above c.in-Some.is s.ensures.ends.passed_above) stands c.help.ensures.ended
-          (omega (arith, s.ensures.seeks.goes.view.least, c.help.ensures.works.goes.view.least)),
+          (omega (arith, s.ensures.keeps_but_search.keeps.view.least, c.help.ensures.keeps_but_met.keeps.view.least)),
     )
 
 -- or at the parent
@@ -105,10 +105,10 @@ returns-then-ne-2-clause-ends g c =
     let new = help.new.pass in
     let calm : above.update.state ≡ Clean = search rules in
     let stands : update.state ≢ Clean = search rules in
-    let meets = meets_trans a.view s.new.pass.view new.view (seek_meets a s.new.pass _ s.ensures.seeks) help.ensures.meets in
+    let meets = meets_trans a.view s.new.pass.view new.view (seek_meets a s.new.pass _ s.ensures.keeps_but_search) help.ensures.meets in
     let way = way_over new.view update.state update.card (way_of (Delete c.args.key) new.view)
     (parent_way c.args.key place.leaf place.parent above new.view
-    (help.ensures.works.search ∙ (s.ensures.ends.at.search ∙ ap (λ o. below place.leaf place.parent (seen_any o)) c.in-Some.is)) calm)
+    (help.ensures.keeps_but_met.search ∙ (s.ensures.ends.at.search ∙ ap (λ o. below place.leaf place.parent (seen_any o)) c.in-Some.is)) calm)
     stands help.ensures.ended in
     let more = meets_more a.view new.view meets in (
       record {
@@ -116,17 +116,17 @@ returns-then-ne-2-clause-ends g c =
         label = search rules;
         ledger = search rules;
         answers = search rules;
-        share = share_trans a.view s.new.pass.view new.view s.ensures.seeks.goes.view.share help.ensures.works.goes.view.share;
+        share = share_trans a.view s.new.pass.view new.view s.ensures.keeps_but_search.keeps.view.share help.ensures.keeps_but_met.keeps.view.share;
         meets = meets;
-        in_try = help.ensures.works.goes.view.earlier a.view.hindrances (s.ensures.seeks.goes.view.earlier a.view.hindrances (root_in_try (Delete c.args.key) a.view c.requires.root));
+        in_try = help.ensures.keeps_but_met.keeps.view.earlier a.view.hindrances (s.ensures.keeps_but_search.keeps.view.earlier a.view.hindrances (root_in_try (Delete c.args.key) a.view c.requires.root));
         way = way.0;
-        would = would_delete c.args.table.now.plan.last_card a s.new.pass s.ensures.seeks.goes.view.ledger s.result c.args.key s.ensures.ends (search rules);
+        would = would_delete c.args.table.now.plan.last_card a s.new.pass s.ensures.keeps_but_search.keeps.view.ledger s.result c.args.key s.ensures.ends (search rules);
         stops = search rules;
       },
       omega (arith, way.1, more),
-      sees_end c.args.table.now.plan.last_card a.view s.new.pass.view new.view update.state update.card s.ensures.seeks.goes.view.before s.ensures.ends.unknown
+      sees_end c.args.table.now.plan.last_card a.view s.new.pass.view new.view update.state update.card s.ensures.keeps_but_search.keeps.view.before s.ensures.ends.unknown
           s.ensures.ends.passed.named stands help.ensures.ended
-          (omega (arith, s.ensures.seeks.goes.view.least, help.ensures.works.goes.view.least)),
+          (omega (arith, s.ensures.keeps_but_search.keeps.view.least, help.ensures.keeps_but_met.keeps.view.least)),
     )
 
 -- no card was left
@@ -141,8 +141,8 @@ returns-in-NoneLeft-clause-ends g c =
     let claims = c.in-NoneLeft.ensures.claims in
     let calm : above.update.state ≡ Clean = search rules in
     let free : update.state ≡ Clean = search rules in
-    let meets = meets_trans a.view s.new.pass.view new.view (seek_meets a s.new.pass _ s.ensures.seeks)
-    (goes_meets s.new.pass new 2 c.in-NoneLeft.ensures.goes claims.2) in
+    let meets = meets_trans a.view s.new.pass.view new.view (seek_meets a s.new.pass _ s.ensures.keeps_but_search)
+    (keeps_meets s.new.pass new 2 c.in-NoneLeft.ensures.keeps claims.2) in
     let way = way_free new.view update.state update.card (way_of (Delete c.args.key) new.view)
     (parent_way c.args.key place.leaf place.parent above new.view
     (claims.0.search ∙ (s.ensures.ends.at.search ∙ ap (λ o. below place.leaf place.parent (seen_any o)) c.in-Some.is)) calm) free in (
@@ -151,11 +151,11 @@ returns-in-NoneLeft-clause-ends g c =
         label = search rules;
         ledger = search rules;
         answers = search rules;
-        share = share_trans a.view s.new.pass.view new.view s.ensures.seeks.goes.view.share c.take_card.ensures.goes.view.share;
+        share = share_trans a.view s.new.pass.view new.view s.ensures.keeps_but_search.keeps.view.share c.take_card.ensures.keeps.view.share;
         meets = meets;
-        in_try = c.take_card.ensures.goes.view.earlier a.view.hindrances (s.ensures.seeks.goes.view.earlier a.view.hindrances (root_in_try (Delete c.args.key) a.view c.requires.root));
+        in_try = c.take_card.ensures.keeps.view.earlier a.view.hindrances (s.ensures.keeps_but_search.keeps.view.earlier a.view.hindrances (root_in_try (Delete c.args.key) a.view c.requires.root));
         way = way;
-        would = would_delete c.args.table.now.plan.last_card a s.new.pass s.ensures.seeks.goes.view.ledger s.result c.args.key s.ensures.ends (search rules);
+        would = would_delete c.args.table.now.plan.last_card a s.new.pass s.ensures.keeps_but_search.keeps.view.ledger s.result c.args.key s.ensures.ends (search rules);
         stops = search rules;
       },
       claims.1,
@@ -173,25 +173,25 @@ returns-in-Lost-clause-ends g c =
     let claims = c.in-Lost.ensures.claims in
     let calm : above.update.state ≡ Clean = search rules in
     let free : update.state ≡ Clean = search rules in
-    let meets = meets_trans a.view s.new.pass.view new.view (seek_meets a s.new.pass _ s.ensures.seeks) claims.1 in
+    let meets = meets_trans a.view s.new.pass.view new.view (seek_meets a s.new.pass _ s.ensures.keeps_but_search) claims.1 in
     let way = way_free new.view update.state update.card (way_of (Delete c.args.key) new.view)
     (parent_way c.args.key place.leaf place.parent above new.view
     (claims.0.search ∙ (s.ensures.ends.at.search ∙ ap (λ o. below place.leaf place.parent (seen_any o)) c.in-Some.is)) calm) free in
-    let quiet = ap length s.ensures.seeks.hindrances in (
+    let quiet = ap length s.ensures.keeps_but_search.hindrances in (
       record {
         table = search rules;
         label = search rules;
         ledger = search rules;
         answers = search rules;
-        share = share_trans a.view s.new.pass.view new.view s.ensures.seeks.goes.view.share c.take_card.ensures.goes.view.share;
+        share = share_trans a.view s.new.pass.view new.view s.ensures.keeps_but_search.keeps.view.share c.take_card.ensures.keeps.view.share;
         meets = meets;
-        in_try = c.take_card.ensures.goes.view.earlier a.view.hindrances (s.ensures.seeks.goes.view.earlier a.view.hindrances (root_in_try (Delete c.args.key) a.view c.requires.root));
+        in_try = c.take_card.ensures.keeps.view.earlier a.view.hindrances (s.ensures.keeps_but_search.keeps.view.earlier a.view.hindrances (root_in_try (Delete c.args.key) a.view c.requires.root));
         way = way;
-        would = would_delete c.args.table.now.plan.last_card a s.new.pass s.ensures.seeks.goes.view.ledger s.result c.args.key s.ensures.ends (search rules);
+        would = would_delete c.args.table.now.plan.last_card a s.new.pass s.ensures.keeps_but_search.keeps.view.ledger s.result c.args.key s.ensures.ends (search rules);
         stops = search rules;
       },
       omega (arith, quiet, claims.2),
-      gives_out c.args.table.now.plan.last_card a.view s.new.pass.view new.view new.view s.ensures.seeks.goes.view.least claims.3 (omega arith),
+      gives_out c.args.table.now.plan.last_card a.view s.new.pass.view new.view new.view s.ensures.keeps_but_search.keeps.view.least claims.3 (omega arith),
     )
 
 -- the flag was lost
@@ -204,33 +204,33 @@ returns-in-Err-clause-ends g c =
     let help = c.help-in-Err in
     let new = help.new.pass in
     let flags = c.in-Err.ensures.flags in
-    let taken = meets_trans a.view s.new.pass.view t.view (seek_meets a s.new.pass _ s.ensures.seeks)
-    (goes_meets s.new.pass t 2 c.take_card.ensures.goes c.in-Card.ensures.claims.2) in
-    let lost = flag_lost c.args.table.now.plan.last_card c.in-Some.above.node c.in-Err.found t.view f.view new.view flags c.flag_delete.ensures.goes.view.knows
+    let taken = meets_trans a.view s.new.pass.view t.view (seek_meets a s.new.pass _ s.ensures.keeps_but_search)
+    (keeps_meets s.new.pass t 2 c.take_card.ensures.keeps c.in-Card.ensures.claims.2) in
+    let lost = flag_lost c.args.table.now.plan.last_card c.in-Some.above.node c.in-Err.found t.view f.view new.view flags c.flag_delete.ensures.keeps.view.knows
     help.ensures.meets help.ensures.ended in
     let meets = meets_trans a.view t.view new.view taken lost.0 in
     let way = no_way new.view (way_of (Delete c.args.key) new.view)
-    (nowhere_way (Delete c.args.key) new.view (ap (λ (r : Search). r.node) help.ensures.works.search ∙ flags.nowhere)) in
-    let searched = s.ensures.seeks.goes.view.earlier a.view.hindrances (root_in_try (Delete c.args.key) a.view c.requires.root) in
-    let in_try = help.ensures.works.goes.view.earlier a.view.hindrances (c.flag_delete.ensures.goes.view.earlier a.view.hindrances
-    (c.take_card.ensures.goes.view.earlier a.view.hindrances searched)) in
+    (nowhere_way (Delete c.args.key) new.view (ap (λ (r : Search). r.node) help.ensures.keeps_but_met.search ∙ flags.nowhere)) in
+    let searched = s.ensures.keeps_but_search.keeps.view.earlier a.view.hindrances (root_in_try (Delete c.args.key) a.view c.requires.root) in
+    let in_try = help.ensures.keeps_but_met.keeps.view.earlier a.view.hindrances (c.flag_delete.ensures.keeps.view.earlier a.view.hindrances
+    (c.take_card.ensures.keeps.view.earlier a.view.hindrances searched)) in
     let more = meets_more a.view t.view taken in (
       record {
         table = search rules;
         label = search rules;
         ledger = search rules;
         answers = search rules;
-        share = share_trans a.view f.view new.view (share_trans a.view t.view f.view (share_trans a.view s.new.pass.view t.view s.ensures.seeks.goes.view.share
-            c.take_card.ensures.goes.view.share) c.flag_delete.ensures.goes.view.share) help.ensures.works.goes.view.share;
+        share = share_trans a.view f.view new.view (share_trans a.view t.view f.view (share_trans a.view s.new.pass.view t.view s.ensures.keeps_but_search.keeps.view.share
+            c.take_card.ensures.keeps.view.share) c.flag_delete.ensures.keeps.view.share) help.ensures.keeps_but_met.keeps.view.share;
         meets = meets;
         in_try = in_try;
         way = way;
-        would = would_delete c.args.table.now.plan.last_card a s.new.pass s.ensures.seeks.goes.view.ledger s.result c.args.key s.ensures.ends (search rules);
+        would = would_delete c.args.table.now.plan.last_card a s.new.pass s.ensures.keeps_but_search.keeps.view.ledger s.result c.args.key s.ensures.ends (search rules);
         stops = search rules;
       },
       omega (arith, lost.1, more),
-      gives_out c.args.table.now.plan.last_card a.view s.new.pass.view t.view new.view s.ensures.seeks.goes.view.least c.in-Card.ensures.claims.3
-          (omega (arith, c.flag_delete.ensures.goes.view.least, help.ensures.works.goes.view.least)),
+      gives_out c.args.table.now.plan.last_card a.view s.new.pass.view t.view new.view s.ensures.keeps_but_search.keeps.view.least c.in-Card.ensures.claims.3
+          (omega (arith, c.flag_delete.ensures.keeps.view.least, help.ensures.keeps_but_met.keeps.view.least)),
     )
 
 -- the key was taken away
@@ -242,15 +242,15 @@ returns-clause-ends g c =
     let f = c.flag_delete.new.pass in
     let m = c.finish_own.new.pass in
     let said = c.answer-2 in
-    let taken = meets_trans a.view s.new.pass.view t.view (seek_meets a s.new.pass _ s.ensures.seeks)
-    (goes_meets s.new.pass t 2 c.take_card.ensures.goes c.in-Card.ensures.claims.2) in
-    let flagged = meets_trans a.view t.view f.view taken (goes_meets t f 5 c.flag_delete.ensures.goes c.in_default-flag_delete.ensures.flags.hindrances) in
+    let taken = meets_trans a.view s.new.pass.view t.view (seek_meets a s.new.pass _ s.ensures.keeps_but_search)
+    (keeps_meets s.new.pass t 2 c.take_card.ensures.keeps c.in-Card.ensures.claims.2) in
+    let flagged = meets_trans a.view t.view f.view taken (keeps_meets t f 5 c.flag_delete.ensures.keeps c.in_default-flag_delete.ensures.flags.hindrances) in
     let finished = meets_trans a.view f.view m.view flagged c.finish_own.ensures.meets in
     let answers = said.ensures.answers (Delete c.args.key) (search rules) in (
-      goes_answers c.args.table.now (Delete c.args.key) _ a s.new.pass said.new.pass _ s.ensures.seeks.goes
-          (goes_answers c.args.table.now (Delete c.args.key) _ s.new.pass t said.new.pass _ c.take_card.ensures.goes
-          (goes_answers c.args.table.now (Delete c.args.key) _ t f said.new.pass _ c.flag_delete.ensures.goes
-          (goes_answers c.args.table.now (Delete c.args.key) _ f m said.new.pass _ c.finish_own.ensures.works.goes answers))),
+      keeps_answers c.args.table.now (Delete c.args.key) _ a s.new.pass said.new.pass _ s.ensures.keeps_but_search.keeps
+          (keeps_answers c.args.table.now (Delete c.args.key) _ s.new.pass t said.new.pass _ c.take_card.ensures.keeps
+          (keeps_answers c.args.table.now (Delete c.args.key) _ t f said.new.pass _ c.flag_delete.ensures.keeps
+          (keeps_answers c.args.table.now (Delete c.args.key) _ f m said.new.pass _ c.finish_own.ensures.keeps_but_met.keeps answers))),
       meets_trans a.view m.view said.new.pass.view finished (said_meets m.view said.new.pass.view said.ensures.hindrances said.ensures.facts),
       said.ensures.room,
     )
@@ -260,7 +260,7 @@ pub returns-then-place-key-clause-took : goal.returns-then-place-key-clause-took
 returns-then-place-key-clause-took g c =
     let s = c.search-place in
     record {
-      mine = had_none c.args.table.now.plan.last_card c.args.pass.now s.new.pass s.ensures.seeks.goes.view.ledger s.result c.args.key s.ensures.ends (search rules);
+      mine = had_none c.args.table.now.plan.last_card c.args.pass.now s.new.pass s.ensures.keeps_but_search.keeps.view.ledger s.result c.args.key s.ensures.ends (search rules);
       took = tt;
     }
 
@@ -276,14 +276,14 @@ returns-clause-took g c =
     let place = s.result in
     let card = c.in-Card.card in
     let busy : Does m.view (Delete c.args.key) = search rules in
-    let hand : m.view.worker.card ≡ Some card = c.finish_own.ensures.works.card ∙ c.in_default-flag_delete.ensures.flags.card in
+    let hand : m.view.worker.card ≡ Some card = c.finish_own.ensures.keeps_but_met.card ∙ c.in_default-flag_delete.ensures.flags.card in
     let stays : (e : Told) → IsTold m.view e → IsTold new.view e = λ e has. subst (λ (es : List Told). Has es e) (sym said.ensures.told) has in
-    let leaf = told_leaf s.new.pass.view t.view f.view card c.args.key place c.flag_delete.ensures.goes.view
-    c.in-Some.above c.in-Some.is (s.ensures.seeks.goes.view.operation ∙ c.requires.root.busy) s.ensures.ends.at c.in-Card.ensures.claims.0 in
-    let value = c.flag_delete.ensures.goes.view.told _ (c.take_card.ensures.goes.view.told _ s.ensures.ends.at.value_told) in
-    let on = c.finish_own.ensures.works.goes.view.told in
+    let leaf = told_leaf s.new.pass.view t.view f.view card c.args.key place c.flag_delete.ensures.keeps.view
+    c.in-Some.above c.in-Some.is (s.ensures.keeps_but_search.keeps.view.operation ∙ c.requires.root.busy) s.ensures.ends.at c.in-Card.ensures.claims.0 in
+    let value = c.flag_delete.ensures.keeps.view.told _ (c.take_card.ensures.keeps.view.told _ s.ensures.ends.at.value_told) in
+    let on = c.finish_own.ensures.keeps_but_met.keeps.view.told in
     record {
-      mine = had_value c.args.table.now.plan.last_card c.args.pass.now s.new.pass s.ensures.seeks.goes.view.ledger place c.args.key s.ensures.ends (search rules);
+      mine = had_value c.args.table.now.plan.last_card c.args.pass.now s.new.pass s.ensures.keeps_but_search.keeps.view.ledger place c.args.key s.ensures.ends (search rules);
       took = deletes_take_the_told_value c.args.table.now.plan new.view c.args.key card place.leaf place.value
           (said.ensures.last ∙ (ap (λ o. answered_so o m.view.worker.card Yes) busy ∙ ap (λ o. answered_so (Some (Delete c.args.key)) o Yes) hand))
           (stays _ (on _ leaf)) (stays _ (on _ value));
@@ -292,25 +292,25 @@ returns-clause-took g c =
 -- the cards of each
 pub returns-then-ne-clause-taken : goal.returns-then-ne-clause-taken
 returns-then-ne-clause-taken g c =
-    let taken = c.help.ensures.works.taken ∙ c.search-place.ensures.seeks.taken in
+    let taken = c.help.ensures.keeps_but_met.taken ∙ c.search-place.ensures.keeps_but_search.taken in
     record { least = omega (arith, taken); most = omega (arith, taken) }
 
 pub returns-then-ne-2-clause-taken : goal.returns-then-ne-2-clause-taken
 returns-then-ne-2-clause-taken g c =
-    let taken = c.help-then-ne-2.ensures.works.taken ∙ c.search-place.ensures.seeks.taken in
+    let taken = c.help-then-ne-2.ensures.keeps_but_met.taken ∙ c.search-place.ensures.keeps_but_search.taken in
     record { least = omega (arith, taken); most = omega (arith, taken) }
 
 pub returns-in-Lost-clause-taken : goal.returns-in-Lost-clause-taken
 returns-in-Lost-clause-taken g c =
-    let taken = c.in-Lost.ensures.taken ∙ c.search-place.ensures.seeks.taken in
+    let taken = c.in-Lost.ensures.taken ∙ c.search-place.ensures.keeps_but_search.taken in
     record { least = omega (arith, taken); most = omega (arith, taken) }
 
 pub returns-in-Err-clause-taken : goal.returns-in-Err-clause-taken
 returns-in-Err-clause-taken g c =
     let taken : cards_taken c.help-in-Err.new.pass ≡ cards_taken c.args.pass.now + 1 =
-    omega (arith, c.help-in-Err.ensures.works.taken, c.flag_delete.ensures.taken, c.in-Card.ensures.taken, c.search-place.ensures.seeks.taken) in
+    omega (arith, c.help-in-Err.ensures.keeps_but_met.taken, c.flag_delete.ensures.taken, c.in-Card.ensures.taken, c.search-place.ensures.keeps_but_search.taken) in
     record { least = omega (arith, taken); most = omega (arith, taken) }
 
 pub returns-clause-taken : goal.returns-clause-taken
 returns-clause-taken g c =
-    omega (arith, c.answer-2.ensures.taken, c.finish_own.ensures.works.taken, c.flag_delete.ensures.taken, c.in-Card.ensures.taken, c.search-place.ensures.seeks.taken)
+    omega (arith, c.answer-2.ensures.taken, c.finish_own.ensures.keeps_but_met.taken, c.flag_delete.ensures.taken, c.in-Card.ensures.taken, c.search-place.ensures.keeps_but_search.taken)

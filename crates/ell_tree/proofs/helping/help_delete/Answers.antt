@@ -6,8 +6,8 @@ use Rattle.ell_tree.specs.declared.helping.Ending.TheVariants.{Done, Backed, Beh
 use Rattle.ell_tree.specs.Ledgers.{PassModel}
 use Rattle.ell_tree.specs.Helps.{HelpEnds, chain_steps}
 use Rattle.ell_tree.specs.Hindrances.{IsDeleteEnded, Meets}
-use Rattle.ell_tree.specs.Keeping.{Works}
-use Rattle.ell_tree.proofs.lemmas.Keeping.{works_trans}
+use Rattle.ell_tree.specs.Keeping.{KeepsAllButMet}
+use Rattle.ell_tree.proofs.lemmas.Keeping.{keeps_but_met_trans}
 use Rattle.ell_tree.proofs.lemmas.Meeting.{delete_ended_still, up_to_none, up_to_trans, up_to_end}
 use Rattle.ell_tree.proofs.helping.help_delete.Goals as goal
 
@@ -18,14 +18,14 @@ loop-next-init g c = record {
   down = omega arith;
   ended = inl refl;
   meets = up_to_none c.args.flag.card c.args.pass.now.view;
-  works = search rules;
+  keeps_but_met = search rules;
 }
 
 -- one delete more of the chain has ended
-still_ended : (first flag : DeleteFlag) (v w : PassModel) (n : ℕ) → Works v w n → (flag ≡ first) ⊎ IsDeleteEnded v.view first.card
+still_ended : (first flag : DeleteFlag) (v w : PassModel) (n : ℕ) → KeepsAllButMet v w n → (flag ≡ first) ⊎ IsDeleteEnded v.view first.card
     → IsDeleteEnded w.view flag.card → IsDeleteEnded w.view first.card
 still_ended first flag v w n h (inl same) ended = subst (λ (f : DeleteFlag). IsDeleteEnded w.view f.card) same ended
-still_ended first flag v w n h (inr before) ended = delete_ended_still v.view w.view first.card h.goes.view.knows before
+still_ended first flag v w n h (inr before) ended = delete_ended_still v.view w.view first.card h.keeps.view.knows before
 
 pub loop-next-preserved : goal.loop-next-preserved
 loop-next-preserved g c =
@@ -38,14 +38,14 @@ loop-next-preserved g c =
       ended = inr (still_ended c.args.flag c.loop-next.flag c.loop-next.pass c.help_one_delete.new.pass 4 h.0 i.ended (inr h.4));
       meets = up_to_trans c.loop-next.flag.card c.in-Behind.next.card c.args.pass.now.view c.loop-next.pass.view c.help_one_delete.new.pass.view i.meets h.1
           (inr h.4);
-      works = works_trans c.args.pass.now c.loop-next.pass c.help_one_delete.new.pass (4 * (card c.loop-next.flag.grandparent - card c.args.flag.grandparent)) 4
-          (4 * (card c.in-Behind.next.grandparent - card c.args.flag.grandparent)) i.works h.0
+      keeps_but_met = keeps_but_met_trans c.args.pass.now c.loop-next.pass c.help_one_delete.new.pass (4 * (card c.loop-next.flag.grandparent - card c.args.flag.grandparent)) 4
+          (4 * (card c.in-Behind.next.grandparent - card c.args.flag.grandparent)) i.keeps_but_met h.0
           (omega (arith, i.down, h.3, h.2.node.inner, i.flag.node.inner));
     }
 
 -- the last delete of a chain
 last_ends : (cards : ℕ) (flag : DeleteFlag) (old new : PassModel) (r : Ending) → HelpEnds cards flag old new r → ((next : DeleteFlag) → r ≡ Behind next → ⊥)
-    → Works old new 12 × Meets old.view new.view × (card flag.grandparent + 1 ≤ cards) × IsDeleteEnded new.view flag.card
+    → KeepsAllButMet old new 12 × Meets old.view new.view × (card flag.grandparent + 1 ≤ cards) × IsDeleteEnded new.view flag.card
 last_ends cards flag old new Done h last = (h.0, h.1, h.2, inl h.3)
 last_ends cards flag old new Backed h last = (h.0, h.1, h.2, inr h.3)
 last_ends cards flag old new (Behind next) h last = absurd (last next refl)
@@ -56,8 +56,8 @@ returns g c =
     let new = c.help_one_delete.new.pass in
     let last = last_ends c.args.table.now.plan.last_card c.loop-next.flag c.loop-next.pass new c.help_one_delete.result c.help_one_delete.ensures c.in_default.not-Behind in
     record {
-      works = works_trans c.args.pass.now c.loop-next.pass new (4 * (card c.loop-next.flag.grandparent - card c.args.flag.grandparent)) 12
-          (chain_steps c.args.table.now.plan.last_card c.args.flag.grandparent) i.works last.0 (omega (arith, i.down, last.2));
+      keeps_but_met = keeps_but_met_trans c.args.pass.now c.loop-next.pass new (4 * (card c.loop-next.flag.grandparent - card c.args.flag.grandparent)) 12
+          (chain_steps c.args.table.now.plan.last_card c.args.flag.grandparent) i.keeps_but_met last.0 (omega (arith, i.down, last.2));
       meets = up_to_end c.loop-next.flag.card c.args.pass.now.view c.loop-next.pass.view new.view i.meets last.1 last.3;
       ended = still_ended c.args.flag c.loop-next.flag c.loop-next.pass new 12 last.0 i.ended last.3;
     }

@@ -1,6 +1,6 @@
 use Rattle.std.proofs.Common.{◌⊎◌, ◌≡◌, ◌+◌, ◌*◌, ◌-◌, ◌≤◌}
 use Rattle.ell_word.specs.Node.{card}
-use Rattle.ell_tree.specs.Keeping.{Works}
+use Rattle.ell_tree.specs.Keeping.{KeepsAllButMet}
 use Rattle.ell_tree.specs.Helps.{IsFlag}
 use Rattle.ell_tree.specs.Hindrances.{IsDeleteEnded, MeetsUpTo}
 use Rattle.ell_tree.proofs.helping.help_delete.Given as goal
@@ -13,7 +13,7 @@ invariant-loop-next g l = record {
   down : card l.fn.flag.grandparent ≤ card l.flag.grandparent;
   ended : (l.flag ≡ l.fn.flag) ⊎ IsDeleteEnded l.pass.view l.fn.flag.card;
   meets : MeetsUpTo l.flag.card l.fn.pass.view l.pass.view;
-  works : Works l.fn.pass l.pass (4 * (card l.flag.grandparent - card l.fn.flag.grandparent));
+  keeps_but_met : KeepsAllButMet l.fn.pass l.pass (4 * (card l.flag.grandparent - card l.fn.flag.grandparent));
 }
 
 abbrev pub decreases-loop-next : goal.decreases-loop-next

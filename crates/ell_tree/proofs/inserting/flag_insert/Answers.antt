@@ -12,7 +12,7 @@ returns g c =
     let f = c.fill_insert in
     let parent = c.args.place.parent in
     record {
-      goes = flag_goes exchange.IFlag IFlagged c.args.card parent.node parent.update c.args.pass.now f.new.pass c.iflag.new.pass 10 c.iflag.result f.ensures c.iflag.ensures.step;
+      keeps = flag_goes exchange.IFlag IFlagged c.args.card parent.node parent.update c.args.pass.now f.new.pass c.iflag.new.pass 10 c.iflag.result f.ensures c.iflag.ensures.step;
       taken = flag_takes exchange.IFlag IFlagged c.args.card parent.node parent.update c.args.pass.now f.new.pass c.iflag.new.pass 10 c.iflag.result f.ensures c.iflag.ensures.step refl;
       flags = flag_ends exchange.IFlag IFlagged c.args.card parent.node parent.update c.args.pass.now f.new.pass c.iflag.new.pass 10 c.iflag.result f.ensures c.iflag.ensures.step
           c.args.table.now.plan.last_card c.requires.card.card.may.holds c.requires.node c.iflag.ensures.card;

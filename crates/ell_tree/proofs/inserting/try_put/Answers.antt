@@ -12,12 +12,12 @@ use Rattle.ell_tree.specs.Tries.{HasCard}
 use Rattle.ell_tree.proofs.lemmas.Searches.{may_answer}
 use Rattle.ell_tree.proofs.lemmas.Filling.{put_fills, is_insert}
 use Rattle.ell_tree.proofs.lemmas.Keeping.{share_trans}
-use Rattle.ell_tree.proofs.lemmas.Owning.{goes_answers, would_put}
+use Rattle.ell_tree.proofs.lemmas.Owning.{keeps_answers, would_put}
 use Rattle.ell_tree.proofs.lemmas.Meeting.{meets_trans, meets_more, put_way, nowhere_way, way_over, way_free, no_way}
-use Rattle.ell_tree.proofs.lemmas.Halting.{goes_meets, seek_meets, walk_meets, said_meets, flag_lost}
+use Rattle.ell_tree.proofs.lemmas.Halting.{keeps_meets, seek_meets, walk_meets, said_meets, flag_lost}
 use Rattle.ell_tree.proofs.lemmas.Hindrances.{root_in_try}
 use Rattle.ell_tree.proofs.lemmas.Putting.{put_wants, put_refused, put_done}
-use Rattle.ell_tree.proofs.lemmas.Moves.{sees_end, gives_out}
+use Rattle.ell_tree.proofs.lemmas.Milestones.{sees_end, gives_out}
 use Rattle.ell_tree.proofs.inserting.try_put.Goals as goal
 
 pub take_card-requires-clause-wants : goal.take_card-requires-clause-wants
@@ -30,8 +30,8 @@ answer-requires-clause-may g c =
     let s = c.search-place in
     let refused = put_refused s.result c.args.op c.args.what c.requires.puts
     (λ takes. false≢true (sym c.if-not-may_replace.true ∙ c.may_replace.ensures.1 takes)) in
-    may_answer s.new.pass.view c.args.op s.result c.found.result (s.ensures.seeks.goes.view.operation ∙ c.requires.root.busy) s.ensures.ends.at
-    (refused.says ∙ ap Some (sym (c.found.ensures ∙ ap found c.found_by-found.ensures)))
+    may_answer s.new.pass.view c.args.op s.result c.found.result (s.ensures.keeps_but_search.keeps.view.operation ∙ c.requires.root.busy) s.ensures.ends.at
+    (refused.says ∙ ap Some (sym (c.found.ensures ∙ ap found c.told_of_put-found.ensures)))
 
 pub flag_insert-requires-clause-card : goal.flag_insert-requires-clause-card
 flag_insert-requires-clause-card g c =
@@ -40,7 +40,7 @@ flag_insert-requires-clause-card g c =
       puts = c.requires.puts;
       card = subst (λ (es : List (Field × ℕ)). HasCard c.args.op s.result es c.take_card.new.pass.view c.in-Card.card)
           (put_fills c.in-Card.card c.args.op c.args.what s.new.pass.view s.result c.requires.puts
-          (s.ensures.seeks.goes.view.operation ∙ c.requires.root.busy) s.ensures.ends.at)
+          (s.ensures.keeps_but_search.keeps.view.operation ∙ c.requires.root.busy) s.ensures.ends.at)
           c.in-Card.ensures.claims.0;
     }
 
@@ -51,9 +51,9 @@ finish_insert-requires-clause-insert g c =
     let ends = s.ensures.ends in
     rw c.max-card_key.ensures
     rw c.min-left_key.ensures
-    (is_insert s.new.pass.view c.take_card.new.pass.view c.flag_insert.new.pass.view c.in-Card.card place c.flag_insert.ensures.goes.view
-    c.args.op c.args.what c.requires.puts (s.ensures.seeks.goes.view.operation ∙ c.requires.root.busy) ends.at c.in-Card.ensures.claims.0
-    c.in-Ok.ensures.flags.knows (c.take_card.ensures.goes.view.told (Met place.parent.node) ends.passed.node.met))
+    (is_insert s.new.pass.view c.take_card.new.pass.view c.flag_insert.new.pass.view c.in-Card.card place c.flag_insert.ensures.keeps.view
+    c.args.op c.args.what c.requires.puts (s.ensures.keeps_but_search.keeps.view.operation ∙ c.requires.root.busy) ends.at c.in-Card.ensures.claims.0
+    c.in-Ok.ensures.flags.knows (c.take_card.ensures.keeps.view.told (Met place.parent.node) ends.passed.node.met))
 
 -- there was no place for it
 pub returns-then-not-may_replace-clause-ends : goal.returns-then-not-may_replace-clause-ends
@@ -63,12 +63,12 @@ returns-then-not-may_replace-clause-ends g c =
     let said = c.answer in
     let refused = put_refused s.result c.args.op c.args.what c.requires.puts
     (λ takes. false≢true (sym c.if-not-may_replace.true ∙ c.may_replace.ensures.1 takes)) in
-    let reply : c.found.result ≡ reply_by c.args.op c.found_by-found.result =
-    c.found.ensures ∙ (ap found c.found_by-found.ensures ∙ (refused.reply ∙ ap (reply_by c.args.op) (sym c.found_by-found.ensures))) in
-    let answers = said.ensures.answers c.args.op (s.ensures.seeks.goes.view.operation ∙ c.requires.root.busy) in (
+    let reply : c.found.result ≡ reply_by c.args.op c.told_of_put-found.result =
+    c.found.ensures ∙ (ap found c.told_of_put-found.ensures ∙ (refused.reply ∙ ap (reply_by c.args.op) (sym c.told_of_put-found.ensures))) in
+    let answers = said.ensures.answers c.args.op (s.ensures.keeps_but_search.keeps.view.operation ∙ c.requires.root.busy) in (
       subst (λ r. Answers c.args.table.now c.args.op r a said.new.pass) reply
-          (goes_answers c.args.table.now c.args.op _ a s.new.pass said.new.pass _ s.ensures.seeks.goes answers),
-      meets_trans a.view s.new.pass.view said.new.pass.view (seek_meets a s.new.pass _ s.ensures.seeks)
+          (keeps_answers c.args.table.now c.args.op _ a s.new.pass said.new.pass _ s.ensures.keeps_but_search.keeps answers),
+      meets_trans a.view s.new.pass.view said.new.pass.view (seek_meets a s.new.pass _ s.ensures.keeps_but_search)
           (said_meets s.new.pass.view said.new.pass.view said.ensures.hindrances said.ensures.facts),
       said.ensures.room,
     )
@@ -77,8 +77,8 @@ pub returns-then-not-may_replace-clause-taken : goal.returns-then-not-may_replac
 returns-then-not-may_replace-clause-taken g c =
     let refused = put_refused c.search-place.result c.args.op c.args.what c.requires.puts
     (λ takes. false≢true (sym c.if-not-may_replace.true ∙ c.may_replace.ensures.1 takes)) in
-    subst (λ b. TakesOneIf b c.args.pass.now c.answer.new.pass) (sym (ap (changes_by c.args.op) c.found_by-found.ensures ∙ refused.changes))
-    (c.answer.ensures.taken ∙ c.search-place.ensures.seeks.taken)
+    subst (λ b. TakesOneIf b c.args.pass.now c.answer.new.pass) (sym (ap (changes_by c.args.op) c.told_of_put-found.ensures ∙ refused.changes))
+    (c.answer.ensures.taken ∙ c.search-place.ensures.keeps_but_search.taken)
 
 -- a flag or a mark stood at the parent
 pub returns-then-ne-clause-ends : goal.returns-then-ne-clause-ends
@@ -89,9 +89,9 @@ returns-then-ne-clause-ends g c =
     let update = place.parent.update in
     let new = c.help.new.pass in
     let stands : update.state ≢ Clean = search rules in
-    let meets = meets_trans a.view s.new.pass.view new.view (seek_meets a s.new.pass _ s.ensures.seeks) c.help.ensures.meets in
+    let meets = meets_trans a.view s.new.pass.view new.view (seek_meets a s.new.pass _ s.ensures.keeps_but_search) c.help.ensures.meets in
     let way = way_over new.view update.state update.card (way_of c.args.op new.view)
-    (put_way c.args.op c.args.what c.requires.puts place.leaf place.parent place.grandparent new.view (c.help.ensures.works.search ∙ s.ensures.ends.at.search)) stands
+    (put_way c.args.op c.args.what c.requires.puts place.leaf place.parent place.grandparent new.view (c.help.ensures.keeps_but_met.search ∙ s.ensures.ends.at.search)) stands
     c.help.ensures.ended in
     let more = meets_more a.view new.view meets in (
       record {
@@ -99,17 +99,17 @@ returns-then-ne-clause-ends g c =
         label = search rules;
         ledger = search rules;
         answers = search rules;
-        share = share_trans a.view s.new.pass.view new.view s.ensures.seeks.goes.view.share c.help.ensures.works.goes.view.share;
+        share = share_trans a.view s.new.pass.view new.view s.ensures.keeps_but_search.keeps.view.share c.help.ensures.keeps_but_met.keeps.view.share;
         meets = meets;
-        in_try = c.help.ensures.works.goes.view.earlier a.view.hindrances (s.ensures.seeks.goes.view.earlier a.view.hindrances (root_in_try c.args.op a.view c.requires.root));
+        in_try = c.help.ensures.keeps_but_met.keeps.view.earlier a.view.hindrances (s.ensures.keeps_but_search.keeps.view.earlier a.view.hindrances (root_in_try c.args.op a.view c.requires.root));
         way = way.0;
-        would = would_put c.args.table.now.plan.last_card a s.new.pass s.ensures.seeks.goes.view.ledger s.result c.args.op c.args.what c.requires.puts s.ensures.ends (search rules);
+        would = would_put c.args.table.now.plan.last_card a s.new.pass s.ensures.keeps_but_search.keeps.view.ledger s.result c.args.op c.args.what c.requires.puts s.ensures.ends (search rules);
         stops = search rules;
       },
       omega (arith, way.1, more),
-      sees_end c.args.table.now.plan.last_card a.view s.new.pass.view new.view update.state update.card s.ensures.seeks.goes.view.before s.ensures.ends.unknown
+      sees_end c.args.table.now.plan.last_card a.view s.new.pass.view new.view update.state update.card s.ensures.keeps_but_search.keeps.view.before s.ensures.ends.unknown
           s.ensures.ends.passed.named stands c.help.ensures.ended
-          (omega (arith, s.ensures.seeks.goes.view.least, c.help.ensures.works.goes.view.least)),
+          (omega (arith, s.ensures.keeps_but_search.keeps.view.least, c.help.ensures.keeps_but_met.keeps.view.least)),
     )
 
 -- no card was left
@@ -122,8 +122,8 @@ returns-in-NoneLeft-clause-ends g c =
     let new = c.take_card.new.pass in
     let claims = c.in-NoneLeft.ensures.claims in
     let calm : update.state ≡ Clean = search rules in
-    let meets = meets_trans a.view s.new.pass.view new.view (seek_meets a s.new.pass _ s.ensures.seeks)
-    (goes_meets s.new.pass new 2 c.in-NoneLeft.ensures.goes claims.2) in
+    let meets = meets_trans a.view s.new.pass.view new.view (seek_meets a s.new.pass _ s.ensures.keeps_but_search)
+    (keeps_meets s.new.pass new 2 c.in-NoneLeft.ensures.keeps claims.2) in
     let way = way_free new.view update.state update.card (way_of c.args.op new.view)
     (put_way c.args.op c.args.what c.requires.puts place.leaf place.parent place.grandparent new.view (claims.0.search ∙ s.ensures.ends.at.search)) calm in (
       record {
@@ -131,11 +131,11 @@ returns-in-NoneLeft-clause-ends g c =
         label = search rules;
         ledger = search rules;
         answers = search rules;
-        share = share_trans a.view s.new.pass.view new.view s.ensures.seeks.goes.view.share c.take_card.ensures.goes.view.share;
+        share = share_trans a.view s.new.pass.view new.view s.ensures.keeps_but_search.keeps.view.share c.take_card.ensures.keeps.view.share;
         meets = meets;
-        in_try = c.take_card.ensures.goes.view.earlier a.view.hindrances (s.ensures.seeks.goes.view.earlier a.view.hindrances (root_in_try c.args.op a.view c.requires.root));
+        in_try = c.take_card.ensures.keeps.view.earlier a.view.hindrances (s.ensures.keeps_but_search.keeps.view.earlier a.view.hindrances (root_in_try c.args.op a.view c.requires.root));
         way = way;
-        would = would_put c.args.table.now.plan.last_card a s.new.pass s.ensures.seeks.goes.view.ledger s.result c.args.op c.args.what c.requires.puts s.ensures.ends (search rules);
+        would = would_put c.args.table.now.plan.last_card a s.new.pass s.ensures.keeps_but_search.keeps.view.ledger s.result c.args.op c.args.what c.requires.puts s.ensures.ends (search rules);
         stops = search rules;
       },
       claims.1,
@@ -151,24 +151,24 @@ returns-in-Lost-clause-ends g c =
     let new = c.take_card.new.pass in
     let claims = c.in-Lost.ensures.claims in
     let calm : update.state ≡ Clean = search rules in
-    let meets = meets_trans a.view s.new.pass.view new.view (seek_meets a s.new.pass _ s.ensures.seeks) claims.1 in
+    let meets = meets_trans a.view s.new.pass.view new.view (seek_meets a s.new.pass _ s.ensures.keeps_but_search) claims.1 in
     let way = way_free new.view update.state update.card (way_of c.args.op new.view)
     (put_way c.args.op c.args.what c.requires.puts place.leaf place.parent place.grandparent new.view (claims.0.search ∙ s.ensures.ends.at.search)) calm in
-    let quiet = ap length s.ensures.seeks.hindrances in (
+    let quiet = ap length s.ensures.keeps_but_search.hindrances in (
       record {
         table = search rules;
         label = search rules;
         ledger = search rules;
         answers = search rules;
-        share = share_trans a.view s.new.pass.view new.view s.ensures.seeks.goes.view.share c.take_card.ensures.goes.view.share;
+        share = share_trans a.view s.new.pass.view new.view s.ensures.keeps_but_search.keeps.view.share c.take_card.ensures.keeps.view.share;
         meets = meets;
-        in_try = c.take_card.ensures.goes.view.earlier a.view.hindrances (s.ensures.seeks.goes.view.earlier a.view.hindrances (root_in_try c.args.op a.view c.requires.root));
+        in_try = c.take_card.ensures.keeps.view.earlier a.view.hindrances (s.ensures.keeps_but_search.keeps.view.earlier a.view.hindrances (root_in_try c.args.op a.view c.requires.root));
         way = way;
-        would = would_put c.args.table.now.plan.last_card a s.new.pass s.ensures.seeks.goes.view.ledger s.result c.args.op c.args.what c.requires.puts s.ensures.ends (search rules);
+        would = would_put c.args.table.now.plan.last_card a s.new.pass s.ensures.keeps_but_search.keeps.view.ledger s.result c.args.op c.args.what c.requires.puts s.ensures.ends (search rules);
         stops = search rules;
       },
       omega (arith, quiet, claims.2),
-      gives_out c.args.table.now.plan.last_card a.view s.new.pass.view new.view new.view s.ensures.seeks.goes.view.least claims.3 (omega arith),
+      gives_out c.args.table.now.plan.last_card a.view s.new.pass.view new.view new.view s.ensures.keeps_but_search.keeps.view.least claims.3 (omega arith),
     )
 
 -- it was put
@@ -180,19 +180,19 @@ returns-in-Ok-clause-ends g c =
     let f = c.flag_insert.new.pass in
     let m = c.finish_insert.new.pass in
     let said = c.answer-in-Ok in
-    let taken = meets_trans a.view s.new.pass.view t.view (seek_meets a s.new.pass _ s.ensures.seeks)
-    (goes_meets s.new.pass t 2 c.take_card.ensures.goes c.in-Card.ensures.claims.2) in
-    let flagged = meets_trans a.view t.view f.view taken (goes_meets t f 11 c.flag_insert.ensures.goes c.in-Ok.ensures.flags.hindrances) in
-    let finished = meets_trans a.view f.view m.view flagged (walk_meets f m 3 c.finish_insert.ensures.walks) in
+    let taken = meets_trans a.view s.new.pass.view t.view (seek_meets a s.new.pass _ s.ensures.keeps_but_search)
+    (keeps_meets s.new.pass t 2 c.take_card.ensures.keeps c.in-Card.ensures.claims.2) in
+    let flagged = meets_trans a.view t.view f.view taken (keeps_meets t f 11 c.flag_insert.ensures.keeps c.in-Ok.ensures.flags.hindrances) in
+    let finished = meets_trans a.view f.view m.view flagged (walk_meets f m 3 c.finish_insert.ensures.keeps_all) in
     let done = put_done c.args.op c.args.what c.requires.puts in
     let reply : c.reply_once_done.result ≡ reply_by c.args.op (Some c.unwrap_or.result) =
     c.reply_once_done.ensures ∙ (done.reply ∙ ap (λ v. reply_by c.args.op (Some v)) (sym (search rules))) in
     let answers = said.ensures.answers c.args.op (search rules) in (
       subst (λ r. Answers c.args.table.now c.args.op r a said.new.pass) reply
-          (goes_answers c.args.table.now c.args.op _ a s.new.pass said.new.pass _ s.ensures.seeks.goes
-          (goes_answers c.args.table.now c.args.op _ s.new.pass t said.new.pass _ c.take_card.ensures.goes
-          (goes_answers c.args.table.now c.args.op _ t f said.new.pass _ c.flag_insert.ensures.goes
-          (goes_answers c.args.table.now c.args.op _ f m said.new.pass _ c.finish_insert.ensures.walks.goes answers)))),
+          (keeps_answers c.args.table.now c.args.op _ a s.new.pass said.new.pass _ s.ensures.keeps_but_search.keeps
+          (keeps_answers c.args.table.now c.args.op _ s.new.pass t said.new.pass _ c.take_card.ensures.keeps
+          (keeps_answers c.args.table.now c.args.op _ t f said.new.pass _ c.flag_insert.ensures.keeps
+          (keeps_answers c.args.table.now c.args.op _ f m said.new.pass _ c.finish_insert.ensures.keeps_all.keeps answers)))),
       meets_trans a.view m.view said.new.pass.view finished (said_meets m.view said.new.pass.view said.ensures.hindrances said.ensures.facts),
       said.ensures.room,
     )
@@ -207,50 +207,50 @@ returns-in-Err-clause-ends g c =
     let help = c.help-in-Err in
     let new = help.new.pass in
     let flags = c.in-Err.ensures.flags in
-    let taken = meets_trans a.view s.new.pass.view t.view (seek_meets a s.new.pass _ s.ensures.seeks)
-    (goes_meets s.new.pass t 2 c.take_card.ensures.goes c.in-Card.ensures.claims.2) in
-    let lost = flag_lost c.args.table.now.plan.last_card s.result.parent.node c.in-Err.found t.view f.view new.view flags c.flag_insert.ensures.goes.view.knows
+    let taken = meets_trans a.view s.new.pass.view t.view (seek_meets a s.new.pass _ s.ensures.keeps_but_search)
+    (keeps_meets s.new.pass t 2 c.take_card.ensures.keeps c.in-Card.ensures.claims.2) in
+    let lost = flag_lost c.args.table.now.plan.last_card s.result.parent.node c.in-Err.found t.view f.view new.view flags c.flag_insert.ensures.keeps.view.knows
     help.ensures.meets help.ensures.ended in
     let meets = meets_trans a.view t.view new.view taken lost.0 in
     let way = no_way new.view (way_of c.args.op new.view)
-    (nowhere_way c.args.op new.view (ap (λ (r : Search). r.node) help.ensures.works.search ∙ flags.nowhere)) in
-    let searched = s.ensures.seeks.goes.view.earlier a.view.hindrances (root_in_try c.args.op a.view c.requires.root) in
-    let in_try = help.ensures.works.goes.view.earlier a.view.hindrances (c.flag_insert.ensures.goes.view.earlier a.view.hindrances
-    (c.take_card.ensures.goes.view.earlier a.view.hindrances searched)) in
+    (nowhere_way c.args.op new.view (ap (λ (r : Search). r.node) help.ensures.keeps_but_met.search ∙ flags.nowhere)) in
+    let searched = s.ensures.keeps_but_search.keeps.view.earlier a.view.hindrances (root_in_try c.args.op a.view c.requires.root) in
+    let in_try = help.ensures.keeps_but_met.keeps.view.earlier a.view.hindrances (c.flag_insert.ensures.keeps.view.earlier a.view.hindrances
+    (c.take_card.ensures.keeps.view.earlier a.view.hindrances searched)) in
     let more = meets_more a.view t.view taken in (
       record {
         table = search rules;
         label = search rules;
         ledger = search rules;
         answers = search rules;
-        share = share_trans a.view f.view new.view (share_trans a.view t.view f.view (share_trans a.view s.new.pass.view t.view s.ensures.seeks.goes.view.share
-            c.take_card.ensures.goes.view.share) c.flag_insert.ensures.goes.view.share) help.ensures.works.goes.view.share;
+        share = share_trans a.view f.view new.view (share_trans a.view t.view f.view (share_trans a.view s.new.pass.view t.view s.ensures.keeps_but_search.keeps.view.share
+            c.take_card.ensures.keeps.view.share) c.flag_insert.ensures.keeps.view.share) help.ensures.keeps_but_met.keeps.view.share;
         meets = meets;
         in_try = in_try;
         way = way;
-        would = would_put c.args.table.now.plan.last_card a s.new.pass s.ensures.seeks.goes.view.ledger s.result c.args.op c.args.what c.requires.puts s.ensures.ends (search rules);
+        would = would_put c.args.table.now.plan.last_card a s.new.pass s.ensures.keeps_but_search.keeps.view.ledger s.result c.args.op c.args.what c.requires.puts s.ensures.ends (search rules);
         stops = search rules;
       },
       omega (arith, lost.1, more),
-      gives_out c.args.table.now.plan.last_card a.view s.new.pass.view t.view new.view s.ensures.seeks.goes.view.least c.in-Card.ensures.claims.3
-          (omega (arith, c.flag_insert.ensures.goes.view.least, help.ensures.works.goes.view.least)),
+      gives_out c.args.table.now.plan.last_card a.view s.new.pass.view t.view new.view s.ensures.keeps_but_search.keeps.view.least c.in-Card.ensures.claims.3
+          (omega (arith, c.flag_insert.ensures.keeps.view.least, help.ensures.keeps_but_met.keeps.view.least)),
     )
 
 -- the cards of each
 pub returns-then-ne-clause-taken : goal.returns-then-ne-clause-taken
 returns-then-ne-clause-taken g c =
-    let taken = c.help.ensures.works.taken ∙ c.search-place.ensures.seeks.taken in
+    let taken = c.help.ensures.keeps_but_met.taken ∙ c.search-place.ensures.keeps_but_search.taken in
     record { least = omega (arith, taken); most = omega (arith, taken) }
 
 pub returns-in-Lost-clause-taken : goal.returns-in-Lost-clause-taken
 returns-in-Lost-clause-taken g c =
-    let taken = c.in-Lost.ensures.taken ∙ c.search-place.ensures.seeks.taken in
+    let taken = c.in-Lost.ensures.taken ∙ c.search-place.ensures.keeps_but_search.taken in
     record { least = omega (arith, taken); most = omega (arith, taken) }
 
 pub returns-in-Ok-clause-taken : goal.returns-in-Ok-clause-taken
 returns-in-Ok-clause-taken g c =
     let taken : TakesOneCard c.args.pass.now c.answer-in-Ok.new.pass =
-    omega (arith, c.answer-in-Ok.ensures.taken, c.finish_insert.ensures.walks.taken, c.flag_insert.ensures.taken, c.in-Card.ensures.taken, c.search-place.ensures.seeks.taken) in
+    omega (arith, c.answer-in-Ok.ensures.taken, c.finish_insert.ensures.keeps_all.taken, c.flag_insert.ensures.taken, c.in-Card.ensures.taken, c.search-place.ensures.keeps_but_search.taken) in
     let done = put_done c.args.op c.args.what c.requires.puts in
     subst (λ b. TakesOneIf b c.args.pass.now c.answer-in-Ok.new.pass)
     (sym (ap (λ v. changes_by c.args.op (Some v)) (search rules) ∙ done.changes)) taken
@@ -258,5 +258,5 @@ returns-in-Ok-clause-taken g c =
 pub returns-in-Err-clause-taken : goal.returns-in-Err-clause-taken
 returns-in-Err-clause-taken g c =
     let taken : cards_taken c.help-in-Err.new.pass ≡ cards_taken c.args.pass.now + 1 =
-    omega (arith, c.help-in-Err.ensures.works.taken, c.flag_insert.ensures.taken, c.in-Card.ensures.taken, c.search-place.ensures.seeks.taken) in
+    omega (arith, c.help-in-Err.ensures.keeps_but_met.taken, c.flag_insert.ensures.taken, c.in-Card.ensures.taken, c.search-place.ensures.keeps_but_search.taken) in
     record { least = omega (arith, taken); most = omega (arith, taken) }

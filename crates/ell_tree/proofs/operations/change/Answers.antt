@@ -7,10 +7,10 @@ use Rattle.ell_tree.proofs.lemmas.Counts.{took_within, took_trans, rounds_first,
 use Rattle.ell_tree.proofs.lemmas.Halting.{begun_meets, begun_count}
 use Rattle.ell_tree.proofs.lemmas.Hindrances.{root_hindered, one_hindered, halts_hindered}
 use Rattle.ell_tree.proofs.lemmas.Meeting.{meets_trans}
-use Rattle.ell_tree.proofs.lemmas.Moves.{moves_one, moves_still, moves_same, moves_most, moves_more, amortized}
+use Rattle.ell_tree.proofs.lemmas.Milestones.{milestones_one, milestones_still, milestones_same, milestones_most, milestones_more, amortized}
 use Rattle.ell_tree.proofs.lemmas.CardsTaken.{answers_first, answered_most, answered_cards, unchanged_cards, taken_none, same_Ok}
 use Rattle.ell_tree.proofs.lemmas.Keeping.{share_trans}
-use Rattle.ell_tree.proofs.lemmas.Owning.{answers_before, would_before, moves_before}
+use Rattle.ell_tree.proofs.lemmas.Owning.{answers_before, would_before, takes_before_it}
 use Rattle.ell_tree.proofs.operations.change.Goals as goal
 
 pub try_once-requires-clause-root : goal.try_once-requires-clause-root
@@ -48,9 +48,9 @@ loop-round-preserved g c =
           omega (arith, hindered, n, i.hindrances);
       hindered = let counts = halts_hindered op c.restart.new.pass c.try_once.new.pass halts hindered in
           omega (arith, counts, c.try_once.ensures.hindered, begins.hindered, i.hindered);
-      moved = let one = moves_one c.args.table.now.plan.last_card l.pass.view c.restart.new.pass.view c.try_once.new.pass.view begins.before begins.least
+      milestones = let one = milestones_one c.args.table.now.plan.last_card l.pass.view c.restart.new.pass.view c.try_once.new.pass.view begins.before begins.least
           (λ f h. halts.meets.knows f (begins.knows f h)) c.in-Hindered.ensures.ends.2 in
-          omega (arith, one, i.moved);
+          omega (arith, one, i.milestones);
       taken = record {
         least = omega (arith, c.in-Hindered.ensures.taken.least, begins.taken, i.taken.least);
         most = omega (arith, c.in-Hindered.ensures.taken.most, begins.taken, i.taken.most);
@@ -62,7 +62,7 @@ pub loop-round-init : goal.loop-round-init
 loop-round-init g c =
     let cards = c.args.table.now.plan.last_card in
     let start = c.begin.ensures in
-    let still = moves_still cards c.args.pass.now.view c.begin.new.pass.view start.knows start.least in
+    let still = milestones_still cards c.args.pass.now.view c.begin.new.pass.view start.knows start.least in
     record {
       same = search rules;
       table = search rules;
@@ -77,7 +77,7 @@ loop-round-init g c =
       way = search rules;
       hindrances = search rules;
       hindered = let none = root_hindered c.args.op c.begin.new.pass.view start.root in omega (arith, none, start.hindered);
-      moved = omega (arith, still);
+      milestones = omega (arith, still);
       taken = record { least = omega (arith, start.taken); most = omega (arith, start.taken) };
       rounds = rounds_first (try_steps cards) c.args.pass.now c.begin.new.pass start.took;
     }
@@ -94,11 +94,11 @@ returns-in-Answered-clause-steps g c =
     let few = round_steps l.round most start l.pass c.restart.new.pass tried i.rounds
     begins.took (λ none. c.restart.ensures.first (eq-eqb l.round 0 none)) c.try_once.ensures.steps c.try_once.ensures.made in
     let all = rounds_steps l.round c.args.tries most c.loop-round-test.true in
-    let on = moves_more cards l.pass.view tried.view
+    let on = milestones_more cards l.pass.view tried.view
     (λ f h. c.in-Answered.ensures.ends.1.knows f (begins.knows f h)) (omega (arith, begins.least, c.try_once.ensures.least)) in
     record {
       most = took_within start tried ((l.round + 1) * most) (c.args.tries * most + 1) few (omega (arith, all));
-      amortized = amortized cards l.round start tried (omega (arith, on, i.moved))
+      amortized = amortized cards l.round start tried (omega (arith, on, i.milestones))
           (took_within start tried ((l.round + 1) * most) ((l.round + 1) * most + 1) few (omega arith));
       counted = record {
         least = omega (arith, c.try_once.ensures.hindered, begins.hindered, i.hindered);
@@ -122,13 +122,13 @@ returns-in-Spent-clause-steps g c =
     let all = rounds_steps l.round c.args.tries most c.loop-round-test.true in
     let halts = c.in-Spent.ensures.ends.0 in
     let lays = c.leave.ensures.lays op halts.stops.busy in
-    let on = moves_more cards l.pass.view tried.view
+    let on = milestones_more cards l.pass.view tried.view
     (λ f h. halts.meets.knows f (begins.knows f h)) (omega (arith, begins.least, c.try_once.ensures.least)) in
-    let same = moves_same cards tried.view left.view lays.facts lays.least in
+    let same = milestones_same cards tried.view left.view lays.facts lays.least in
     let one = one_hindered tried.view in
     record {
       most = took_trans start tried left ((l.round + 1) * most) 1 (c.args.tries * most + 1) few lays.took (omega (arith, all));
-      amortized = amortized cards l.round start left (omega (arith, on, same, i.moved))
+      amortized = amortized cards l.round start left (omega (arith, on, same, i.milestones))
           (took_trans start tried left ((l.round + 1) * most) 1 ((l.round + 1) * most + 1) few lays.took (omega arith));
       counted = record {
         least = omega (arith, one.0, lays.hindered, c.try_once.ensures.hindered, begins.hindered, i.hindered);
@@ -148,10 +148,10 @@ returns-clause-steps g c =
     let all : l.round ≡ c.args.tries = omega (arith, c.loop-round-test.false, l.auto.round-end) in
     let rounds = ap (λ n. n * most) all in
     let lays = c.leave-2.ensures.lays c.args.op i.stops.busy in
-    let same = moves_same cards l.pass.view left.view lays.facts lays.least in
+    let same = milestones_same cards l.pass.view left.view lays.facts lays.least in
     record {
       most = took_trans start l.pass left (l.round * most) 1 (c.args.tries * most + 1) few lays.took (omega (arith, rounds));
-      amortized = amortized cards l.round start left (omega (arith, same, i.moved))
+      amortized = amortized cards l.round start left (omega (arith, same, i.milestones))
           (took_trans start l.pass left (l.round * most) 1 ((l.round + 1) * most + 1) few lays.took (omega arith));
       counted = record { least = omega (arith, lays.hindered, i.hindered); most = omega (arith, lays.hindered, all, i.hindered) };
     }
@@ -162,12 +162,12 @@ returns-clause-others g c = λ not_done.
     let l = c.loop-round in
     let left = c.leave-2.new.pass.view in
     let lays = c.leave-2.ensures.lays c.args.op l.invariant.stops.busy in
-    let same = moves_same t.plan.last_card l.pass.view left lays.facts lays.least in
+    let same = milestones_same t.plan.last_card l.pass.view left lays.facts lays.least in
     let all : l.round ≡ c.args.tries = omega (arith, c.loop-round-test.false, l.auto.round-end) in
     let each : left.hindered ≡ c.args.pass.now.view.hindered + c.args.tries = omega (arith, lays.hindered, all, l.invariant.hindered) in
     record {
       each = each;
-      moved = omega (arith, same, all, l.invariant.moved);
+      milestones = omega (arith, same, all, l.invariant.milestones);
       by_others = more_tries t.plan c.args.pass.now.view.hindered left c.args.tries each;
     }
 
@@ -175,9 +175,9 @@ pub returns-clause-enough : goal.returns-clause-enough
 returns-clause-enough g c = λ many not_done.
     let l = c.loop-round in
     let cards = c.args.table.now.plan.last_card in
-    let most = moves_most cards l.pass.view c.leave-2.ensures.least in
+    let most = milestones_most cards l.pass.view c.leave-2.ensures.least in
     let all : l.round ≡ c.args.tries = omega (arith, c.loop-round-test.false, l.auto.round-end) in
-    omega (arith, many, most, all, l.invariant.moved)
+    omega (arith, many, most, all, l.invariant.milestones)
 
 pub returns-in-Answered-clause-ends : goal.returns-in-Answered-clause-ends
 returns-in-Answered-clause-ends g c =
@@ -243,35 +243,35 @@ returns-clause-ends g c =
       begun_meets (way_of op l.pass.view) a l.pass.view c.leave-2.new.pass.view i.meets i.way lays.hindrances lays.knows,
     )
 
--- the value that it moved
-pub returns-in-Answered-clause-moves : goal.returns-in-Answered-clause-moves
-returns-in-Answered-clause-moves g c =
+-- the value that it took
+pub returns-in-Answered-clause-takes : goal.returns-in-Answered-clause-takes
+returns-in-Answered-clause-takes g c =
     let l = c.loop-round in
     let i = l.invariant in
     let begins = c.restart.ensures.begins c.args.op i.stops.busy (λ none. i.root (eqb-true l.round 0 none)) in
-    moves_before c.args.table.now c.args.op c.in-Answered.moved c.args.pass.now c.restart.new.pass c.try_once.new.pass (begins.ledger ∙ i.ledger) c.in-Answered.ensures.moves
+    takes_before_it c.args.table.now c.args.op c.in-Answered.had c.args.pass.now c.restart.new.pass c.try_once.new.pass (begins.ledger ∙ i.ledger) c.in-Answered.ensures.takes
 
 pub returns-in-Answered-clause-cards : goal.returns-in-Answered-clause-cards
 returns-in-Answered-clause-cards g c =
     let l = c.loop-round in
     let i = l.invariant in
     let op = c.args.op in
-    let moved = c.in-Answered.moved in
+    let had = c.in-Answered.had in
     let begun = c.restart.new.pass in
     let after = c.try_once.new.pass in
     let begins = c.restart.ensures.begins op i.stops.busy (λ none. i.root (eqb-true l.round 0 none)) in
-    let one = answered_most op moved begun after c.in-Answered.ensures.taken in
+    let one = answered_most op had begun after c.in-Answered.ensures.taken in
     record {
       most = record {
         least = omega (arith, one.least, begins.taken, i.taken.least);
         most = omega (arith, one.most, begins.taken, i.taken.most, c.loop-round-test.true);
       };
-      each = answered_cards op moved l.round c.args.pass.now l.pass begun after i.taken begins.taken c.in-Answered.ensures.taken
+      each = answered_cards op had l.round c.args.pass.now l.pass begun after i.taken begins.taken c.in-Answered.ensures.taken
           (omega (arith, c.try_once.ensures.hindered, begins.hindered, i.hindered));
       unchanged = λ owns none. unchanged_cards l.round c.args.pass.now l.pass begun after i.taken begins.taken
-          (taken_none op moved begun after c.in-Answered.ensures.taken (same_Ok (changes_by op moved) none))
-          (answers_first c.args.table.now op moved l.round c.args.pass.now begun after c.requires.change c.in-Answered.ensures.ends.0 (begins.ledger ∙ i.ledger)
-          i.would owns (same_Ok (changes_by op moved) none));
+          (taken_none op had begun after c.in-Answered.ensures.taken (same_Ok (changes_by op had) none))
+          (answers_first c.args.table.now op had l.round c.args.pass.now begun after c.requires.change c.in-Answered.ensures.ends.0 (begins.ledger ∙ i.ledger)
+          i.would owns (same_Ok (changes_by op had) none));
     }
 
 pub returns-in-Spent-clause-cards : goal.returns-in-Spent-clause-cards

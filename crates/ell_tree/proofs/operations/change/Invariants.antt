@@ -8,7 +8,7 @@ use Rattle.ell_tree.specs.Ledgers.{Owns, present_in}
 use Rattle.ell_cards.specs.Stepping.{SameShare}
 use Rattle.ell_tree.specs.Searches.{AtRoot}
 use Rattle.ell_tree.specs.Tries.{Stops}
-use Rattle.ell_tree.specs.Moves.{moves_known}
+use Rattle.ell_tree.specs.Milestones.{milestones_known}
 use Rattle.ell_tree.proofs.lemmas.Counts.{TookRounds}
 use Rattle.ell_tree.proofs.operations.change.Given as goal
 use Rattle.ell_core.specs.statements.Effects.{reply_of_change}
@@ -29,7 +29,7 @@ invariant-loop-round g l = record {
   way : AreOver l.pass.view (way_of l.op l.pass.view);
   hindrances : length l.fn.pass.view.hindrances + l.round ≤ length (way_of l.op l.pass.view) + length l.pass.view.hindrances;
   hindered : tries_hindered l.pass.view ≡ l.fn.pass.view.hindered + l.round;
-  moved : moves_known l.table.plan.last_card l.fn.pass.view + l.round ≤ moves_known l.table.plan.last_card l.pass.view;
+  milestones : milestones_known l.table.plan.last_card l.fn.pass.view + l.round ≤ milestones_known l.table.plan.last_card l.pass.view;
   taken : TakesAtMost l.round l.fn.pass l.pass;
   rounds : TookRounds l.round (try_steps l.table.plan.last_card) l.fn.pass l.pass;
 }

@@ -3,17 +3,17 @@ use Rattle.ell_ops.specs.declared.op.Op.TheVariants.{Find}
 use Rattle.ell_tree.proofs.lemmas.Meeting.{meets_none, meets_trans}
 use Rattle.ell_tree.proofs.lemmas.Halting.{seek_meets, said_meets}
 use Rattle.ell_tree.specs.Ends.{Answers}
-use Rattle.ell_tree.proofs.lemmas.Owning.{answers_before, goes_answers}
-use Rattle.ell_tree.proofs.lemmas.Moves.{moves_more, moves_same}
+use Rattle.ell_tree.proofs.lemmas.Owning.{answers_before, keeps_answers}
+use Rattle.ell_tree.proofs.lemmas.Milestones.{milestones_more, milestones_same}
 use Rattle.ell_tree.proofs.operations.find.Goals as goal
 
 pub returns-clause-answers : goal.returns-clause-answers
 returns-clause-answers g c =
-    let answers = c.answer.ensures.answers (Find c.args.key) (c.search-place.ensures.seeks.goes.view.operation ∙ c.begin.ensures.root.busy) in
+    let answers = c.answer.ensures.answers (Find c.args.key) (c.search-place.ensures.keeps_but_search.keeps.view.operation ∙ c.begin.ensures.root.busy) in
     subst (λ r. Answers c.args.table.now (Find c.args.key) r c.args.pass.now c.answer.new.pass) c.found.ensures
     (answers_before c.args.table.now (Find c.args.key) _ c.args.pass.now c.begin.new.pass c.answer.new.pass c.begin.ensures.table c.begin.ensures.label
     c.begin.ensures.ledger c.begin.ensures.answers c.begin.ensures.share
-    (goes_answers c.args.table.now (Find c.args.key) _ c.begin.new.pass c.search-place.new.pass c.answer.new.pass _ c.search-place.ensures.seeks.goes answers))
+    (keeps_answers c.args.table.now (Find c.args.key) _ c.begin.new.pass c.search-place.new.pass c.answer.new.pass _ c.search-place.ensures.keeps_but_search.keeps answers))
 
 -- an operation that begins, searches and is answered meets nothing; what was known stays known, and nothing was given out
 pub returns-clause-quiet : goal.returns-clause-quiet
@@ -21,17 +21,17 @@ returns-clause-quiet g c =
     let cards = c.args.table.now.plan.last_card in
     let a = c.args.pass.now in
     let begun = c.begin.ensures in
-    let seeks = c.search-place.ensures.seeks in
+    let keeps_but_search = c.search-place.ensures.keeps_but_search in
     let b = c.begin.new.pass in
     let s = c.search-place.new.pass in
     let said = c.answer.new.pass in
-    let more = moves_more cards a.view s.view (λ f h. seeks.goes.view.knows f (begun.knows f h)) (omega (arith, begun.least, seeks.goes.view.least)) in
-    let same = moves_same cards s.view said.view c.answer.ensures.facts c.answer.ensures.least in
+    let more = milestones_more cards a.view s.view (λ f h. keeps_but_search.keeps.view.knows f (begun.knows f h)) (omega (arith, begun.least, keeps_but_search.keeps.view.least)) in
+    let same = milestones_same cards s.view said.view c.answer.ensures.facts c.answer.ensures.least in
     record {
-      calm = c.answer.ensures.hindrances ∙ (seeks.hindrances ∙ begun.hindrances);
+      calm = c.answer.ensures.hindrances ∙ (keeps_but_search.hindrances ∙ begun.hindrances);
       meets = meets_trans a.view s.view said.view
-          (meets_trans a.view b.view s.view (meets_none a.view b.view begun.hindrances begun.knows) (seek_meets b s _ seeks))
+          (meets_trans a.view b.view s.view (meets_none a.view b.view begun.hindrances begun.knows) (seek_meets b s _ keeps_but_search))
           (said_meets s.view said.view c.answer.ensures.hindrances c.answer.ensures.facts);
-      hindered = c.answer.ensures.hindered ∙ (seeks.goes.view.hindered ∙ begun.hindered);
-      moved = omega (arith, more, same);
+      hindered = c.answer.ensures.hindered ∙ (keeps_but_search.keeps.view.hindered ∙ begun.hindered);
+      milestones = omega (arith, more, same);
     }

@@ -6,8 +6,8 @@ use Rattle.ell_tree.proofs.searching.descend.Goals as goal
 
 pub key_of-node_key-requires-clause-met : goal.key_of-node_key-requires-clause-met
 key_of-node_key-requires-clause-met g c =
-    let seeks = upd_seeks c.args.pass.now c.upd-update.new.pass c.args.node c.upd-update.result c.upd-update.ensures.step in
-    seeks.goes.view.told (Met c.args.node) c.requires.node.met
+    let keeps_but_search = upd_seeks c.args.pass.now c.upd-update.new.pass c.args.node c.upd-update.result c.upd-update.ensures.step in
+    keeps_but_search.keeps.view.told (Met c.args.node) c.requires.node.met
 
 pub down-child-requires-clause-may : goal.down-child-requires-clause-may
 down-child-requires-clause-may g c =
@@ -24,7 +24,7 @@ returns g c =
     let asked = c.key_of-node_key.ensures.step in
     let gone = c.down-child.ensures.step in
     record {
-      seeks = descend_seeks a b d e c.args.node c.upd-update.result c.key_of-node_key.result c.down-child.result read asked gone;
+      keeps_but_search = descend_seeks a b d e c.args.node c.upd-update.result c.key_of-node_key.result c.down-child.result read asked gone;
       uncounted = descend_uncounted a b d e c.args.node c.upd-update.result c.key_of-node_key.result c.down-child.result read asked gone;
       here = refl;
       deeper = c.down-child.ensures.greater;

@@ -4,14 +4,14 @@ use Rattle.ell_cards.specs.Models.{PassModel}
 use Rattle.ell_cards.specs.declared.view.View.{View}
 use Rattle.ell_tree.specs.Searches.{EndsAt}
 use Rattle.ell_tree.proofs.lemmas.Counts.{counted_all}
-use Rattle.ell_tree.proofs.lemmas.Keeping.{seeks_counted}
+use Rattle.ell_tree.proofs.lemmas.Keeping.{keeps_but_search_counted}
 use Rattle.ell_tree.proofs.searching.search.Goals as goal
 
 pub returns : goal.returns
 returns g c =
     let w = c.walk-steps in
     record {
-      seeks = seeks_counted c.args.pass.now w.new.pass c.count.new.self (3 * c.args.table.now.plan.last_card + 5) w.result.1 w.ensures.seeks w.ensures.uncounted c.count.ensures;
+      keeps_but_search = keeps_but_search_counted c.args.pass.now w.new.pass c.count.new.self (3 * c.args.table.now.plan.last_card + 5) w.result.1 w.ensures.keeps_but_search w.ensures.uncounted c.count.ensures;
       counted = counted_all c.args.pass.now w.new.pass c.count.new.self w.result.1 w.ensures.uncounted c.count.ensures;
       ends = subst (λ (v : View). EndsAt c.args.table.now.plan.last_card v c.args.op w.result.0)
           (sym (ap (λ (m : PassModel). m.view) c.count.ensures)) w.ensures.ends;

@@ -4,7 +4,7 @@ use Rattle.ell_layout.specs.Words.{IsLeaf}
 use Rattle.ell_cards.specs.declared.view.Told.TheVariants.{Met}
 use Rattle.ell_cards.proofs.lemmas.views.Afters.{after_key_of, after_value_of}
 use Rattle.ell_tree.proofs.lemmas.Counts.{uncounted_one, uncounted_trans}
-use Rattle.ell_tree.proofs.lemmas.Keeping.{seeks_trans}
+use Rattle.ell_tree.proofs.lemmas.Keeping.{keeps_but_search_trans}
 use Rattle.ell_tree.proofs.lemmas.Searches.{key_seeks, value_seeks, stands_next, search_ends}
 use Rattle.ell_tree.proofs.searching.walk.Goals as goal
 
@@ -17,9 +17,9 @@ loop-grandparent-preserved g c =
     rw (c.rebuild.ensures, c.rebuild-parent.ensures) (record {
       same = (refl, refl);
       stands = stands_next c.args.table.now.plan.last_card l.pass.view d.new.pass.view l.node d.result.1 l.parent d.result.0 l.grandparent
-          d.ensures.seeks.goes.view i.stands d.ensures.search d.ensures.met d.ensures.there d.ensures.passed d.ensures.unknown;
+          d.ensures.keeps_but_search.keeps.view i.stands d.ensures.search d.ensures.met d.ensures.there d.ensures.passed d.ensures.unknown;
       down = omega (arith, d.ensures.here, d.ensures.deeper);
-      seeks = seeks_trans c.args.pass.now l.pass d.new.pass (3 * card l.parent.node + 3) 3 (3 * card d.result.0.node + 3) i.seeks d.ensures.seeks
+      keeps_but_search = keeps_but_search_trans c.args.pass.now l.pass d.new.pass (3 * card l.parent.node + 3) 3 (3 * card d.result.0.node + 3) i.keeps_but_search d.ensures.keeps_but_search
           (omega (arith, i.down, i.stands.passed.node.inner, inner, d.ensures.here));
       uncounted = uncounted_trans c.args.pass.now l.pass d.new.pass l.steps 3 i.uncounted d.ensures.uncounted;
     })
@@ -28,7 +28,7 @@ pub value_of-value-requires-clause-met : goal.value_of-value-requires-clause-met
 value_of-value-requires-clause-met g c =
     let l = c.loop-grandparent in
     let k = c.key_of-key in
-    (key_seeks l.pass k.new.pass l.node k.result k.ensures.step).goes.view.told (Met l.node) l.invariant.stands.met
+    (key_seeks l.pass k.new.pass l.node k.result k.ensures.step).keeps.view.told (Met l.node) l.invariant.stands.met
 
 pub returns : goal.returns
 returns g c =
@@ -38,8 +38,8 @@ returns g c =
     let v = c.value_of-value in
     let outer : IsLeaf l.node = search rules in
     record {
-      seeks = seeks_trans c.args.pass.now l.pass v.new.pass (3 * card l.parent.node + 3) 2 (3 * c.args.table.now.plan.last_card + 5) i.seeks
-          (seeks_trans l.pass k.new.pass v.new.pass 1 1 2 (key_seeks l.pass k.new.pass l.node k.result k.ensures.step)
+      keeps_but_search = keeps_but_search_trans c.args.pass.now l.pass v.new.pass (3 * card l.parent.node + 3) 2 (3 * c.args.table.now.plan.last_card + 5) i.keeps_but_search
+          (keeps_but_search_trans l.pass k.new.pass v.new.pass 1 1 2 (key_seeks l.pass k.new.pass l.node k.result k.ensures.step)
           (value_seeks k.new.pass v.new.pass l.node v.result v.ensures.step) (omega arith))
           (omega (arith, i.stands.passed.node.inner, i.stands.passed.node.there));
       uncounted = uncounted_trans c.args.pass.now l.pass v.new.pass l.steps 2 i.uncounted
@@ -47,11 +47,11 @@ returns g c =
           (uncounted_one k.new.pass v.new.pass (after_value_of l.node v.result k.new.pass.view) v.ensures.step refl));
       ends = search_ends c.args.table.now.plan.last_card l.pass k.new.pass v.new.pass c.args.op
           (record { leaf = l.node; key = k.result; value = v.result; parent = l.parent; grandparent = l.grandparent }) k.ensures.step v.ensures.step
-          (i.seeks.goes.view.operation ∙ c.requires.root.busy) outer i.stands k.ensures.leaf v.ensures.value;
+          (i.keeps_but_search.keeps.view.operation ∙ c.requires.root.busy) outer i.stands k.ensures.leaf v.ensures.value;
     }
 
 pub overflow_add-result : goal.overflow_add-result
 overflow_add-result g c =
     let i = c.loop-grandparent.invariant in
     let room = c.facts_stay_inside.ensures.room in
-    omega (arith, i.uncounted.made, i.seeks.goes.took.made, i.stands.passed.node.inner, i.stands.passed.node.there, room)
+    omega (arith, i.uncounted.made, i.keeps_but_search.keeps.took.made, i.stands.passed.node.inner, i.stands.passed.node.there, room)

@@ -1,7 +1,7 @@
 use Rattle.std.proofs.Common.{◌≡◌, ◌+◌, ◌*◌, ◌<◌, ◌-◌}
 use Rattle.ell_word.specs.Node.{card}
 use Rattle.ell_tree.specs.Counts.{HasUncounted}
-use Rattle.ell_tree.specs.Keeping.{Seeks}
+use Rattle.ell_tree.specs.Keeping.{KeepsAllButSearch}
 use Rattle.ell_tree.specs.Searches.{Stands}
 use Rattle.ell_tree.proofs.searching.walk.Given as goal
 
@@ -11,7 +11,7 @@ invariant-loop-grandparent g l = record {
   same : (l.op ≡ l.fn.op) × (l.table ≡ l.fn.table);
   stands : Stands l.table.plan.last_card l.pass.view l.node l.parent l.grandparent;
   down : l.parent.node < l.node;
-  seeks : Seeks l.fn.pass l.pass (3 * card l.parent.node + 3);
+  keeps_but_search : KeepsAllButSearch l.fn.pass l.pass (3 * card l.parent.node + 3);
   uncounted : HasUncounted l.fn.pass l.pass l.steps;
 }
 

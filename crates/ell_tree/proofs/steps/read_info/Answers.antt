@@ -4,7 +4,7 @@ use Rattle.ell_tree.proofs.steps.read_info.Goals as goal
 
 pub returns : goal.returns
 returns g c = record {
-  walks = info_walks c.args.pass.now c.info.new.pass c.args.card c.args.field c.info.result c.info.ensures.step;
+  keeps_all = info_walks c.args.pass.now c.info.new.pass c.args.card c.args.field c.info.result c.info.ensures.step;
   told = info_told c.args.pass.now c.info.new.pass c.args.card c.args.field c.info.result c.info.ensures.step;
   met = info_met c.args.pass.now c.info.new.pass c.args.card c.args.field c.info.result c.info.ensures.step;
   node = c.info.ensures.node;

@@ -10,7 +10,7 @@ pub returns : goal.returns
 returns g c =
     let k = c.key_of-key in
     record {
-      walks = key_walks c.args.pass.now k.new.pass c.count.new.self c.args.node k.result k.ensures.step c.count.ensures;
+      keeps_all = key_walks c.args.pass.now k.new.pass c.count.new.self c.args.node k.result k.ensures.step c.count.ensures;
       node = refl;
       told = subst (λ (v : View). IsTold v (Key c.args.node k.result)) (sym (ap (λ (m : PassModel). m.view) c.count.ensures))
           (key_told c.args.pass.now k.new.pass c.args.node k.result k.ensures.step);

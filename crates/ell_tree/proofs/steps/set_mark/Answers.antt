@@ -6,7 +6,7 @@ use Rattle.ell_tree.proofs.steps.set_mark.Goals as goal
 
 pub returns : goal.returns
 returns g c = record {
-  works = mark_works c.args.card c.args.parent c.args.was c.args.pass.now c.mark-marked.new.pass c.mark-marked.result c.mark-marked.ensures.step;
+  keeps_but_met = mark_works c.args.card c.args.parent c.args.was c.args.pass.now c.mark-marked.new.pass c.mark-marked.result c.mark-marked.ensures.step;
   hindrances = mark_met c.args.card c.args.parent c.args.was c.args.pass.now c.mark-marked.new.pass c.mark-marked.result c.mark-marked.ensures.step
       ∙ ap (λ o. met_by_mark c.args.card o c.args.pass.now.view) (sym c.found_instead.ensures);
   marked = λ none. mark_marked c.args.card c.args.parent c.args.was c.args.pass.now c.mark-marked.new.pass c.mark-marked.result c.mark-marked.ensures.step

@@ -16,7 +16,7 @@ returns-then-claim g c =
     let card = c.next-card.result in
     let won = subst (λ (w : Bool). Steps b c.claim.new.pass (after_claim w card b.view)) c.if-claim.true c.claim.ensures.step in
     record {
-      goes = won_goes a b c.claim.new.pass card c.next-card.ensures.step c.next-card.ensures.least won;
+      keeps = won_goes a b c.claim.new.pass card c.next-card.ensures.step c.next-card.ensures.least won;
       claims = (
         has_card a b c.claim.new.pass card c.next-card.ensures.step c.next-card.ensures.least c.args.op c.args.place won c.requires.busy c.requires.at,
         omega (arith, c.last_card.ensures.cards),
@@ -34,7 +34,7 @@ returns-else-claim g c =
     let card = c.next-card.result in
     let lost = subst (λ (w : Bool). Steps b c.claim.new.pass (after_claim w card b.view)) c.if-claim.false c.claim.ensures.step in
     record {
-      goes = lost_goes a b c.claim.new.pass card c.next-card.ensures.step c.next-card.ensures.least lost;
+      keeps = lost_goes a b c.claim.new.pass card c.next-card.ensures.step c.next-card.ensures.least lost;
       claims = let claims = lost_claims a b c.claim.new.pass card c.next-card.ensures.step c.next-card.ensures.least lost c.requires.no_card in (
         claims.0,
         claims.1,

@@ -3,7 +3,7 @@ use Rattle.std.proofs.lemmas.List.{append-nil, length-map, length-take-le, take_
 use Rattle.std.specs.List.{cons_option}
 use Rattle.std.specs.List.Sorted.{IsStrictlyIncreasing}
 use Rattle.ell_ops.specs.Contents.{ListsPairs}
-use Rattle.ell_cards.specs.Changes.{keys_of}
+use Rattle.ell_cards.specs.Changes.{ledger_keys}
 use Rattle.ell_tree.specs.Ledgers.{present_in}
 use Rattle.ell_handle.proofs.lemmas.Anew.{same_owned}
 use Rattle.ell_handle.proofs.lemmas.Listing.{listed_less, listed_more, lists_pairs, none_else, pairs_at}
@@ -20,13 +20,13 @@ returns-then-written-out-clause-tells c = record {
   pairs = search rules;
   no_room = λ _ pairs lists.
       let p = c.args.handle.now.pass in
-      let keys = keys_of p.view.worker.ledger in
+      let keys = ledger_keys p.view.worker.ledger in
       let same = c.keys-place-end.ensures.keys in
       let low : c.loop-place.place < length keys = subst (λ (ks : List ℕ). c.loop-place.place < length ks) same c.loop-place-test.true in
       let all = lists_pairs (present_in p) keys (subst IsStrictlyIncreasing same c.keys-place-end.ensures.ascending) (none_else p) in
       let found : Some (c.in-Some.key, c.in-Some.value) ≡ c.pair.result = search rules in
       let written = take c.loop-place.written c.loop-place.out in
-      let less = listed_less (present_in p) (present_in c.loop-place.handle.pass) keys (keys_of c.loop-place.handle.pass.view.worker.ledger) c.loop-place.place
+      let less = listed_less (present_in p) (present_in c.loop-place.handle.pass) keys (ledger_keys c.loop-place.handle.pass.view.worker.ledger) c.loop-place.place
       (c.in-Some.key, c.in-Some.value) (as_pairs written) pairs low c.loop-place.invariant.keys c.loop-place.invariant.map (found ∙ c.pair.ensures.pair)
       c.loop-place.invariant.listed all lists in
       let count : length (as_pairs written) ≡ c.loop-place.written =
@@ -45,7 +45,7 @@ returns-then-written-out-clause-tells c = record {
 pub loop-place-preserved : goal.loop-place-preserved
 loop-place-preserved c =
     let p = c.args.handle.now.pass in
-    let keys = keys_of p.view.worker.ledger in
+    let keys = ledger_keys p.view.worker.ledger in
     let low : c.loop-place.place < length keys = subst (λ (ks : List ℕ). c.loop-place.place < length ks) c.keys-place-end.ensures.keys c.loop-place-test.true in
     let old = as_pairs (take c.loop-place.written c.loop-place.out) in
     let more : as_pairs (take c.match-pair.written c.match-pair.out) ≡ old ++ cons_option c.pair.result [] = elim c.match-pair.branch [
@@ -59,7 +59,7 @@ loop-place-preserved c =
           let none : c.pair.result ≡ None = search rules in
           ap₂ (λ n (out : List Pair). as_pairs (take n out)) w.written-is w.out-is ∙ (sym (append-nil old) ∙ ap (λ f. old ++ cons_option f []) (sym none))
     ] in record {
-      listed = listed_more (present_in p) (present_in c.loop-place.handle.pass) keys (keys_of c.loop-place.handle.pass.view.worker.ledger) c.loop-place.place
+      listed = listed_more (present_in p) (present_in c.loop-place.handle.pass) keys (ledger_keys c.loop-place.handle.pass.view.worker.ledger) c.loop-place.place
           c.pair.result old (as_pairs (take c.match-pair.written c.match-pair.out)) low c.loop-place.invariant.keys c.loop-place.invariant.map c.pair.ensures.pair
           c.loop-place.invariant.listed more;
       fits = elim c.match-pair.branch [ in-Some+else-written-out w ↦ omega arith | in_default w ↦ omega arith ];
@@ -83,7 +83,7 @@ returns-clause-tells c = record {
   codes = search rules;
   pairs = λ _.
       let p = c.args.handle.now.pass in
-      let keys = keys_of p.view.worker.ledger in
+      let keys = ledger_keys p.view.worker.ledger in
       let same = c.keys-place-end.ensures.keys in
       let past : length keys ≤ c.loop-place.place = subst (λ (ks : List ℕ). length ks ≤ c.loop-place.place) same c.loop-place-test.false in record {
         fits = c.loop-place.invariant.fits;

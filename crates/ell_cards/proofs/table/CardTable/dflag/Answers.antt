@@ -10,8 +10,8 @@ pack-expected-requires g c =
     let room = c.names.ensures.room in
     omega arith
 
-pub update_at-requires : goal.update_at-requires
-update_at-requires g c =
+pub update_address-requires : goal.update_address-requires
+update_address-requires g c =
     let may = c.requires.may in
     let low = (c.names.ensures.named.grandparent may.leaf may.parent _ may.stands may.behind may.above).node in
     let room = c.names.ensures.room in

@@ -3,10 +3,10 @@ use Rattle.ell_core.specs.declared.fact.Fact.{Fact}
 use Rattle.ell_core.specs.declared.fact.Fact.TheVariants.{IFlagged, IChanged, IOver, DFlagged, Marked, Unmarkable, Cut, DOver, Backed}
 use Rattle.ell_core.specs.state.Machine.{Machine}
 use Rattle.ell_core.specs.soundness.Holds.{Holds}
-use Rattle.ell_core.specs.soundness.UnsoundFacts.{BreaksFacts, knowing, NoneHolds, not_an_insert, linked_unflagged, never_linked, insert_flag_stands, not_a_delete, mark_of_an_insert, cut_unflagged, passed_unflagged, never_marked, cut_unmarked, never_cut, cut_flag_stands, passed_flag_stands}
+use Rattle.ell_core.specs.soundness.UnsoundFacts.{BreaksFacts, with_fact, NoneHolds, not_an_insert, linked_unflagged, never_linked, insert_flag_stands, not_a_delete, mark_of_an_insert, cut_unflagged, passed_unflagged, never_marked, cut_unmarked, never_cut, cut_flag_stands, passed_flag_stands}
 
 -- whoever knows a fact that does not hold makes a state unsound
-made_up : (m : Machine) (fact : Fact) → ((knowing m fact).worker 0).knows fact ≡ true → ¬ Holds m.words fact → BreaksFacts (knowing m fact)
+made_up : (m : Machine) (fact : Fact) → ((with_fact m fact).worker 0).knows fact ≡ true → ¬ Holds m.words fact → BreaksFacts (with_fact m fact)
 made_up m fact knows fails = (λ sound. fails (sound 0 fact knows), λ sound. fails (sound.facts 0 fact knows))
 
 true_is_not_false : true ≢ false

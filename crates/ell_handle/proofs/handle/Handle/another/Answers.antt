@@ -1,6 +1,6 @@
 use Rattle.std.proofs.Common.{◌≡◌, ◌∙◌}
 use Rattle.std.proofs.lemmas.Result.{IfErr-weaker, IfOk-weaker}
-use Rattle.ell_cards.specs.Changes.{keys_of as ledger_keys}
+use Rattle.ell_cards.specs.Changes.{ledger_keys}
 use Rattle.ell_handle.proofs.lemmas.May.{refuses_another, rest_is_bare, whole_stays}
 use Rattle.ell_handle.proofs.handle.Handle.another.Goals as goal
 

@@ -1,7 +1,7 @@
 use Rattle.std.proofs.Common.{◌≡◌, ◌<◌, ◌≤◌, ℕ, List, arith, length, lt-ltb, ltb-true, ap, sym, subst, ◌∙◌}
 use Rattle.std.proofs.lemmas.List.{take_all}
 use Rattle.std.specs.List.Sorted.{IsStrictlyIncreasing}
-use Rattle.ell_cards.specs.Changes.{keys_of}
+use Rattle.ell_cards.specs.Changes.{ledger_keys}
 use Rattle.ell_tree.specs.Ledgers.{present_in}
 use Rattle.ell_tree.specs.Node.{most_start}
 use Rattle.ell_handle.proofs.lemmas.Anew.{same_owned}
@@ -13,9 +13,9 @@ use Rattle.ell_handle.proofs.handle.Handle.has_too_much.Goals.{then-is_some, els
 -- one key more
 pub loop-place-preserved : goal.loop-place-preserved
 loop-place-preserved c =
-    let keys = keys_of c.args.self.now.pass.view.worker.ledger in
+    let keys = ledger_keys c.args.self.now.pass.view.worker.ledger in
     let low : c.loop-place.place < length keys = subst (λ (ks : List ℕ). c.loop-place.place < length ks) c.keys-place-end.ensures.keys c.loop-place-test.true in
-    let more = counted_more (present_in c.args.self.now.pass) (present_in c.loop-place.self.pass) keys (keys_of c.loop-place.self.pass.view.worker.ledger) c.loop-place.place
+    let more = counted_more (present_in c.args.self.now.pass) (present_in c.loop-place.self.pass) keys (ledger_keys c.loop-place.self.pass.view.worker.ledger) c.loop-place.place
     c.pair.result c.loop-place.count low c.loop-place.invariant.keys c.loop-place.invariant.stays.same.map c.pair.ensures.pair c.loop-place.invariant.counted in
     let below = c.loop-place.invariant.below in
     let stays = c.loop-place.invariant.stays in record {
@@ -40,7 +40,7 @@ pub returns-clause-many : goal.returns-clause-many
 returns-clause-many c =
     let p = c.args.self.now.pass in
     let there = present_in p in
-    let keys = keys_of p.view.worker.ledger in
+    let keys = ledger_keys p.view.worker.ledger in
     let same = c.keys-place-end.ensures.keys in
     let past : length keys ≤ c.loop-place.place = subst (λ (ks : List ℕ). length ks ≤ c.loop-place.place) same c.loop-place-test.false in
     let ascending : IsStrictlyIncreasing keys = subst IsStrictlyIncreasing same c.keys-place-end.ensures.ascending in

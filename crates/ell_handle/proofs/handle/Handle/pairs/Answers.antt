@@ -3,7 +3,7 @@ use Rattle.std.specs.List.Sorted.{IsStrictlyIncreasing}
 use Rattle.std.proofs.lemmas.List.{append-nil, take_all}
 use Rattle.std.specs.List.{cons_option}
 use Rattle.ell_ops.specs.Contents.{ListsPairs}
-use Rattle.ell_cards.specs.Changes.{keys_of}
+use Rattle.ell_cards.specs.Changes.{ledger_keys}
 use Rattle.ell_tree.specs.Ledgers.{present_in}
 use Rattle.ell_handle.proofs.lemmas.Anew.{same_owned}
 use Rattle.ell_handle.proofs.lemmas.Listing.{listed_more, lists_pairs, none_else, pairs_at}
@@ -24,9 +24,9 @@ pub loop-place-preserved : goal.loop-place-preserved
 loop-place-preserved c = record {
   listed =
       let there = present_in c.args.self.now.pass in
-      let keys = keys_of c.args.self.now.pass.view.worker.ledger in
+      let keys = ledger_keys c.args.self.now.pass.view.worker.ledger in
       let low : c.loop-place.place < length keys = subst (λ (ks : List ℕ). c.loop-place.place < length ks) c.keys-place-end.ensures.keys c.loop-place-test.true in
-      listed_more there (present_in c.loop-place.self.pass) keys (keys_of c.loop-place.self.pass.view.worker.ledger) c.loop-place.place c.pair.result
+      listed_more there (present_in c.loop-place.self.pass) keys (ledger_keys c.loop-place.self.pass.view.worker.ledger) c.loop-place.place c.pair.result
       c.loop-place.pairs.items c.match-pair.pairs.items low c.loop-place.invariant.keys c.loop-place.invariant.map c.pair.ensures.pair c.loop-place.invariant.listed
       (elim c.match-pair.branch [
         | in-Some+in_ok-push w ↦ ap (λ (v : Vec (ℕ × ℕ) Global). v.items) w.pairs-is ∙ (w.in_ok-push.ensures.items
@@ -45,7 +45,7 @@ loop-place-preserved c = record {
 pub returns-clause-pairs : goal.returns-clause-pairs
 returns-clause-pairs c =
     let p = c.args.self.now.pass in
-    let keys = keys_of p.view.worker.ledger in
+    let keys = ledger_keys p.view.worker.ledger in
     let same = c.keys-place-end.ensures.keys in
     let past : length keys ≤ c.loop-place.place = subst (λ (ks : List ℕ). length ks ≤ c.loop-place.place) same c.loop-place-test.false in
     subst (ListsPairs (present_in p)) (sym (c.loop-place.invariant.listed ∙ ap (pairs_at (present_in p)) (take_all c.loop-place.place keys past)))

@@ -1,7 +1,7 @@
 use Rattle.std.proofs.Common.{◌≡◌, ◌↔◌, ℕ, List, rules, subst, ◌∙◌}
 use Rattle.std.specs.Arc.{arc_value}
 use Rattle.ell_tree.specs.Ledgers.{Owns, present_in}
-use Rattle.ell_handle.specs.Opens.{OwnsAll, Refuses}
+use Rattle.ell_handle.specs.Opens.{OwnsWholePlan, RefusesTree}
 use Rattle.ell_handle.specs.Renewal.{RenewalRefuses}
 use Rattle.ell_handle.proofs.lemmas.Anew.{lists_same, refuses_renewal, same_keys, same_map}
 use Rattle.ell_handle.proofs.handle.Handle.renew.Goals as goal
@@ -14,7 +14,7 @@ returns-in_err-self-clause-why c =
     let mid = c.pairs.new.self.pass in
     let pairs = c.deref.result.now in
     let all = lists_same old mid c.in-Ok.pairs.items pairs c.pairs.ensures.stays.same.map c.deref.ensures.value c.in-Ok.ensures.pairs in
-    let refused = subst (λ (keys : List ℕ). Refuses keys pairs c.args.cards c.in_err-self.field-0.0) c.keys.ensures.keys c.in_err-self.ensures.refused in
+    let refused = subst (λ (keys : List ℕ). RefusesTree keys pairs c.args.cards c.in_err-self.field-0.0) c.keys.ensures.keys c.in_err-self.ensures.refused in
     let why : RenewalRefuses (present_in old) c.args.cards c.in_err-self.field-0.0 =
     subst (λ there. RenewalRefuses there c.args.cards c.in_err-self.field-0.0) (λ t k. c.pairs.ensures.stays.same.map k t)
     (refuses_renewal mid pairs all c.args.cards c.in_err-self.field-0.0 c.pairs.new.self.real refused) in
@@ -31,7 +31,7 @@ same c k =
     let pairs = c.deref.result.now in
     let all = lists_same c.args.self.now.pass mid c.in-Ok.pairs.items pairs c.pairs.ensures.stays.same.map c.deref.ensures.value c.in-Ok.ensures.pairs in
     let tree = (arc_value c.in_ok-self.field-0.shared).tree in
-    let owns = subst (λ (keys : List ℕ). OwnsAll keys pairs tree c.in_ok-self.field-0.pass) c.keys.ensures.keys c.in_ok-self.ensures.opened.owns in
+    let owns = subst (λ (keys : List ℕ). OwnsWholePlan keys pairs tree c.in_ok-self.field-0.pass) c.keys.ensures.keys c.in_ok-self.ensures.opened.owns in
     let keys = same_keys mid pairs all tree c.in_ok-self.field-0.pass owns k in
     let kept = c.pairs.ensures.stays.same.owned k in (
       same_map mid pairs all tree c.in_ok-self.field-0.pass owns k ∙ c.pairs.ensures.stays.same.map k,

@@ -1,6 +1,6 @@
 use Rattle.std.proofs.Common.{rules, ap, ◌∙◌}
 use Rattle.ell_ops.proofs.lemmas.Sets.{one_list}
-use Rattle.ell_parts.specs.PartedOps.{IsWorkerCount, keys_of, ranged}
+use Rattle.ell_parts.specs.PartedOps.{IsWorkerCount, keys_of_ops, ranged}
 use Rattle.ell_parts.proofs.lemmas.Partings.{ranged_is_lawful}
 use Rattle.ell_parts.proofs.parts.Parts.ranged.Goals as goal
 
@@ -14,4 +14,4 @@ returns-clause-ranged g c =
     let ops = c.args.ops.now in
     rw c.in_ok-of.ensures
     (λ keys listed. c.in_ok-owners.ensures
-    ∙ ap (λ k. ranged k ops c.args.workers) (c.deref.ensures.value ∙ one_list (keys_of ops) c.in_ok-keys.keys.items keys c.in_ok-keys.ensures listed))
+    ∙ ap (λ k. ranged k ops c.args.workers) (c.deref.ensures.value ∙ one_list (keys_of_ops ops) c.in_ok-keys.keys.items keys c.in_ok-keys.ensures listed))

@@ -7,7 +7,7 @@ use Rattle.ell_cards.specs.declared.view.View.{View}
 use Rattle.ell_tree.specs.Cursors.{AreKept, FindsAbout}
 use Rattle.ell_tree.specs.Looks.{stretch_steps}
 use Rattle.ell_tree.proofs.lemmas.Counts.{counted_all, uncounted_none, uncounted_one, uncounted_trans}
-use Rattle.ell_tree.proofs.lemmas.Cursors.{GoesDown, all_on, goes_first, goes_down, goes_found, on_counted, key_on, kept_still, may_go_down, one_kept, stands_still}
+use Rattle.ell_tree.proofs.lemmas.Cursors.{GoesDown, all_on, keeps_first, goes_down, keeps_found, on_counted, key_on, kept_still, may_go_down, one_kept, stands_still}
 use Rattle.ell_tree.proofs.cursor.Cursor.about.Goals as goal
 use Rattle.ell_tree.proofs.cursor.Cursor.about.Goals.{then-not-right, else-not-right}
 
@@ -15,7 +15,7 @@ pub loop-pass-init : goal.loop-pass-init
 loop-pass-init g c =
     let s = c.start-here in
     record {
-      goes = goes_first c.args.table.now.plan.last_card c.args.pass.now c.args.key s.result c.args.self.now s.new.self c.requires.kept s.ensures.among s.ensures.from s.ensures.upto
+      keeps = keeps_first c.args.table.now.plan.last_card c.args.pass.now c.args.key s.result c.args.self.now s.new.self c.requires.kept s.ensures.among s.ensures.from s.ensures.upto
           s.ensures.first s.ensures.kept;
       uncounted = uncounted_none c.args.pass.now;
     }
@@ -25,7 +25,7 @@ look_down-child-requires-clause-may g c =
     let l = c.loop-pass in
     let k = c.key_of-node_key in
     let inner : IsInternal l.here.node = search rules in
-    may_go_down c.args.table.now.plan.last_card c.args.pass.now l.pass k.new.pass c.args.key l.here l.self k.result l.invariant.goes k.ensures.step inner
+    may_go_down c.args.table.now.plan.last_card c.args.pass.now l.pass k.new.pass c.args.key l.here l.self k.result l.invariant.keeps k.ensures.step inner
 
 pub loop-pass-preserved : goal.loop-pass-preserved
 loop-pass-preserved g c =
@@ -34,8 +34,8 @@ loop-pass-preserved g c =
     let d = c.look_down-child in
     let cards = c.args.table.now.plan.last_card in
     let inner : IsInternal l.here.node = search rules in
-    let still = kept_still cards c.args.pass.now l.pass k.new.pass c.args.key l.here l.self k.result l.invariant.goes k.ensures.step in
-    let stands = stands_still cards c.args.pass.now l.pass k.new.pass c.args.key l.here l.self k.result l.invariant.goes k.ensures.step in
+    let still = kept_still cards c.args.pass.now l.pass k.new.pass c.args.key l.here l.self k.result l.invariant.keeps k.ensures.step in
+    let stands = stands_still cards c.args.pass.now l.pass k.new.pass c.args.key l.here l.self k.result l.invariant.keeps k.ensures.step in
     let kept : AreKept cards k.new.pass.view c.if-not-right.self = elim c.if-not-right.branch [
       | then-not-right w ↦
           subst (AreKept cards k.new.pass.view) (sym w.self-is)
@@ -43,8 +43,8 @@ loop-pass-preserved g c =
       | else-not-right w ↦ subst (AreKept cards k.new.pass.view) (sym w.self-is) still
     ] in
     record {
-      goes = subst (λ h. GoesDown cards c.args.pass.now d.new.pass c.args.key h c.if-not-right.self) (sym c.down-here.ensures)
-          (goes_down cards c.args.pass.now l.pass k.new.pass c.args.key l.here l.self k.result l.invariant.goes k.ensures.step d.new.pass (nat_le k.result c.args.key)
+      keeps = subst (λ h. GoesDown cards c.args.pass.now d.new.pass c.args.key h c.if-not-right.self) (sym c.down-here.ensures)
+          (goes_down cards c.args.pass.now l.pass k.new.pass c.args.key l.here l.self k.result l.invariant.keeps k.ensures.step d.new.pass (nat_le k.result c.args.key)
           d.result c.if-not-right.self d.ensures.step inner d.ensures.greater d.ensures.there refl kept);
       uncounted = uncounted_trans c.args.pass.now l.pass d.new.pass l.steps 2 l.invariant.uncounted
           (uncounted_trans l.pass k.new.pass d.new.pass 1 1 (uncounted_one l.pass k.new.pass _ k.ensures.step refl) (uncounted_one k.new.pass d.new.pass _ d.ensures.step refl));
@@ -59,16 +59,16 @@ loop-pass-smaller g c =
     omega arith
 
 pub key_of-node_key-requires-clause-own : goal.key_of-node_key-requires-clause-own
-key_of-node_key-requires-clause-own g c = c.loop-pass.invariant.goes.on.only.table ∙ c.requires.own
+key_of-node_key-requires-clause-own g c = c.loop-pass.invariant.keeps.on.only.table ∙ c.requires.own
 
 pub key_of-node_key-requires-clause-met : goal.key_of-node_key-requires-clause-met
-key_of-node_key-requires-clause-met g c = c.loop-pass.invariant.goes.stands.met
+key_of-node_key-requires-clause-met g c = c.loop-pass.invariant.keeps.stands.met
 
 pub look_down-child-requires-clause-own : goal.look_down-child-requires-clause-own
 look_down-child-requires-clause-own g c =
     let l = c.loop-pass in
     let k = c.key_of-node_key in
-    (key_on l.pass k.new.pass l.here.node k.result k.ensures.step).only.table ∙ (l.invariant.goes.on.only.table ∙ c.requires.own)
+    (key_on l.pass k.new.pass l.here.node k.result k.ensures.step).only.table ∙ (l.invariant.keeps.on.only.table ∙ c.requires.own)
 
 pub returns : goal.returns
 returns g c =
@@ -80,15 +80,15 @@ returns g c =
     let view = ap (λ (m : PassModel). m.view) c.count.ensures in
     record {
       found = subst (λ (v : View). FindsAbout cards v c.args.key f.result.0) (sym view) f.ensures.found;
-      kept = subst (λ (v : View). AreKept cards v l.self) (sym view) (all_on cards l.pass f.new.pass 2 l.self f.ensures.on l.invariant.goes.kept);
+      kept = subst (λ (v : View). AreKept cards v l.self) (sym view) (all_on cards l.pass f.new.pass 2 l.self f.ensures.on l.invariant.keeps.kept);
       fixed = subst KeysAreFixed (sym view) f.ensures.fixed;
       counted = counted_all c.args.pass.now f.new.pass c.count.new.self steps all c.count.ensures;
       on = on_counted c.args.pass.now f.new.pass c.count.new.self (stretch_steps cards) steps
-          (goes_found cards c.args.pass.now l.pass f.new.pass c.args.key l.here l.self l.invariant.goes f.ensures.on) all c.count.ensures;
+          (keeps_found cards c.args.pass.now l.pass f.new.pass c.args.key l.here l.self l.invariant.keeps f.ensures.on) all c.count.ensures;
     }
 
 pub overflow_add-steps-2 : goal.overflow_add-steps-2
 overflow_add-steps-2 g c =
     let i = c.loop-pass.invariant in
     let room = c.facts_stay_inside.ensures.room in
-    omega (arith, i.uncounted.made, i.goes.on.only.made, i.goes.few, i.goes.stands.there, c.found_at-at_the_leaf.ensures.few, room)
+    omega (arith, i.uncounted.made, i.keeps.on.only.made, i.keeps.few, i.keeps.stands.there, c.found_at-at_the_leaf.ensures.few, room)

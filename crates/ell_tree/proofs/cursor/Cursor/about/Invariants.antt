@@ -5,7 +5,7 @@ use Rattle.ell_tree.proofs.cursor.Cursor.about.Given as goal
 
 abbrev pub invariant-loop-pass : goal.invariant-loop-pass
 invariant-loop-pass g l = record {
-  goes : GoesDown l.table.plan.last_card l.fn.pass l.pass l.key l.here l.self;
+  keeps : GoesDown l.table.plan.last_card l.fn.pass l.pass l.key l.here l.self;
   uncounted : HasUncounted l.fn.pass l.pass l.steps;
 }
 

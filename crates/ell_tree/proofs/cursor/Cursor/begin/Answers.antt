@@ -2,7 +2,7 @@ use Rattle.std.proofs.Common.{◌+◌, refl, sym, ap, subst}
 use Rattle.ell_ops.specs.Meaning.{greatest_key}
 use Rattle.ell_cards.specs.Models.{PassModel}
 use Rattle.ell_cards.specs.declared.view.View.{View}
-use Rattle.ell_tree.specs.Cursors.{IsKept}
+use Rattle.ell_tree.specs.Cursors.{MayGoOnFrom}
 use Rattle.ell_tree.proofs.lemmas.Cursors.{begins_look, begin_kept, first_kept}
 use Rattle.ell_tree.proofs.cursor.Cursor.begin.Goals as goal
 
@@ -15,5 +15,5 @@ returns-clause-kept g c =
     let l = c.look-node in
     let cards = c.args.table.now.plan.last_card in
     begin_kept cards c.count.new.self.view _ _ refl refl refl refl
-    (subst (λ (v : View). IsKept cards v (record { node = l.result; low = 0; high = greatest_key + 1 })) (sym (ap (λ (m : PassModel). m.view) c.count.ensures))
+    (subst (λ (v : View). MayGoOnFrom cards v (record { node = l.result; low = 0; high = greatest_key + 1 })) (sym (ap (λ (m : PassModel). m.view) c.count.ensures))
     (first_kept cards c.args.pass.now l.new.pass l.result l.ensures.step l.ensures.greater l.ensures.there))

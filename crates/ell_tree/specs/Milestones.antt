@@ -21,15 +21,16 @@ pub record SeesEnd (cards : ℕ) (v w : View) : Type 0 where
   pub least : v.next_at_least ≤ w.next_at_least
 
 -- it saw one or the other
-abbrev pub SeesMove : ℕ → View → View → Type 0
-SeesMove cards v w = GivesOut cards v w ⊎ SeesEnd cards v w
+abbrev pub SeesMilestone : ℕ → View → View → Type 0
+SeesMilestone cards v w = GivesOut cards v w ⊎ SeesEnd cards v w
 
 -- of how many of the first cards facts tell that what they were for has come to its end
 abbrev pub ends_known : ℕ → List Fact → ℕ
 ends_known zero facts = 0
 ends_known (suc n) facts = (if knows_end facts (suc n) then 1 else 0) + ends_known n facts
 
--- a card moves twice: it is given out, and it comes to its end. How many such moves a pass knows of: the cards whose end it knows, and
--- those that its claims have shown it to be given out. After a claim of card 3, won or lost, that is 3 cards
-abbrev pub moves_known : ℕ → View → ℕ
-moves_known cards v = ends_known cards v.worker.facts + (v.next_at_least - 1)
+-- a card has two milestones: it is given out, and it comes to its end. How many of them a pass knows of: the cards whose
+-- end it knows, and those that its claims have shown it to be given out. After a claim of card 3, won or lost, that is 3
+-- cards
+abbrev pub milestones_known : ℕ → View → ℕ
+milestones_known cards v = ends_known cards v.worker.facts + (v.next_at_least - 1)

@@ -12,7 +12,7 @@ use Rattle.ell_cards.proofs.lemmas.views.Facts.{ended_test, test_ended}
 use Rattle.ell_tree.specs.Counts.{IsAmortized, Took}
 use Rattle.ell_tree.specs.Ends.{try_steps}
 use Rattle.ell_tree.specs.Hindrances.{IsEnded}
-use Rattle.ell_tree.specs.Moves.{GivesOut, SeesMove, ends_known, moves_known}
+use Rattle.ell_tree.specs.Milestones.{GivesOut, SeesMilestone, ends_known, milestones_known}
 
 -- what was known stays known
 ended_still : (f g : List Fact) → ((x : Fact) → known_of f x ≡ true → known_of g x ≡ true) → (c : ℕ) → EndedBy f c → EndedBy g c
@@ -67,12 +67,12 @@ ends_one (suc n) f g k c first last before after = elim (cases_eq c (suc n)) [
     below false false i h = omega arith
 
 -- a pass that saw a move since it began its search, with what it knew then, knows of one more
-pub moves_one : (cards : ℕ) (u v w : View) → v.knew_before ≡ u.worker.facts → v.next_at_least ≡ u.next_at_least
-    → ((f : Fact) → Knows u f → Knows w f) → SeesMove cards v w → moves_known cards u + 1 ≤ moves_known cards w
-moves_one cards u v w before least k (inl g) =
+pub milestones_one : (cards : ℕ) (u v w : View) → v.knew_before ≡ u.worker.facts → v.next_at_least ≡ u.next_at_least
+    → ((f : Fact) → Knows u f → Knows w f) → SeesMilestone cards v w → milestones_known cards u + 1 ≤ milestones_known cards w
+milestones_one cards u v w before least k (inl g) =
     let more = ends_more cards u.worker.facts w.worker.facts (test_still u.worker.facts w.worker.facts k) in
     omega (arith, more, least, g.first, g.before, g.after)
-moves_one cards u v w before least k (inr e) =
+milestones_one cards u v w before least k (inr e) =
     let more = ends_one cards u.worker.facts w.worker.facts (test_still u.worker.facts w.worker.facts k) e.card e.first e.last
     (λ h. e.before (subst (λ (fs : List Fact). EndedBy fs e.card) (sym before) (test_ended u.worker.facts e.card h)))
     (ended_test w.worker.facts e.card e.after) in
@@ -87,7 +87,7 @@ help_ended w state.Clean c n h = absurd (n refl)
 
 -- an update that was read in the way was helped to its end
 pub sees_end : (cards : ℕ) (v s w : View) (st : State) (c : ℕ) → s.knew_before ≡ v.knew_before → EndWasUnknown s st c → c ≤ cards → st ≢ state.Clean → IsEnded w st c
-    → v.next_at_least ≤ w.next_at_least → SeesMove cards v w
+    → v.next_at_least ≤ w.next_at_least → SeesMilestone cards v w
 sees_end cards v s w st c before unknown last stands ended least =
     let is = unknown stands in
     inr (record {
@@ -100,7 +100,7 @@ sees_end cards v s w st c before unknown last stands ended least =
     })
 
 -- a card that was given out on the way
-pub gives_out : (cards : ℕ) (v s t w : View) → v.next_at_least ≤ s.next_at_least → GivesOut cards s t → t.next_at_least ≤ w.next_at_least → SeesMove cards v w
+pub gives_out : (cards : ℕ) (v s t w : View) → v.next_at_least ≤ s.next_at_least → GivesOut cards s t → t.next_at_least ≤ w.next_at_least → SeesMilestone cards v w
 gives_out cards v s t w low g same = inl (record {
   card = g.card;
   first = g.first;
@@ -109,22 +109,22 @@ gives_out cards v s t w low g same = inl (record {
   after = omega (arith, same, g.after);
 })
 
--- steps that forget nothing leave the moves known
-pub moves_still : (cards : ℕ) (u v : View) → ((f : Fact) → Knows u f → Knows v f) → v.next_at_least ≡ u.next_at_least → moves_known cards u ≤ moves_known cards v
-moves_still cards u v k least =
+-- steps that forget nothing leave the milestones known
+pub milestones_still : (cards : ℕ) (u v : View) → ((f : Fact) → Knows u f → Knows v f) → v.next_at_least ≡ u.next_at_least → milestones_known cards u ≤ milestones_known cards v
+milestones_still cards u v k least =
     let more = ends_more cards u.worker.facts v.worker.facts (test_still u.worker.facts v.worker.facts k) in omega (arith, more, least)
 
-pub moves_more : (cards : ℕ) (u v : View) → ((f : Fact) → Knows u f → Knows v f) → u.next_at_least ≤ v.next_at_least → moves_known cards u ≤ moves_known cards v
-moves_more cards u v k least =
+pub milestones_more : (cards : ℕ) (u v : View) → ((f : Fact) → Knows u f → Knows v f) → u.next_at_least ≤ v.next_at_least → milestones_known cards u ≤ milestones_known cards v
+milestones_more cards u v k least =
     let more = ends_more cards u.worker.facts v.worker.facts (test_still u.worker.facts v.worker.facts k) in omega (arith, more, least)
 
 -- after a pass has laid its operation down, they are the same
-pub moves_same : (cards : ℕ) (u v : View) → v.worker.facts ≡ u.worker.facts → v.next_at_least ≡ u.next_at_least → moves_known cards v ≡ moves_known cards u
-moves_same cards u v facts least = λ t. ends_known cards (facts t) + (least t - 1)
+pub milestones_same : (cards : ℕ) (u v : View) → v.worker.facts ≡ u.worker.facts → v.next_at_least ≡ u.next_at_least → milestones_known cards v ≡ milestones_known cards u
+milestones_same cards u v facts least = λ t. ends_known cards (facts t) + (least t - 1)
 
--- there are no more moves than two of each card
-pub moves_most : (cards : ℕ) (v : View) → v.next_at_least ≤ cards + 1 → moves_known cards v ≤ 2 * cards
-moves_most cards v room = let most = ends_most cards v.worker.facts in omega (arith, most, room)
+-- there are no more milestones than two of each card
+pub milestones_most : (cards : ℕ) (v : View) → v.next_at_least ≤ cards + 1 → milestones_known cards v ≤ 2 * cards
+milestones_most cards v room = let most = ends_most cards v.worker.facts in omega (arith, most, room)
 
 -- so many rounds of so many steps at most, each of which but the last saw a move
 amortized_steps : (a b r start after most : ℕ) → a + r ≤ b → after ≤ start + ((r + 1) * most + 1) → after + a * most ≤ start + (b + 1) * most + 1
@@ -132,11 +132,11 @@ amortized_steps a b r start after most on steps =
     let all = mul-le-mul_right {m = a + r + 1} {n = b + 1} most (omega (arith, on)) in
     omega (arith, steps, all)
 
-pub amortized : (cards r : ℕ) (old new : PassModel) → moves_known cards old.view + r ≤ moves_known cards new.view → Took old new ((r + 1) * try_steps cards + 1)
+pub amortized : (cards r : ℕ) (old new : PassModel) → milestones_known cards old.view + r ≤ milestones_known cards new.view → Took old new ((r + 1) * try_steps cards + 1)
     → IsAmortized cards old new
 amortized cards r old new on took =
-    let a = moves_known cards old.view in
-    let b = moves_known cards new.view in
+    let a = milestones_known cards old.view in
+    let b = milestones_known cards new.view in
     record {
       steps = amortized_steps a b r old.steps new.steps (try_steps cards) on took.steps;
       made = amortized_steps a b r old.view.made new.view.made (try_steps cards) on took.made;
@@ -147,8 +147,8 @@ ends_none : (n : ℕ) → ends_known n [] ≡ 0
 ends_none zero = refl
 ends_none (suc n) = let none = ends_none n in omega (arith, none)
 
-pub moves_none : (cards : ℕ) → ends_known cards [] + (0 - 1) ≡ 0
-moves_none cards = let none = ends_none cards in omega (arith, none)
+pub milestones_none : (cards : ℕ) → ends_known cards [] + (0 - 1) ≡ 0
+milestones_none cards = let none = ends_none cards in omega (arith, none)
 
 -- what one of two lists of facts has, both together have
 pub known_left : (a b : List Fact) (f : Fact) → known_of a f ≡ true → known_of (a ++ b) f ≡ true
