@@ -2,7 +2,7 @@
 ghost use Rattle.std.specs.Prelude.{◌≡◌, ◌<◌, ◌≤◌, IfOk, IfSome, codes};
 ghost use Rattle.ell_ops.specs.Meaning.{greatest_key, most_workers};
 ghost use Rattle.ell_text.specs.replays.Pieces.{IsCut, piece_list};
-ghost use Rattle.ell_text.specs.replays.ReplayLine.{SaidFits, act_of, begin_event, card_event, card_in, count_in, count_of, entry_of, entry_or_event, event_of, pieces, plain_event, replay_key_in, replay_line_at, said_at, worker_in};
+ghost use Rattle.ell_text.specs.replays.ReplayLine.{SaidFits, act_of, act_on, begin_event, card_event, card_in, count_in, count_of, entry_of, entry_or_event, event_of, pieces, plain_event, replay_key_in, replay_line_at, said_at, worker_in};
 
 use crate::line::OpKind;
 use crate::lines::{cut_at_space, is_skipped};
@@ -56,50 +56,6 @@ enum Pieces<'a> {
     Four(&'a [u8], &'a [u8], &'a [u8], &'a [u8]),
     // One piece, or more than four: no form has so many.
     Other,
-}
-
-// An act that names a card, without the card.
-#[derive(Clone, Copy)]
-enum CardAct {
-    IChild,
-    IUnflag,
-    Mark,
-    DChild,
-    DUnflag,
-    Backtrack,
-}
-
-impl CardAct {
-    ghost use Rattle.ell_text.specs.replays.ReplayLine.{act_on, card_act_of};
-
-    // The act that a word names.
-    fn named(word: &[u8]) -> Option<CardAct>
-        ensures { result ≡ card_act_of word.now }
-    {
-        match word {
-            b"ichild" => Some(CardAct::IChild),
-            b"iunflag" => Some(CardAct::IUnflag),
-            b"mark" => Some(CardAct::Mark),
-            b"dchild" => Some(CardAct::DChild),
-            b"dunflag" => Some(CardAct::DUnflag),
-            b"backtrack" => Some(CardAct::Backtrack),
-            _ => None,
-        }
-    }
-
-    // The act on a card.
-    fn on(self, card: u64) -> Act
-        ensures { result ≡ act_on self card }
-    {
-        match self {
-            CardAct::IChild => Act::IChild(card),
-            CardAct::IUnflag => Act::IUnflag(card),
-            CardAct::Mark => Act::Mark(card),
-            CardAct::DChild => Act::DChild(card),
-            CardAct::DUnflag => Act::DUnflag(card),
-            CardAct::Backtrack => Act::Backtrack(card),
-        }
-    }
 }
 
 /// Reads what a line says at a place, or `None` where the line is skipped.
@@ -207,15 +163,9 @@ fn read_card_event(worker: &[u8], word: &[u8], card: &[u8]) -> Result<Event, Rep
     ensures value { result ≡ card_event worker.now word.now card.now }
     ensures within { IfOk result (λ event. event.worker < most_workers) }
 {
-    let Some(kind) = CardAct::named(word) else {
-        return Err(ReplayLineFault::BadLine);
-    };
+    let act = act_on(word, read_card(card))?;
     let worker = read_worker(worker)?;
-    let card = read_card(card)?;
-    Ok(Event {
-        worker,
-        act: kind.on(card),
-    })
+    Ok(Event { worker, act })
 }
 
 // `W begin operation K`: an insert has the value 0.
@@ -248,6 +198,21 @@ fn plain_act(word: &[u8]) -> Option<Act>
         b"leave" => Some(Act::Leave),
         b"answer" => Some(Act::Answer),
         _ => None,
+    }
+}
+
+// The act that a word names on a card. A word that names none is the fault even where the card is misspelt.
+fn act_on(word: &[u8], card: Result<u64, ReplayLineFault>) -> Result<Act, ReplayLineFault>
+    ensures { result ≡ act_on word.now card }
+{
+    match word {
+        b"ichild" => card.map(Act::IChild),
+        b"iunflag" => card.map(Act::IUnflag),
+        b"mark" => card.map(Act::Mark),
+        b"dchild" => card.map(Act::DChild),
+        b"dunflag" => card.map(Act::DUnflag),
+        b"backtrack" => card.map(Act::Backtrack),
+        _ => Err(ReplayLineFault::BadLine),
     }
 }
 

@@ -3,8 +3,8 @@ use Rattle.std.proofs.lemmas.Bool.{cases_Bool, cond-true, cond-false}
 use Rattle.std.proofs.lemmas.Slice.Eq.{bytes_eq-Decides}
 use Rattle.std.specs.Str.{bytes_eq}
 use Rattle.ell_ops.specs.Meaning.{most_workers}
+use Rattle.ell_core.specs.declared.event.Act.{Act}
 use Rattle.ell_core.specs.declared.event.Event.{Event}
-use Rattle.ell_text.specs.declared.replay_line.CardAct.{CardAct}
 use Rattle.ell_text.specs.declared.replay_line.Place.{Place}
 use Rattle.ell_text.specs.declared.replay_line.Place.TheVariants as at
 use Rattle.ell_text.specs.declared.replay_line.ReplayLineFault.{ReplayLineFault}
@@ -12,7 +12,7 @@ use Rattle.ell_text.specs.declared.replay_line.Said.{Said}
 use Rattle.ell_text.specs.declared.replay_line.Said.TheVariants as says
 use Rattle.ell_word.specs.Node.{most_cards}
 use Rattle.ell_text.specs.Lines.{is_skipped}
-use Rattle.ell_text.specs.replays.ReplayLine.{◌>>=◌, act_on, card_act_of, card_in, count_of, entry_of, entry_or_event, event_of, or_bad_line, pieces, replay_key_in, replay_line_at, said_at, said_event, worker_in}
+use Rattle.ell_text.specs.replays.ReplayLine.{◌>>=◌, act_on, card_in, count_of, entry_of, entry_or_event, event_of, pieces, replay_key_in, replay_line_at, said_at, said_event, worker_in}
 use Rattle.ell_text.specs.replays.Script.{entry_said, event_said, is_kept}
 
 -- what a line says that is not skipped
@@ -72,13 +72,13 @@ abbrev NoEvent : List (List ℕ) → Type 0
 NoEvent parts = (said : Said) → said_event parts ≡ Ok said → ⊥
 
 -- `own` is no worker's number
-bad_worker : (kind : Option CardAct) (card : List ℕ) (said : Said)
-    → ((or_bad_line kind >>= λ kind. worker_in (codes "own") >>= λ worker. card_in card >>= λ card. Ok (record { worker = worker; act = act_on kind card })) >>= λ event. Ok (says.Event event)) ≡ Ok said → ⊥
-bad_worker None card said is = cc
-bad_worker (Some kind) card said is = cc
+bad_worker : (act : Result Act ReplayLineFault) (said : Said)
+    → ((act >>= λ act. worker_in (codes "own") >>= λ worker. Ok (record { worker = worker; act = act })) >>= λ event. Ok (says.Event event)) ≡ Ok said → ⊥
+bad_worker (Err fault) said is = cc
+bad_worker (Ok act) said is = cc
 
 own_is_no_event : (word worker key : List ℕ) → word ≡ codes "own" → NoEvent (word ∷ worker ∷ key ∷ [])
-own_is_no_event word worker key own said is = bad_worker (card_act_of worker) key said (ap (λ name. said_event (name ∷ worker ∷ key ∷ [])) (sym own) ∙ is)
+own_is_no_event word worker key own said is = bad_worker (act_on worker (card_in key)) said (ap (λ name. said_event (name ∷ worker ∷ key ∷ [])) (sym own) ∙ is)
 
 -- behind the heads a line is read alike at both places, or it is an own line and no event
 apart : (parts : List (List ℕ)) → (entry_or_event parts ≡ said_event parts)

@@ -3,14 +3,11 @@ use Rattle.std.specs.List.{slice_split}
 use Rattle.std.specs.Str.{bytes_eq}
 use Rattle.ell_ops.specs.Meaning.{greatest_key, most_workers}
 use Rattle.ell_core.specs.declared.event.Act.{Act}
-use Rattle.ell_core.specs.declared.event.Act.TheVariants.{Begin, Upd, Down, Claim, IFlag, DFlag, Again, Leave, Answer}
-use Rattle.ell_core.specs.declared.event.Act.TheVariants as act
+use Rattle.ell_core.specs.declared.event.Act.TheVariants.{Begin, Upd, Down, Claim, IFlag, DFlag, Again, Leave, Answer, IChild, IUnflag, Mark, DChild, DUnflag, Backtrack}
 use Rattle.ell_core.specs.declared.event.Event.{Event}
 use Rattle.ell_text.specs.declared.line.OpKind.{OpKind}
 use Rattle.ell_text.specs.declared.number.NumberFault.{NumberFault}
 use Rattle.ell_text.specs.declared.number.NumberFault.TheVariants.{NotANumber, TooLarge}
-use Rattle.ell_text.specs.declared.replay_line.CardAct.{CardAct}
-use Rattle.ell_text.specs.declared.replay_line.CardAct.TheVariants.{IChild, IUnflag, Mark, DChild, DUnflag, Backtrack}
 use Rattle.ell_text.specs.declared.replay_line.Place.{Place}
 use Rattle.ell_text.specs.declared.replay_line.Place.TheVariants as at
 use Rattle.ell_text.specs.declared.replay_line.ReplayLineFault.{ReplayLineFault}
@@ -80,8 +77,8 @@ act_of word = if bytes_eq word (codes "upd") then Some Upd else
     if bytes_eq word (codes "leave") then Some Leave else
     if bytes_eq word (codes "answer") then Some Answer else None
 
--- the kind of act on a card that a word names
-abbrev pub card_act_of : List ℕ → Option CardAct
+-- the act that a word names, as a function of its card
+abbrev pub card_act_of : List ℕ → Option (ℕ → Act)
 card_act_of word = if bytes_eq word (codes "ichild") then Some IChild else
     if bytes_eq word (codes "iunflag") then Some IUnflag else
     if bytes_eq word (codes "mark") then Some Mark else
@@ -89,14 +86,12 @@ card_act_of word = if bytes_eq word (codes "ichild") then Some IChild else
     if bytes_eq word (codes "dunflag") then Some DUnflag else
     if bytes_eq word (codes "backtrack") then Some Backtrack else None
 
--- the act of a kind on a card
-abbrev pub act_on : CardAct → ℕ → Act
-act_on IChild card = act.IChild card
-act_on IUnflag card = act.IUnflag card
-act_on Mark card = act.Mark card
-act_on DChild card = act.DChild card
-act_on DUnflag card = act.DUnflag card
-act_on Backtrack card = act.Backtrack card
+-- the act that a word names on a card: a word that names none is the fault even where the card is misspelt
+abbrev pub act_on : List ℕ → Result ℕ ReplayLineFault → Result Act ReplayLineFault
+act_on word card = do
+  act ← or_bad_line (card_act_of word)
+  card ← card
+  Ok (act card)
 
 -- the kind of operation that the two words of a `begin` name
 abbrev pub begun : List ℕ → List ℕ → Option OpKind
@@ -112,10 +107,9 @@ plain_event worker word = do
 -- `W act C`
 abbrev pub card_event : List ℕ → List ℕ → List ℕ → Result Event ReplayLineFault
 card_event worker word card = do
-  kind ← or_bad_line (card_act_of word)
+  act ← act_on word (card_in card)
   worker ← worker_in worker
-  card ← card_in card
-  Ok (record { worker = worker; act = act_on kind card })
+  Ok (record { worker = worker; act = act })
 
 -- `W begin operation K`: an insert has the value 0
 abbrev pub begin_event : List ℕ → List ℕ → List ℕ → List ℕ → Result Event ReplayLineFault
