@@ -142,29 +142,29 @@ after (call.Backtrack c gp) n v = exchanged (if_won (n == dflag c) exchange.Back
 
 -- what a call asks of what the pass knows
 abbrev pub May : ℕ → Call → View → Type 0
-May cards (call.Begin op) v = MayBegin v op
-May cards call.Again v = MayStop (worker_of v.worker)
-May cards call.Leave v = MayStop (worker_of v.worker)
-May cards (call.Answer said) v = MayAnswer v said
-May cards (call.Upd x) v = MayRead v x
-May cards (call.Down x right) v = MayGoDown v x right
-May cards call.Next v = Unit {0}
-May cards (call.KeyOf x) v = IsTold v (Met x)
-May cards (call.ValueOf x) v = IsTold v (Met x) × IsLeaf x
-May cards (call.Info c f) v = MayAsk v c f
-May cards (call.FrozenChild c p right) v = KnowsPlace v (fact.Marked c) c field.P p
-May cards call.Look v = IsFree v
-May cards (call.LookDown from key right) v = MayLookDown v from key
-May cards (call.Claim c) v = MayClaim v c × (c ≤ cards)
-May cards (call.Fill c f value) v = MayFill v c
-May cards (call.IFlag c p from) v = MayIFlag v c p from
-May cards (call.IChild c p l q right) v = MayIChild v c p l q right
-May cards (call.IUnflag c p) v = KnowsPlace v (fact.IChanged c) c field.P p
-May cards (call.DFlag c gp from) v = MayDFlag v c gp from
-May cards (call.Mark c p was) v = MayMark v c p was
-May cards (call.DChild c gp p s right) v = MayDChild v c gp p s right
-May cards (call.DUnflag c gp) v = KnowsPlace v (fact.Cut c) c field.Gp gp
-May cards (call.Backtrack c gp) v = KnowsPlace v (fact.Unmarkable c) c field.Gp gp
+May last (call.Begin op) v = MayBegin v op
+May last call.Again v = MayStop (worker_of v.worker)
+May last call.Leave v = MayStop (worker_of v.worker)
+May last (call.Answer said) v = MayAnswer v said
+May last (call.Upd x) v = MayRead v x
+May last (call.Down x right) v = MayGoDown v x right
+May last call.Next v = Unit {0}
+May last (call.KeyOf x) v = IsTold v (Met x)
+May last (call.ValueOf x) v = IsTold v (Met x) × IsLeaf x
+May last (call.Info c f) v = MayAsk v c f
+May last (call.FrozenChild c p right) v = KnowsPlace v (fact.Marked c) c field.P p
+May last call.Look v = IsFree v
+May last (call.LookDown from key right) v = MayLookDown v from key
+May last (call.Claim c) v = MayClaim v c × (c ≤ last)
+May last (call.Fill c f value) v = MayFill v c
+May last (call.IFlag c p from) v = MayIFlag v c p from
+May last (call.IChild c p l q right) v = MayIChild v c p l q right
+May last (call.IUnflag c p) v = KnowsPlace v (fact.IChanged c) c field.P p
+May last (call.DFlag c gp from) v = MayDFlag v c gp from
+May last (call.Mark c p was) v = MayMark v c p was
+May last (call.DChild c gp p s right) v = MayDChild v c gp p s right
+May last (call.DUnflag c gp) v = KnowsPlace v (fact.Cut c) c field.Gp gp
+May last (call.Backtrack c gp) v = KnowsPlace v (fact.Unmarkable c) c field.Gp gp
 
 -- the act of the machine that a call which found this word is, or none
 abbrev pub act_of : Call → ℕ → Option Act
@@ -224,27 +224,27 @@ TellsDepth v c _ x = Unit {0}
 
 -- a word of a card that names a node names one of the table; grandparent and parent are internal
 abbrev pub TellsNode : ℕ → Field → ℕ → Type 0
-TellsNode cards field.Gp x = InTable cards x × IsInternal x
-TellsNode cards field.P x = InTable cards x × IsInternal x
-TellsNode cards field.L x = InTable cards x
-TellsNode cards _ x = Unit {0}
+TellsNode last field.Gp x = InTable last x × IsInternal x
+TellsNode last field.P x = InTable last x × IsInternal x
+TellsNode last field.L x = InTable last x
+TellsNode last _ x = Unit {0}
 
 -- what a call tells of the word that it found
 abbrev pub Tells : ℕ → Call → View → ℕ → Type 0
-Tells cards (call.Answer said) v n =
+Tells last (call.Answer said) v n =
     AnswersAsMap (worker_of v.worker) (ledger_of (after (call.Answer said) n v).worker.ledger) said
-    × (v.next_at_least ≤ cards + 1)
-Tells cards call.Leave v n = v.next_at_least ≤ cards + 1
-Tells cards (call.Upd x) v n = ((unpacked n).card ≤ cards) × EndWasUnknown v (unpacked n).state (unpacked n).card
-Tells cards (call.Down x right) v n = (x < n) × InTable cards n
-Tells cards call.Next v n = (1 ≤ n) × (n ≤ cards + 1) × (v.next_at_least ≤ n)
-Tells cards (call.KeyOf x) v n = TellsLeaf v x n
-Tells cards (call.ValueOf x) v n = TellsLedgerValue v x n
-Tells cards (call.Info c f) v n = TellsNode cards f n × TellsDepth v c f n
-Tells cards (call.FrozenChild c p right) v n = (p < n) × InTable cards n
-Tells cards call.Look v n = (0 < n) × InTable cards n
-Tells cards (call.LookDown from key right) v n = (from.node < n) × InTable cards n
-Tells cards (call.IFlag c p from) v n = (unpacked n).card ≤ cards
-Tells cards (call.DFlag c gp from) v n = (unpacked n).card ≤ cards
-Tells cards (call.Mark c p was) v n = (unpacked n).card ≤ cards
-Tells cards _ v n = Unit {0}
+    × (v.next_at_least ≤ last + 1)
+Tells last call.Leave v n = v.next_at_least ≤ last + 1
+Tells last (call.Upd x) v n = ((unpacked n).card ≤ last) × EndWasUnknown v (unpacked n).state (unpacked n).card
+Tells last (call.Down x right) v n = (x < n) × InTable last n
+Tells last call.Next v n = (1 ≤ n) × (n ≤ last + 1) × (v.next_at_least ≤ n)
+Tells last (call.KeyOf x) v n = TellsLeaf v x n
+Tells last (call.ValueOf x) v n = TellsLedgerValue v x n
+Tells last (call.Info c f) v n = TellsNode last f n × TellsDepth v c f n
+Tells last (call.FrozenChild c p right) v n = (p < n) × InTable last n
+Tells last call.Look v n = (0 < n) × InTable last n
+Tells last (call.LookDown from key right) v n = (from.node < n) × InTable last n
+Tells last (call.IFlag c p from) v n = (unpacked n).card ≤ last
+Tells last (call.DFlag c gp from) v n = (unpacked n).card ≤ last
+Tells last (call.Mark c p was) v n = (unpacked n).card ≤ last
+Tells last _ v n = Unit {0}

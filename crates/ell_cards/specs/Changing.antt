@@ -28,18 +28,18 @@ use Rattle.ell_cards.specs.Models.{TablePlan}
 
 -- a call of the pass in a seat: it begins an operation here, on a key of its own or on a shared one, begins no other in
 -- these turns of any passes, and answers at their end
-pub record IsCalled (cards : ℕ) (s : TableState) (seat : ℕ) (op : Op) (begun : TableState) (turns : List Turn) (s' : TableState) (said : Reply) : Type 0 where
+pub record IsCalled (last : ℕ) (s : TableState) (seat : ℕ) (op : Op) (begun : TableState) (turns : List Turn) (s' : TableState) (said : Reply) : Type 0 where
   pub ended : TableState
-  pub begins : CallIsMade cards s seat (call.Begin op) begun
-  pub run : TableRun cards begun turns s'
+  pub begins : CallIsMade last s seat (call.Begin op) begun
+  pub run : TableRun last begun turns s'
   pub on : KeepOn seat turns
-  pub answers : CallIsMade cards s' seat (call.Answer said) ended
+  pub answers : CallIsMade last s' seat (call.Answer said) ended
 
 -- the answer is that on what the tree had of the key in one state of the call; no other is an insert's or a delete's no
-pub record SaysWhatWas (cards : ℕ) (op : Op) (begun : TableState) (turns : List Turn) (s' : TableState) (said : Reply) : Type 0 where
+pub record SaysWhatWas (last : ℕ) (op : Op) (begun : TableState) (turns : List Turn) (s' : TableState) (said : Reply) : Type 0 where
   pub there : Option ℕ
   pub says : leaf_answer op there ≡ Some said
-  pub so : WasSo cards begun turns s' (key_of op) there
+  pub so : WasSo last begun turns s' (key_of op) there
 
 -- the win by which a card's operation changes the tree
 abbrev pub change_of : Op → List Exchange
@@ -56,14 +56,14 @@ FindsItsValue (Delete key) c w = IsTreePair w key (card_value w c)
 FindsItsValue (Swap key was value) c w = Unit {0}
 
 -- in one turn of the call, of whatever pass, the child exchange of its own card was won, and changed the tree as the operation says
-pub record TakesEffect (cards : ℕ) (op : Op) (c : ℕ) (begun : TableState) (turns : List Turn) (s' : TableState) : Type 0 where
+pub record TakesEffect (last : ℕ) (op : Op) (c : ℕ) (begun : TableState) (turns : List Turn) (s' : TableState) : Type 0 where
   pub first : ℕ
   pub state : TableState
   pub turn : Turn
   pub next : TableState
-  pub before : TableRun cards begun (take first turns) state
-  pub now : TableTurns cards state turn next
-  pub after : TableRun cards next (drop (suc first) turns) s'
+  pub before : TableRun last begun (take first turns) state
+  pub now : TableTurns last state turn next
+  pub after : TableRun last next (drop (suc first) turns) s'
   pub at : drop first turns ≡ turn ∷ drop (suc first) turns
   pub own : turn_wins state turn c ≡ change_of op
   pub changes : MakesChange op (own_words state) (own_words next)
@@ -75,10 +75,10 @@ pub record HoldsAtEnd (s' : TableState) (seat c : ℕ) : Type 0 where
 
 -- each call has one point within its span: a state of which its answer is, or the turn in which its card's child exchange was won
 abbrev pub CallsHaveTheirPoint : Type 0
-CallsHaveTheirPoint = (keys : List ℕ) (cards : ℕ) (s : TableState) → HasMachine keys cards s → (seat : ℕ) (op : Op) (begun : TableState) (turns : List Turn)
-    (s' : TableState) (said : Reply) → IsCalled cards s seat op begun turns s' said
-    → SaysWhatWas cards op begun turns s' said
-    ⊎ ((said ≡ reply_of_change op) × ((c : ℕ) × HoldsAtEnd s' seat c × TakesEffect cards op c begun turns s'))
+CallsHaveTheirPoint = (keys : List ℕ) (last : ℕ) (s : TableState) → HasMachine keys last s → (seat : ℕ) (op : Op) (begun : TableState) (turns : List Turn)
+    (s' : TableState) (said : Reply) → IsCalled last s seat op begun turns s' said
+    → SaysWhatWas last op begun turns s' said
+    ⊎ ((said ≡ reply_of_change op) × ((c : ℕ) × HoldsAtEnd s' seat c × TakesEffect last op c begun turns s'))
 
 -- a map is what the tree of these words has: just its keys, with their values
 abbrev pub HasMap : Words → Contents → Type 0
@@ -90,7 +90,7 @@ Leaves op w = (there : Contents) → HasMap w there → (key : ℕ) → after op
 
 -- the point of a call is the next turn, in which its card's exchange is won, and the tree's map becomes the one after the operation; it is the
 -- card that the pass in the seat has in hand at the end, and a delete finds its key there with the card's value
-pub record ChangesNext (cards seat : ℕ) (op : Op) (state : TableState) (turns : List Turn) (s' : TableState) : Type 0 where
+pub record ChangesNext (last seat : ℕ) (op : Op) (state : TableState) (turns : List Turn) (s' : TableState) : Type 0 where
   pub card : ℕ
   pub hand : HoldsAtEnd s' seat card
   pub finds : FindsItsValue op card (own_words state)
@@ -98,37 +98,37 @@ pub record ChangesNext (cards seat : ℕ) (op : Op) (state : TableState) (turns 
   pub rest : List Turn
   pub next : TableState
   pub is : turns ≡ turn ∷ rest
-  pub now : TableTurns cards state turn next
+  pub now : TableTurns last state turn next
   pub own : turn_wins state turn card ≡ change_of op
   pub map : (there : Contents) → HasMap (own_words state) there → HasMap (own_words next) (after op there)
 
 -- a call answers as a map at one point of its span: where some first turns have led from its begin, its answer is the reply on the map that the
 -- tree is there; and the operation leaves that map, or the next turn makes it the map after the operation
-pub record AnswersAt (cards seat : ℕ) (op : Op) (begun : TableState) (turns : List Turn) (s' : TableState) (said : Reply) : Type 0 where
+pub record AnswersAt (last seat : ℕ) (op : Op) (begun : TableState) (turns : List Turn) (s' : TableState) (said : Reply) : Type 0 where
   pub first : ℕ
   pub state : TableState
-  pub before : TableRun cards begun (take first turns) state
-  pub after : TableRun cards state (drop first turns) s'
+  pub before : TableRun last begun (take first turns) state
+  pub after : TableRun last state (drop first turns) s'
   pub says : (there : Contents) → HasMap (own_words state) there → said ≡ reply_of op there
-  pub goes : Leaves op (own_words state) ⊎ ChangesNext cards seat op state (drop first turns) s'
+  pub goes : Leaves op (own_words state) ⊎ ChangesNext last seat op state (drop first turns) s'
 
 -- so does each call of each pass in each run, on a key of its own or on a shared one
 abbrev pub CallsAnswerAsAMap : Type 0
-CallsAnswerAsAMap = (keys : List ℕ) (cards : ℕ) (s : TableState) → HasMachine keys cards s → (seat : ℕ) (op : Op) (begun : TableState) (turns : List Turn)
-    (s' : TableState) (said : Reply) → IsCalled cards s seat op begun turns s' said → AnswersAt cards seat op begun turns s' said
+CallsAnswerAsAMap = (keys : List ℕ) (last : ℕ) (s : TableState) → HasMachine keys last s → (seat : ℕ) (op : Op) (begun : TableState) (turns : List Turn)
+    (s' : TableState) (said : Reply) → IsCalled last s seat op begun turns s' said → AnswersAt last seat op begun turns s' said
 
 -- a card that a pass has in hand in a state is in no other call's hand later: not in that of another pass whose call goes on, nor of a call
 -- that begins later
-pub record HasItAlone (keys : List ℕ) (cards : ℕ) (s : TableState) (seat c : ℕ) : Type 0 where
-  pub beside : (other : ℕ) → other ≢ seat → (turns : List Turn) (s' : TableState) → TableRun cards s turns s' → KeepOn other turns → (u : View)
+pub record HasItAlone (keys : List ℕ) (last : ℕ) (s : TableState) (seat c : ℕ) : Type 0 where
+  pub beside : (other : ℕ) → other ≢ seat → (turns : List Turn) (s' : TableState) → TableRun last s turns s' → KeepOn other turns → (u : View)
       → get_elem? s.views other ≡ some u → (w : View) → get_elem? s'.views other ≡ some w → w.worker.card ≢ Some c
-  pub later : (more : List Turn) (s2 : TableState) → TableRun cards s more s2 → (other : ℕ) (op : Op) (begun : TableState) (turns : List Turn) (s' : TableState) (said : Reply)
-      → IsCalled cards s2 other op begun turns s' said → (w : View) → get_elem? s'.views other ≡ some w → w.worker.card ≢ Some c
+  pub later : (more : List Turn) (s2 : TableState) → TableRun last s more s2 → (other : ℕ) (op : Op) (begun : TableState) (turns : List Turn) (s' : TableState) (said : Reply)
+      → IsCalled last s2 other op begun turns s' said → (w : View) → get_elem? s'.views other ≡ some w → w.worker.card ≢ Some c
 
 -- so no two calls have one card, and each point that changes the tree is one call's
 abbrev pub CallsHaveTheirOwnCards : Type 0
-CallsHaveTheirOwnCards = (keys : List ℕ) (cards : ℕ) (s : TableState) → HasMachine keys cards s → (seat : ℕ) (v : View) → get_elem? s.views seat ≡ some v
-    → (c : ℕ) → v.worker.card ≡ Some c → HasItAlone keys cards s seat c
+CallsHaveTheirOwnCards = (keys : List ℕ) (last : ℕ) (s : TableState) → HasMachine keys last s → (seat : ℕ) (v : View) → get_elem? s.views seat ≡ some v
+    → (c : ℕ) → v.worker.card ≡ Some c → HasItAlone keys last s seat c
 
 -- wherever turns lead from a start, the tree is a map
 pub record IsAMap (s : TableState) : Type 0 where
@@ -150,9 +150,9 @@ turn_effect s (Makes seat c) = effect_of c (is_won (atomic_of c) (found_by s c))
 turn_effect s _ = []
 
 -- those of a run, in their order
-abbrev pub run_effects : (cards : ℕ) (s : TableState) (turns : List Turn) (s' : TableState) → TableRun cards s turns s' → List Op
-run_effects cards s [] s' run = []
-run_effects cards s (t ∷ ts) s' run = turn_effect s t ++ run_effects cards run.0 ts s' run.2
+abbrev pub run_effects : (last : ℕ) (s : TableState) (turns : List Turn) (s' : TableState) → TableRun last s turns s' → List Op
+run_effects last s [] s' run = []
+run_effects last s (t ∷ ts) s' run = turn_effect s t ++ run_effects last run.0 ts s' run.2
 
 -- wherever turns lead from a start, the tree is the map that one thread leaves which makes these operations in this order
 abbrev pub TreesAreOfOneThread : Type 0

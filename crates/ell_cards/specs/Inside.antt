@@ -19,14 +19,14 @@ pub record PassFits (keys : List ℕ) (kept : Share) (words : ℕ) (v : View) : 
   pub owned : keys ≡ ledger_keys v.worker.ledger
   pub ascending : IsStrictlyIncreasing keys
   pub share : HasShare kept v
-  pub named : (cards : ℕ) → words ≡ table_size cards → IsNamed cards v
+  pub named : (last : ℕ) → words ≡ table_size last → IsNamed last v
 
 abbrev pub IsPass : {A : Type 0} → Inside A → Type 0
 IsPass p = PassFits p.keys.items p.share p.seat.table_id.words p.seat.me.0 × (p.seat.me.1 ≡ [])
 
 -- a table as it is made, and its first seat
-pub record IsNewTable (cards : ℕ) (table seat : TableId) (me : Me (Unit {0}) View) (v : View) : Type 0 where
-  pub words : table.words ≡ table_size cards
+pub record IsNewTable (last : ℕ) (table seat : TableId) (me : Me (Unit {0}) View) (v : View) : Type 0 where
+  pub words : table.words ≡ table_size last
   pub slots : table.slots ≡ 0
   pub own : seat ≡ table
   pub knows : me ≡ (v, [])

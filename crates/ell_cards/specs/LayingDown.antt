@@ -19,7 +19,7 @@ pub record IsLaidDown (turns : List Turn) (seat begin end : ℕ) (op : Op) : Typ
 
 -- no turn of a run changes the tree by the call that began in this one
 abbrev pub ChangesNothing : ℕ → TableState → List Turn → ℕ → Type 0
-ChangesNothing cards s turns begin = (change : ℕ) (op : Op) → ¬ ChangesAt cards s turns begin change op
+ChangesNothing last s turns begin = (change : ℕ) (op : Op) → ¬ ChangesAt last s turns begin change op
 
 -- so it is of each call that was laid down, before that and after it, in each run from a start
 abbrev pub LaidDownCallsChangeNothing : Type 0

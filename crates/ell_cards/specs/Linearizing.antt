@@ -30,16 +30,16 @@ pub record IsAnswered (turns : List Turn) (begin end : ℕ) (op : Op) (said : Re
   pub answers : get_elem? turns end ≡ some (Makes seat (call.Answer said))
 
 -- after so many turns of a run the table is in this state, and this is its next turn
-pub record IsTurn (cards : ℕ) (s : TableState) (turns : List Turn) (k : ℕ) (state : TableState) (turn : Turn) : Type 0 where
-  pub led : TableRun cards s (take k turns) state
+pub record IsTurn (last : ℕ) (s : TableState) (turns : List Turn) (k : ℕ) (state : TableState) (turn : Turn) : Type 0 where
+  pub led : TableRun last s (take k turns) state
   pub at : get_elem? turns k ≡ some turn
 
 -- a turn of a run changes the tree by an operation: in it, by whichever pass, the child exchange of a card is won that a pass has in hand for
 -- that operation
-pub record ChangesBy (cards : ℕ) (s : TableState) (turns : List Turn) (change : ℕ) (op : Op) : Type 0 where
+pub record ChangesBy (last : ℕ) (s : TableState) (turns : List Turn) (change : ℕ) (op : Op) : Type 0 where
   pub state : TableState
   pub turn : Turn
-  pub is : IsTurn cards s turns change state turn
+  pub is : IsTurn last s turns change state turn
   pub effect : turn_effect state turn ≡ op ∷ []
   pub card : ℕ
   pub own : turn_wins state turn card ≡ change_of op
@@ -47,8 +47,8 @@ pub record ChangesBy (cards : ℕ) (s : TableState) (turns : List Turn) (change 
 
 -- a call that changes the tree, whether it has ended or not: in one turn a pass begins the operation, and while the pass goes on with it, a
 -- later one changes the tree by it, for the card that the pass has in hand
-pub record ChangesAt (cards : ℕ) (s : TableState) (turns : List Turn) (begin change : ℕ) (op : Op) : Type 0 where
-  pub by : ChangesBy cards s turns change op
+pub record ChangesAt (last : ℕ) (s : TableState) (turns : List Turn) (begin change : ℕ) (op : Op) : Type 0 where
+  pub by : ChangesBy last s turns change op
   pub begins : get_elem? turns begin ≡ some (Makes by.work.seat (call.Begin op))
   pub later : begin < change
   pub on : KeepsOnBetween by.work.seat turns begin change
@@ -78,22 +78,22 @@ abbrev pub HasItem : List Item → Item → Type 0
 HasItem order item = (i : ℕ) × StandsIn order i item
 
 -- an item is a call that has changed the tree and has not ended, with the answer of a change
-pub record IsPending (cards : ℕ) (s : TableState) (turns : List Turn) (item : Item) : Type 0 where
+pub record IsPending (last : ℕ) (s : TableState) (turns : List Turn) (item : Item) : Type 0 where
   pub change : ℕ
-  pub changes : ChangesAt cards s turns item.begin change item.op
+  pub changes : ChangesAt last s turns item.begin change item.op
   pub unended : (end : ℕ) (op : Op) (said : Reply) → ¬ IsAnswered turns item.begin end op said
   pub says : item.reply ≡ reply_of_change item.op
 
 -- an item may be in the sequence of a run: it is a call that has ended, with its answer, or such a one
 abbrev pub IsMade : ℕ → TableState → List Turn → Item → Type 0
-IsMade cards s turns item = ((end : ℕ) × IsAnswered turns item.begin end item.op item.reply) ⊎ IsPending cards s turns item
+IsMade last s turns item = ((end : ℕ) × IsAnswered turns item.begin end item.op item.reply) ⊎ IsPending last s turns item
 
 -- which calls the sequence of a run has: each that has ended, with its answer; each that has changed the tree, with the
 -- answer of a change; no other; and each once
-pub record HasTheCalls (cards : ℕ) (s : TableState) (turns : List Turn) (order : List Item) : Type 0 where
+pub record HasTheCalls (last : ℕ) (s : TableState) (turns : List Turn) (order : List Item) : Type 0 where
   pub ended : (begin end : ℕ) (op : Op) (said : Reply) → IsAnswered turns begin end op said → HasItem order (record { begin = begin; op = op; reply = said })
-  pub changed : (begin change : ℕ) (op : Op) → ChangesAt cards s turns begin change op → HasItem order (record { begin = begin; op = op; reply = reply_of_change op })
-  pub other : (item : Item) → HasItem order item → IsMade cards s turns item
+  pub changed : (begin change : ℕ) (op : Op) → ChangesAt last s turns begin change op → HasItem order (record { begin = begin; op = op; reply = reply_of_change op })
+  pub other : (item : Item) → HasItem order item → IsMade last s turns item
   pub once : (i j : ℕ) (x y : Item) → StandsIn order i x → StandsIn order j y → x.begin ≡ y.begin → i ≡ j
 
 -- a call that ended before another began stands before it
@@ -112,18 +112,18 @@ abbrev pub AnswersEndCalls : List Turn → Type 0
 AnswersEndCalls turns = (seat end : ℕ) (said : Reply) → get_elem? turns end ≡ some (Makes seat (call.Answer said)) → EndsACall turns end said
 
 -- a change of the tree is that of a call which began in an earlier turn
-pub record IsOfACall (cards : ℕ) (s : TableState) (turns : List Turn) (change : ℕ) (op : Op) : Type 0 where
+pub record IsOfACall (last : ℕ) (s : TableState) (turns : List Turn) (change : ℕ) (op : Op) : Type 0 where
   pub begin : ℕ
-  pub changes : ChangesAt cards s turns begin change op
+  pub changes : ChangesAt last s turns begin change op
 
 -- so is each turn by which the tree changes
 abbrev pub ChangesAreOfCalls : ℕ → TableState → List Turn → Type 0
-ChangesAreOfCalls cards s turns = (k : ℕ) (state : TableState) (turn : Turn) (op : Op) → IsTurn cards s turns k state turn → turn_effect state turn ≡ op ∷ []
-    → IsOfACall cards s turns k op
+ChangesAreOfCalls last s turns = (k : ℕ) (state : TableState) (turn : Turn) (op : Op) → IsTurn last s turns k state turn → turn_effect state turn ≡ op ∷ []
+    → IsOfACall last s turns k op
 
 -- no call changes the tree twice
 abbrev pub CallsChangeOnce : ℕ → TableState → List Turn → Type 0
-CallsChangeOnce cards s turns = (begin change again : ℕ) (op o : Op) → ChangesAt cards s turns begin change op → ChangesAt cards s turns begin again o
+CallsChangeOnce last s turns = (begin change again : ℕ) (op o : Op) → ChangesAt last s turns begin change op → ChangesAt last s turns begin again o
     → change ≡ again
 
 -- A run of a table is linearizable, as Herlihy and Wing define it in "Linearizability: a correctness condition for

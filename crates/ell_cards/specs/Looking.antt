@@ -17,10 +17,10 @@ use Rattle.ell_cards.specs.TurnEffects.{own_words}
 use Rattle.ell_cards.specs.Starts.{Starts, IsReached}
 
 -- a state of a run of a table, its first and its last among them: some first turns lead to it, and the others from it to the end
-pub record IsAmid (cards : ℕ) (s : TableState) (turns : List Turn) (s' state : TableState) : Type 0 where
+pub record IsAmid (last : ℕ) (s : TableState) (turns : List Turn) (s' state : TableState) : Type 0 where
   pub first : ℕ
-  pub before : TableRun cards s (take first turns) state
-  pub after : TableRun cards state (drop first turns) s'
+  pub before : TableRun last s (take first turns) state
+  pub after : TableRun last state (drop first turns) s'
 
 -- the tree of these words has a key with this value, or it has the key not at all
 abbrev pub HasThere : Words → ℕ → Option ℕ → Type 0
@@ -28,9 +28,9 @@ HasThere w key (Some value) = IsTreePair w key value
 HasThere w key None = ¬ IsTreeKey w key
 
 -- so it was in one state of a run, by the table's own words
-pub record WasSo (cards : ℕ) (s : TableState) (turns : List Turn) (s' : TableState) (key : ℕ) (there : Option ℕ) : Type 0 where
+pub record WasSo (last : ℕ) (s : TableState) (turns : List Turn) (s' : TableState) (key : ℕ) (there : Option ℕ) : Type 0 where
   pub state : TableState
-  pub amid : IsAmid cards s turns s' state
+  pub amid : IsAmid last s turns s' state
   pub so : HasThere (own_words state) key there
 
 -- what a pass has found of a key by its look: the look has come to a leaf by the key, maybe with others, and the pass
@@ -57,19 +57,19 @@ LooksOn seat (Splits other left ∷ ts) = (other ≢ seat) × LooksOn seat ts
 LooksOn seat (Joins one other ∷ ts) = (one ≢ seat) × (other ≢ seat) × LooksOn seat ts
 
 -- the last look of the pass in a seat began here in a run: the pass made its call, and has begun nothing since
-pub record Began (cards : ℕ) (s : TableState) (turns : List Turn) (s' : TableState) (seat : ℕ) : Type 0 where
+pub record Began (last : ℕ) (s : TableState) (turns : List Turn) (s' : TableState) (seat : ℕ) : Type 0 where
   pub first : ℕ
   pub from : TableState
   pub to : TableState
-  pub before : TableRun cards s (take first turns) from
-  pub call : CallIsMade cards from seat call.Look to
-  pub after : TableRun cards to (drop (suc first) turns) s'
+  pub before : TableRun last s (take first turns) from
+  pub call : CallIsMade last from seat call.Look to
+  pub after : TableRun last to (drop (suc first) turns) s'
   pub on : LooksOn seat (drop (suc first) turns)
 
 -- and what it has found of a key was so in one state of the run since
-pub record FoundInRun (cards : ℕ) (s : TableState) (turns : List Turn) (s' : TableState) (seat key : ℕ) (there : Option ℕ) : Type 0 where
-  pub began : Began cards s turns s' seat
-  pub so : WasSo cards began.to (drop (suc began.first) turns) s' key there
+pub record FoundInRun (last : ℕ) (s : TableState) (turns : List Turn) (s' : TableState) (seat key : ℕ) (there : Option ℕ) : Type 0 where
+  pub began : Began last s turns s' seat
+  pub so : WasSo last began.to (drop (suc began.first) turns) s' key there
 
 -- so it is in every run of a table with this plan, from its start to a state in which a pass knows this
 abbrev pub IsFoundInRuns : TablePlan → View → ℕ → Option ℕ → Type 0
@@ -107,17 +107,17 @@ pub record HasFoundBetween (v : View) (low high : ℕ) (there : Option (ℕ × �
   pub tells : TellsBetween v leaf leaf_key low high there
 
 -- so it was with all keys of the stretch in ONE state of a run
-pub record WasSoBetween (cards : ℕ) (s : TableState) (turns : List Turn) (s' : TableState)
+pub record WasSoBetween (last : ℕ) (s : TableState) (turns : List Turn) (s' : TableState)
     (low high : ℕ) (there : Option (ℕ × ℕ)) : Type 0 where
   pub state : TableState
-  pub amid : IsAmid cards s turns s' state
+  pub amid : IsAmid last s turns s' state
   pub so : HasBetween (own_words state) low high there
 
 -- and that is a state since the last look of the pass in a seat began
-pub record FoundBetweenInRun (cards : ℕ) (s : TableState) (turns : List Turn) (s' : TableState)
+pub record FoundBetweenInRun (last : ℕ) (s : TableState) (turns : List Turn) (s' : TableState)
     (seat low high : ℕ) (there : Option (ℕ × ℕ)) : Type 0 where
-  pub began : Began cards s turns s' seat
-  pub so : WasSoBetween cards began.to (drop (suc began.first) turns) s' low high there
+  pub began : Began last s turns s' seat
+  pub so : WasSoBetween last began.to (drop (suc began.first) turns) s' low high there
 
 -- so it is in every run of a table with this plan, from its start to a state in which a pass knows this
 abbrev pub IsFoundBetweenInRuns : TablePlan → View → ℕ → ℕ → Option (ℕ × ℕ) → Type 0

@@ -58,15 +58,15 @@ pub record ViewHolds (words : List ℕ) (w : Words) (stage : Stages) (v : View) 
 abbrev pub NobodyShares : TableState → Type 0
 NobodyShares s = (j : ℕ) (v : View) → get_elem? s.views j ≡ some v → v.worker.ownable ≡ None
 
--- a state of a table with these keys and so many cards has a machine that the invariant holds of: its workers are the passes; the table has its claim
+-- a state of a table with these keys and this last card has a machine that the invariant holds of: its workers are the passes; the table has its claim
 -- word, and its words at every card that does not wait for its flag; what passes know holds; and every key that a pass owns is one of the table's,
 -- and so is each that it knows may have an owner. So while a pass fills card 3, the machine has card 3 whole and the table what was stored of it, and
 -- at every other card that won its flag the two are alike
-pub record HasMachine (keys : List ℕ) (cards : ℕ) (s : TableState) : Type 0 where
+pub record HasMachine (keys : List ℕ) (last : ℕ) (s : TableState) : Type 0 where
   pub words : Words
   pub stages : Stages
-  pub invariant : Invariant (seated words s.views cards) stages
-  pub size : length s.words ≡ table_size cards
+  pub invariant : Invariant (seated words s.views last) stages
+  pub size : length s.words ≡ table_size last
   pub next : slice_index s.words 0 ≡ words.next
   pub settled : (c : ℕ) (f : Field) → waits (stages c) ≡ false → listed s.words c f ≡ word words c f
   pub views : (j : ℕ) (v : View) → get_elem? s.views j ≡ some v → ViewHolds s.words words stages v

@@ -60,7 +60,7 @@ IsBeginning _ = ⊥
 
 -- after it a search begins there
 abbrev pub SearchesBeginThere : Type 0
-SearchesBeginThere = (cards : ℕ) (s : TableState) (seat : ℕ) (c : Call) (s' : TableState) → CallIsMade cards s seat c s' → IsBeginning c → BeginsHere s' seat
+SearchesBeginThere = (last : ℕ) (s : TableState) (seat : ℕ) (c : Call) (s' : TableState) → CallIsMade last s seat c s' → IsBeginning c → BeginsHere s' seat
 
 -- a run of a table from its start: it leads to a state where the pass in a seat begins a search, and then goes on by any turns of any
 -- passes, while that pass takes no other operation in hand: it may begin its search anew, again and again, and lay its operation down
@@ -141,9 +141,9 @@ SearchesMeetMeanwhile = (plan : TablePlan) (r : SearchRun plan) → MetMeanwhile
 
 -- the milestones of which a pass knows were reached in a run: the cards that its claims have shown to be given out are,
 -- and each card that it knows to have come to its end did so
-pub record KnowsWhatIsReached (cards : ℕ) (first : TableState) (turns : List Turn) (s : TableState) (run : TableRun cards first turns s) (v : View) : Type 0 where
+pub record KnowsWhatIsReached (last : ℕ) (first : TableState) (turns : List Turn) (s : TableState) (run : TableRun last first turns s) (v : View) : Type 0 where
   pub given_out : v.next_at_least ≤ (own_words s).next
-  pub ended : (c : ℕ) → EndedBy v.worker.facts c → has_end (run_wins cards first turns s run c) ≡ true
+  pub ended : (c : ℕ) → EndedBy v.worker.facts c → has_end (run_wins last first turns s run c) ≡ true
 
 -- so it is of each pass after every run from a start
 abbrev pub KnownMilestonesWereReached : Type 0

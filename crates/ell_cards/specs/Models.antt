@@ -135,9 +135,9 @@ StandsAt v x = v.worker.search.node ≡ Some x
 abbrev pub IsFree : View → Type 0
 IsFree v = v.worker.operation ≡ None
 
--- a node of a table of so many cards
+-- a node of a table with this last card
 abbrev pub InTable : ℕ → ℕ → Type 0
-InTable cards x = x ≤ 4 * cards + 2
+InTable last x = x ≤ 4 * last + 2
 
 -- the word that a list of stores, the last first, leaves in a field that had 0
 abbrev pub stored_at : List (Field × ℕ) → Field → ℕ
@@ -149,11 +149,11 @@ abbrev pub SplitRefuses : View → SplitFault → Type 0
 SplitRefuses v TooManyPasses = ¬ MayPart v
 SplitRefuses v split_fault.NoMemory = MayPart v
 
--- so many cards may be asked for
+-- this many cards may be asked for
 abbrev pub IsCardCount : ℕ → Type 0
 IsCardCount cards = (1 ≤ cards) × (cards ≤ most_cards)
 
--- when a table of so many cards is refused: for its cards exactly where there may not be so many
+-- when a table of this many cards is refused: for its cards exactly if it may not have this many
 abbrev pub RefusesCards : ℕ → CardFault → Type 0
 RefusesCards cards BadCards = ¬ IsCardCount cards
 RefusesCards cards NoMemory = IsCardCount cards

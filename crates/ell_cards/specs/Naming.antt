@@ -13,31 +13,31 @@ use Rattle.ell_cards.specs.Models.{IsTold, Knows}
 
 -- a word of a card that is a node is one of the table
 abbrev pub InfoIsNamed : ℕ → Field → ℕ → Type 0
-InfoIsNamed cards Gp x = card x ≤ cards
-InfoIsNamed cards P x = card x ≤ cards
-InfoIsNamed cards L x = card x ≤ cards
-InfoIsNamed cards _ x = Unit {0}
+InfoIsNamed last Gp x = card x ≤ last
+InfoIsNamed last P x = card x ≤ last
+InfoIsNamed last L x = card x ≤ last
+InfoIsNamed last _ x = Unit {0}
 
 -- what was told names nodes and cards of the table
 abbrev pub EntryIsNamed : ℕ → Told → Type 0
-EntryIsNamed cards (Met x) = card x ≤ cards
-EntryIsNamed cards (Key x key) = card x ≤ cards
-EntryIsNamed cards (Value x value) = card x ≤ cards
-EntryIsNamed cards (Info c f x) = (c ≤ cards) × InfoIsNamed cards f x
-EntryIsNamed cards (Frozen c right x) = (c ≤ cards) × (card x ≤ cards)
+EntryIsNamed last (Met x) = card x ≤ last
+EntryIsNamed last (Key x key) = card x ≤ last
+EntryIsNamed last (Value x value) = card x ≤ last
+EntryIsNamed last (Info c f x) = (c ≤ last) × InfoIsNamed last f x
+EntryIsNamed last (Frozen c right x) = (c ≤ last) × (card x ≤ last)
 
 -- a node with an update word is one of the table, and so is the word's card
-pub record SeenIsNamed (cards : ℕ) (seen : Seen) : Type 0 where
-  pub node : card seen.node ≤ cards
-  pub word : (unpacked seen.word).card ≤ cards
+pub record SeenIsNamed (last : ℕ) (seen : Seen) : Type 0 where
+  pub node : card seen.node ≤ last
+  pub word : (unpacked seen.word).card ≤ last
 
--- all that a pass names is in a table of so many cards, and so is each card that its claims have shown to be given out
-pub record IsNamed (cards : ℕ) (v : View) : Type 0 where
-  pub node : (x : ℕ) → v.worker.search.node ≡ Some x → card x ≤ cards
-  pub parent : (x : ℕ) (seen : Seen) → v.worker.search.node ≡ Some x → v.worker.search.parent ≡ Some seen → SeenIsNamed cards seen
+-- all that a pass names is in a table with this last card, and so is each card that its claims have shown to be given out
+pub record IsNamed (last : ℕ) (v : View) : Type 0 where
+  pub node : (x : ℕ) → v.worker.search.node ≡ Some x → card x ≤ last
+  pub parent : (x : ℕ) (seen : Seen) → v.worker.search.node ≡ Some x → v.worker.search.parent ≡ Some seen → SeenIsNamed last seen
   pub grandparent : (x : ℕ) (seen above : Seen) → v.worker.search.node ≡ Some x → v.worker.search.parent ≡ Some seen
-      → v.worker.search.grandparent ≡ Some above → SeenIsNamed cards above
-  pub hand : (c : ℕ) → v.worker.card ≡ Some c → c ≤ cards
-  pub facts : (fact : Fact) → Knows v fact → card_of_fact fact ≤ cards
-  pub entries : (e : Told) → IsTold v e → EntryIsNamed cards e
-  pub next : v.next_at_least ≤ cards + 1
+      → v.worker.search.grandparent ≡ Some above → SeenIsNamed last above
+  pub hand : (c : ℕ) → v.worker.card ≡ Some c → c ≤ last
+  pub facts : (fact : Fact) → Knows v fact → card_of_fact fact ≤ last
+  pub entries : (e : Told) → IsTold v e → EntryIsNamed last e
+  pub next : v.next_at_least ≤ last + 1

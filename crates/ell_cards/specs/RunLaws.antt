@@ -13,19 +13,19 @@ use Rattle.ell_cards.specs.Models.{TablePlan}
 
 -- what was won for a card up to a state that has a machine, by its stage there
 abbrev pub won_before :
-    (keys : List ℕ) (cards : ℕ) (s : TableState) → HasMachine keys cards s → ℕ → List Exchange
-won_before keys cards s r c = wins_of (r.stages c)
+    (keys : List ℕ) (last : ℕ) (s : TableState) → HasMachine keys last s → ℕ → List Exchange
+won_before keys last s r c = wins_of (r.stages c)
 
 -- what was won for each card before, none for card 0 and for one that is yet to be claimed, goes on in order in every run
-pub record WinsGoOn (keys : List ℕ) (cards : ℕ) (s : TableState) (r : HasMachine keys cards s) : Type 0 where
-  pub first : (c : ℕ) → c ≡ 0 → won_before keys cards s r c ≡ []
-  pub fresh : (c : ℕ) → (own_words s).next ≤ c → won_before keys cards s r c ≡ []
-  pub order : (turns : List Turn) (s' : TableState) (run : TableRun cards s turns s') (c : ℕ)
-      → InOrder (won_before keys cards s r c ++ run_wins cards s turns s' run c)
+pub record WinsGoOn (keys : List ℕ) (last : ℕ) (s : TableState) (r : HasMachine keys last s) : Type 0 where
+  pub first : (c : ℕ) → c ≡ 0 → won_before keys last s r c ≡ []
+  pub fresh : (c : ℕ) → (own_words s).next ≤ c → won_before keys last s r c ≡ []
+  pub order : (turns : List Turn) (s' : TableState) (run : TableRun last s turns s') (c : ℕ)
+      → InOrder (won_before keys last s r c ++ run_wins last s turns s' run c)
 
 -- so it does from every state that has a machine
 abbrev pub TableWinsAreInOrder : Type 0
-TableWinsAreInOrder = (keys : List ℕ) (cards : ℕ) (s : TableState) (r : HasMachine keys cards s) → WinsGoOn keys cards s r
+TableWinsAreInOrder = (keys : List ℕ) (last : ℕ) (s : TableState) (r : HasMachine keys last s) → WinsGoOn keys last s r
 
 -- a table as it starts has a machine that is an opening, and nothing was won yet
 pub record StartIsKept (plan : TablePlan) (s : TableState) : Type 0 where

@@ -64,9 +64,9 @@ StartsHaveTheirKeys = (plan : TablePlan) (s : TableState) → Starts plan s → 
     → IsTreePair (own_words s) k value ↔ (contents_of plan.start k ≡ Some value)
 
 -- its pass may begin an operation
-pub record MayBeginThere (cards : ℕ) (s : TableState) (op : Op) : Type 0 where
+pub record MayBeginThere (last : ℕ) (s : TableState) (op : Op) : Type 0 where
   pub after : TableState
-  pub turn : TableTurns cards s (Makes 0 (call.Begin op)) after
+  pub turn : TableTurns last s (Makes 0 (call.Begin op)) after
 
 -- so it may begin every operation on a key of its own, and on a shared one
 abbrev pub FirstPassMayBegin : Type 0

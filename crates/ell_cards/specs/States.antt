@@ -17,9 +17,9 @@ seat_worker (some v) = worker_of v.worker
 
 -- the machine of these words and views
 abbrev pub seated : Words → List View → ℕ → Machine
-seated w views cards = record {
+seated w views last = record {
   words = w;
   worker = λ i. seat_worker (get_elem? views i);
   count = length views;
-  last_card = cards;
+  last_card = last;
 }

@@ -42,10 +42,10 @@ pub record SameShare (old new : View) : Type 0 where
   pub ownable : new.worker.ownable ≡ old.worker.ownable
 
 -- a pass with these keys may know this, where a pass of its table knew that
-pub record MayHave (cards : ℕ) (old : View) (keys : List ℕ) (v : View) : Type 0 where
+pub record MayHave (last : ℕ) (old : View) (keys : List ℕ) (v : View) : Type 0 where
   pub owned : keys ≡ ledger_keys v.worker.ledger
   pub ascending : IsStrictlyIncreasing keys
-  pub named : IsNamed cards old → IsNamed cards v
+  pub named : IsNamed last old → IsNamed last v
 
 -- the shares of two parts are those that the code of a pass has after a split, whatever it has before
 abbrev pub PartsShare : View → View → View → Type 0
@@ -55,8 +55,8 @@ PartsShare old left right = (share : Share) → HasShare share old
 
 -- what a step tells says that the pass owns the keys and has the share that it did, and names what is in the table
 abbrev pub KeepsPass : ℕ → View → (ℕ → View → Type 0) → Type 0
-KeepsPass cards v then =
-    (n : ℕ) (w : View) → then n w → (ledger_keys w.worker.ledger ≡ ledger_keys v.worker.ledger) × SameShare v w × IsNamed cards w
+KeepsPass last v then =
+    (n : ℕ) (w : View) → then n w → (ledger_keys w.worker.ledger ≡ ledger_keys v.worker.ledger) × SameShare v w × IsNamed last w
 
 -- a pass made one step that it has not counted yet: its table and its label are as they were
 pub record SeesBy (old new : PassModel) : Type 0 where
@@ -73,11 +73,11 @@ pub record StepsBy (old new : PassModel) : Type 0 where
 -- what a step call that found this word leaves of a pass: what it knows is as the call says, and what the call tells is
 -- so; what a look has found of its own keys is what its ledger has; it was told no two keys of one node; the pass owns
 -- the keys and has the share that it did, and names what is in its table
-pub record IsTaken (cards : ℕ) (c : Call) (v : View) (n : ℕ) (w : View) : Type 0 where
+pub record IsTaken (last : ℕ) (c : Call) (v : View) (n : ℕ) (w : View) : Type 0 where
   pub view : w ≡ after c n v
-  pub tells : Tells cards c v n
+  pub tells : Tells last c v n
   pub own : ReadsItsOwn w
   pub fixed : KeysAreFixed w
   pub keys : ledger_keys w.worker.ledger ≡ ledger_keys v.worker.ledger
   pub share : SameShare v w
-  pub named : IsNamed cards w
+  pub named : IsNamed last w

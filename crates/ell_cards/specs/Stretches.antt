@@ -31,9 +31,9 @@ wins is_such s (Makes seat c) = is_such c && is_won (atomic_of c) (found_by s c)
 wins is_such s _ = false
 
 -- how many turns of a run are
-abbrev pub won_in : (Call → Bool) → (cards : ℕ) (s : TableState) (turns : List Turn) (s' : TableState) → TableRun cards s turns s' → ℕ
-won_in is_such cards s [] s' run = 0
-won_in is_such cards s (t ∷ ts) s' run = (if wins is_such s t then 1 else 0) + won_in is_such cards run.0 ts s' run.2
+abbrev pub won_in : (Call → Bool) → (last : ℕ) (s : TableState) (turns : List Turn) (s' : TableState) → TableRun last s turns s' → ℕ
+won_in is_such last s [] s' run = 0
+won_in is_such last s (t ∷ ts) s' run = (if wins is_such s t then 1 else 0) + won_in is_such last run.0 ts s' run.2
 
 -- no path from the root to an internal node is longer than this
 abbrev pub HasHeight : Words → ℕ → Type 0

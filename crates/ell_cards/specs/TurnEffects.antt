@@ -25,10 +25,10 @@ own_words s = words_of s.words
 
 -- the machine that has the table's own words, and the passes for workers
 abbrev pub own_machine : ℕ → TableState → Machine
-own_machine cards s = seated (own_words s) s.views cards
+own_machine last s = seated (own_words s) s.views last
 
 -- a card is in the hand of a pass, flagged
-pub record IsHeld (v : View) (c : ℕ) : Type 0 where
+pub record HasFlagged (v : View) (c : ℕ) : Type 0 where
   pub holds : v.worker.card ≡ Some c
   pub flagged : v.worker.flagged ≡ true
 
@@ -50,7 +50,7 @@ pub record IsAtWork (s : TableState) (c : ℕ) (op : Op) : Type 0 where
   pub view : View
   pub there : get_elem? s.views seat ≡ some view
   pub does : Does view op
-  pub held : IsHeld view c
+  pub held : HasFlagged view c
 
 -- whose a won child exchange is: some pass has the card in hand, for that insert or swap, or for that delete
 abbrev pub ChangeIsOf : Call → Bool → TableState → Type 0
@@ -69,24 +69,24 @@ IsWonFor s (Makes seat c) = ChangeIsOf c (is_won (atomic_of c) (found_by s c)) s
 IsWonFor s _ = Unit {0}
 
 -- what a call does to the ledger of its pass: an answer is the map's, and no other call changes it
-abbrev pub LedgerGoesBy : (cards : ℕ) (s : TableState) (t : Turn) (s' : TableState) → TableTurns cards s t s' → Type 0
-LedgerGoesBy cards s (Makes seat c) s' turn = LedgerChangesBy c turn.view (view_after s turn.view c)
-LedgerGoesBy cards s _ s' turn = Unit {0}
+abbrev pub LedgerGoesBy : (last : ℕ) (s : TableState) (t : Turn) (s' : TableState) → TableTurns last s t s' → Type 0
+LedgerGoesBy last s (Makes seat c) s' turn = LedgerChangesBy c turn.view (view_after s turn.view c)
+LedgerGoesBy last s _ s' turn = Unit {0}
 
 -- what a turn does, by the table's own words: the tree changes at a won ichild or dchild alone, by that card's key, for
 -- an operation in some hand; an answer is the map's; and the words after it, with what passes know, are a sound state
-pub record TurnDoes (cards : ℕ) (s : TableState) (t : Turn) (s' : TableState) (turn : TableTurns cards s t s')
+pub record TurnDoes (last : ℕ) (s : TableState) (t : Turn) (s' : TableState) (turn : TableTurns last s t s')
     : Type 0 where
   pub pairs : PairsGoBy s t s'
   pub won : IsWonFor s t
-  pub ledger : LedgerGoesBy cards s t s' turn
-  pub sound : IsSound (own_machine cards s')
+  pub ledger : LedgerGoesBy last s t s' turn
+  pub sound : IsSound (own_machine last s')
 
 -- so does each turn of a run
 abbrev pub TurnsDo :
-    (cards : ℕ) (s : TableState) (turns : List Turn) (s' : TableState) → TableRun cards s turns s' → Type 0
-TurnsDo cards s [] s' run = Unit {0}
-TurnsDo cards s (t ∷ ts) s' run = TurnDoes cards s t run.0 run.1 × TurnsDo cards run.0 ts s' run.2
+    (last : ℕ) (s : TableState) (turns : List Turn) (s' : TableState) → TableRun last s turns s' → Type 0
+TurnsDo last s [] s' run = Unit {0}
+TurnsDo last s (t ∷ ts) s' run = TurnDoes last s t run.0 run.1 × TurnsDo last run.0 ts s' run.2
 
 -- what a call wins for a card, if it is a won exchange
 abbrev pub win_of : Call → ℕ → List Exchange
@@ -107,6 +107,6 @@ turn_wins s _ d = []
 
 -- what a run wins for a card, in its order
 abbrev pub run_wins :
-    (cards : ℕ) (s : TableState) (turns : List Turn) (s' : TableState) → TableRun cards s turns s' → ℕ → List Exchange
-run_wins cards s [] s' run d = []
-run_wins cards s (t ∷ ts) s' run d = turn_wins s t d ++ run_wins cards run.0 ts s' run.2 d
+    (last : ℕ) (s : TableState) (turns : List Turn) (s' : TableState) → TableRun last s turns s' → ℕ → List Exchange
+run_wins last s [] s' run d = []
+run_wins last s (t ∷ ts) s' run d = turn_wins s t d ++ run_wins last run.0 ts s' run.2 d

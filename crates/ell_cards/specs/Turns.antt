@@ -38,10 +38,10 @@ pub data Turn : Type 0 where
   Joins : ℕ → ℕ → Turn
 
 -- the pass in a seat may make a call, and the table is this after it
-pub record CallIsMade (cards : ℕ) (s : TableState) (seat : ℕ) (c : Call) (s' : TableState) : Type 0 where
+pub record CallIsMade (last : ℕ) (s : TableState) (seat : ℕ) (c : Call) (s' : TableState) : Type 0 where
   pub view : View
   pub there : get_elem? s.views seat ≡ some view
-  pub may : May cards c view
+  pub may : May last c view
   pub gives : s' ≡ state_after s seat view c
 
 -- the pass in a seat has nothing in hand and may be parted, and the table is this after its split
@@ -63,13 +63,13 @@ pub record JoinIsMade (s : TableState) (seat other : ℕ) (s' : TableState) : Ty
   pub free' : IsFree view'
   pub gives : s' ≡ state_joined s seat other view view'
 
--- what a turn makes of a table of so many cards
+-- what a turn makes of a table with this last card
 abbrev pub TableTurns : ℕ → TableState → Turn → TableState → Type 0
-TableTurns cards s (Makes seat c) s' = CallIsMade cards s seat c s'
-TableTurns cards s (Splits seat left) s' = SplitIsMade s seat left s'
-TableTurns cards s (Joins seat other) s' = JoinIsMade s seat other s'
+TableTurns last s (Makes seat c) s' = CallIsMade last s seat c s'
+TableTurns last s (Splits seat left) s' = SplitIsMade s seat left s'
+TableTurns last s (Joins seat other) s' = JoinIsMade s seat other s'
 
 -- a run of a table: turns of any passes, one after the other
 abbrev pub TableRun : ℕ → TableState → List Turn → TableState → Type 0
-TableRun cards s [] s' = s' ≡ s
-TableRun cards s (t ∷ ts) s' = (between : TableState) × TableTurns cards s t between × TableRun cards between ts s'
+TableRun last s [] s' = s' ≡ s
+TableRun last s (t ∷ ts) s' = (between : TableState) × TableTurns last s t between × TableRun last between ts s'

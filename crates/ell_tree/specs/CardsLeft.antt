@@ -11,11 +11,11 @@ use Rattle.ell_tree.specs.Ledgers.{TreeModel}
 
 -- a pass read the claim word, which is the number of the card that is given out next, and did nothing else: so many cards were not given
 -- out then, those from that number to the last one
-pub record ReadsCardsLeft (cards : ℕ) (old new : PassModel) (left : ℕ) : Type 0 where
+pub record ReadsCardsLeft (last : ℕ) (old new : PassModel) (left : ℕ) : Type 0 where
   pub next : ℕ
   pub step : Steps old new (after call.Next next old.view)
   pub first : 1 ≤ next
-  pub all : next + left ≡ cards + 1
+  pub all : next + left ≡ last + 1
 
 -- in every run, wherever turns have led the tree while a pass knows just this, so many cards at most are left, from the claim word to the
 -- last one

@@ -26,7 +26,7 @@ TakesNoCard old new = cards_taken new ≡ cards_taken old
 abbrev pub TakesOneCard : PassModel → PassModel → Type 0
 TakesOneCard old new = cards_taken new ≡ cards_taken old + 1
 
--- it took so many cards at most
+-- it took at most this many cards
 pub record TakesAtMost (n : ℕ) (old new : PassModel) : Type 0 where
   pub least : cards_taken old ≤ cards_taken new
   pub most : cards_taken new ≤ cards_taken old + n

@@ -87,8 +87,8 @@ pub record LastChangesNothing (t : TreeModel) (key : ℕ) (v : View) : Type 0 wh
 -- why a call of several operations has no answer: all its tries were made, or the claim word says that all cards are
 -- given out
 abbrev pub RanOut : ℕ → PassModel → NotDone → Type 0
-RanOut cards new Busy = Unit {0}
-RanOut cards new Spent = new.view.next ≡ Some (cards + 1)
+RanOut last new Busy = Unit {0}
+RanOut last new Spent = new.view.next ≡ Some (last + 1)
 
 -- a call of several operations on a key has ended without an answer, and has changed nothing
 pub record IsNotDone (t : TreeModel) (key : ℕ) (old new : PassModel) (not_done : NotDone) : Type 0 where
@@ -129,12 +129,12 @@ whether_put (Err why) = Err why
 
 -- the most steps of one round: a try with its end, and a find
 abbrev pub round_steps : ℕ → ℕ
-round_steps cards = try_steps cards + find_steps cards + 1
+round_steps last = try_steps last + find_steps last + 1
 
 -- the most steps of a call that tries so often: a find, and its rounds
 abbrev pub update_steps : ℕ → ℕ → ℕ
-update_steps cards tries = find_steps cards + tries * round_steps cards
+update_steps last tries = find_steps last + tries * round_steps last
 
 -- this bound is at most 64 (t + 1) (c + 2) with t tries, where c is the number of the last card
 abbrev pub UpdatesAreShort : Type 0
-UpdatesAreShort = (cards tries : ℕ) → update_steps cards tries ≤ 64 * (tries + 1) * (cards + 2)
+UpdatesAreShort = (last tries : ℕ) → update_steps last tries ≤ 64 * (tries + 1) * (last + 2)

@@ -20,6 +20,6 @@ pub record HasUncounted (old new : PassModel) (n : ℕ) : Type 0 where
 
 -- an insert or a delete took the steps of one try, and one step more, and those of another try only for each milestone that the pass came
 -- to know of
-pub record IsAmortized (cards : ℕ) (old new : PassModel) : Type 0 where
-  pub steps : new.steps + milestones_known cards old.view * try_steps cards ≤ old.steps + (milestones_known cards new.view + 1) * try_steps cards + 1
-  pub made : new.view.made + milestones_known cards old.view * try_steps cards ≤ old.view.made + (milestones_known cards new.view + 1) * try_steps cards + 1
+pub record IsAmortized (last : ℕ) (old new : PassModel) : Type 0 where
+  pub steps : new.steps + milestones_known last old.view * try_steps last ≤ old.steps + (milestones_known last new.view + 1) * try_steps last + 1
+  pub made : new.view.made + milestones_known last old.view * try_steps last ≤ old.view.made + (milestones_known last new.view + 1) * try_steps last + 1

@@ -12,29 +12,29 @@ use Rattle.ell_tree.specs.Looks.{OnlyLooks}
 use Rattle.ell_tree.specs.Scans.{IsAbout}
 
 -- a pass was told of an inner node beside the root that has this key
-pub record IsNodeKey (cards : ℕ) (v : View) (key : ℕ) : Type 0 where
+pub record IsNodeKey (last : ℕ) (v : View) (key : ℕ) : Type 0 where
   pub node : ℕ
   pub inner : IsInternal node
-  pub there : InTable cards node
+  pub there : InTable last node
   pub below : 0 < node
   pub told : IsTold v (Key node key)
 
 -- where a stretch begins: at the key of such a node, or at the first key; and where it ends: at one, or after the last
 -- real key
 abbrev pub IsLower : ℕ → View → ℕ → Type 0
-IsLower cards v low = (low ≡ 0) ⊎ IsNodeKey cards v low
+IsLower last v low = (low ≡ 0) ⊎ IsNodeKey last v low
 
 abbrev pub IsUpper : ℕ → View → ℕ → Type 0
-IsUpper cards v high = (high ≡ greatest_key + 1) ⊎ IsNodeKey cards v high
+IsUpper last v high = (high ≡ greatest_key + 1) ⊎ IsNodeKey last v high
 
 -- from a node that a look has come to it may go on
-pub record MayGoOnFrom (cards : ℕ) (v : View) (g : Glance) : Type 0 where
+pub record MayGoOnFrom (last : ℕ) (v : View) (g : Glance) : Type 0 where
   pub come : HasCome v g.node g.low g.high
   pub met : IsTold v (Met g.node)
-  pub there : InTable cards g.node
+  pub there : InTable last g.node
   pub below : 0 < g.node
-  pub lower : IsLower cards v g.low
-  pub upper : IsUpper cards v g.high
+  pub lower : IsLower last v g.low
+  pub upper : IsUpper last v g.high
   pub real : g.high ≤ greatest_key + 1
 
 -- a node that a cursor keeps, by its place
@@ -42,12 +42,12 @@ abbrev pub kept_at : Cursor → ℕ → Glance
 kept_at c i = slice_index_or c.kept i (record { node = 0; low = 0; high = 0 })
 
 -- so it may from where a cursor began, to which all real keys come, and from each node that it keeps
-pub record AreKept (cards : ℕ) (v : View) (c : Cursor) : Type 0 where
+pub record AreKept (last : ℕ) (v : View) (c : Cursor) : Type 0 where
   pub many : length c.kept ≡ 32
-  pub first : MayGoOnFrom cards v c.first
+  pub first : MayGoOnFrom last v c.first
   pub least : c.first.low ≡ 0
   pub most : c.first.high ≡ greatest_key + 1
-  pub each : (i : ℕ) → i < 32 → MayGoOnFrom cards v (kept_at c i)
+  pub each : (i : ℕ) → i < 32 → MayGoOnFrom last v (kept_at c i)
 
 -- a glance is one of a cursor's
 abbrev pub IsAmong : Cursor → Glance → Type 0
@@ -65,9 +65,9 @@ pub record BeginsALook (old new : PassModel) : Type 0 where
   pub one : new.view.looks ≡ old.view.looks + 1
 
 -- what a look has found about a key
-pub record FindsAbout (cards : ℕ) (v : View) (key : ℕ) (about : About) : Type 0 where
+pub record FindsAbout (last : ℕ) (v : View) (key : ℕ) (about : About) : Type 0 where
   pub within : IsAbout key about
   pub found : HasFoundBetween v about.low about.high about.found
-  pub lower : IsLower cards v about.low
-  pub upper : IsUpper cards v about.high
+  pub lower : IsLower last v about.low
+  pub upper : IsUpper last v about.high
   pub own : ReadsItsOwn v

@@ -44,8 +44,8 @@ pub record LaidDown (t : TreeModel) (op : Op) (old new : PassModel) : Type 0 whe
 
 -- why: something was in its way at each try; or the claim word, as its last try read it, says that all cards are given out
 abbrev pub NotDoneFor : ℕ → ℕ → PassModel → PassModel → NotDone → Type 0
-NotDoneFor cards tries old new Busy = hindrances old + tries ≤ hindrances new
-NotDoneFor cards tries old new Spent = new.view.next ≡ Some (cards + 1)
+NotDoneFor last tries old new Busy = hindrances old + tries ≤ hindrances new
+NotDoneFor last tries old new Spent = new.view.next ≡ Some (last + 1)
 
 -- of so many tries at most, those that something hindered which was over by then are counted
 pub record CountsTries (tries : ℕ) (old new : PassModel) : Type 0 where
@@ -113,21 +113,21 @@ abbrev pub Ends : TreeModel → ℕ → Op → PassModel → PassModel → Resul
 Ends t tries op old new (Ok said) = Answers t op said old new × Meets old.view new.view
 Ends t tries op old new (Err why) = LaidDown t op old new × NotDoneFor t.plan.last_card tries old new why × Meets old.view new.view
 
--- the most steps of a find in a tree of so many cards
+-- the most steps of a find in a tree with this last card
 abbrev pub find_steps : ℕ → ℕ
-find_steps cards = 3 * cards + 7
+find_steps last = 3 * last + 7
 
 -- the most steps of one try of an insert, a delete or a swap, helping included
 abbrev pub try_steps : ℕ → ℕ
-try_steps cards = 7 * cards + 27
+try_steps last = 7 * last + 27
 
 -- the most steps of so many tries
 abbrev pub change_steps : ℕ → ℕ → ℕ
-change_steps cards tries = tries * try_steps cards + 1
+change_steps last tries = tries * try_steps last + 1
 
 -- these bounds are at most 64 (c + 2), and with t tries 64 (t + 1) (c + 2), where c is the number of the last card
 abbrev pub FindsAreShort : Type 0
-FindsAreShort = (cards : ℕ) → find_steps cards ≤ 64 * (cards + 2)
+FindsAreShort = (last : ℕ) → find_steps last ≤ 64 * (last + 2)
 
 abbrev pub ChangesAreShort : Type 0
-ChangesAreShort = (cards tries : ℕ) → change_steps cards tries ≤ 64 * (tries + 1) * (cards + 2)
+ChangesAreShort = (last tries : ℕ) → change_steps last tries ≤ 64 * (tries + 1) * (last + 2)

@@ -27,15 +27,15 @@ pub record IsInsert (v : View) (c p l k j : ℕ) : Type 0 where
   pub left_key : IsTold v (Info c field.LeftLeafKey j)
 
 -- the flag of a delete is known, and stands at its grandparent
-pub record IsFlag (cards : ℕ) (v : View) (flag : DeleteFlag) : Type 0 where
+pub record IsFlag (last : ℕ) (v : View) (flag : DeleteFlag) : Type 0 where
   pub knows : Knows v (fact.DFlagged flag.card)
   pub told : IsTold v (Info flag.card field.Gp flag.grandparent)
-  pub node : IsInnerMet cards v flag.grandparent
+  pub node : IsInnerMet last v flag.grandparent
 
 -- the parent of a card is told
-pub record IsParent (cards : ℕ) (v : View) (c p : ℕ) : Type 0 where
+pub record IsParent (last : ℕ) (v : View) (c p : ℕ) : Type 0 where
   pub told : IsTold v (Info c field.P p)
-  pub node : IsInnerMet cards v p
+  pub node : IsInnerMet last v p
 
 -- the mark of a delete is known, and where its card goes
 pub record KnowsMark (v : View) (c gp p : ℕ) : Type 0 where
@@ -62,9 +62,9 @@ met_by_mark c None v = v.hindrances
 met_by_mark c (Some found) v = if is_this v.worker.card c then Found found ∷ v.hindrances else v.hindrances
 
 -- the mark of a card was lost to another update at its parent
-pub record IsLost (cards c p : ℕ) (found : Update) (w : View) : Type 0 where
+pub record IsLost (last c p : ℕ) (found : Update) (w : View) : Type 0 where
   pub knows : Knows w (fact.Unmarkable c)
-  pub seen : IsSeenAt cards w p found
+  pub seen : IsSeenAt last w p found
 
 -- the flag of a delete that lost its mark was taken away, a hindrance where its card is in hand
 pub record IsBacked (c : ℕ) (v w : View) : Type 0 where
@@ -73,25 +73,25 @@ pub record IsBacked (c : ℕ) (v w : View) : Type 0 where
 
 -- how a delete ends whose flag was won, and in how many steps
 abbrev pub DeleteEnds : ℕ → ℕ → ℕ → PassModel → PassModel → Ending → Type 0
-DeleteEnds cards c p old new Done = KeepsAllButMet old new 8 × Meets old.view new.view × Knows new.view (fact.DOver c)
-DeleteEnds cards c p old new Backed = KeepsAllButMet old new 10 × Meets old.view new.view × IsBacked c old.view new.view
-DeleteEnds cards c p old new (Behind flag) =
-    KeepsAllButMet old new 2 × MeetsUpTo flag.card old.view new.view × IsBacked c old.view new.view × IsFlag cards new.view flag × (flag.grandparent ≡ p)
+DeleteEnds last c p old new Done = KeepsAllButMet old new 8 × Meets old.view new.view × Knows new.view (fact.DOver c)
+DeleteEnds last c p old new Backed = KeepsAllButMet old new 10 × Meets old.view new.view × IsBacked c old.view new.view
+DeleteEnds last c p old new (Behind flag) =
+    KeepsAllButMet old new 2 × MeetsUpTo flag.card old.view new.view × IsBacked c old.view new.view × IsFlag last new.view flag × (flag.grandparent ≡ p)
 
 -- one delete is helped to its end, which leads to another's flag that is deeper, or there is no more to do
 abbrev pub HelpEnds : ℕ → DeleteFlag → PassModel → PassModel → Ending → Type 0
-HelpEnds cards flag old new Done =
-    KeepsAllButMet old new 12 × Meets old.view new.view × (card flag.grandparent + 1 ≤ cards) × Knows new.view (fact.DOver flag.card)
-HelpEnds cards flag old new Backed =
-    KeepsAllButMet old new 12 × Meets old.view new.view × (card flag.grandparent + 1 ≤ cards) × Knows new.view (fact.Backed flag.card)
-HelpEnds cards flag old new (Behind next) =
-    KeepsAllButMet old new 4 × MeetsUpTo next.card old.view new.view × IsFlag cards new.view next × (flag.grandparent < next.grandparent)
+HelpEnds last flag old new Done =
+    KeepsAllButMet old new 12 × Meets old.view new.view × (card flag.grandparent + 1 ≤ last) × Knows new.view (fact.DOver flag.card)
+HelpEnds last flag old new Backed =
+    KeepsAllButMet old new 12 × Meets old.view new.view × (card flag.grandparent + 1 ≤ last) × Knows new.view (fact.Backed flag.card)
+HelpEnds last flag old new (Behind next) =
+    KeepsAllButMet old new 4 × MeetsUpTo next.card old.view new.view × IsFlag last new.view next × (flag.grandparent < next.grandparent)
     × Knows new.view (fact.Backed flag.card)
 
 -- the most steps of a chain of helps that begins with a delete's flag at this node
 abbrev pub chain_steps : ℕ → ℕ → ℕ
-chain_steps cards gp = 4 * (cards - card gp) + 8
+chain_steps last gp = 4 * (last - card gp) + 8
 
 -- the most steps of a help
 abbrev pub help_steps : ℕ → ℕ
-help_steps cards = 4 * cards + 8
+help_steps last = 4 * last + 8

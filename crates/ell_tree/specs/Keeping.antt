@@ -61,10 +61,10 @@ pub record KeepsAll (old new : PassModel) (n : ℕ) : Type 0 where
   pub hindrances : new.view.hindrances ≡ old.view.hindrances
 
 -- an internal node of the table that the pass has met
-pub record IsInnerMet (cards : ℕ) (v : View) (x : ℕ) : Type 0 where
+pub record IsInnerMet (last : ℕ) (v : View) (x : ℕ) : Type 0 where
   pub met : IsTold v (Met x)
   pub inner : IsInternal x
-  pub there : InTable cards x
+  pub there : InTable last x
 
 -- a flag or a mark at a node: its card is known so far, and goes there
 abbrev pub TellsPlace : View → ℕ → State → ℕ → Type 0
@@ -74,7 +74,7 @@ TellsPlace v x state.Mark c = Knows v (fact.Marked c) × IsTold v (Info c field.
 TellsPlace v x state.Clean c = Unit {0}
 
 -- an update that was read or found at a node
-pub record IsSeenAt (cards : ℕ) (v : View) (x : ℕ) (u : Update) : Type 0 where
-  pub node : IsInnerMet cards v x
-  pub named : u.card ≤ cards
+pub record IsSeenAt (last : ℕ) (v : View) (x : ℕ) (u : Update) : Type 0 where
+  pub node : IsInnerMet last v x
+  pub named : u.card ≤ last
   pub place : TellsPlace v x u.state u.card

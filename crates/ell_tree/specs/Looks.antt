@@ -29,13 +29,13 @@ pub record OnlyLooks (old new : PassModel) (n : ℕ) : Type 0 where
   pub steps : new.steps ≤ old.steps + n
   pub made : new.view.made ≤ old.view.made + n
 
--- the most steps of a look in a tree of so many cards
+-- the most steps of a look in a tree with this last card
 abbrev pub look_steps : ℕ → ℕ
-look_steps cards = 2 * cards + 3
+look_steps last = 2 * last + 3
 
 -- of these one begins the look, and the others go down
 abbrev pub stretch_steps : ℕ → ℕ
-stretch_steps cards = 2 * cards + 2
+stretch_steps last = 2 * last + 2
 
 -- what a look found of a key was so in one state of the tree since it began, in every run in which its pass now knows this
 abbrev pub IsFoundIn : TreeModel → View → ℕ → Option ℕ → Type 0

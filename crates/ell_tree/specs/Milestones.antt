@@ -4,25 +4,25 @@ use Rattle.ell_cards.specs.declared.view.View.{View}
 use Rattle.ell_cards.specs.Models.{EndedBy, knows_end}
 
 -- a pass saw a card given out, to itself or to another: it did not know so at the first view, and does at the second
-pub record GivesOut (cards : ℕ) (v w : View) : Type 0 where
+pub record GivesOut (last_card : ℕ) (v w : View) : Type 0 where
   pub card : ℕ
   pub first : 0 < card
-  pub last : card ≤ cards
+  pub last : card ≤ last_card
   pub before : v.next_at_least ≤ card
   pub after : card < w.next_at_least
 
 -- a pass saw a card come to its end: it did not know so when its search began, as the first view has it, and does at the second
-pub record SeesEnd (cards : ℕ) (v w : View) : Type 0 where
+pub record SeesEnd (last_card : ℕ) (v w : View) : Type 0 where
   pub card : ℕ
   pub first : 0 < card
-  pub last : card ≤ cards
+  pub last : card ≤ last_card
   pub before : ¬ EndedBy v.knew_before card
   pub after : EndedBy w.worker.facts card
   pub least : v.next_at_least ≤ w.next_at_least
 
 -- it saw one or the other
 abbrev pub SeesMilestone : ℕ → View → View → Type 0
-SeesMilestone cards v w = GivesOut cards v w ⊎ SeesEnd cards v w
+SeesMilestone last_card v w = GivesOut last_card v w ⊎ SeesEnd last_card v w
 
 -- of how many of the first cards facts tell that what they were for has come to its end
 abbrev pub ends_known : ℕ → List Fact → ℕ
@@ -33,4 +33,4 @@ ends_known (suc n) facts = (if knows_end facts (suc n) then 1 else 0) + ends_kno
 -- end it knows, and those that its claims have shown it to be given out. After a claim of card 3, won or lost, that is 3
 -- cards
 abbrev pub milestones_known : ℕ → View → ℕ
-milestones_known cards v = ends_known cards v.worker.facts + (v.next_at_least - 1)
+milestones_known last_card v = ends_known last_card v.worker.facts + (v.next_at_least - 1)

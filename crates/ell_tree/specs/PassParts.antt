@@ -24,7 +24,7 @@ pub record IsFirst (t : TreeModel) (p : PassModel) : Type 0 where
   pub steps : p.steps ≡ 0
   pub made : p.view.made ≡ 0
   pub label : p.label ≡ 0
-  pub milestones : (cards : ℕ) → milestones_known cards p.view ≡ 0
+  pub milestones : (last : ℕ) → milestones_known last p.view ≡ 0
   pub share : p.view.share ≡ whole_share
   pub ownable : p.view.worker.ownable ≡ ownable_if t.plan.shared t.plan.keys
   pub idle : IsIdle p
@@ -40,7 +40,7 @@ pub record IsLeftPart (keys : List ℕ) (p part : PassModel) : Type 0 where
   pub steps : part.steps ≡ one_more p.steps
   pub made : part.view.made ≡ p.view.made + 1
   pub label : part.label ≡ p.label
-  pub milestones : (cards : ℕ) → milestones_known cards part.view ≡ milestones_known cards p.view
+  pub milestones : (last : ℕ) → milestones_known last part.view ≡ milestones_known last p.view
   pub share : part.view.share ≡ p.view.share - given_share p.view.share
   pub ownable : part.view.worker.ownable ≡ p.view.worker.ownable
   pub idle : IsIdle part
@@ -56,7 +56,7 @@ pub record IsRightPart (keys : List ℕ) (p part : PassModel) : Type 0 where
   pub steps : part.steps ≡ one_more p.steps
   pub made : part.view.made ≡ 0
   pub label : part.label ≡ p.label
-  pub milestones : (cards : ℕ) → milestones_known cards part.view ≡ milestones_known cards p.view
+  pub milestones : (last : ℕ) → milestones_known last part.view ≡ milestones_known last p.view
   pub share : part.view.share ≡ given_share p.view.share
   pub ownable : part.view.worker.ownable ≡ p.view.worker.ownable
   pub idle : IsIdle part
@@ -78,7 +78,7 @@ pub record IsUnion (left right both : PassModel) : Type 0 where
   pub steps : both.steps ≡ one_more (max left.steps right.steps)
   pub made : both.view.made ≡ left.view.made + right.view.made + 1
   pub label : both.label ≡ left.label
-  pub milestones : (cards : ℕ) → (milestones_known cards left.view ≤ milestones_known cards both.view) × (milestones_known cards right.view ≤ milestones_known cards both.view)
+  pub milestones : (last : ℕ) → (milestones_known last left.view ≤ milestones_known last both.view) × (milestones_known last right.view ≤ milestones_known last both.view)
   pub share : both.view.share ≡ (left.view.share + right.view.share) % 2 ^ 64
   pub ownable : both.view.worker.ownable ≡ option_or left.view.worker.ownable right.view.worker.ownable
   pub idle : IsIdle both

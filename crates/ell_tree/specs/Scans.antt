@@ -50,10 +50,10 @@ pub record AreInOrder (from upto : ℕ) (pairs : List (ℕ × ℕ)) : Type 0 whe
   pub ascending : IsStrictlyIncreasing (keys_of pairs)
   pub within : All (λ key. (from ≤ key) × (key < upto)) (keys_of pairs)
 
--- the most steps of a scan in a tree of so many cards: one to begin, and for each stretch at most two for each inner
+-- the most steps of a scan in a tree with this last card: one to begin, and for each stretch at most two for each inner
 -- node beside the root, and two for a leaf; there are no more stretches than one for each card and one more
 abbrev pub scan_steps : ℕ → ℕ
-scan_steps cards = (cards + 1) * stretch_steps cards + 1
+scan_steps last = (last + 1) * stretch_steps last + 1
 
 -- what a look has found of each key from one on and below another, of some state each
 abbrev pub HaveFound : View → ℕ → ℕ → Contents → Type 0

@@ -39,19 +39,19 @@ below child x above = record { node = Some child; read = None; parent = Some (se
 
 -- what a search read at a node that it passed is known
 abbrev pub KnowsPassed : ℕ → View → Passed → Type 0
-KnowsPassed cards w x = IsSeenAt cards w x.node x.update
+KnowsPassed last w x = IsSeenAt last w x.node x.update
 
 -- what it read there is clean, or of a card whose end the pass did not know when its search began
 abbrev pub EndWasUnknownAt : View → Passed → Type 0
 EndWasUnknownAt w x = EndWasUnknown w x.update.state x.update.card
 
 -- a search stands at a node, below a parent and perhaps a grandparent
-pub record Stands (cards : ℕ) (w : View) (node : ℕ) (parent : Passed) (grandparent : Option Passed) : Type 0 where
+pub record Stands (last : ℕ) (w : View) (node : ℕ) (parent : Passed) (grandparent : Option Passed) : Type 0 where
   pub search : w.worker.search ≡ below node parent (seen_any grandparent)
   pub met : IsTold w (Met node)
-  pub there : InTable cards node
-  pub passed : KnowsPassed cards w parent
-  pub passed_above : IfSome grandparent (λ x. KnowsPassed cards w x)
+  pub there : InTable last node
+  pub passed : KnowsPassed last w parent
+  pub passed_above : IfSome grandparent (λ x. KnowsPassed last w x)
   pub unknown : EndWasUnknownAt w parent
   pub unknown_above : IfSome grandparent (EndWasUnknownAt w)
 
@@ -69,10 +69,10 @@ there_at place k = if place.key == k then Some place.value else None
 
 -- a search ended at a place, which has of the operation's key what the ledger has, if that has the key; and if the place has the key, there is
 -- a grandparent
-pub record EndsAt (cards : ℕ) (w : View) (op : Op) (place : LeafFound) : Type 0 where
+pub record EndsAt (last : ℕ) (w : View) (op : Op) (place : LeafFound) : Type 0 where
   pub at : IsAt w place
-  pub passed : KnowsPassed cards w place.parent
-  pub passed_above : IfSome place.grandparent (λ x. KnowsPassed cards w x)
+  pub passed : KnowsPassed last w place.parent
+  pub passed_above : IfSome place.grandparent (λ x. KnowsPassed last w x)
   pub unknown : EndWasUnknownAt w place.parent
   pub unknown_above : IfSome place.grandparent (EndWasUnknownAt w)
   pub there : ledger_of w.worker.ledger (key_of op) ≢ None → contents_in (ledger_of w.worker.ledger) (key_of op) ≡ there_at place (key_of op)

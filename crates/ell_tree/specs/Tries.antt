@@ -157,12 +157,12 @@ pub record HasNone (old new : PassModel) : Type 0 where
 
 -- what comes of asking for a card
 abbrev pub Claims : ℕ → Op → LeafFound → PassModel → PassModel → Claimed → Type 0
-Claims cards op place old new (claimed.Card c) =
-    HasCard op place (filling_of c old.view) new.view c × (c ≤ cards) × (new.view.hindrances ≡ old.view.hindrances) × GivesOut cards old.view new.view
-Claims cards op place old new claimed.NoneLeft =
-    HasNone old new × (new.view.next ≡ Some (cards + 1)) × (new.view.hindrances ≡ old.view.hindrances)
-Claims cards op place old new claimed.Lost =
-    HasNone old new × Meets old.view new.view × (length old.view.hindrances + 1 ≤ length new.view.hindrances) × GivesOut cards old.view new.view
+Claims last op place old new (claimed.Card c) =
+    HasCard op place (filling_of c old.view) new.view c × (c ≤ last) × (new.view.hindrances ≡ old.view.hindrances) × GivesOut last old.view new.view
+Claims last op place old new claimed.NoneLeft =
+    HasNone old new × (new.view.next ≡ Some (last + 1)) × (new.view.hindrances ≡ old.view.hindrances)
+Claims last op place old new claimed.Lost =
+    HasNone old new × Meets old.view new.view × (length old.view.hindrances + 1 ≤ length new.view.hindrances) × GivesOut last old.view new.view
 
 -- the card in hand was filled in so many steps, and nothing else was done
 pub record Fills (old new : PassModel) (n : ℕ) : Type 0 where
@@ -181,13 +181,13 @@ pub record IsFlagged (flag : ℕ → Fact) (c : ℕ) (v w : View) : Type 0 where
   pub hindrances : w.hindrances ≡ v.hindrances
 
 -- a flag was lost: the card was laid aside, and what was found at the node was in the way
-pub record LosesFlag (cards x : ℕ) (found : Update) (v w : View) : Type 0 where
-  pub seen : IsSeenAt cards w x found
+pub record LosesFlag (last x : ℕ) (found : Update) (v w : View) : Type 0 where
+  pub seen : IsSeenAt last w x found
   pub no_card : w.worker.card ≡ None
   pub nowhere : w.worker.search.node ≡ None
   pub hindrances : w.hindrances ≡ Found found ∷ v.hindrances
 
 -- a flag was set or lost
 abbrev pub Flags : ℕ → (ℕ → Fact) → ℕ → ℕ → PassModel → PassModel → Result (Unit {0}) Update → Type 0
-Flags cards flag c x old new (Ok won) = IsFlagged flag c old.view new.view
-Flags cards flag c x old new (Err found) = LosesFlag cards x found old.view new.view
+Flags last flag c x old new (Ok won) = IsFlagged flag c old.view new.view
+Flags last flag c x old new (Err found) = LosesFlag last x found old.view new.view

@@ -23,7 +23,7 @@ use Rattle.ell_cards.specs.States.{TableState}
 use Rattle.ell_cards.specs.Machines.{HasMachine}
 use Rattle.ell_cards.specs.Laws.{machine_of_table}
 use Rattle.ell_cards.specs.Turns.{Turn, Makes, Splits, Joins, TableTurns, TableRun, found_by}
-use Rattle.ell_cards.specs.TurnEffects.{IsHeld, turn_wins, run_wins}
+use Rattle.ell_cards.specs.TurnEffects.{HasFlagged, turn_wins, run_wins}
 use Rattle.ell_cards.specs.Meanwhile.{KeepsOn, KeepOn}
 use Rattle.ell_cards.proofs.lemmas.seats.Seats.{mine_is}
 use Rattle.ell_cards.proofs.lemmas.runs.GoingOn.{turn_turns, run_goes}
@@ -51,18 +51,18 @@ free_on cards seat s v there free (t ∷ ts) s' run on w there' =
 
 -- a pass has a card in hand, flagged, or nothing at all
 abbrev pub Settled : ℕ → View → Type 0
-Settled c v = IsFree v ⊎ IsHeld v c
+Settled c v = IsFree v ⊎ HasFlagged v c
 
-mark_held : (b : Bool) (d x : ℕ) (u : Update) (v w : View) → w.worker ≡ (after_mark b d x u v).worker → (c : ℕ) → IsHeld v c → IsHeld w c
+mark_held : (b : Bool) (d x : ℕ) (u : Update) (v w : View) → w.worker ≡ (after_mark b d x u v).worker → (c : ℕ) → HasFlagged v c → HasFlagged w c
 mark_held true d x u v w same c h = record { holds = ap (λ k. k.card) same ∙ h.holds; flagged = ap (λ k. k.flagged) same ∙ h.flagged }
 mark_held false d x u v w same c h = by (is_mark_of d u.state u.card) same
   where
-    by : (b : Bool) → w.worker ≡ (if b then learning (fact.Marked d) v else unmarking d x u v).worker → IsHeld w c
+    by : (b : Bool) → w.worker ≡ (if b then learning (fact.Marked d) v else unmarking d x u v).worker → HasFlagged w c
     by true same = record { holds = ap (λ k. k.card) same ∙ h.holds; flagged = ap (λ k. k.flagged) same ∙ h.flagged }
     by false same = record { holds = ap (λ k. k.card) same ∙ h.holds; flagged = ap (λ k. k.flagged) same ∙ h.flagged }
 
 -- a card in hand that was flagged, and is not known backed, stays there till the pass has nothing in hand
-held_by : (cards c : ℕ) (y : Call) (n : ℕ) (v : View) → KeepsOn y → May cards y v → ¬ Knows v (fact.Backed c) → IsHeld v c → Settled c (after y n v)
+held_by : (cards c : ℕ) (y : Call) (n : ℕ) (v : View) → KeepsOn y → May cards y v → ¬ Knows v (fact.Backed c) → HasFlagged v c → Settled c (after y n v)
 held_by cards c (call.Begin op) n v keeps may fresh h = absurd keeps
 held_by cards c call.Again n v keeps may fresh h = absurd (fresh (may.backed c h.holds h.flagged))
 held_by cards c call.Leave n v keeps may fresh h = absurd (fresh (may.backed c h.holds h.flagged))
@@ -173,7 +173,7 @@ module _ (keys : List ℕ) (cards c : ℕ) where
       seat one.0 one.1 one.2 ts s' run.2 (first_keeps seat t ts on).1 w there'
 
   -- from the turn on in which it wins it
-  pub settled_since : (s : TableState) → HasMachine keys cards s → (seat : ℕ) (v : View) → get_elem? s.views seat ≡ some v → IsHeld v c
+  pub settled_since : (s : TableState) → HasMachine keys cards s → (seat : ℕ) (v : View) → get_elem? s.views seat ≡ some v → HasFlagged v c
       → (t : Turn) (s1 : TableState) → TableTurns cards s t s1 → sum_by child_changes (turn_wins s t c) ≡ 1 → KeepOn seat (t ∷ [])
       → (turns : List Turn) (s' : TableState) → TableRun cards s1 turns s' → KeepOn seat turns → (w : View) → get_elem? s'.views seat ≡ some w → Settled c w
   settled_since s r seat v there h t s1 turn won keeps turns s' run on w there' =

@@ -20,7 +20,7 @@ use Rattle.ell_cards.specs.Changes.{first_of}
 use Rattle.ell_cards.specs.States.{TableState}
 use Rattle.ell_cards.specs.Machines.{HasMachine}
 use Rattle.ell_cards.specs.Turns.{Turn, Makes, Splits, Joins, CallIsMade, TableTurns, TableRun, view_after}
-use Rattle.ell_cards.specs.TurnEffects.{own_words, IsHeld, IsWonFor, turn_wins}
+use Rattle.ell_cards.specs.TurnEffects.{own_words, HasFlagged, IsWonFor, turn_wins}
 use Rattle.ell_cards.specs.Starts.{Starts}
 use Rattle.ell_cards.specs.Meanwhile.{KeepsOn, KeepOn}
 use Rattle.ell_cards.specs.Changing.{HasMap, IsCalled, SaysWhatWas, TakesEffect, HoldsAtEnd, change_of, turn_effect, run_effects}
@@ -182,7 +182,7 @@ module _ (plan : TablePlan) (opened : TableState) (starts : Starts plan opened) 
     pub there : get_elem? (after_turns p).views seat ≡ some view
     pub does : Does view op
     pub card : ℕ
-    pub held : IsHeld view card
+    pub held : HasFlagged view card
     pub turn : Turn
     pub at : get_elem? turns p ≡ some turn
     pub effect : turn_effect (after_turns p) turn ≡ op ∷ []
