@@ -11,9 +11,10 @@ use Rattle.ell_cards.specs.Turns.{Turn, Makes, TableRun}
 use Rattle.ell_cards.specs.Starts.{Starts}
 use Rattle.ell_cards.specs.Changing.{IsCalled, RepliesAsOneThread}
 
--- in a run from a start the pass in a seat made a call that it answered so: it began the operation here, answered it there, and the call had
--- its point within that span
-pub record AnsweredInRun (plan : TablePlan) (s : TableState) (turns : List Turn) (s' : TableState) (seat : ℕ) (op : Op) (said : Reply) : Type 0 where
+-- in a run from a start the pass in a seat made a call that it answered so: it began the operation here, answered it
+-- there, and the call had its point within that span
+pub record AnsweredInRun (plan : TablePlan) (s : TableState) (turns : List Turn) (s' : TableState) (seat : ℕ) (op : Op)
+    (said : Reply) : Type 0 where
   pub earlier : List Turn
   pub during : List Turn
   pub later : List Turn
@@ -28,7 +29,8 @@ pub record AnsweredInRun (plan : TablePlan) (s : TableState) (turns : List Turn)
 
 -- so it is in every run of a table with this plan, from its start to a state in which a pass knows this
 abbrev pub IsAnsweredInRuns : TablePlan → View → Op → Reply → Type 0
-IsAnsweredInRuns plan v op said = (s : TableState) → Starts plan s → (turns : List Turn) (s' : TableState) → TableRun plan.last_card s turns s'
+IsAnsweredInRuns plan v op said =
+    (s : TableState) → Starts plan s → (turns : List Turn) (s' : TableState) → TableRun plan.last_card s turns s'
     → (seat : ℕ) → get_elem? s'.views seat ≡ some v → AnsweredInRun plan s turns s' seat op said
 
 -- what a pass answered last had its point, whoever may change the key, whatever turns of whatever passes came meanwhile

@@ -211,14 +211,16 @@ pub record TellsLeaf (v : View) (x key : ℕ) : Type 0 where
 -- the value of a leaf where the pass stands, whose key it was told to be the operation's, is that of its ledger, if it
 -- has the key
 abbrev pub TellsLedgerValue : View → ℕ → ℕ → Type 0
-TellsLedgerValue v x value = (op : Op) → Does v op → StandsAt v x → v.here ≡ Some (key_of op) → ledger_of v.worker.ledger (key_of op) ≢ None
+TellsLedgerValue v x value =
+    (op : Op) → Does v op → StandsAt v x → v.here ≡ Some (key_of op) → ledger_of v.worker.ledger (key_of op) ≢ None
     → contents_in (ledger_of v.worker.ledger) (key_of op) ≡ Some value
 
 -- where a card goes is ever deeper: a delete's parent below its grandparent, and a leaf below the parent
 abbrev pub TellsDepth : View → ℕ → Field → ℕ → Type 0
 TellsDepth v c field.Gp x = KnowsDelete v c → (p : ℕ) → IsTold v (Info c field.P p) → x < p
 TellsDepth v c field.P x =
-    (KnowsDelete v c → (gp : ℕ) → IsTold v (Info c field.Gp gp) → gp < x) × ((l : ℕ) → IsTold v (Info c field.L l) → x < l)
+    (KnowsDelete v c → (gp : ℕ) → IsTold v (Info c field.Gp gp) → gp < x)
+        × ((l : ℕ) → IsTold v (Info c field.L l) → x < l)
 TellsDepth v c field.L x = (p : ℕ) → IsTold v (Info c field.P p) → p < x
 TellsDepth v c _ x = Unit {0}
 

@@ -28,7 +28,8 @@ use Rattle.ell_cards.specs.Models.{TablePlan}
 
 -- a call of the pass in a seat: it begins an operation here, on a key of its own or on a shared one, begins no other in
 -- these turns of any passes, and answers at their end
-pub record IsCalled (last : ℕ) (s : TableState) (seat : ℕ) (op : Op) (begun : TableState) (turns : List Turn) (s' : TableState) (said : Reply) : Type 0 where
+pub record IsCalled (last : ℕ) (s : TableState) (seat : ℕ) (op : Op) (begun : TableState) (turns : List Turn)
+    (s' : TableState) (said : Reply) : Type 0 where
   pub ended : TableState
   pub begins : CallIsMade last s seat (call.Begin op) begun
   pub run : TableRun last begun turns s'
@@ -36,7 +37,8 @@ pub record IsCalled (last : ℕ) (s : TableState) (seat : ℕ) (op : Op) (begun 
   pub answers : CallIsMade last s' seat (call.Answer said) ended
 
 -- the answer is that on what the tree had of the key in one state of the call; no other is an insert's or a delete's no
-pub record SaysWhatWas (last : ℕ) (op : Op) (begun : TableState) (turns : List Turn) (s' : TableState) (said : Reply) : Type 0 where
+pub record SaysWhatWas (last : ℕ) (op : Op) (begun : TableState) (turns : List Turn) (s' : TableState)
+    (said : Reply) : Type 0 where
   pub there : Option ℕ
   pub says : leaf_answer op there ≡ Some said
   pub so : WasSo last begun turns s' (key_of op) there
@@ -55,8 +57,10 @@ FindsItsValue (Insert key value) c w = Unit {0}
 FindsItsValue (Delete key) c w = IsTreePair w key (card_value w c)
 FindsItsValue (Swap key was value) c w = Unit {0}
 
--- in one turn of the call, of whatever pass, the child exchange of its own card was won, and changed the tree as the operation says
-pub record TakesEffect (last : ℕ) (op : Op) (c : ℕ) (begun : TableState) (turns : List Turn) (s' : TableState) : Type 0 where
+-- in one turn of the call, of whatever pass, the child exchange of its own card was won, and changed the tree as the
+-- operation says
+pub record TakesEffect (last : ℕ) (op : Op) (c : ℕ) (begun : TableState) (turns : List Turn)
+    (s' : TableState) : Type 0 where
   pub first : ℕ
   pub state : TableState
   pub turn : Turn
@@ -73,9 +77,11 @@ pub record TakesEffect (last : ℕ) (op : Op) (c : ℕ) (begun : TableState) (tu
 pub record HoldsAtEnd (s' : TableState) (seat c : ℕ) : Type 0 where
   pub holds : (v : View) → get_elem? s'.views seat ≡ some v → (v.worker.card ≡ Some c) × (v.worker.flagged ≡ true)
 
--- each call has one point within its span: a state of which its answer is, or the turn in which its card's child exchange was won
+-- each call has one point within its span: a state of which its answer is, or the turn in which its card's child
+-- exchange was won
 abbrev pub CallsHaveTheirPoint : Type 0
-CallsHaveTheirPoint = (keys : List ℕ) (last : ℕ) (s : TableState) → HasMachine keys last s → (seat : ℕ) (op : Op) (begun : TableState) (turns : List Turn)
+CallsHaveTheirPoint = (keys : List ℕ) (last : ℕ) (s : TableState) → HasMachine keys last s
+    → (seat : ℕ) (op : Op) (begun : TableState) (turns : List Turn)
     (s' : TableState) (said : Reply) → IsCalled last s seat op begun turns s' said
     → SaysWhatWas last op begun turns s' said
     ⊎ ((said ≡ reply_of_change op) × ((c : ℕ) × HoldsAtEnd s' seat c × TakesEffect last op c begun turns s'))
@@ -88,9 +94,11 @@ HasMap w there = (key value : ℕ) → IsTreePair w key value ↔ (there key ≡
 abbrev pub Leaves : Op → Words → Type 0
 Leaves op w = (there : Contents) → HasMap w there → (key : ℕ) → after op there key ≡ there key
 
--- the point of a call is the next turn, in which its card's exchange is won, and the tree's map becomes the one after the operation; it is the
--- card that the pass in the seat has in hand at the end, and a delete finds its key there with the card's value
-pub record ChangesNext (last seat : ℕ) (op : Op) (state : TableState) (turns : List Turn) (s' : TableState) : Type 0 where
+-- the point of a call is the next turn, in which its card's exchange is won, and the tree's map becomes the one after
+-- the operation; it is the card that the pass in the seat has in hand at the end, and a delete finds its key there with
+-- the card's value
+pub record ChangesNext (last seat : ℕ) (op : Op) (state : TableState) (turns : List Turn)
+    (s' : TableState) : Type 0 where
   pub card : ℕ
   pub hand : HoldsAtEnd s' seat card
   pub finds : FindsItsValue op card (own_words state)
@@ -102,9 +110,11 @@ pub record ChangesNext (last seat : ℕ) (op : Op) (state : TableState) (turns :
   pub own : turn_wins state turn card ≡ change_of op
   pub map : (there : Contents) → HasMap (own_words state) there → HasMap (own_words next) (after op there)
 
--- a call answers as a map at one point of its span: where some first turns have led from its begin, its answer is the reply on the map that the
--- tree is there; and the operation leaves that map, or the next turn makes it the map after the operation
-pub record AnswersAt (last seat : ℕ) (op : Op) (begun : TableState) (turns : List Turn) (s' : TableState) (said : Reply) : Type 0 where
+-- a call answers as a map at one point of its span: where some first turns have led from its begin, its answer is the
+-- reply on the map that the tree is there; and the operation leaves that map, or the next turn makes it the map after
+-- the operation
+pub record AnswersAt (last seat : ℕ) (op : Op) (begun : TableState) (turns : List Turn) (s' : TableState)
+    (said : Reply) : Type 0 where
   pub first : ℕ
   pub state : TableState
   pub before : TableRun last begun (take first turns) state
@@ -114,20 +124,26 @@ pub record AnswersAt (last seat : ℕ) (op : Op) (begun : TableState) (turns : L
 
 -- so does each call of each pass in each run, on a key of its own or on a shared one
 abbrev pub CallsAnswerAsAMap : Type 0
-CallsAnswerAsAMap = (keys : List ℕ) (last : ℕ) (s : TableState) → HasMachine keys last s → (seat : ℕ) (op : Op) (begun : TableState) (turns : List Turn)
-    (s' : TableState) (said : Reply) → IsCalled last s seat op begun turns s' said → AnswersAt last seat op begun turns s' said
+CallsAnswerAsAMap = (keys : List ℕ) (last : ℕ) (s : TableState) → HasMachine keys last s
+    → (seat : ℕ) (op : Op) (begun : TableState) (turns : List Turn)
+    (s' : TableState) (said : Reply) → IsCalled last s seat op begun turns s' said
+        → AnswersAt last seat op begun turns s' said
 
--- a card that a pass has in hand in a state is in no other call's hand later: not in that of another pass whose call goes on, nor of a call
--- that begins later
+-- a card that a pass has in hand in a state is in no other call's hand later: not in that of another pass whose call
+-- goes on, nor of a call that begins later
 pub record HasItAlone (keys : List ℕ) (last : ℕ) (s : TableState) (seat c : ℕ) : Type 0 where
-  pub beside : (other : ℕ) → other ≢ seat → (turns : List Turn) (s' : TableState) → TableRun last s turns s' → KeepOn other turns → (u : View)
+  pub beside : (other : ℕ) → other ≢ seat → (turns : List Turn) (s' : TableState) → TableRun last s turns s'
+      → KeepOn other turns → (u : View)
       → get_elem? s.views other ≡ some u → (w : View) → get_elem? s'.views other ≡ some w → w.worker.card ≢ Some c
-  pub later : (more : List Turn) (s2 : TableState) → TableRun last s more s2 → (other : ℕ) (op : Op) (begun : TableState) (turns : List Turn) (s' : TableState) (said : Reply)
-      → IsCalled last s2 other op begun turns s' said → (w : View) → get_elem? s'.views other ≡ some w → w.worker.card ≢ Some c
+  pub later : (more : List Turn) (s2 : TableState) → TableRun last s more s2
+      → (other : ℕ) (op : Op) (begun : TableState) (turns : List Turn) (s' : TableState) (said : Reply)
+      → IsCalled last s2 other op begun turns s' said → (w : View) → get_elem? s'.views other ≡ some w
+      → w.worker.card ≢ Some c
 
 -- so no two calls have one card, and each point that changes the tree is one call's
 abbrev pub CallsHaveTheirOwnCards : Type 0
-CallsHaveTheirOwnCards = (keys : List ℕ) (last : ℕ) (s : TableState) → HasMachine keys last s → (seat : ℕ) (v : View) → get_elem? s.views seat ≡ some v
+CallsHaveTheirOwnCards = (keys : List ℕ) (last : ℕ) (s : TableState) → HasMachine keys last s → (seat : ℕ) (v : View)
+    → get_elem? s.views seat ≡ some v
     → (c : ℕ) → v.worker.card ≡ Some c → HasItAlone keys last s seat c
 
 -- wherever turns lead from a start, the tree is a map
@@ -150,19 +166,23 @@ turn_effect s (Makes seat c) = effect_of c (is_won (atomic_of c) (found_by s c))
 turn_effect s _ = []
 
 -- those of a run, in their order
-abbrev pub run_effects : (last : ℕ) (s : TableState) (turns : List Turn) (s' : TableState) → TableRun last s turns s' → List Op
+abbrev pub run_effects : (last : ℕ) (s : TableState) (turns : List Turn) (s' : TableState) → TableRun last s turns s'
+    → List Op
 run_effects last s [] s' run = []
 run_effects last s (t ∷ ts) s' run = turn_effect s t ++ run_effects last run.0 ts s' run.2
 
--- wherever turns lead from a start, the tree is the map that one thread leaves which makes these operations in this order
+-- wherever turns lead from a start, the tree is the map that one thread leaves which makes these operations in this
+-- order
 abbrev pub TreesAreOfOneThread : Type 0
 TreesAreOfOneThread = (plan : TablePlan) (s : TableState) → Starts plan s → (turns : List Turn) (s' : TableState)
     (run : TableRun plan.last_card s turns s')
     → HasMap (own_words s') (final (contents_of plan.start) (run_effects plan.last_card s turns s' run))
 
--- the point of a call in a run from a start: turns have led there from the start, some of them of the call's span; its answer is the reply of one
--- thread that has made all operations by which the tree was changed till then, in their order; and the call's own is none, or the next of them
-pub record RepliesAsOneThread (plan : TablePlan) (opened : TableState) (seat : ℕ) (op : Op) (begun : TableState) (turns : List Turn) (s' : TableState) (said : Reply) : Type 0 where
+-- the point of a call in a run from a start: turns have led there from the start, some of them of the call's span; its
+-- answer is the reply of one thread that has made all operations by which the tree was changed till then, in their
+-- order; and the call's own is none, or the next of them
+pub record RepliesAsOneThread (plan : TablePlan) (opened : TableState) (seat : ℕ) (op : Op) (begun : TableState)
+    (turns : List Turn) (s' : TableState) (said : Reply) : Type 0 where
   pub first : ℕ
   pub state : TableState
   pub before : TableRun plan.last_card begun (take first turns) state
@@ -174,6 +194,8 @@ pub record RepliesAsOneThread (plan : TablePlan) (opened : TableState) (seat : �
 
 -- so each call does in each run from a start
 abbrev pub CallsReplyAsOneThread : Type 0
-CallsReplyAsOneThread = (plan : TablePlan) (opened : TableState) → Starts plan opened → (earlier : List Turn) (s : TableState)
-    → TableRun plan.last_card opened earlier s → (seat : ℕ) (op : Op) (begun : TableState) (turns : List Turn) (s' : TableState) (said : Reply)
+CallsReplyAsOneThread =
+    (plan : TablePlan) (opened : TableState) → Starts plan opened → (earlier : List Turn) (s : TableState)
+    → TableRun plan.last_card opened earlier s
+    → (seat : ℕ) (op : Op) (begun : TableState) (turns : List Turn) (s' : TableState) (said : Reply)
     → IsCalled plan.last_card s seat op begun turns s' said → RepliesAsOneThread plan opened seat op begun turns s' said

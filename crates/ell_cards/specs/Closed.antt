@@ -19,9 +19,9 @@ pub record ClosedModel : Type 0 where
   pub words : List ℕ
   pub last_card : ℕ
 
--- the tree of the words of a closed table, which a pass closed that owned all keys of the plan with this ledger: it is lawful, its nodes are
--- of the table, its update words are clean, and its keys are of the plan or shared; of the plan's keys those are there, with their values, that
--- the ledger has present; the ledger has keys of the plan alone
+-- the tree of the words of a closed table, which a pass closed that owned all keys of the plan with this ledger: it is
+-- lawful, its nodes are of the table, its update words are clean, and its keys are of the plan or shared; of the plan's
+-- keys those are there, with their values, that the ledger has present; the ledger has keys of the plan alone
 pub record ShowsMap (plan : TablePlan) (ledger : List (ℕ × Entry)) (t : ClosedModel) : Type 0 where
   pub size : length t.words ≡ table_size t.last_card
   pub tree : IsLawful (words_of t.words)
@@ -33,8 +33,8 @@ pub record ShowsMap (plan : TablePlan) (ledger : List (ℕ × Entry)) (t : Close
   pub present : (key value : ℕ) → Contains plan.keys key
       → IsTreePair (words_of t.words) key value ↔ (ledger_of ledger key ≡ Some (Present value))
 
--- the words of a table that has ended are those of a last state, to which turns of its passes have led from its start, and in which a
--- seat has this view; what such a run does, that run did
+-- the words of a table that has ended are those of a last state, to which turns of its passes have led from its start,
+-- and in which a seat has this view; what such a run does, that run did
 pub record TableRan (plan : TablePlan) (v : View) (t : ClosedModel) : Type 0 where
   pub state : TableState
   pub seat : ℕ

@@ -14,7 +14,8 @@ pub record HasShare (share : Share) (v : View) : Type 0 where
   pub units : v.share ≡ share.units
   pub counts : (share.counts ≡ true) ↔ (v.worker.ownable ≢ None)
 
--- the keys of a pass as its code keeps them are those of its ledger, ascending; so is its share; and what it names is in its table
+-- the keys of a pass as its code keeps them are those of its ledger, ascending; so is its share; and what it names is
+-- in its table
 pub record PassFits (keys : List ℕ) (kept : Share) (words : ℕ) (v : View) : Type 0 where
   pub owned : keys ≡ ledger_keys v.worker.ledger
   pub ascending : IsStrictlyIncreasing keys

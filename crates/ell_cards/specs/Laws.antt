@@ -24,11 +24,14 @@ use Rattle.ell_cards.specs.Machines.{HasMachine}
 abbrev pub machine_of_table : (keys : List ℕ) (last : ℕ) (s : TableState) → HasMachine keys last s → Machine
 machine_of_table keys last s r = seated r.words s.views last
 
--- the state after a call has a machine again: the one to which the call's event leads, or the same one; and what the call tells is so
-pub record IsEvent (keys : List ℕ) (last : ℕ) (s : TableState) (r : HasMachine keys last s) (id : ℕ) (v : View) (c : Call) : Type 0 where
+-- the state after a call has a machine again: the one to which the call's event leads, or the same one; and what the
+-- call tells is so
+pub record IsEvent (keys : List ℕ) (last : ℕ) (s : TableState) (r : HasMachine keys last s) (id : ℕ) (v : View)
+    (c : Call) : Type 0 where
   pub kept : HasMachine keys last (state_after s id v c)
   pub later : StagesLater r.stages kept.stages
-  pub event : Becomes id (act_of c (found_by s c)) (said_of c (found_by s c)) (machine_of_table keys last s r) (machine_of_table keys last (state_after s id v c) kept)
+  pub event : Becomes id (act_of c (found_by s c)) (said_of c (found_by s c)) (machine_of_table keys last s r)
+      (machine_of_table keys last (state_after s id v c) kept)
   pub tells : Tells last c v (found_by s c)
 
 -- each step call is one event of the machine, or leaves it
@@ -37,21 +40,25 @@ StepsAreEvents = (keys : List ℕ) (last : ℕ) (s : TableState) (r : HasMachine
     → get_elem? s.views id ≡ some v → May last c v → IsEvent keys last s r id v c
 
 -- the state after a split has a machine again: the one before, after a split of that worker
-pub record SplitIsKept (keys : List ℕ) (last : ℕ) (s : TableState) (r : HasMachine keys last s) (id : ℕ) (v : View) (left : List ℕ) : Type 0 where
+pub record SplitIsKept (keys : List ℕ) (last : ℕ) (s : TableState) (r : HasMachine keys last s) (id : ℕ) (v : View)
+    (left : List ℕ) : Type 0 where
   pub kept : HasMachine keys last (state_split s id v left)
   pub later : StagesLater r.stages kept.stages
   pub split : Split (machine_of_table keys last s r) id (machine_of_table keys last (state_split s id v left) kept)
 
 -- each split is one of the machine
 abbrev pub SplitsAreHandovers : Type 0
-SplitsAreHandovers = (keys : List ℕ) (last : ℕ) (s : TableState) (r : HasMachine keys last s) (id : ℕ) (v : View) (left : List ℕ)
+SplitsAreHandovers =
+    (keys : List ℕ) (last : ℕ) (s : TableState) (r : HasMachine keys last s) (id : ℕ) (v : View) (left : List ℕ)
     → get_elem? s.views id ≡ some v → IsFree v → SplitIsKept keys last s r id v left
 
 -- the state after a join has a machine again: the one before, after a join of these workers
-pub record IsJoin (keys : List ℕ) (last : ℕ) (s : TableState) (r : HasMachine keys last s) (id other : ℕ) (v w : View) : Type 0 where
+pub record IsJoin (keys : List ℕ) (last : ℕ) (s : TableState) (r : HasMachine keys last s) (id other : ℕ)
+    (v w : View) : Type 0 where
   pub kept : HasMachine keys last (state_joined s id other v w)
   pub later : StagesLater r.stages kept.stages
-  pub join : Join (machine_of_table keys last s r) id other (machine_of_table keys last (state_joined s id other v w) kept)
+  pub join : Join (machine_of_table keys last s r) id other
+      (machine_of_table keys last (state_joined s id other v w) kept)
 
 -- each join is one of the machine
 abbrev pub JoinsAreHandovers : Type 0
@@ -61,12 +68,13 @@ JoinsAreHandovers = (keys : List ℕ) (last : ℕ) (s : TableState) (r : HasMach
 
 -- the machine that a state has is sound
 abbrev pub MachineIsSound : Type 0
-MachineIsSound = (keys : List ℕ) (last : ℕ) (s : TableState) (r : HasMachine keys last s) → IsSound (machine_of_table keys last s r)
+MachineIsSound =
+    (keys : List ℕ) (last : ℕ) (s : TableState) (r : HasMachine keys last s) → IsSound (machine_of_table keys last s r)
 
--- where the machine's words are the table's own: the claim word, and each card that does not wait for its flag. That
--- is each card of a node that is reached from the root, each that a flag or a mark of such a node names, and each that a pass
--- knows flagged or marked, or has in hand, flagged. The same nodes are reached in both, and the trees have the same keys
--- with the same values
+-- where the machine's words are the table's own: the claim word, and each card that does not wait for its flag. That is
+-- each card of a node that is reached from the root, each that a flag or a mark of such a node names, and each that a
+-- pass knows flagged or marked, or has in hand, flagged. The same nodes are reached in both, and the trees have the
+-- same keys with the same values
 pub record WordsAreOwn (keys : List ℕ) (last : ℕ) (s : TableState) (r : HasMachine keys last s) : Type 0 where
   pub next : r.words.next ≡ (own_words s).next
   pub settled : (c : ℕ) → waits (r.stages c) ≡ false → SaysTheSame (own_words s) r.words c
@@ -80,4 +88,5 @@ pub record WordsAreOwn (keys : List ℕ) (last : ℕ) (s : TableState) (r : HasM
 
 -- so they are in every state that has a machine
 abbrev pub MachineHasOwnWords : Type 0
-MachineHasOwnWords = (keys : List ℕ) (last : ℕ) (s : TableState) (r : HasMachine keys last s) → WordsAreOwn keys last s r
+MachineHasOwnWords =
+    (keys : List ℕ) (last : ℕ) (s : TableState) (r : HasMachine keys last s) → WordsAreOwn keys last s r

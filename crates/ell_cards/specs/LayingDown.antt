@@ -10,7 +10,8 @@ use Rattle.ell_cards.specs.Turns.{Turn, Makes, TableRun}
 use Rattle.ell_cards.specs.Starts.{Starts}
 use Rattle.ell_cards.specs.Linearizing.{ChangesAt, KeepsOnBetween}
 
--- a call that was laid down: in one turn of a run a pass begins the operation, in a later one it lays it down, and in between it goes on with it
+-- a call that was laid down: in one turn of a run a pass begins the operation, in a later one it lays it down, and in
+-- between it goes on with it
 pub record IsLaidDown (turns : List Turn) (seat begin end : ℕ) (op : Op) : Type 0 where
   pub begins : get_elem? turns begin ≡ some (Makes seat (call.Begin op))
   pub later : begin < end
@@ -23,7 +24,8 @@ ChangesNothing last s turns begin = (change : ℕ) (op : Op) → ¬ ChangesAt la
 
 -- so it is of each call that was laid down, before that and after it, in each run from a start
 abbrev pub LaidDownCallsChangeNothing : Type 0
-LaidDownCallsChangeNothing = (plan : TablePlan) (s : TableState) → Starts plan s → (turns : List Turn) (s' : TableState) → TableRun plan.last_card s turns s'
+LaidDownCallsChangeNothing = (plan : TablePlan) (s : TableState) → Starts plan s → (turns : List Turn) (s' : TableState)
+    → TableRun plan.last_card s turns s'
     → (seat begin end : ℕ) (op : Op) → IsLaidDown turns seat begin end op → ChangesNothing plan.last_card s turns begin
 
 -- the pass in a seat laid a call down in a run, and the call changes nothing
@@ -35,9 +37,12 @@ pub record IsLaidDownInRun (plan : TablePlan) (s : TableState) (turns : List Tur
 
 -- so it is in every run of a table with this plan, from its start to a state in which a pass knows this
 abbrev pub IsLaidDownInRuns : TablePlan → View → Op → Type 0
-IsLaidDownInRuns plan v op = (s : TableState) → Starts plan s → (turns : List Turn) (s' : TableState) → TableRun plan.last_card s turns s'
+IsLaidDownInRuns plan v op =
+    (s : TableState) → Starts plan s → (turns : List Turn) (s' : TableState) → TableRun plan.last_card s turns s'
     → (seat : ℕ) → get_elem? s'.views seat ≡ some v → IsLaidDownInRun plan s turns seat op
 
--- what a pass laid down last changes nothing, whoever may change the key, whatever turns of whatever passes came meanwhile, or come later
+-- what a pass laid down last changes nothing, whoever may change the key, whatever turns of whatever passes came
+-- meanwhile, or come later
 abbrev pub LaidDownLastChangesNothing : Type 0
-LaidDownLastChangesNothing = (plan : TablePlan) (v : View) (op : Op) → v.laid_down ≡ Some op → IsLaidDownInRuns plan v op
+LaidDownLastChangesNothing =
+    (plan : TablePlan) (v : View) (op : Op) → v.laid_down ≡ Some op → IsLaidDownInRuns plan v op

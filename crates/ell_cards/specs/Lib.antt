@@ -4,7 +4,8 @@ pub mod Models
 pub mod Changes
 -- what each step call asks of what the pass knows
 pub mod Guards
--- the step calls as one table: the word that each touches, what it does to it, its event, the change, the guard, what it tells
+-- the step calls as one table: the word that each touches, what it does to it, its event, the change, the guard, what
+-- it tells
 pub mod Calls
 -- states of a table
 pub mod States

@@ -16,12 +16,14 @@ use Rattle.ell_cards.specs.Starts.{Starts}
 use Rattle.ell_cards.specs.Meanwhile.{KeepOn}
 use Rattle.ell_cards.specs.Changing.{HasMap, change_of, turn_effect}
 
--- between two turns of a run, which are named by how many turns came before them, the pass in a seat takes no other operation in hand, and is
--- not split or joined
+-- between two turns of a run, which are named by how many turns came before them, the pass in a seat takes no other
+-- operation in hand, and is not split or joined
 abbrev pub KeepsOnBetween : ℕ → List Turn → ℕ → ℕ → Type 0
-KeepsOnBetween seat turns first last = (k : ℕ) (turn : Turn) → first < k → k < last → get_elem? turns k ≡ some turn → KeepOn seat (turn ∷ [])
+KeepsOnBetween seat turns first last =
+    (k : ℕ) (turn : Turn) → first < k → k < last → get_elem? turns k ≡ some turn → KeepOn seat (turn ∷ [])
 
--- a call that has ended: in one turn a pass begins the operation, in a later one it answers it, and in between it goes on with it
+-- a call that has ended: in one turn a pass begins the operation, in a later one it answers it, and in between it goes
+-- on with it
 pub record IsAnswered (turns : List Turn) (begin end : ℕ) (op : Op) (said : Reply) : Type 0 where
   pub seat : ℕ
   pub begins : get_elem? turns begin ≡ some (Makes seat (call.Begin op))
@@ -30,12 +32,13 @@ pub record IsAnswered (turns : List Turn) (begin end : ℕ) (op : Op) (said : Re
   pub answers : get_elem? turns end ≡ some (Makes seat (call.Answer said))
 
 -- after so many turns of a run the table is in this state, and this is its next turn
-pub record IsTurn (last : ℕ) (s : TableState) (turns : List Turn) (k : ℕ) (state : TableState) (turn : Turn) : Type 0 where
+pub record IsTurn (last : ℕ) (s : TableState) (turns : List Turn) (k : ℕ) (state : TableState)
+    (turn : Turn) : Type 0 where
   pub led : TableRun last s (take k turns) state
   pub at : get_elem? turns k ≡ some turn
 
--- a turn of a run changes the tree by an operation: in it, by whichever pass, the child exchange of a card is won that a pass has in hand for
--- that operation
+-- a turn of a run changes the tree by an operation: in it, by whichever pass, the child exchange of a card is won that
+-- a pass has in hand for that operation
 pub record ChangesBy (last : ℕ) (s : TableState) (turns : List Turn) (change : ℕ) (op : Op) : Type 0 where
   pub state : TableState
   pub turn : Turn
@@ -45,8 +48,8 @@ pub record ChangesBy (last : ℕ) (s : TableState) (turns : List Turn) (change :
   pub own : turn_wins state turn card ≡ change_of op
   pub work : IsAtWork state card op
 
--- a call that changes the tree, whether it has ended or not: in one turn a pass begins the operation, and while the pass goes on with it, a
--- later one changes the tree by it, for the card that the pass has in hand
+-- a call that changes the tree, whether it has ended or not: in one turn a pass begins the operation, and while the
+-- pass goes on with it, a later one changes the tree by it, for the card that the pass has in hand
 pub record ChangesAt (last : ℕ) (s : TableState) (turns : List Turn) (begin change : ℕ) (op : Op) : Type 0 where
   pub by : ChangesBy last s turns change op
   pub begins : get_elem? turns begin ≡ some (Makes by.work.seat (call.Begin op))
@@ -86,13 +89,16 @@ pub record IsPending (last : ℕ) (s : TableState) (turns : List Turn) (item : I
 
 -- an item may be in the sequence of a run: it is a call that has ended, with its answer, or such a one
 abbrev pub IsMade : ℕ → TableState → List Turn → Item → Type 0
-IsMade last s turns item = ((end : ℕ) × IsAnswered turns item.begin end item.op item.reply) ⊎ IsPending last s turns item
+IsMade last s turns item =
+    ((end : ℕ) × IsAnswered turns item.begin end item.op item.reply) ⊎ IsPending last s turns item
 
 -- which calls the sequence of a run has: each that has ended, with its answer; each that has changed the tree, with the
 -- answer of a change; no other; and each once
 pub record HasTheCalls (last : ℕ) (s : TableState) (turns : List Turn) (order : List Item) : Type 0 where
-  pub ended : (begin end : ℕ) (op : Op) (said : Reply) → IsAnswered turns begin end op said → HasItem order (record { begin = begin; op = op; reply = said })
-  pub changed : (begin change : ℕ) (op : Op) → ChangesAt last s turns begin change op → HasItem order (record { begin = begin; op = op; reply = reply_of_change op })
+  pub ended : (begin end : ℕ) (op : Op) (said : Reply) → IsAnswered turns begin end op said
+      → HasItem order (record { begin = begin; op = op; reply = said })
+  pub changed : (begin change : ℕ) (op : Op) → ChangesAt last s turns begin change op
+      → HasItem order (record { begin = begin; op = op; reply = reply_of_change op })
   pub other : (item : Item) → HasItem order item → IsMade last s turns item
   pub once : (i j : ℕ) (x y : Item) → StandsIn order i x → StandsIn order j y → x.begin ≡ y.begin → i ≡ j
 
@@ -109,7 +115,8 @@ pub record EndsACall (turns : List Turn) (end : ℕ) (said : Reply) : Type 0 whe
 
 -- so is each answer
 abbrev pub AnswersEndCalls : List Turn → Type 0
-AnswersEndCalls turns = (seat end : ℕ) (said : Reply) → get_elem? turns end ≡ some (Makes seat (call.Answer said)) → EndsACall turns end said
+AnswersEndCalls turns = (seat end : ℕ) (said : Reply) → get_elem? turns end ≡ some (Makes seat (call.Answer said))
+    → EndsACall turns end said
 
 -- a change of the tree is that of a call which began in an earlier turn
 pub record IsOfACall (last : ℕ) (s : TableState) (turns : List Turn) (change : ℕ) (op : Op) : Type 0 where
@@ -118,12 +125,14 @@ pub record IsOfACall (last : ℕ) (s : TableState) (turns : List Turn) (change :
 
 -- so is each turn by which the tree changes
 abbrev pub ChangesAreOfCalls : ℕ → TableState → List Turn → Type 0
-ChangesAreOfCalls last s turns = (k : ℕ) (state : TableState) (turn : Turn) (op : Op) → IsTurn last s turns k state turn → turn_effect state turn ≡ op ∷ []
+ChangesAreOfCalls last s turns = (k : ℕ) (state : TableState) (turn : Turn) (op : Op) → IsTurn last s turns k state turn
+    → turn_effect state turn ≡ op ∷ []
     → IsOfACall last s turns k op
 
 -- no call changes the tree twice
 abbrev pub CallsChangeOnce : ℕ → TableState → List Turn → Type 0
-CallsChangeOnce last s turns = (begin change again : ℕ) (op o : Op) → ChangesAt last s turns begin change op → ChangesAt last s turns begin again o
+CallsChangeOnce last s turns =
+    (begin change again : ℕ) (op o : Op) → ChangesAt last s turns begin change op → ChangesAt last s turns begin again o
     → change ≡ again
 
 -- A run of a table is linearizable, as Herlihy and Wing define it in "Linearizability: a correctness condition for
@@ -145,7 +154,8 @@ pub record IsLinearized (plan : TablePlan) (opened : TableState) (turns : List T
 
 -- so is each run from a start, by any passes in any order
 abbrev pub RunsAreLinearizable : Type 0
-RunsAreLinearizable = (plan : TablePlan) (opened : TableState) → Starts plan opened → (turns : List Turn) (s' : TableState)
+RunsAreLinearizable =
+    (plan : TablePlan) (opened : TableState) → Starts plan opened → (turns : List Turn) (s' : TableState)
     → TableRun plan.last_card opened turns s' → IsLinearized plan opened turns s'
 
 -- a call of the pass in a seat that it answered so
@@ -159,5 +169,6 @@ pub record IsItsCall (turns : List Turn) (seat : ℕ) (op : Op) (said : Reply) :
 abbrev pub LastAnswersAreOfCalls : Type 0
 LastAnswersAreOfCalls = (plan : TablePlan) (v : View) (op : Op) (said : Reply) (card : Option ℕ)
     → v.answered ≡ Some (record { op = op; said = said; card = card })
-    → (opened : TableState) → Starts plan opened → (turns : List Turn) (s' : TableState) → TableRun plan.last_card opened turns s'
+    → (opened : TableState) → Starts plan opened → (turns : List Turn) (s' : TableState)
+    → TableRun plan.last_card opened turns s'
     → (seat : ℕ) → get_elem? s'.views seat ≡ some v → IsItsCall turns seat op said

@@ -16,7 +16,8 @@ use Rattle.ell_cards.specs.Turns.{Turn, Makes, Splits, Joins, CallIsMade, TableR
 use Rattle.ell_cards.specs.TurnEffects.{own_words}
 use Rattle.ell_cards.specs.Starts.{Starts, IsReached}
 
--- a state of a run of a table, its first and its last among them: some first turns lead to it, and the others from it to the end
+-- a state of a run of a table, its first and its last among them: some first turns lead to it, and the others from it
+-- to the end
 pub record IsAmid (last : ℕ) (s : TableState) (turns : List Turn) (s' state : TableState) : Type 0 where
   pub first : ℕ
   pub before : TableRun last s (take first turns) state
@@ -28,7 +29,8 @@ HasThere w key (Some value) = IsTreePair w key value
 HasThere w key None = ¬ IsTreeKey w key
 
 -- so it was in one state of a run, by the table's own words
-pub record WasSo (last : ℕ) (s : TableState) (turns : List Turn) (s' : TableState) (key : ℕ) (there : Option ℕ) : Type 0 where
+pub record WasSo (last : ℕ) (s : TableState) (turns : List Turn) (s' : TableState) (key : ℕ)
+    (there : Option ℕ) : Type 0 where
   pub state : TableState
   pub amid : IsAmid last s turns s' state
   pub so : HasThere (own_words state) key there
@@ -67,7 +69,8 @@ pub record Began (last : ℕ) (s : TableState) (turns : List Turn) (s' : TableSt
   pub on : LooksOn seat (drop (suc first) turns)
 
 -- and what it has found of a key was so in one state of the run since
-pub record FoundInRun (last : ℕ) (s : TableState) (turns : List Turn) (s' : TableState) (seat key : ℕ) (there : Option ℕ) : Type 0 where
+pub record FoundInRun (last : ℕ) (s : TableState) (turns : List Turn) (s' : TableState) (seat key : ℕ)
+    (there : Option ℕ) : Type 0 where
   pub began : Began last s turns s' seat
   pub so : WasSo last began.to (drop (suc began.first) turns) s' key there
 

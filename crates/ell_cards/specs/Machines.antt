@@ -22,8 +22,8 @@ use Rattle.ell_cards.specs.declared.view.View.{View}
 use Rattle.ell_cards.specs.Models.{IsTold, Knows, KnewBefore, stored_at}
 use Rattle.ell_cards.specs.States.{TableState, seated}
 
--- what was told holds of the machine's words: a node that was met came into the tree; a key, a value, or a fixed word of a claimed
--- card, is what was told; and so is a child of a parent that stays marked
+-- what was told holds of the machine's words: a node that was met came into the tree; a key, a value, or a fixed word
+-- of a claimed card, is what was told; and so is a child of a parent that stays marked
 abbrev pub EntryHolds : Words → Stages → Told → Type 0
 EntryHolds w stage (Met x) = Born stage x
 EntryHolds w stage (Key x key) = Born stage x × (w.key x ≡ key)
@@ -32,8 +32,9 @@ EntryHolds w stage (Info c f x) = (c < w.next) × (is_fixed f ≡ true) × (word
 EntryHolds w stage (Frozen c right x) =
     (c < w.next) × (w.update (w.p c) ≡ marked c) × (w.child (w.p c) right ≡ x) × Born stage x
 
--- the card in hand that is not flagged: in the machine it says what it is to say; in the table, what was stored of it. So of a card
--- that is to say P 3 and L 4, and of which P was stored, the machine has both, and the table has P 3 and a 0 for L
+-- the card in hand that is not flagged: in the machine it says what it is to say; in the table, what was stored of it.
+-- So of a card that is to say P 3 and L 4, and of which P was stored, the machine has both, and the table has P 3 and a
+-- 0 for L
 pub record CardInHandHolds (words : List ℕ) (w : Words) (planned stores : List (Field × ℕ)) (c : ℕ) : Type 0 where
   pub machine : (f : Field) → word w c f ≡ stored planned f 0
   pub table : (f : Field) → listed words c f ≡ stored_at stores f
@@ -42,9 +43,10 @@ pub record CardInHandHolds (words : List ℕ) (w : Words) (planned stores : List
 abbrev pub over_before : View → ℕ → Bool
 over_before v c = known_of v.knew_before (DOver c)
 
--- what a pass knows beside the worker that it is: the claim word is no less than its reading and than its claims tell; what it knew
--- when its search began it knows; and the walk on which it stands comes by no parent that a delete had cut out which it knew over
--- then. So while it walks with card 5 known over from the beginning, no walk of its key from its node comes by P(5)
+-- what a pass knows beside the worker that it is: the claim word is no less than its reading and than its claims tell;
+-- what it knew when its search began it knows; and the walk on which it stands comes by no parent that a delete had cut
+-- out which it knew over then. So while it walks with card 5 known over from the beginning, no walk of its key from its
+-- node comes by P(5)
 pub record ViewHolds (words : List ℕ) (w : Words) (stage : Stages) (v : View) : Type 0 where
   pub entries : (e : Told) → IsTold v e → EntryHolds w stage e
   pub here : (x key : ℕ) → v.worker.search.node ≡ Some x → v.here ≡ Some key → IsTold v (Key x key)
@@ -52,16 +54,18 @@ pub record ViewHolds (words : List ℕ) (w : Words) (stage : Stages) (v : View) 
   pub read : (n : ℕ) → v.next ≡ Some n → n ≤ w.next
   pub least : v.next_at_least ≤ w.next
   pub knew : (f : Fact) → KnewBefore v f → Knows v f
-  pub walk : (op : Op) (x : ℕ) → v.worker.operation ≡ Some op → v.worker.search.node ≡ Some x → Avoids w (over_before v) (key_of op) x
+  pub walk : (op : Op) (x : ℕ) → v.worker.operation ≡ Some op → v.worker.search.node ≡ Some x
+      → Avoids w (over_before v) (key_of op) x
 
 -- no pass of a table takes any key for shared
 abbrev pub NobodyShares : TableState → Type 0
 NobodyShares s = (j : ℕ) (v : View) → get_elem? s.views j ≡ some v → v.worker.ownable ≡ None
 
--- a state of a table with these keys and this last card has a machine that the invariant holds of: its workers are the passes; the table has its claim
--- word, and its words at every card that does not wait for its flag; what passes know holds; and every key that a pass owns is one of the table's,
--- and so is each that it knows may have an owner. So while a pass fills card 3, the machine has card 3 whole and the table what was stored of it, and
--- at every other card that won its flag the two are alike
+-- a state of a table with these keys and this last card has a machine that the invariant holds of: its workers are the
+-- passes; the table has its claim word, and its words at every card that does not wait for its flag; what passes know
+-- holds; and every key that a pass owns is one of the table's, and so is each that it knows may have an owner. So while
+-- a pass fills card 3, the machine has card 3 whole and the table what was stored of it, and at every other card that
+-- won its flag the two are alike
 pub record HasMachine (keys : List ℕ) (last : ℕ) (s : TableState) : Type 0 where
   pub words : Words
   pub stages : Stages
@@ -71,4 +75,5 @@ pub record HasMachine (keys : List ℕ) (last : ℕ) (s : TableState) : Type 0 w
   pub settled : (c : ℕ) (f : Field) → waits (stages c) ≡ false → listed s.words c f ≡ word words c f
   pub views : (j : ℕ) (v : View) → get_elem? s.views j ≡ some v → ViewHolds s.words words stages v
   pub owned : (j k : ℕ) (v : View) → get_elem? s.views j ≡ some v → WorkerOwns (worker_of v.worker) k → Contains keys k
-  pub listed : (j : ℕ) (v : View) (list : List ℕ) → get_elem? s.views j ≡ some v → v.worker.ownable ≡ Some list → list ≡ keys
+  pub listed : (j : ℕ) (v : View) (list : List ℕ) → get_elem? s.views j ≡ some v → v.worker.ownable ≡ Some list
+      → list ≡ keys

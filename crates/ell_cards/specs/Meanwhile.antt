@@ -60,10 +60,12 @@ IsBeginning _ = ⊥
 
 -- after it a search begins there
 abbrev pub SearchesBeginThere : Type 0
-SearchesBeginThere = (last : ℕ) (s : TableState) (seat : ℕ) (c : Call) (s' : TableState) → CallIsMade last s seat c s' → IsBeginning c → BeginsHere s' seat
+SearchesBeginThere = (last : ℕ) (s : TableState) (seat : ℕ) (c : Call) (s' : TableState) → CallIsMade last s seat c s'
+    → IsBeginning c → BeginsHere s' seat
 
--- a run of a table from its start: it leads to a state where the pass in a seat begins a search, and then goes on by any turns of any
--- passes, while that pass takes no other operation in hand: it may begin its search anew, again and again, and lay its operation down
+-- a run of a table from its start: it leads to a state where the pass in a seat begins a search, and then goes on by
+-- any turns of any passes, while that pass takes no other operation in hand: it may begin its search anew, again and
+-- again, and lay its operation down
 pub record SearchRun (plan : TablePlan) : Type 0 where
   pub opened : TableState
   pub starts : Starts plan opened
@@ -98,16 +100,19 @@ WordEndsMeanwhile plan r word = (unpacked word).state ≢ state.Clean → EndsMe
 
 -- so is each update word that its search has read and has with it: where it stands, at the parent, at the grandparent
 pub record ReadsMeanwhile (plan : TablePlan) (r : SearchRun plan) : Type 0 where
-  pub here : (x word : ℕ) → r.view.worker.search.node ≡ Some x → r.view.worker.search.read ≡ Some word → WordEndsMeanwhile plan r word
+  pub here : (x word : ℕ) → r.view.worker.search.node ≡ Some x → r.view.worker.search.read ≡ Some word
+      → WordEndsMeanwhile plan r word
   pub parent : (seen : Seen) → r.view.worker.search.parent ≡ Some seen → WordEndsMeanwhile plan r seen.word
   pub grandparent : (seen : Seen) → r.view.worker.search.grandparent ≡ Some seen → WordEndsMeanwhile plan r seen.word
 
--- what was in the way is of this time: a claim was lost of a card that was given out since; or an update was found of a card that is given
--- out by now, had not ended when the search began, and has since, where the update is a clean one, or the pass knows now that it has
+-- what was in the way is of this time: a claim was lost of a card that was given out since; or an update was found of a
+-- card that is given out by now, had not ended when the search began, and has since, where the update is a clean one,
+-- or the pass knows now that it has
 abbrev pub IsMeanwhile : (plan : TablePlan) → SearchRun plan → Hindrance → Type 0
 IsMeanwhile plan r (Claim c) = ((own_words r.begun).next ≤ c) × (c < (own_words r.now).next)
 IsMeanwhile plan r (Found u) =
-    EndsMeanwhile plan r u.card × (u.state ≡ state.Clean → ended_since plan r u.card ≡ true) × (u.card < (own_words r.now).next)
+    EndsMeanwhile plan r u.card × (u.state ≡ state.Clean → ended_since plan r u.card ≡ true)
+        × (u.card < (own_words r.now).next)
 
 abbrev pub AreMeanwhile : (plan : TablePlan) → SearchRun plan → List Hindrance → Type 0
 AreMeanwhile plan r [] = Unit {0}
@@ -119,9 +124,10 @@ AreOfOthers c [] = Unit {0}
 AreOfOthers c (Claim d ∷ hs) = (d < c) × AreOfOthers c hs
 AreOfOthers c (Found u ∷ hs) = (u.card ≢ c) × AreOfOthers c hs
 
--- so is all that came to be in the way since that search began, in as many tries as there were: what a lost claim, flag or mark has
--- found, and what the search of a try that was given up had read where it was to act. What the try in hand met is the last of it. While
--- a card is in hand, none of it is of that card, and what the search has read is not in the way
+-- so is all that came to be in the way since that search began, in as many tries as there were: what a lost claim, flag
+-- or mark has found, and what the search of a try that was given up had read where it was to act. What the try in hand
+-- met is the last of it. While a card is in hand, none of it is of that card, and what the search has read is not in
+-- the way
 pub record MetMeanwhile (plan : TablePlan) (r : SearchRun plan) : Type 0 where
   pub met : List Hindrance
   pub list : r.view.hindrances ≡ met ++ r.begins.view.hindrances
@@ -141,12 +147,14 @@ SearchesMeetMeanwhile = (plan : TablePlan) (r : SearchRun plan) → MetMeanwhile
 
 -- the milestones of which a pass knows were reached in a run: the cards that its claims have shown to be given out are,
 -- and each card that it knows to have come to its end did so
-pub record KnowsWhatIsReached (last : ℕ) (first : TableState) (turns : List Turn) (s : TableState) (run : TableRun last first turns s) (v : View) : Type 0 where
+pub record KnowsWhatIsReached (last : ℕ) (first : TableState) (turns : List Turn) (s : TableState)
+    (run : TableRun last first turns s) (v : View) : Type 0 where
   pub given_out : v.next_at_least ≤ (own_words s).next
   pub ended : (c : ℕ) → EndedBy v.worker.facts c → has_end (run_wins last first turns s run c) ≡ true
 
 -- so it is of each pass after every run from a start
 abbrev pub KnownMilestonesWereReached : Type 0
-KnownMilestonesWereReached = (plan : TablePlan) (first : TableState) → Starts plan first → (turns : List Turn) (s : TableState)
+KnownMilestonesWereReached =
+    (plan : TablePlan) (first : TableState) → Starts plan first → (turns : List Turn) (s : TableState)
     (run : TableRun plan.last_card first turns s) (seat : ℕ) (v : View) → get_elem? s.views seat ≡ some v
     → KnowsWhatIsReached plan.last_card first turns s run v

@@ -105,7 +105,8 @@ KnewBefore v fact = known_of v.knew_before fact ≡ true
 
 -- by these facts what a card was for has come to its end: the flag of its insert or delete was taken away
 abbrev pub EndedBy : List Fact → ℕ → Type 0
-EndedBy facts c = (known_of facts (IOver c) ≡ true) ⊎ ((known_of facts (DOver c) ≡ true) ⊎ (known_of facts (Backed c) ≡ true))
+EndedBy facts c =
+    (known_of facts (IOver c) ≡ true) ⊎ ((known_of facts (DOver c) ≡ true) ⊎ (known_of facts (Backed c) ≡ true))
 
 -- whether facts tell that
 abbrev pub knows_end : List Fact → ℕ → Bool

@@ -31,10 +31,12 @@ pub record SeenIsNamed (last : ℕ) (seen : Seen) : Type 0 where
   pub node : card seen.node ≤ last
   pub word : (unpacked seen.word).card ≤ last
 
--- all that a pass names is in a table with this last card, and so is each card that its claims have shown to be given out
+-- all that a pass names is in a table with this last card, and so is each card that its claims have shown to be given
+-- out
 pub record IsNamed (last : ℕ) (v : View) : Type 0 where
   pub node : (x : ℕ) → v.worker.search.node ≡ Some x → card x ≤ last
-  pub parent : (x : ℕ) (seen : Seen) → v.worker.search.node ≡ Some x → v.worker.search.parent ≡ Some seen → SeenIsNamed last seen
+  pub parent : (x : ℕ) (seen : Seen) → v.worker.search.node ≡ Some x → v.worker.search.parent ≡ Some seen
+      → SeenIsNamed last seen
   pub grandparent : (x : ℕ) (seen above : Seen) → v.worker.search.node ≡ Some x → v.worker.search.parent ≡ Some seen
       → v.worker.search.grandparent ≡ Some above → SeenIsNamed last above
   pub hand : (c : ℕ) → v.worker.card ≡ Some c → c ≤ last

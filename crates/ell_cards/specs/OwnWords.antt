@@ -44,7 +44,8 @@ abbrev pub TableAnswersAreTheMaps : Type 0
 TableAnswersAreTheMaps = (plan : TablePlan) (s : TableState) → IsReached plan s → (id : ℕ) (v : View) (c : Call)
     → get_elem? s.views id ≡ some v → May plan.last_card c v → LedgerChangesBy c v (view_after s v c)
 
--- a pass with nothing in hand has each of its keys in its ledger as the tree has it that the table's own words make, with its value
+-- a pass with nothing in hand has each of its keys in its ledger as the tree has it that the table's own words make,
+-- with its value
 abbrev pub LedgersTellTheTree : Type 0
 LedgersTellTheTree = (plan : TablePlan) (s : TableState) → IsReached plan s → (id : ℕ) (v : View)
     → get_elem? s.views id ≡ some v → IsFree v → (key value : ℕ) → ledger_of v.worker.ledger key ≢ None
@@ -62,8 +63,8 @@ abbrev pub TreeKeysAreOwned : Type 0
 TreeKeysAreOwned = (plan : TablePlan) (s : TableState) → IsReached plan s → (key : ℕ)
     → IsTreeKey (own_words s) key → ¬ IsSharedIn plan key → IsOwnedKey s key
 
--- a node goes on: it has its key; an internal one has no lesser children and no lesser update word, and once that is a mark,
--- neither it nor the children change
+-- a node goes on: it has its key; an internal one has no lesser children and no lesser update word, and once that is a
+-- mark, neither it nor the children change
 pub record NodeGoesOn (old new : Words) (x : ℕ) : Type 0 where
   pub key : new.key x ≡ old.key x
   pub children : IsInternal x → (right : Bool) → old.child x right ≤ new.child x right

@@ -39,7 +39,8 @@ pub record IsToldOf (s : TableState) (c : ℕ) : Type 0 where
   pub parent : ℕ
   pub told : IsTold view (Info c P parent)
 
--- so is some pass of each card that was claimed, wherever turns have led a table: the cards of the opening tree are not claimed
+-- so is some pass of each card that was claimed, wherever turns have led a table: the cards of the opening tree are not
+-- claimed
 abbrev pub ClaimsAreTold : Type 0
 ClaimsAreTold = (plan : TablePlan) (s : TableState) → IsReached plan s → (c : ℕ) → length plan.start < c
     → c < slice_index s.words 0 → IsToldOf s c

@@ -16,7 +16,8 @@ abbrev pub won_before :
     (keys : List ℕ) (last : ℕ) (s : TableState) → HasMachine keys last s → ℕ → List Exchange
 won_before keys last s r c = wins_of (r.stages c)
 
--- what was won for each card before, none for card 0 and for one that is yet to be claimed, goes on in order in every run
+-- what was won for each card before, none for card 0 and for one that is yet to be claimed, goes on in order in every
+-- run
 pub record WinsGoOn (keys : List ℕ) (last : ℕ) (s : TableState) (r : HasMachine keys last s) : Type 0 where
   pub first : (c : ℕ) → c ≡ 0 → won_before keys last s r c ≡ []
   pub fresh : (c : ℕ) → (own_words s).next ≤ c → won_before keys last s r c ≡ []

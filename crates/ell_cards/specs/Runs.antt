@@ -16,36 +16,41 @@ use Rattle.ell_cards.specs.TurnEffects.{own_machine, PairsGoBy}
 use Rattle.ell_cards.specs.Machines.{HasMachine}
 use Rattle.ell_cards.specs.Laws.{machine_of_table}
 
--- how the machine goes on by a turn: a call is its event, with the answer by the word that it found, or leaves the machine; a split
--- is its split, and a join its join
+-- how the machine goes on by a turn: a call is its event, with the answer by the word that it found, or leaves the
+-- machine; a split is its split, and a join its join
 abbrev pub GoesBy : TableState → Turn → Machine → Machine → Type 0
 GoesBy s (Makes seat c) m m' = Becomes seat (act_of c (found_by s c)) (said_of c (found_by s c)) m m'
 GoesBy s (Splits seat left) m m' = Split m seat m'
 GoesBy s (Joins seat other) m m' = Join m seat other m'
 
--- a turn between states that have machines: the machine goes on by it, so do the pairs of the tree, and the table's own words after it
--- are a sound state
-pub record TurnIsLawful (keys : List ℕ) (last : ℕ) (s : TableState) (r : HasMachine keys last s) (t : Turn) (s' : TableState) (r' : HasMachine keys last s') : Type 0 where
+-- a turn between states that have machines: the machine goes on by it, so do the pairs of the tree, and the table's own
+-- words after it are a sound state
+pub record TurnIsLawful (keys : List ℕ) (last : ℕ) (s : TableState) (r : HasMachine keys last s) (t : Turn)
+    (s' : TableState) (r' : HasMachine keys last s') : Type 0 where
   pub machine : GoesBy s t (machine_of_table keys last s r) (machine_of_table keys last s' r')
   pub later : StagesLater r.stages r'.stages
   pub tree : PairsGoBy s t s'
   pub sound : IsSound (own_machine last s')
 
 -- the turns of a run from a state that has a machine, each to one that has
-abbrev pub TurnsAreLawful : (keys : List ℕ) (last : ℕ) (s : TableState) (r : HasMachine keys last s) (turns : List Turn) (s' : TableState) (r' : HasMachine keys last s')
+abbrev pub TurnsAreLawful : (keys : List ℕ) (last : ℕ) (s : TableState) (r : HasMachine keys last s) (turns : List Turn)
+    (s' : TableState) (r' : HasMachine keys last s')
     → TableRun last s turns s' → Type 0
 TurnsAreLawful keys last s r [] s' r' run = machine_of_table keys last s' r' ≡ machine_of_table keys last s r
 TurnsAreLawful keys last s r (t ∷ ts) s' r' run =
-    (between : HasMachine keys last run.0) × TurnIsLawful keys last s r t run.0 between × TurnsAreLawful keys last run.0 between ts s' r' run.2
+    (between : HasMachine keys last run.0) × TurnIsLawful keys last s r t run.0 between
+        × TurnsAreLawful keys last run.0 between ts s' r' run.2
 
 -- a run leads from a state that has a machine to one that has, by such turns
-pub record RunIsLawful (keys : List ℕ) (last : ℕ) (s : TableState) (r : HasMachine keys last s) (turns : List Turn) (s' : TableState) (run : TableRun last s turns s') : Type 0 where
+pub record RunIsLawful (keys : List ℕ) (last : ℕ) (s : TableState) (r : HasMachine keys last s) (turns : List Turn)
+    (s' : TableState) (run : TableRun last s turns s') : Type 0 where
   pub kept : HasMachine keys last s'
   pub lawful : TurnsAreLawful keys last s r turns s' kept run
 
 -- so does every run
 abbrev pub RunsAreLawful : Type 0
-RunsAreLawful = (keys : List ℕ) (last : ℕ) (s : TableState) (r : HasMachine keys last s) (turns : List Turn) (s' : TableState)
+RunsAreLawful =
+    (keys : List ℕ) (last : ℕ) (s : TableState) (r : HasMachine keys last s) (turns : List Turn) (s' : TableState)
     (run : TableRun last s turns s') → RunIsLawful keys last s r turns s' run
 
 -- the event of a call, if it is one, and what the machine shows of it
@@ -67,11 +72,13 @@ turn_shown s (Makes seat c) = shown_of (act_of c (found_by s c)) (said_of c (fou
 turn_shown s _ = []
 
 -- those of a run
-abbrev pub events_in : (last : ℕ) (s : TableState) (turns : List Turn) (s' : TableState) → TableRun last s turns s' → List Event
+abbrev pub events_in : (last : ℕ) (s : TableState) (turns : List Turn) (s' : TableState) → TableRun last s turns s'
+    → List Event
 events_in last s [] s' run = []
 events_in last s (t ∷ ts) s' run = turn_events s t ++ events_in last run.0 ts s' run.2
 
-abbrev pub shown_in : (last : ℕ) (s : TableState) (turns : List Turn) (s' : TableState) → TableRun last s turns s' → List Shown
+abbrev pub shown_in : (last : ℕ) (s : TableState) (turns : List Turn) (s' : TableState) → TableRun last s turns s'
+    → List Shown
 shown_in last s [] s' run = []
 shown_in last s (t ∷ ts) s' run = turn_shown s t ++ shown_in last run.0 ts s' run.2
 
@@ -83,6 +90,8 @@ AreCalls (_ ∷ ts) = ⊥
 
 -- a run of step calls whose turns are lawful is a run of the machine, by the events of the calls
 abbrev pub RunsAreSchedules : Type 0
-RunsAreSchedules = (keys : List ℕ) (last : ℕ) (s : TableState) (r : HasMachine keys last s) (turns : List Turn) (s' : TableState) (r' : HasMachine keys last s')
+RunsAreSchedules = (keys : List ℕ) (last : ℕ) (s : TableState) (r : HasMachine keys last s) (turns : List Turn)
+    (s' : TableState) (r' : HasMachine keys last s')
     (run : TableRun last s turns s') → AreCalls turns → TurnsAreLawful keys last s r turns s' r' run
-    → Run (machine_of_table keys last s r) (events_in last s turns s' run) (shown_in last s turns s' run) (machine_of_table keys last s' r')
+    → Run (machine_of_table keys last s r) (events_in last s turns s' run) (shown_in last s turns s' run)
+    (machine_of_table keys last s' r')

@@ -11,8 +11,8 @@ abbrev pub all_shares : List View → ℕ
 all_shares [] = 0
 all_shares (v ∷ vs) = v.share + all_shares vs
 
--- the passes of a state have the whole share together, and each that may change a shared key has some of it: so one that has the whole is
--- the only one that may
+-- the passes of a state have the whole share together, and each that may change a shared key has some of it: so one
+-- that has the whole is the only one that may
 pub record HaveTheWhole (s : TableState) : Type 0 where
   pub whole : all_shares s.views ≡ whole_share
   pub each : (j : ℕ) (v : View) → get_elem? s.views j ≡ some v → v.worker.ownable ≢ None → 1 ≤ v.share

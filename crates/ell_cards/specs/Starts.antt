@@ -70,7 +70,8 @@ pub record MayBeginThere (last : ℕ) (s : TableState) (op : Op) : Type 0 where
 
 -- so it may begin every operation on a key of its own, and on a shared one
 abbrev pub FirstPassMayBegin : Type 0
-FirstPassMayBegin = (plan : TablePlan) (s : TableState) → Starts plan s → (op : Op) → Contains plan.keys (key_of op) ⊎ IsSharedIn plan (key_of op)
+FirstPassMayBegin = (plan : TablePlan) (s : TableState) → Starts plan s → (op : Op) → Contains plan.keys (key_of op)
+    ⊎ IsSharedIn plan (key_of op)
     → MayBeginThere plan.last_card s op
 
 -- what a run from a start does: the tree of the table's own words has the start pairs first, each turn changes it as

@@ -13,7 +13,8 @@ use Rattle.ell_cards.specs.Looking.{KeysAreFixed, ReadsItsOwn}
 use Rattle.ell_cards.specs.declared.share.Share.{Share}
 use Rattle.ell_cards.specs.Inside.{HasShare}
 
--- wherever turns have led the table, a load of a word is a turn again, and this holds of the word found and of what the pass knows after
+-- wherever turns have led the table, a load of a word is a turn again, and this holds of the word found and of what the
+-- pass knows after
 abbrev pub MayLoad : TablePlan → View → ℕ → (ℕ → View → Type 0) → Type 0
 MayLoad plan v i then =
     (id : ℕ) → Allows (IsReached plan) 0 id (v, []) i (λ n. n) (λ n me. then n me.0 × (me.1 ≡ []))
@@ -26,7 +27,8 @@ MayStore plan v i value then =
 -- and an exchange of an expected value for another
 abbrev pub MayExchange : TablePlan → View → ℕ → ℕ → ℕ → (ℕ → View → Type 0) → Type 0
 MayExchange plan v i expected value then =
-    (id : ℕ) → Allows (IsReached plan) 0 id (v, []) i (λ n. either (n == expected) value n) (λ n me. then n me.0 × (me.1 ≡ []))
+    (id : ℕ) → Allows (IsReached plan) 0 id (v, []) i (λ n. either (n == expected) value n)
+        (λ n me. then n me.0 × (me.1 ≡ []))
 
 -- whatever the table is, the view of a seat may be cut in these two
 abbrev pub MaySplit : TablePlan → View → View → View → Type 0
@@ -56,7 +58,8 @@ PartsShare old left right = (share : Share) → HasShare share old
 -- what a step tells says that the pass owns the keys and has the share that it did, and names what is in the table
 abbrev pub KeepsPass : ℕ → View → (ℕ → View → Type 0) → Type 0
 KeepsPass last v then =
-    (n : ℕ) (w : View) → then n w → (ledger_keys w.worker.ledger ≡ ledger_keys v.worker.ledger) × SameShare v w × IsNamed last w
+    (n : ℕ) (w : View) → then n w → (ledger_keys w.worker.ledger ≡ ledger_keys v.worker.ledger) × SameShare v w
+        × IsNamed last w
 
 -- a pass made one step that it has not counted yet: its table and its label are as they were
 pub record SeesBy (old new : PassModel) : Type 0 where

@@ -31,7 +31,8 @@ wins is_such s (Makes seat c) = is_such c && is_won (atomic_of c) (found_by s c)
 wins is_such s _ = false
 
 -- how many turns of a run are
-abbrev pub won_in : (Call → Bool) → (last : ℕ) (s : TableState) (turns : List Turn) (s' : TableState) → TableRun last s turns s' → ℕ
+abbrev pub won_in : (Call → Bool) → (last : ℕ) (s : TableState) (turns : List Turn) (s' : TableState)
+    → TableRun last s turns s' → ℕ
 won_in is_such last s [] s' run = 0
 won_in is_such last s (t ∷ ts) s' run = (if wins is_such s t then 1 else 0) + won_in is_such last run.0 ts s' run.2
 
@@ -43,7 +44,8 @@ HasHeight w h = (path : List Bool) (x : ℕ) → Leads w 0 path x → IsInternal
 abbrev pub TablesHaveHeights : Type 0
 TablesHaveHeights = (plan : TablePlan) (s : TableState) → IsReached plan s → HasHeight (own_words s) plan.last_card
 
--- a run of a table from its start, and after it a stretch of any turns of any passes in which no exchange of a child is won
+-- a run of a table from its start, and after it a stretch of any turns of any passes in which no exchange of a child is
+-- won
 pub record Stretch (plan : TablePlan) : Type 0 where
   pub opened : TableState
   pub starts : Starts plan opened
@@ -60,8 +62,9 @@ abbrev pub passes_at_work : List View → ℕ
 passes_at_work [] = 0
 passes_at_work (v ∷ vs) = (if is_some v.worker.operation then 1 else 0) + passes_at_work vs
 
--- in such a stretch few flags are won, if the tree that it begins with, and keeps, has this height: on each level at most one for each pass that
--- was at work when it began and two for each card that is in a hand when it ends, and beside them one for each such card
+-- in such a stretch few flags are won, if the tree that it begins with, and keeps, has this height: on each level at
+-- most one for each pass that was at work when it began and two for each card that is in a hand when it ends, and
+-- beside them one for each such card
 abbrev pub FewFlagsWithoutAChange : Type 0
 FewFlagsWithoutAChange = (plan : TablePlan) (r : Stretch plan) (h : ℕ) → HasHeight (own_words r.begun) h
     → won_in is_flag plan.last_card r.begun r.turns r.now r.run

@@ -15,18 +15,22 @@ use Rattle.ell_cards.specs.Starts.{Starts}
 use Rattle.ell_cards.specs.Changing.{run_effects}
 use Rattle.ell_cards.specs.Answering.{AnsweredInRun}
 
--- in a run from a start the pass in a seat deleted a key: at the call's point, one thread that had made all operations by which the tree was
--- changed till then had the key with this value
-pub record TookInRun (plan : TablePlan) (s : TableState) (turns : List Turn) (s' : TableState) (seat key value : ℕ) : Type 0 where
+-- in a run from a start the pass in a seat deleted a key: at the call's point, one thread that had made all operations
+-- by which the tree was changed till then had the key with this value
+pub record TookInRun (plan : TablePlan) (s : TableState) (turns : List Turn) (s' : TableState)
+    (seat key value : ℕ) : Type 0 where
   pub call : AnsweredInRun plan s turns s' seat (Delete key) Yes
-  pub had : final (contents_of plan.start) (run_effects plan.last_card s call.point.all call.point.state call.point.led) key ≡ Some value
+  pub had : final (contents_of plan.start)
+      (run_effects plan.last_card s call.point.all call.point.state call.point.led) key ≡ Some value
 
 -- so it is in every run of a table with this plan, from its start to a state in which a pass knows this
 abbrev pub IsTakenInRuns : TablePlan → View → ℕ → ℕ → Type 0
-IsTakenInRuns plan v key value = (s : TableState) → Starts plan s → (turns : List Turn) (s' : TableState) → TableRun plan.last_card s turns s'
+IsTakenInRuns plan v key value =
+    (s : TableState) → Starts plan s → (turns : List Turn) (s' : TableState) → TableRun plan.last_card s turns s'
     → (seat : ℕ) → get_elem? s'.views seat ≡ some v → TookInRun plan s turns s' seat key value
 
 -- a delete that was answered yes by its card took the value that the pass was told of the card's leaf
 abbrev pub DeletesTakeTheToldValue : Type 0
-DeletesTakeTheToldValue = (plan : TablePlan) (v : View) (key c leaf value : ℕ) → v.answered ≡ Some (record { op = Delete key; said = Yes; card = Some c })
+DeletesTakeTheToldValue = (plan : TablePlan) (v : View) (key c leaf value : ℕ)
+    → v.answered ≡ Some (record { op = Delete key; said = Yes; card = Some c })
     → IsTold v (Info c field.L leaf) → IsTold v (Value leaf value) → IsTakenInRuns plan v key value

@@ -11,7 +11,8 @@ use Rattle.ell_cards.specs.Turns.{found_by}
 use Rattle.ell_cards.specs.Starts.{IsReached}
 use Rattle.ell_cards.specs.Models.{TablePlan}
 
--- the state after the atomic step of a call of the pass in a seat, which tells that its word was this one, whatever the word was
+-- the state after the atomic step of a call of the pass in a seat, which tells that its word was this one, whatever the
+-- word was
 abbrev pub told_of : TableState → ℕ → View → Call → ℕ → TableState
 told_of s id v c n = record {
   words = slice_set s.words (word_of c) (left_by (atomic_of c) (found_by s c));
@@ -24,17 +25,20 @@ abbrev pub NoGreaterNext : Type 0
 NoGreaterNext = (plan : TablePlan) (s : TableState) → IsReached plan s → (id : ℕ) (v : View)
     → get_elem? s.views id ≡ some v → (n : ℕ) → found_by s call.Next < n → ¬ IsReached plan (told_of s id v call.Next n)
 
--- nor that a node where the pass stands has a greater update word than it has: no flag that is still to come, and none taken away that
--- stands
+-- nor that a node where the pass stands has a greater update word than it has: no flag that is still to come, and none
+-- taken away that stands
 abbrev pub NoGreaterUpdate : Type 0
 NoGreaterUpdate = (plan : TablePlan) (s : TableState) → IsReached plan s → (id : ℕ) (v : View)
-    → get_elem? s.views id ≡ some v → (x : ℕ) → May plan.last_card (call.Upd x) v → (n : ℕ) → found_by s (call.Upd x) < n
+    → get_elem? s.views id ≡ some v → (x : ℕ) → May plan.last_card (call.Upd x) v → (n : ℕ)
+    → found_by s (call.Upd x) < n
     → ¬ IsReached plan (told_of s id v (call.Upd x) n)
 
--- nor of an exchange that the pass may make, whichever it is, that it was lost where it was won, nor that it was won where it was lost
+-- nor of an exchange that the pass may make, whichever it is, that it was lost where it was won, nor that it was won
+-- where it was lost
 abbrev pub NoOtherOutcome : Type 0
 NoOtherOutcome = (plan : TablePlan) (s : TableState) → IsReached plan s → (id : ℕ) (v : View)
-    → get_elem? s.views id ≡ some v → (c : Call) → May plan.last_card c v → (n : ℕ) → is_won (atomic_of c) n ≢ is_won (atomic_of c) (found_by s c)
+    → get_elem? s.views id ≡ some v → (c : Call) → May plan.last_card c v → (n : ℕ)
+    → is_won (atomic_of c) n ≢ is_won (atomic_of c) (found_by s c)
     → ¬ IsReached plan (told_of s id v c n)
 
 -- nor can the claim of the next card be lost that was not tried

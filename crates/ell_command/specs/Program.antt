@@ -67,7 +67,8 @@ abbrev pub status_after : {X : Type 0} → Result X Failure → ℕ
 status_after (Ok done) = 0
 status_after (Err failed) = status_of failed
 
--- words that are taken name `run` or `replay`; where help or the version is shown, nothing is refused; words that are refused end silently
+-- words that are taken name `run` or `replay`; where help or the version is shown, nothing is refused; words that are
+-- refused end silently
 pub record GoesByWords (words : List Text) (status : ℕ) : Type 0 where
   pub named : AreTaken words → AreTakenToRun words ⊎ AreTakenToReplay words
   pub help : AsksForHelp words → ¬ IsRefusal status
@@ -92,7 +93,8 @@ IsBeforeOutput (failure.Replay fault) = IsBeforeTrace fault
 IsBeforeOutput failure.Write = ⊥
 IsBeforeOutput _ = ⊤
 
--- what a failure tells where the words are taken to run: of the bytes that were read, and of what was written; by `Write` a flush failed
+-- what a failure tells where the words are taken to run: of the bytes that were read, and of what was written; by
+-- `Write` a flush failed
 abbrev pub RunFailureTells : Failure → Option (List ℕ) → Option (List ℕ) → Option (List ℕ) → Type 0
 RunFailureTells failure.NoMemory input before after = Keeps before after
 RunFailureTells (failure.Run fault) input before after = FaultTells fault input before after

@@ -7,7 +7,8 @@ pub mod SmallTrees
 pub mod Sound
 -- Small states whose ledgers, searches or strangers are unsound, and what they are made of.
 pub mod Unsound
--- Small states in which facts are known that do not hold: for each fact one for each part of its meaning that can fail alone.
+-- Small states in which facts are known that do not hold: for each fact one for each part of its meaning that can fail
+-- alone.
 pub mod UnsoundFacts
 -- Small states whose names or flags are unsound.
 pub mod UnsoundFlags

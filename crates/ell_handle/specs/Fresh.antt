@@ -18,8 +18,8 @@ use Rattle.ell_handle.specs.declared.handle.SharedTree.{SharedTree}
 use Rattle.ell_handle.specs.declared.refusal.Refusal.{Refusal}
 use Rattle.ell_handle.specs.declared.refusal.Refusal.TheVariants.{BadCards, BadStart, NoMemory, OtherTree, TooManyHandles}
 
--- a pass that knows this has looked at each key of a tree below another one: these pairs, which ascend, are what it found, of each key as it was in
--- some state since it began
+-- a pass that knows this has looked at each key of a tree below another one: these pairs, which ascend, are what it
+-- found, of each key as it was in some state since it began
 pub record HasFoundBelow (upto : ℕ) (t : TreeModel) (v : View) (pairs : List (ℕ × ℕ)) : Type 0 where
   pub found : AreFoundIn t v 0 upto (contents_of pairs)
   pub ordered : AreInOrder 0 upto pairs
@@ -46,8 +46,8 @@ PairsRefuse t v BadStart = (count : ℕ) × ((most_start < count) × HasFoundMan
 PairsRefuse t v NoMemory = Unit {0}
 PairsRefuse t v _ = ⊥
 
--- handles are of one new tree in which every key is shared, with these start keys, so many cards besides, and this number, and none of them knows
--- of a card that is given out
+-- handles are of one new tree in which every key is shared, with these start keys, so many cards besides, and this
+-- number, and none of them knows of a card that is given out
 pub record AreOpenedShared (start : List (ℕ × ℕ)) (cards number : ℕ) (handles : List Handle) : Type 0 where
   pub tree : SharedTree
   pub plan : tree.tree.plan ≡ record { keys = []; start = start; last_card = last_card start cards; shared = true }

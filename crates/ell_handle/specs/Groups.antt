@@ -50,8 +50,8 @@ pub record AreOfOne (handles : List Handle) : Type 0 where
   pub numbers : AllPairs HaveNumber handles
   pub apart : AllPairs AreApart handles
 
--- handles are of one tree, which has the keys of others and no more, and what is present of them, with so many cards besides; none of them
--- knows of a card that is given out
+-- handles are of one tree, which has the keys of others and no more, and what is present of them, with so many cards
+-- besides; none of them knows of a card that is given out
 pub record AreRenewed (old : List Handle) (cards number : ℕ) (new : List Handle) : Type 0 where
   pub tree : SharedTree
   pub first : PassModel

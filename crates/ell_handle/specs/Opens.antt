@@ -14,8 +14,8 @@ use Rattle.ell_handle.specs.declared.handle.Handle.{Handle}
 use Rattle.ell_handle.specs.declared.refusal.Refusal.{Refusal}
 use Rattle.ell_handle.specs.declared.refusal.Refusal.TheVariants.{BadCards, BadKey, BadStart, NoMemory}
 
--- the keys of a tree are these and the start keys, and no other key is shared; a pass owns all of them: the start keys are present with their
--- values, the others absent
+-- the keys of a tree are these and the start keys, and no other key is shared; a pass owns all of them: the start keys
+-- are present with their values, the others absent
 pub record OwnsWholePlan (keys : List ℕ) (start : List (ℕ × ℕ)) (t : TreeModel) (p : PassModel) : Type 0 where
   pub all : Lists (union (set_of (keys_of start)) (set_of keys)) t.plan.keys
   pub begins : t.plan.start ≡ start
@@ -28,10 +28,11 @@ pub record IsOpened (keys : List ℕ) (start : List (ℕ × ℕ)) (cards number 
   pub last : (arc_value h.shared).tree.plan.last_card ≡ last_card start cards
   pub number_is : (arc_value h.shared).number ≡ number
 
--- a handle is the first of a new tree in which every key is shared, with these start keys, so many cards besides, and this number; it has the
--- whole share of the tree
+-- a handle is the first of a new tree in which every key is shared, with these start keys, so many cards besides, and
+-- this number; it has the whole share of the tree
 pub record IsOpenedShared (start : List (ℕ × ℕ)) (cards number : ℕ) (h : Handle) : Type 0 where
-  pub plan : (arc_value h.shared).tree.plan ≡ record { keys = []; start = start; last_card = last_card start cards; shared = true }
+  pub plan : (arc_value h.shared).tree.plan
+      ≡ record { keys = []; start = start; last_card = last_card start cards; shared = true }
   pub first : IsFirst (arc_value h.shared).tree h.pass
   pub number_is : (arc_value h.shared).number ≡ number
 

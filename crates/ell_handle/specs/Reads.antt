@@ -32,7 +32,8 @@ pub record KeepsKeys (old new : Handle) : Type 0 where
   pub owned : (k : ℕ) → Owns new.pass k ↔ Owns old.pass k
   pub tree : new.shared ≡ old.shared
 
--- a call left a handle its keys, its map and its tree; it took so many steps at most, and no card, and nothing was in its way
+-- a call left a handle its keys, its map and its tree; it took so many steps at most, and no card, and nothing was in
+-- its way
 pub record OnlyReads (steps : ℕ) (old new : Handle) : Type 0 where
   pub stays : StaysPut old new
   pub took : Took old.pass new.pass steps
@@ -52,7 +53,8 @@ OnlyLooksUp old new = OnlyReads (look_steps (last_card_of old)) old new
 abbrev pub OnlyAsks : Handle → Handle → Type 0
 OnlyAsks old new = OnlyReads 1 old new
 
--- a handle has read the claim word of its tree, by which so many cards were not given out then; in every run no more are left ever after
+-- a handle has read the claim word of its tree, by which so many cards were not given out then; in every run no more
+-- are left ever after
 pub record TellsCardsLeft (left : ℕ) (old new : Handle) : Type 0 where
   pub reads : ReadsCardsLeft (last_card_of old) old.pass new.pass left
   pub most : AreLeftAtMost (tree_of old) new.pass.view left

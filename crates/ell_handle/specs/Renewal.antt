@@ -13,7 +13,8 @@ use Rattle.ell_handle.specs.declared.refusal.Refusal.TheVariants.{BadCards, BadS
 abbrev pub pair_at : Contents → ℕ → Option (ℕ × ℕ)
 pair_at there key = option_map (λ value. (key, value)) (there key)
 
--- a tree without shared keys begins with all that is there, and has so many cards besides, none of them given out; the pass is its first
+-- a tree without shared keys begins with all that is there, and has so many cards besides, none of them given out; the
+-- pass is its first
 pub record IsRenewed (there : Contents) (cards : ℕ) (t : TreeModel) (p : PassModel) : Type 0 where
   pub start : List (ℕ × ℕ)
   pub all : ListsPairs there start

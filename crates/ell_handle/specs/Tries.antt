@@ -20,18 +20,20 @@ TryRefuses key tries h NoTries = tries ≡ 0
 TryRefuses key tries h Foreign = (1 ≤ tries) × (¬ MayUse h key)
 TryRefuses key tries h _ = ⊥
 
--- a call with so many tries kept to the bounds of the tree's calls, on its steps and on the tries that it counts as hindered
+-- a call with so many tries kept to the bounds of the tree's calls, on its steps and on the tries that it counts as
+-- hindered
 abbrev pub TookTries : ℕ → Handle → Handle → Type 0
 TookTries tries old new = IsWithin (tree_of old) tries old.pass new.pass
 
--- a change, which would have changed the map, was laid down after so many tries: something was in the way of each, which is over; that is
--- others' doing; and they are no more than twice the cards
+-- a change, which would have changed the map, was laid down after so many tries: something was in the way of each,
+-- which is over; that is others' doing; and they are no more than twice the cards
 pub record IsHindered (op : Op) (tries : ℕ) (old new : Handle) : Type 0 where
   pub ends : Ends (tree_of old) tries op old.pass new.pass (Err not_done.Busy)
   pub others : IsOthersDoing (tree_of old) tries old.pass new.pass
   pub few : tries ≤ 2 * last_card_of old
 
--- a change, which would have changed the map, was laid down, as its last try has read that all cards of the tree are given out
+-- a change, which would have changed the map, was laid down, as its last try has read that all cards of the tree are
+-- given out
 pub record IsSpent (op : Op) (tries : ℕ) (old new : Handle) : Type 0 where
   pub ends : Ends (tree_of old) tries op old.pass new.pass (Err not_done.Spent)
 

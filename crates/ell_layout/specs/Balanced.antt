@@ -2,8 +2,8 @@ use Rattle.std.specs.Prelude.{◌≡◌, ℕ, ◌+◌, ◌^◌, ◌<◌, ◌≤�
 use Rattle.ell_layout.specs.declared.branch.Branch.{Branch}
 use Rattle.ell_layout.specs.Branches.{branch_of, descend, left_branch, right_branch, root_branch}
 
--- the branch of a card: it is that card's, has leaves on both sides, which are among those of the tree, as its cards are, and the
--- branches below it are its halves
+-- the branch of a card: it is that card's, has leaves on both sides, which are among those of the tree, as its cards
+-- are, and the branches below it are its halves
 pub record IsBranch (leaves c : ℕ) (b : Branch) : Type 0 where
   pub card : b.card ≡ c
   pub some_left : 0 < b.left

@@ -14,7 +14,8 @@ SameAfterSameWrite = (words : List ℕ) (w : Words) (c : ℕ) (field : Field) (d
 
 -- each field of each card of a table has an address there, after that of the claim word
 abbrev pub AddressesAreInside : Type 0
-AddressesAreInside = (cards c : ℕ) (field : Field) → c ≤ cards → (0 < address c field) × (address c field < table_size cards)
+AddressesAreInside =
+    (cards c : ℕ) (field : Field) → c ≤ cards → (0 < address c field) × (address c field < table_size cards)
 
 -- no two fields have one address
 abbrev pub AddressesAreApart : Type 0
@@ -26,7 +27,8 @@ WordsAreListed = (words : List ℕ) (c : ℕ) (field : Field) → word (words_of
 
 -- after these fields of a card were written to a list of a table's size, it has the words with that card filled
 abbrev pub FilledListsAreFilled : Type 0
-FilledListsAreFilled = (words : List ℕ) (cards c : ℕ) (fields : List (Field × ℕ)) → length words ≡ table_size cards → c ≤ cards
+FilledListsAreFilled =
+    (words : List ℕ) (cards c : ℕ) (fields : List (Field × ℕ)) → length words ≡ table_size cards → c ≤ cards
     → words_of (filled_list words c fields) ≡ filled (words_of words) c fields
 
 -- each field of a filled card has what was written to it last, or what it had
@@ -47,13 +49,15 @@ ListsAreWritten = (words : List ℕ) (c : ℕ) (field : Field) (value : ℕ) →
 -- the same of a write to the machine's words
 pub record WordIsWritten (w : Words) (c : ℕ) (field : Field) (value : ℕ) : Type 0 where
   pub here : word (written w c field value) c field ≡ value
-  pub elsewhere : (d : ℕ) (other : Field) → address d other ≢ address c field → word (written w c field value) d other ≡ word w d other
+  pub elsewhere : (d : ℕ) (other : Field) → address d other ≢ address c field
+      → word (written w c field value) d other ≡ word w d other
   pub next : (written w c field value).next ≡ w.next
 
 abbrev pub WordsAreWritten : Type 0
 WordsAreWritten = (w : Words) (c : ℕ) (field : Field) (value : ℕ) → WordIsWritten w c field value
 
--- the key of a node, the value of a leaf, and the children and the update word of an internal node are words of its card
+-- the key of a node, the value of a leaf, and the children and the update word of an internal node are words of its
+-- card
 pub record NodeIsOnCard (w : Words) (x : ℕ) : Type 0 where
   pub key : IsNode x → w.key x ≡ word w (card x) (key_field (x % 4))
   pub value : IsNode x → IsLeaf x → w.value x ≡ word w (card x) (value_field (x % 4))

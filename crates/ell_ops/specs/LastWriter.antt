@@ -77,8 +77,10 @@ TellsValue there ops key i reply =
 -- insert yes exactly where it is absent; of a delete yes exactly where it is present
 abbrev pub GoesByPresence : Contents → List Op → ℕ → Op → Reply → Type 0
 GoesByPresence there ops i (Find key) reply = TellsValue there ops key i reply
-GoesByPresence there ops i (Insert key value) reply = ((reply ≡ Yes) ↔ IsAbsent there ops key i) × ((reply ≡ No) ↔ IsPresent there ops key i)
-GoesByPresence there ops i (Delete key) reply = ((reply ≡ Yes) ↔ IsPresent there ops key i) × ((reply ≡ No) ↔ IsAbsent there ops key i)
+GoesByPresence there ops i (Insert key value) reply =
+    ((reply ≡ Yes) ↔ IsAbsent there ops key i) × ((reply ≡ No) ↔ IsPresent there ops key i)
+GoesByPresence there ops i (Delete key) reply =
+    ((reply ≡ Yes) ↔ IsPresent there ops key i) × ((reply ≡ No) ↔ IsAbsent there ops key i)
 GoesByPresence there ops i (Swap key was value) reply = TellsValue there ops key i reply
 
 -- before each position, and at the end, there are the keys that are present, with their values

@@ -24,7 +24,8 @@ pub record IsGathered (n : ℕ) (items : List (ℕ × Reply)) (replies : List Re
 -- what each fault says: the first item that is not sound decides, and then the least position that has no item
 abbrev pub IsFault : ℕ → List (ℕ × Reply) → GatherFault → Type 0
 IsFault n items (Stranger at) = (j : ℕ) × IsFor items j at × AreSound n items j × (n ≤ at)
-IsFault n items (Doubled at) = (j : ℕ) × (k : ℕ) × IsFor items j at × AreSound n items j × (at < n) × (k < j) × IsFor items k at
+IsFault n items (Doubled at) =
+    (j : ℕ) × (k : ℕ) × IsFor items j at × AreSound n items j × (at < n) × (k < j) × IsFor items k at
 IsFault n items (Missing at) =
     AreSound n items (length items) × (at < n) × NoneFor items (length items) at
     × ((position : ℕ) → position < at → (j : ℕ) × IsFor items j position)

@@ -59,18 +59,22 @@ ranged keys ops workers = map (λ op. rank keys (key_of op) / div_ceil (length k
 
 -- the owners are those in ranges, by the list of the distinct keys, ascending
 abbrev pub IsRanged : PartedOps → Type 0
-IsRanged parting = (keys : List ℕ) → Lists (keys_of_ops parting.ops) keys → parting.owners ≡ ranged keys parting.ops parting.workers
+IsRanged parting =
+    (keys : List ℕ) → Lists (keys_of_ops parting.ops) keys → parting.owners ≡ ranged keys parting.ops parting.workers
 
 -- each list, seen by `items`, is the part of the worker at whose place it stands
 abbrev pub AreParts : {V : Type 0} → (V → List (ℕ × Op)) → PartedOps → List V → Type 0
-AreParts {V} items parting parts = (worker : ℕ) (list : V) → slice_get parts worker ≡ Some list → items list ≡ part parting worker
+AreParts {V} items parting parts =
+    (worker : ℕ) (list : V) → slice_get parts worker ≡ Some list → items list ≡ part parting worker
 
 -- each list, seen by `items`, has the keys of the part of the worker at whose place it stands, each once, ascending
 abbrev pub AreKeys : {V : Type 0} → (V → List ℕ) → PartedOps → List V → Type 0
-AreKeys {V} items parting keys = (worker : ℕ) (list : V) → slice_get keys worker ≡ Some list → Lists (keys_of_part (part parting worker)) (items list)
+AreKeys {V} items parting keys = (worker : ℕ) (list : V) → slice_get keys worker ≡ Some list
+    → Lists (keys_of_part (part parting worker)) (items list)
 
 -- the lists, seen by `items` and `numbers`, are the parts and the keys of a lawful parting
-pub record AreListsOf {P K : Type 0} (items : P → List (ℕ × Op)) (numbers : K → List ℕ) (parting : PartedOps) (parts : List P) (keys : List K) : Type 0 where
+pub record AreListsOf {P K : Type 0} (items : P → List (ℕ × Op)) (numbers : K → List ℕ) (parting : PartedOps)
+    (parts : List P) (keys : List K) : Type 0 where
   pub lawful : IsLawful parting
   pub are_parts : AreParts items parting parts
   pub each : length keys ≡ length parts

@@ -14,7 +14,8 @@ use Rattle.ell_run.specs.declared.settings.Settings.{Settings}
 use Rattle.ell_run.specs.declared.bytes.RunFault.{RunFault}
 use Rattle.ell_run.specs.declared.bytes.RunFault.TheVariants.{Read, TooLong, Text, NoMemory, Write}
 
--- the text is the answer, in the bulk text's version, of one thread that applies its operations to the map of its start keys
+-- the text is the answer, in the bulk text's version, of one thread that applies its operations to the map of its start
+-- keys
 pub record IsAnswer (bytes text : List ℕ) : Type 0 where
   pub given : BulkValue
   pub pairs : List (ℕ × ℕ)
@@ -24,9 +25,11 @@ pub record IsAnswer (bytes text : List ℕ) : Type 0 where
 
 -- the answer to the bytes that were read went out, and nothing else
 abbrev pub IsAnswered : Option (List ℕ) → Option (List ℕ) → Option (List ℕ) → Type 0
-IsAnswered input before after = IfSome input (λ bytes. (text : List ℕ) × IsAnswer bytes text × Appends before after text)
+IsAnswered input before after =
+    IfSome input (λ bytes. (text : List ℕ) × IsAnswer bytes text × Appends before after text)
 
--- so many operations of a list are late, from a map, in the order in which the list is run and parted as the settings ask
+-- so many operations of a list are late, from a map, in the order in which the list is run and parted as the settings
+-- ask
 pub record IsLateOf (settings : Settings) (start : Contents) (ops : List Op) (count : ℕ) : Type 0 where
   pub order : List (ℕ × Op)
   pub ordered : IsRunOrder ops order
@@ -38,7 +41,8 @@ pub record IsLateOf (settings : Settings) (start : Contents) (ops : List Op) (co
 -- so many operations of the bytes that were read are late
 abbrev pub IsReported : Settings → Option (List ℕ) → ℕ → Type 0
 IsReported settings input count =
-    IfSome input (λ bytes. (given : BulkValue) × (bulk bytes ≡ Ok given) × IsLateOf settings (contents_of given.start) given.ops count)
+    IfSome input (λ bytes. (given : BulkValue) × (bulk bytes ≡ Ok given)
+        × IsLateOf settings (contents_of given.start) given.ops count)
 
 -- the run ended before it wrote anything
 abbrev pub IsBeforeWriting : RunFault → Type 0

@@ -7,7 +7,8 @@ use Rattle.ell_parts.specs.PartedOps.{PartedOps, IsLawful, part}
 
 -- each operation on the key is the worker's
 abbrev pub WorkerHasKey : PartedOps → ℕ → ℕ → Type 0
-WorkerHasKey parting worker key = (i : ℕ) (op : Op) → slice_get parting.ops i ≡ Some op → key_of op ≡ key → slice_index parting.owners i ≡ worker
+WorkerHasKey parting worker key =
+    (i : ℕ) (op : Op) → slice_get parting.ops i ≡ Some op → key_of op ≡ key → slice_index parting.owners i ≡ worker
 
 -- the front of a worker's part that it has done
 abbrev pub done : PartedOps → (ℕ → ℕ) → ℕ → List (ℕ × Op)
@@ -24,7 +25,8 @@ AreDone set parting counts after = (worker key : ℕ) → WorkerHasKey parting w
     after key ≡ final set (ops_in (done parting counts worker)) key
 
 -- what comes out of it
-pub record IsAsOneThread (set : Contents) (parting : PartedOps) (counts : ℕ → ℕ) (after : Contents) (rest : List (ℕ × Op)) : Type 0 where
+pub record IsAsOneThread (set : Contents) (parting : PartedOps) (counts : ℕ → ℕ) (after : Contents)
+    (rest : List (ℕ × Op)) : Type 0 where
   pub early : (worker : ℕ) → ReplyAlike set (done parting counts worker) set parting.ops
   pub late : ReplyAlike after rest set parting.ops
   pub final : final after (ops_in rest) ≡ final set parting.ops

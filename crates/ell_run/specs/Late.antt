@@ -21,7 +21,8 @@ pub record AreMarks (items : List (ℕ × Reply)) (marks : List Bool) : Type 0 w
   pub each : (position : ℕ) → position < length marks → slice_get marks position ≡ Some (is_answered items position)
 
 -- all workers have worked from a map, and left these pieces, and these keys with their values
-pub record AreLeft (start : Contents) (parting : PartedOps) (pieces : List (List (ℕ × Reply))) (pairs : List (ℕ × ℕ)) : Type 0 where
+pub record AreLeft (start : Contents) (parting : PartedOps) (pieces : List (List (ℕ × Reply)))
+    (pairs : List (ℕ × ℕ)) : Type 0 where
   pub told : ArePieces start parting (all_workers parting) pieces
   pub listed : ListsPairs (final start (ops_done parting (all_workers parting) pieces)) pairs
 
@@ -36,8 +37,10 @@ pub record IsOneThreads {Z : Type 0} (start : Contents) (ops : List Op) (outcome
   pub told : outcome.replies.items ≡ replies start ops
   pub listed : ListsPairs (final start ops) outcome.pairs.items
 
--- what comes of a run of a list from a map: what comes of one thread, and how many operations are late, no more than there are
-pub record IsOutcome {Z : Type 0} (start : Contents) (ops : List Op) (parting : PartedOps) (outcome : Outcome Z) : Type 0 where
+-- what comes of a run of a list from a map: what comes of one thread, and how many operations are late, no more than
+-- there are
+pub record IsOutcome {Z : Type 0} (start : Contents) (ops : List Op) (parting : PartedOps)
+    (outcome : Outcome Z) : Type 0 where
   pub answer : IsOneThreads start ops outcome
   pub few : outcome.late ≤ length ops
   pub late : IsLate start parting outcome.late

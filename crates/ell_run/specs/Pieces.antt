@@ -20,7 +20,8 @@ piece_from set items = numbered items (replies set (ops_in items))
 abbrev pub front : List (ℕ × Op) → List (ℕ × Reply) → List (ℕ × Op)
 front items piece = take (length piece) items
 
--- a piece has the replies of a front of a part, done from a map; the operation behind it, if there is one, would change the map
+-- a piece has the replies of a front of a part, done from a map; the operation behind it, if there is one, would change
+-- the map
 pub record IsPiece (set : Contents) (items : List (ℕ × Op)) (piece : List (ℕ × Reply)) : Type 0 where
   pub few : length piece ≤ length items
   pub done : piece ≡ piece_from set (front items piece)
@@ -58,7 +59,8 @@ one_not_done items piece = if nat_lt (length piece) (length items) then 1 else 0
 abbrev pub all_not_done : PartedOps → List ℕ → List (List (ℕ × Reply)) → ℕ
 all_not_done parting [] pieces = 0
 all_not_done parting (worker ∷ workers) [] = 0
-all_not_done parting (worker ∷ workers) (piece ∷ pieces) = one_not_done (part parting worker) piece + all_not_done parting workers pieces
+all_not_done parting (worker ∷ workers) (piece ∷ pieces) =
+    one_not_done (part parting worker) piece + all_not_done parting workers pieces
 
 -- all workers, ascending
 abbrev pub all_workers : PartedOps → List ℕ

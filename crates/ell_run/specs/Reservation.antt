@@ -9,12 +9,13 @@ is_change (Insert key value) = true
 is_change (Delete key) = true
 is_change (Swap key was value) = true
 
--- the cards of a run of operations for which no number of them is given: one for each that may take one, an eighth of that for tries
--- that are lost, and 64
+-- the cards of a run of operations for which no number of them is given: one for each that may take one, an eighth of
+-- that for tries that are lost, and 64
 abbrev pub cards_by_default : List Op → ℕ
 cards_by_default ops = count_by is_change ops + count_by is_change ops / 8 + 64
 
--- the tries of an operation in which it may take a card: where one worker alone is busy, nothing is in the way of its first
+-- the tries of an operation in which it may take a card: where one worker alone is busy, nothing is in the way of its
+-- first
 abbrev pub tries_needed : ℕ → ℕ → ℕ
 tries_needed busy tries = if nat_lt busy 2 then 1 else tries
 

@@ -5,8 +5,9 @@ use Rattle.ell_tree.specs.Ends.{try_steps}
 use Rattle.ell_tree.specs.Ledgers.{PassModel}
 use Rattle.ell_tree.specs.Milestones.{milestones_known}
 
--- so many finds, inserts and deletes of a pass took the steps of one try each, and one step more, and those of another try only for
--- each move that the pass came to know of; so by both counts, that of the steps in a row and that of all steps
+-- so many finds, inserts and deletes of a pass took the steps of one try each, and one step more, and those of another
+-- try only for each move that the pass came to know of; so by both counts, that of the steps in a row and that of all
+-- steps
 pub record IsPaid (cards calls : ℕ) (before after : PassModel) : Type 0 where
   pub steps : after.steps + milestones_known cards before.view * try_steps cards ≤
       before.steps + (milestones_known cards after.view + calls) * try_steps cards + calls
@@ -22,16 +23,19 @@ abbrev pub longest : PartedOps → List ℕ → ℕ
 longest parting [] = 0
 longest parting (worker ∷ workers) = max (length (part parting worker)) (longest parting workers)
 
--- the most that the pass counts which comes back from these workers: the steps of the one with the most operations, and a split and a
--- join for each worker beside the first
+-- the most that the pass counts which comes back from these workers: the steps of the one with the most operations, and
+-- a split and a join for each worker beside the first
 abbrev pub work_steps : ℕ → PartedOps → List ℕ → ℕ
 work_steps cards parting workers = worker_steps cards (longest parting workers) + 2 * (length workers - 1)
 
--- the most steps that these workers make together: of each, those of its operations, and a split and a join for each beside the first
+-- the most steps that these workers make together: of each, those of its operations, and a split and a join for each
+-- beside the first
 abbrev pub total_steps : ℕ → PartedOps → List ℕ → ℕ
-total_steps cards parting workers = sum_by (λ worker. worker_steps cards (length (part parting worker))) workers + 2 * (length workers - 1)
+total_steps cards parting workers =
+    sum_by (λ worker. worker_steps cards (length (part parting worker))) workers + 2 * (length workers - 1)
 
--- workers that began with a pass made no more steps than they may, in a row and all together, as the pass counts that comes back from them
+-- workers that began with a pass made no more steps than they may, in a row and all together, as the pass counts that
+-- comes back from them
 pub record AreWithin (cards : ℕ) (parting : PartedOps) (workers : List ℕ) (before after : PassModel) : Type 0 where
   pub bounded : after.steps ≤ before.steps + work_steps cards parting workers
   pub total : after.view.made ≤ before.view.made + total_steps cards parting workers

@@ -47,13 +47,16 @@ pub record HasNoCards (cards : ℕ) (pass : PassModel) : Type 0 where
   pub read : pass.view.next ≡ Some next
   pub past : cards < next
 
--- why so many operations were not done: something was in the way of each of them at each of its tries, or all cards are given out, as the
--- pass that comes back has read
+-- why so many operations were not done: something was in the way of each of them at each of its tries, or all cards are
+-- given out, as the pass that comes back has read
 abbrev pub AreNotDone : ℕ → ℕ → ℕ → PassModel → PassModel → Type 0
-AreNotDone cards tries count before after = HasNoCards cards after ⊎ (hindrances before + tries * count ≤ hindrances after)
+AreNotDone cards tries count before after =
+    HasNoCards cards after ⊎ (hindrances before + tries * count ≤ hindrances after)
 
--- a front of numbered operations was done with a pass, and this piece answers it; the operation behind it, if there is one, was not done
-pub record IsWorkedOff (cards tries : ℕ) (items : List (ℕ × Op)) (before after : PassModel) (piece : List (ℕ × Reply)) : Type 0 where
+-- a front of numbered operations was done with a pass, and this piece answers it; the operation behind it, if there is
+-- one, was not done
+pub record IsWorkedOff (cards tries : ℕ) (items : List (ℕ × Op)) (before after : PassModel)
+    (piece : List (ℕ × Reply)) : Type 0 where
   pub table : after.table ≡ before.table
   pub label : after.label ≡ before.label
   pub idle : IsIdle after
@@ -63,9 +66,10 @@ pub record IsWorkedOff (cards tries : ℕ) (items : List (ℕ × Op)) (before af
   pub answers : answers after ≡ answers before + length piece
   pub not_done : AreNotDone cards tries (one_not_done items piece) before after
 
--- workers have worked with a pass, and left these pieces: the pass has the map that what they did leaves, one worker's operations
--- after the other's; each operation behind a piece was not done
-pub record IsWorked (cards tries : ℕ) (parting : PartedOps) (workers : List ℕ) (before after : PassModel) (pieces : List (List (ℕ × Reply))) : Type 0 where
+-- workers have worked with a pass, and left these pieces: the pass has the map that what they did leaves, one worker's
+-- operations after the other's; each operation behind a piece was not done
+pub record IsWorked (cards tries : ℕ) (parting : PartedOps) (workers : List ℕ) (before after : PassModel)
+    (pieces : List (List (ℕ × Reply))) : Type 0 where
   pub table : after.table ≡ before.table
   pub idle : IsIdle after
   pub told : ArePieces (present_in before) parting workers pieces
@@ -74,22 +78,27 @@ pub record IsWorked (cards tries : ℕ) (parting : PartedOps) (workers : List �
   pub answers : answers after ≡ answers before + sum_by length pieces
   pub not_done : AreNotDone cards tries (all_not_done parting workers pieces) before after
 
--- the label of a pass that workers have worked with, each under its number: the first one's, or what it was if there is none
+-- the label of a pass that workers have worked with, each under its number: the first one's, or what it was if there is
+-- none
 abbrev pub label_after : PassModel → List ℕ → ℕ
 label_after before [] = before.label
 label_after before (worker ∷ workers) = worker
 
 -- workers have worked with a pass, and made no more steps than they may
-pub record IsWorkedWithin (cards tries : ℕ) (parting : PartedOps) (workers : List ℕ) (before after : PassModel) (pieces : List (List (ℕ × Reply))) : Type 0 where
+pub record IsWorkedWithin (cards tries : ℕ) (parting : PartedOps) (workers : List ℕ) (before after : PassModel)
+    (pieces : List (List (ℕ × Reply))) : Type 0 where
   pub worked : IsWorked cards tries parting workers before after pieces
   pub within : AreWithin cards parting workers before after
   pub label : after.label ≡ label_after before workers
 
 -- the same of a tree, where the pass that comes back and the pieces stand together
-abbrev pub HaveWorked : {Z : Type 0} → TreeModel → ℕ → PartedOps → List ℕ → PassModel → PassModel × Vec (Vec (ℕ × Reply) Z) Z → Type 0
-HaveWorked tree tries parting workers before done = IsWorkedWithin tree.plan.last_card tries parting workers before done.0 (lists_of done.1.items)
+abbrev pub HaveWorked : {Z : Type 0} → TreeModel → ℕ → PartedOps → List ℕ → PassModel → PassModel
+    × Vec (Vec (ℕ × Reply) Z) Z → Type 0
+HaveWorked tree tries parting workers before done =
+    IsWorkedWithin tree.plan.last_card tries parting workers before done.0 (lists_of done.1.items)
 
--- all workers of a parting have worked with a pass, and made at most `more` steps above those that the ones with something to do may make
+-- all workers of a parting have worked with a pass, and made at most `more` steps above those that the ones with
+-- something to do may make
 pub record AllHaveWorked {Z : Type 0} (tree : TreeModel) (tries more : ℕ) (parting : PartedOps) (before : PassModel)
     (done : PassModel × Vec (Vec (ℕ × Reply) Z) Z) : Type 0 where
   pub worked : IsWorked tree.plan.last_card tries parting (all_workers parting) before done.0 (lists_of done.1.items)

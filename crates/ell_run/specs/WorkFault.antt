@@ -10,7 +10,8 @@ abbrev pub of_split : SplitFault → WorkFault
 of_split split.TooManyPasses = TooManyPasses
 of_split split.NoMemory = NoMemory
 
--- workers that began with a pass did not come to their end: there were too many passes only if some keys of its tree are shared
+-- workers that began with a pass did not come to their end: there were too many passes only if some keys of its tree
+-- are shared
 abbrev pub StopsWork : PassModel → WorkFault → Type 0
 StopsWork pass TooManyPasses = pass.view.worker.ownable ≢ None
 StopsWork pass NoMemory = ⊤

@@ -31,7 +31,8 @@ packed_any (Some u) = Some (packed u)
 
 -- the search that is remembered
 abbrev pub search_in : Remembered → Search
-search_in m = record { node = m.node; read = packed_any m.read; parent = seen_any m.parent; grandparent = seen_any m.grandparent }
+search_in m =
+    record { node = m.node; read = packed_any m.read; parent = seen_any m.parent; grandparent = seen_any m.grandparent }
 
 -- what is remembered is so
 pub record Fits (v : View) (m : Remembered) : Type 0 where
@@ -50,7 +51,8 @@ pub record IsReady (t : TableModel) (p : PassModel) (m : Remembered) : Type 0 wh
 
 -- what is remembered with nothing in hand, and where the search stands at the root
 abbrev pub idle_memory : Remembered → Remembered
-idle_memory m = record m { op = None; node = None; read = None; parent = None; grandparent = None; card = None; flagged = false }
+idle_memory m =
+    record m { op = None; node = None; read = None; parent = None; grandparent = None; card = None; flagged = false }
 
 abbrev pub root_memory : Option Op → Remembered → Remembered
 root_memory op m = record (idle_memory m) { op = op; node = Some 0 }
@@ -79,4 +81,5 @@ IsIdle v = v.worker ≡ idle_worker v.worker.ledger v.worker.ownable v.worker.fa
 
 -- nothing is remembered
 abbrev pub IsNothing : Remembered → Type 0
-IsNothing m = m ≡ record { op = None; node = None; read = None; parent = None; grandparent = None; card = None; flagged = false; known = replicate FACTS None; turn = 0 }
+IsNothing m = m ≡ record { op = None; node = None; read = None; parent = None; grandparent = None; card =
+    None; flagged = false; known = replicate FACTS None; turn = 0 }

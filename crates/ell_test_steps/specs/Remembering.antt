@@ -21,9 +21,11 @@ pub record Learns (m n : Remembered) (Learnt : View → Type 0) : Type 0 where
   pub rest : n ≡ record m { known = n.known; turn = n.turn }
   pub known : (v : View) → KnowsAll v m.known → Learnt v → KnowsAll v n.known
 
--- what a lost mark tells that found an update: the card's own mark, or that the card is unmarkable, and what the update tells
+-- what a lost mark tells that found an update: the card's own mark, or that the card is unmarkable, and what the update
+-- tells
 abbrev pub KnowsLostMark : View → ℕ → Update → Type 0
-KnowsLostMark v c u = MatchBool (is_mark_of c u.state u.card) (Knows v (Marked c)) (Knows v (Unmarkable c) × KnowsAny v (told_by_state u.state u.card))
+KnowsLostMark v c u = MatchBool (is_mark_of c u.state u.card) (Knows v (Marked c))
+    (Knows v (Unmarkable c) × KnowsAny v (told_by_state u.state u.card))
 
 -- what the exchange for a flag tells: its own fact, or that of the update that was found
 abbrev pub flag_tells : Fact → Result (Unit {0}) Update → Option Fact

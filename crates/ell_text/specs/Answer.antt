@@ -33,4 +33,5 @@ listing line key_line items keys = flat_map line items ++ keys_lines key_line ke
 
 -- a line for each reply, and the lines of the keys with their values
 abbrev pub answer : ℕ → List Reply → List (ℕ × ℕ) → List ℕ
-answer version replies pairs = listing (reply_line (version_numbered version)) (pair_line (version_numbered version)) replies pairs
+answer version replies pairs =
+    listing (reply_line (version_numbered version)) (pair_line (version_numbered version)) replies pairs

@@ -21,7 +21,8 @@ use Rattle.ell_text.specs.Line.{line_of, says_version}
 use Rattle.ell_text.specs.Lines.{is_skipped, lines}
 use Rattle.ell_text.specs.Version.{IsVersion, version_number, version_numbered}
 
--- What lines say: the version, the keys that are there before the first operation with their values, and the operations.
+-- What lines say: the version, the keys that are there before the first operation with their values, and the
+-- operations.
 pub record BulkValue : Type 0 where
   pub version : ℕ
   pub start : List (ℕ × ℕ)
@@ -52,7 +53,8 @@ abbrev pub version_of : List (List ℕ) → Version
 version_of [] = One
 version_of (line ∷ more) = if is_skipped line then version_of more else if says_version Head line then Two else One
 
--- what some lines say in a version: their start keys and their operations, each in order, read as if a start line might stand anywhere: one behind an operation is at fault, whatever it says
+-- what some lines say in a version: their start keys and their operations, each in order, read as if a start line might
+-- stand anywhere: one behind an operation is at fault, whatever it says
 abbrev pub said_by : Version → List (List ℕ) → BulkValue
 said_by version text = record {
   version = version_number version;
@@ -64,7 +66,8 @@ said_by version text = record {
 abbrev pub said : List (List ℕ) → BulkValue
 said text = said_by (version_of text) text
 
--- the section behind what some lines say: while nothing is said it is the head, and the opening ends with the first operation
+-- the section behind what some lines say: while nothing is said it is the head, and the opening ends with the first
+-- operation
 abbrev pub section_behind : Version → List (ℕ × ℕ) → List Op → Section
 section_behind version start (operation ∷ operations) = Operations
 section_behind version (pair ∷ pairs) [] = Opening
@@ -89,12 +92,15 @@ located number own.BadValue = BadValue number
 
 -- the fault of one line too many: start keys and operations count together
 abbrev pub fault_of_more : ℕ → BulkValue → Option TextFault
-fault_of_more number before = if nat_lt (length before.start + length before.ops) most_operations then None else Some (TooManyOperations number)
+fault_of_more number before =
+    if nat_lt (length before.start + length before.ops) most_operations then None else Some (TooManyOperations number)
 
--- the fault of what the line of this number says, behind what the lines before it say: the line of the version counts as none
+-- the fault of what the line of this number says, behind what the lines before it say: the line of the version counts
+-- as none
 abbrev pub fault_of_said : ℕ → BulkValue → Line → Option TextFault
 fault_of_said number before says.Version = None
-fault_of_said number before (says.Start key value) = if rises (last_start before.start) key then fault_of_more number before else Some (StartOrder number)
+fault_of_said number before (says.Start key value) =
+    if rises (last_start before.start) key then fault_of_more number before else Some (StartOrder number)
 fault_of_said number before (says.Operation operation) = fault_of_more number before
 
 -- the fault of the line of this number, which is read as this
@@ -156,7 +162,8 @@ with_read before (Ok (Some line)) = with_line before line
 with_read before (Ok None) = before
 with_read before (Err fault) = before
 
--- a run may begin with this: it has a version, there is not too much of it, the start keys ascend, and all keys may stand in a map
+-- a run may begin with this: it has a version, there is not too much of it, the start keys ascend, and all keys may
+-- stand in a map
 pub record BulkFits (b : BulkValue) : Type 0 where
   pub version : IsVersion b.version
   pub within : length b.start + length b.ops ≤ most_operations

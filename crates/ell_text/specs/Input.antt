@@ -14,7 +14,8 @@ pub record IsFilledTo {Z : Type 0} (place : ℕ) (bytes : Vec ℕ Z) : Type 0 wh
   pub within : vec_len bytes ≤ most_bytes + READ_ROOM
 
 -- a read put the bytes that it gave to a place, behind a front that stayed, or failed and took none
-pub record ReadsTo {E : Type 0} (before after : Option (List ℕ)) (place : ℕ) (old new : List ℕ) (result : Result ℕ E) : Type 0 where
+pub record ReadsTo {E : Type 0} (before after : Option (List ℕ)) (place : ℕ) (old new : List ℕ)
+    (result : Result ℕ E) : Type 0 where
   pub front : take place new ≡ take place old
   pub ok : IfOk result (λ count. Consumes before after (take count (drop place new)))
   pub err : OnErr result (Keeps before after)

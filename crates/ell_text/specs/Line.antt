@@ -38,7 +38,8 @@ operation_on Delete key value = op.Delete key
 -- the kind of line that a name names in a section: before all operations it may also be a start line
 abbrev pub line_kind_of : Section → List ℕ → Option LineKind
 line_kind_of Operations name = option_map kind.Operation (kind_of name)
-line_kind_of section name = if bytes_eq name (codes "start") then Some kind.Start else option_map kind.Operation (kind_of name)
+line_kind_of section name =
+    if bytes_eq name (codes "start") then Some kind.Start else option_map kind.Operation (kind_of name)
 
 -- whether a line of a kind has a value: an insert and a start line have one in version 2
 abbrev pub has_value : Version → LineKind → Bool
@@ -82,7 +83,8 @@ line_from known (Ok key) (Ok value) = Ok (line_on known key value)
 -- what a line of a kind says, by what stands behind its name: a bad name counts before all else
 abbrev pub line_behind_name : Version → Option LineKind → List ℕ → Result Line LineFault
 line_behind_name version None rest = Err BadOperation
-line_behind_name version (Some known) rest = line_from known (key_behind (has_value version known) rest) (value_behind (has_value version known) rest)
+line_behind_name version (Some known) rest =
+    line_from known (key_behind (has_value version known) rest) (value_behind (has_value version known) rest)
 
 -- whether this is the line that says version 2: it stands at the head alone
 abbrev pub says_version : Section → List ℕ → Bool
@@ -105,7 +107,8 @@ abbrev pub line_of : Version → Section → List ℕ → Result (Option Line) L
 line_of version section line = unless_skipped (is_skipped line) (said_in version section line)
 
 -- the first line of a text, read so, and the rest, which stands behind it
-pub record IsFirstLine (version : Version) (section : Section) (text : List ℕ) (read : Result (Option Line) LineFault) (rest : List ℕ) : Type 0 where
+pub record IsFirstLine (version : Version) (section : Section) (text : List ℕ) (read : Result (Option Line) LineFault)
+    (rest : List ℕ) : Type 0 where
   pub line : List ℕ
   pub cut : lines text ≡ line ∷ lines rest
   pub read_so : line_of version section line ≡ read
@@ -124,7 +127,8 @@ name_of (kind.Operation Find) = codes "find"
 name_of (kind.Operation Insert) = codes "insert"
 name_of (kind.Operation Delete) = codes "delete"
 
--- the name of a kind stands in front of a text, behind it one space and then the rest, and in the section it names that kind
+-- the name of a kind stands in front of a text, behind it one space and then the rest, and in the section it names that
+-- kind
 pub record HasKindInFront (section : Section) (text : List ℕ) (known : LineKind) (rest : List ℕ) : Type 0 where
   pub cut : text ≡ name_of known ++ 32 ∷ rest
   pub named : line_kind_of section (name_of known) ≡ Some known
@@ -132,4 +136,5 @@ pub record HasKindInFront (section : Section) (text : List ℕ) (known : LineKin
 -- where there is to be a value, one space, it and the rest are the bytes; else it is 0
 abbrev pub IsValueInFront : Bool → List ℕ → ℕ → List ℕ → Type 0
 IsValueInFront false bytes value rest = (value ≡ 0) × (rest ≡ bytes)
-IsValueInFront true bytes value rest = (number : List ℕ) × (bytes ≡ 32 ∷ number) × IsNumberInFront greatest_value number value rest
+IsValueInFront true bytes value rest =
+    (number : List ℕ) × (bytes ≡ 32 ∷ number) × IsNumberInFront greatest_value number value rest

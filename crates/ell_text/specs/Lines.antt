@@ -1,6 +1,7 @@
 use Rattle.std.specs.Prelude.{ℕ, ◌≡◌, ◌⊎◌, ◌∷◌, nat_eq, ◌==◌, ◌||◌, Bool, List, codes}
 use Rattle.std.specs.List.{list_all, starts_with}
--- what stands between line feeds: an empty last part is no line, and only a part before a line feed loses one carriage return at its end
+-- what stands between line feeds: an empty last part is no line, and only a part before a line feed loses one carriage
+-- return at its end
 pub use Rattle.std.specs.Str.Lines.{lines}
 
 -- what ends a name

@@ -19,7 +19,8 @@ is_number (first ∷ second ∷ more) = is_ascii_digit first && not (first == 48
 
 -- the number of at most max that all of the bytes spell
 abbrev pub number_in : ℕ → List ℕ → Result ℕ NumberFault
-number_in max bytes = if is_number bytes then (if nat_le (value_of bytes) max then Ok (value_of bytes) else Err TooLarge) else Err NotANumber
+number_in max bytes = if is_number bytes then
+    (if nat_le (value_of bytes) max then Ok (value_of bytes) else Err TooLarge) else Err NotANumber
 
 -- the key that all of the bytes spell
 abbrev pub key_in : List ℕ → Result ℕ NumberFault

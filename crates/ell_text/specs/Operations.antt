@@ -21,7 +21,8 @@ pub data SayOperations (version : Version) : List (List ℕ) → List Op → Typ
   nothing : SayOperations version [] []
   skipped : {line : List ℕ} {more : List (List ℕ)} {ops : List Op} → line_of version Operations line ≡ Ok None
       → SayOperations version more ops → SayOperations version (line ∷ more) ops
-  operation : {line : List ℕ} {more : List (List ℕ)} {first : Op} {ops : List Op} → line_of version Operations line ≡ Ok (Some (says.Operation first))
+  operation : {line : List ℕ} {more : List (List ℕ)} {first : Op} {ops : List Op}
+      → line_of version Operations line ≡ Ok (Some (says.Operation first))
       → SayOperations version more ops → SayOperations version (line ∷ more) (first ∷ ops)
 
 -- operations, and behind them those that some lines say

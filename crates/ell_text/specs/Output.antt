@@ -17,13 +17,15 @@ pub record Faults (before after : Option (List ℕ)) (old : Output) (text : List
   pub stops : Stops before after (waiting_bytes old ++ text) old.written fault.written
 
 -- The text was put behind what waited, unless the writer did not take all that was to go out.
-pub record HasPut {X : Type 0} (before after : Option (List ℕ)) (old new : Output) (text : List ℕ) (result : Result X WriteFault) : Type 0 where
+pub record HasPut {X : Type 0} (before after : Option (List ℕ)) (old new : Output) (text : List ℕ)
+    (result : Result X WriteFault) : Type 0 where
   pub ok : OnOk result (Puts before after old new text)
   pub fault : IfErr result (Faults before after old text)
 
--- A text was written: the whole of it is out, behind what was there. After a fault exactly its first `written` bytes are, and some of it is
--- missing.
-pub record IsWritten {X : Type 0} (before after : Option (List ℕ)) (text : List ℕ) (result : Result X WriteFault) : Type 0 where
+-- A text was written: the whole of it is out, behind what was there. After a fault exactly its first `written` bytes
+-- are, and some of it is missing.
+pub record IsWritten {X : Type 0} (before after : Option (List ℕ)) (text : List ℕ)
+    (result : Result X WriteFault) : Type 0 where
   pub ok : OnOk result (Appends before after text)
   pub fault : IfErr result (λ fault. Appends before after (take fault.written text))
   pub missing : IfErr result (λ fault. fault.written < length text)

@@ -98,7 +98,8 @@ pub record IsNotDone (t : TreeModel) (key : ℕ) (old new : PassModel) (not_done
 
 -- what comes of one try to put a value in the place of what was found of a key
 abbrev pub Replaces : TreeModel → ℕ → Option ℕ → ℕ → PassModel → PassModel → Result Replaced NotDone → Type 0
-Replaces t key was value old new (Ok Done) = Answers t (put_by key value was) (reply_of_change (put_by key value was)) old new
+Replaces t key was value old new (Ok Done) =
+    Answers t (put_by key value was) (reply_of_change (put_by key value was)) old new
 Replaces t key was value old new (Ok (Lost there)) =
     IsUntouched old new × ReadsValue t key there old new × (Owns old key → present_in old key ≢ was)
 Replaces t key was value old new (Err why) = LaidDown t (put_by key value was) old new × RanOut t.plan.last_card new why

@@ -3,8 +3,8 @@ use Rattle.ell_cards.specs.Models.{PassModel, some_more}
 use Rattle.ell_tree.specs.Ends.{try_steps}
 use Rattle.ell_tree.specs.Milestones.{milestones_known}
 
--- a pass has at most so many steps more, by both its counts: the steps in a row that led to it, and all steps that were made, those of
--- the passes that it was joined with too
+-- a pass has at most so many steps more, by both its counts: the steps in a row that led to it, and all steps that were
+-- made, those of the passes that it was joined with too
 pub record Took (old new : PassModel) (n : ℕ) : Type 0 where
   pub steps : new.steps ≤ old.steps + n
   pub made : new.view.made ≤ old.view.made + n
@@ -18,8 +18,10 @@ pub record HasUncounted (old new : PassModel) (n : ℕ) : Type 0 where
   pub steps : new.steps ≡ old.steps
   pub made : new.view.made ≡ old.view.made + n
 
--- an insert or a delete took the steps of one try, and one step more, and those of another try only for each milestone that the pass came
--- to know of
+-- an insert or a delete took the steps of one try, and one step more, and those of another try only for each milestone
+-- that the pass came to know of
 pub record IsAmortized (last : ℕ) (old new : PassModel) : Type 0 where
-  pub steps : new.steps + milestones_known last old.view * try_steps last ≤ old.steps + (milestones_known last new.view + 1) * try_steps last + 1
-  pub made : new.view.made + milestones_known last old.view * try_steps last ≤ old.view.made + (milestones_known last new.view + 1) * try_steps last + 1
+  pub steps : new.steps + milestones_known last old.view * try_steps last ≤ old.steps +
+      (milestones_known last new.view + 1) * try_steps last + 1
+  pub made : new.view.made + milestones_known last old.view * try_steps last ≤ old.view.made +
+      (milestones_known last new.view + 1) * try_steps last + 1

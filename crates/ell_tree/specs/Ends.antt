@@ -14,9 +14,10 @@ use Rattle.ell_tree.specs.declared.operations.NotDone.TheVariants.{Busy, Spent}
 use Rattle.ell_tree.specs.Hindrances.{Meets}
 use Rattle.ell_tree.specs.Ledgers.{TreeModel, present_in, ledger, Owns, answers, hindrances, IsIdle}
 
--- an operation was answered. On a key of the pass's own: as a map answers it that has the pass's keys present with their values, which becomes
--- the map after it; on a shared key the ledger stays. Whoever may change the key, the call had its point: in every run of the tree in which the pass
--- now knows this, its answer is that of one thread that made all operations by which the tree was changed till then
+-- an operation was answered. On a key of the pass's own: as a map answers it that has the pass's keys present with
+-- their values, which becomes the map after it; on a shared key the ledger stays. Whoever may change the key, the call
+-- had its point: in every run of the tree in which the pass now knows this, its answer is that of one thread that made
+-- all operations by which the tree was changed till then
 pub record Answers (t : TreeModel) (op : Op) (said : Reply) (old new : PassModel) : Type 0 where
   pub table : new.table ≡ old.table
   pub label : new.label ≡ old.label
@@ -29,8 +30,9 @@ pub record Answers (t : TreeModel) (op : Op) (said : Reply) (old new : PassModel
   pub share : SameShare old.view new.view
   pub idle : IsIdle new
 
--- an operation was laid down without an answer: the ledger is as it was, nothing is in hand, and of an own key it would change the map. Whoever may
--- change the key, in every run of the tree in which the pass now knows this, the call changes nothing, neither before nor later
+-- an operation was laid down without an answer: the ledger is as it was, nothing is in hand, and of an own key it would
+-- change the map. Whoever may change the key, in every run of the tree in which the pass now knows this, the call
+-- changes nothing, neither before nor later
 pub record LaidDown (t : TreeModel) (op : Op) (old new : PassModel) : Type 0 where
   pub table : new.table ≡ old.table
   pub label : new.label ≡ old.label
@@ -42,7 +44,8 @@ pub record LaidDown (t : TreeModel) (op : Op) (old new : PassModel) : Type 0 whe
   pub idle : IsIdle new
   pub no_card : new.view.worker.card ≡ None
 
--- why: something was in its way at each try; or the claim word, as its last try read it, says that all cards are given out
+-- why: something was in its way at each try; or the claim word, as its last try read it, says that all cards are given
+-- out
 abbrev pub NotDoneFor : ℕ → ℕ → PassModel → PassModel → NotDone → Type 0
 NotDoneFor last tries old new Busy = hindrances old + tries ≤ hindrances new
 NotDoneFor last tries old new Spent = new.view.next ≡ Some (last + 1)
@@ -95,8 +98,9 @@ abbrev pub changed_by : Op → Result (Option ℕ) NotDone → Result Bool NotDo
 changed_by op (Ok had) = Ok (changes_by op had)
 changed_by op (Err why) = Err why
 
--- the value that a delete of a key took, if it took one: of an own key, just that which the pass had. Whoever may change the key, in every run
--- of the tree in which the pass now knows this, the key had just this value at the call's point
+-- the value that a delete of a key took, if it took one: of an own key, just that which the pass had. Whoever may
+-- change the key, in every run of the tree in which the pass now knows this, the key had just this value at the call's
+-- point
 pub record TakesValue (t : TreeModel) (key : ℕ) (old new : PassModel) (taken : Option ℕ) : Type 0 where
   pub mine : Owns old key → taken ≡ present_in old key
   pub took : IfSome taken (IsTakenInRuns t.plan new.view key)
@@ -111,7 +115,8 @@ TakesIfDelete t (Swap key was value) old new there = Unit {0}
 -- how an insert, a delete or a swap ends; whatever was in its way is over
 abbrev pub Ends : TreeModel → ℕ → Op → PassModel → PassModel → Result Reply NotDone → Type 0
 Ends t tries op old new (Ok said) = Answers t op said old new × Meets old.view new.view
-Ends t tries op old new (Err why) = LaidDown t op old new × NotDoneFor t.plan.last_card tries old new why × Meets old.view new.view
+Ends t tries op old new (Err why) =
+    LaidDown t op old new × NotDoneFor t.plan.last_card tries old new why × Meets old.view new.view
 
 -- the most steps of a find in a tree with this last card
 abbrev pub find_steps : ℕ → ℕ

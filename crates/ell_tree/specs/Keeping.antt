@@ -15,7 +15,8 @@ use Rattle.ell_cards.specs.Stepping.{SameShare}
 use Rattle.ell_tree.specs.Counts.{Took}
 use Rattle.ell_tree.specs.CardsTaken.{TakesNoCard}
 
--- ledger, operation, answers and share stay, and nothing is forgotten; no try is given up, so what was in the way before the one in hand is the same
+-- ledger, operation, answers and share stay, and nothing is forgotten; no try is given up, so what was in the way
+-- before the one in hand is the same
 pub record LosesNothing (v w : View) : Type 0 where
   pub ledger : w.worker.ledger ≡ v.worker.ledger
   pub operation : w.worker.operation ≡ v.worker.operation

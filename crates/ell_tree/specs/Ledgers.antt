@@ -6,8 +6,8 @@ pub use Rattle.ell_cards.specs.Models.{PassModel, ledger, Owns}
 use Rattle.ell_cards.specs.Models.{TableModel}
 use Rattle.ell_ops.specs.Contents.{Contents}
 
--- how a contract sees a tree: which table it stands on, and its plan: the keys that have owners, those that it starts with, the last card,
--- and whether all other keys are shared
+-- how a contract sees a tree: which table it stands on, and its plan: the keys that have owners, those that it starts
+-- with, the last card, and whether all other keys are shared
 abbrev pub TreeModel : Type 0
 TreeModel = TableModel
 

@@ -5,9 +5,10 @@ use Rattle.ell_cards.specs.Looking.{IsFoundInRuns}
 use Rattle.ell_cards.specs.Models.{PassModel, IsTold}
 use Rattle.ell_tree.specs.Ledgers.{TreeModel}
 
--- a pass has at most so many steps more, by both its counts, and was told more, and all else that it has and knows of operations is as it was, what
--- it won, found and stored too: so it made no store and no exchange, won or lost, each of which would add to one of these. And it owns what it owned,
--- with the same values, and has nothing in hand if it had nothing
+-- a pass has at most so many steps more, by both its counts, and was told more, and all else that it has and knows of
+-- operations is as it was, what it won, found and stored too: so it made no store and no exchange, won or lost, each of
+-- which would add to one of these. And it owns what it owned, with the same values, and has nothing in hand if it had
+-- nothing
 pub record OnlyLooks (old new : PassModel) (n : ℕ) : Type 0 where
   pub table : new.table ≡ old.table
   pub label : new.label ≡ old.label
@@ -37,6 +38,7 @@ look_steps last = 2 * last + 3
 abbrev pub stretch_steps : ℕ → ℕ
 stretch_steps last = 2 * last + 2
 
--- what a look found of a key was so in one state of the tree since it began, in every run in which its pass now knows this
+-- what a look found of a key was so in one state of the tree since it began, in every run in which its pass now knows
+-- this
 abbrev pub IsFoundIn : TreeModel → View → ℕ → Option ℕ → Type 0
 IsFoundIn t v key there = IsFoundInRuns t.plan v key there

@@ -11,7 +11,8 @@ pub record GivesOut (last_card : ℕ) (v w : View) : Type 0 where
   pub before : v.next_at_least ≤ card
   pub after : card < w.next_at_least
 
--- a pass saw a card come to its end: it did not know so when its search began, as the first view has it, and does at the second
+-- a pass saw a card come to its end: it did not know so when its search began, as the first view has it, and does at
+-- the second
 pub record SeesEnd (last_card : ℕ) (v w : View) : Type 0 where
   pub card : ℕ
   pub first : 0 < card
@@ -29,8 +30,8 @@ abbrev pub ends_known : ℕ → List Fact → ℕ
 ends_known zero facts = 0
 ends_known (suc n) facts = (if knows_end facts (suc n) then 1 else 0) + ends_known n facts
 
--- a card has two milestones: it is given out, and it comes to its end. How many of them a pass knows of: the cards whose
--- end it knows, and those that its claims have shown it to be given out. After a claim of card 3, won or lost, that is 3
--- cards
+-- a card has two milestones: it is given out, and it comes to its end. How many of them a pass knows of: the cards
+-- whose end it knows, and those that its claims have shown it to be given out. After a claim of card 3, won or lost,
+-- that is 3 cards
 abbrev pub milestones_known : ℕ → View → ℕ
 milestones_known last_card v = ends_known last_card v.worker.facts + (v.next_at_least - 1)

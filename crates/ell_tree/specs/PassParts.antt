@@ -10,8 +10,8 @@ use Rattle.ell_tree.specs.Ledgers.{TreeModel, ledger, present_in, answers, hindr
 pub use Rattle.ell_core.specs.state.Opening.{start_entry}
 use Rattle.ell_core.specs.declared.view.Entry.{Entry}
 
--- the first pass of a tree: it owns the keys of the tree's plan, of which the start keys are present with their values, and the others absent; and
--- it has the whole share
+-- the first pass of a tree: it owns the keys of the tree's plan, of which the start keys are present with their values,
+-- and the others absent; and it has the whole share
 pub record IsFirst (t : TreeModel) (p : PassModel) : Type 0 where
   pub own : p.table ≡ t.id
   pub ledger : (k : ℕ) → ledger p k ≡ (if set_of t.plan.keys k then Some (start_entry t.plan.start k) else None)
@@ -29,7 +29,8 @@ pub record IsFirst (t : TreeModel) (p : PassModel) : Type 0 where
   pub ownable : p.view.worker.ownable ≡ ownable_if t.plan.shared t.plan.keys
   pub idle : IsIdle p
 
--- the left part of a pass: it has these keys as the pass had them, and keeps the counts; of the steps made, the split is its own
+-- the left part of a pass: it has these keys as the pass had them, and keeps the counts; of the steps made, the split
+-- is its own
 pub record IsLeftPart (keys : List ℕ) (p part : PassModel) : Type 0 where
   pub own : part.table ≡ p.table
   pub ledger : (k : ℕ) → ledger part k ≡ (if set_of keys k then ledger p k else None)
@@ -78,7 +79,8 @@ pub record IsUnion (left right both : PassModel) : Type 0 where
   pub steps : both.steps ≡ one_more (max left.steps right.steps)
   pub made : both.view.made ≡ left.view.made + right.view.made + 1
   pub label : both.label ≡ left.label
-  pub milestones : (last : ℕ) → (milestones_known last left.view ≤ milestones_known last both.view) × (milestones_known last right.view ≤ milestones_known last both.view)
+  pub milestones : (last : ℕ) → (milestones_known last left.view ≤ milestones_known last both.view)
+      × (milestones_known last right.view ≤ milestones_known last both.view)
   pub share : both.view.share ≡ (left.view.share + right.view.share) % 2 ^ 64
   pub ownable : both.view.worker.ownable ≡ option_or left.view.worker.ownable right.view.worker.ownable
   pub idle : IsIdle both

@@ -9,21 +9,24 @@ use Rattle.ell_tree.specs.Hindrances.{Meets}
 use Rattle.ell_tree.specs.Ledgers.{IsIdle, Owns, PassModel, TreeModel}
 use Rattle.ell_tree.specs.Milestones.{milestones_known}
 
--- a pass may find or change a key of this tree: it is a pass of the tree, with nothing in hand, and owns the key, or the key is shared
+-- a pass may find or change a key of this tree: it is a pass of the tree, with nothing in hand, and owns the key, or
+-- the key is shared
 pub record MayDo (t : TreeModel) (key : ℕ) (p : PassModel) : Type 0 where
   pub own : p.table ≡ t.id
   pub idle : IsIdle p
   pub may : MayChange (worker_of p.view.worker) key
 
 -- an insert, a delete or a swap kept to its bounds: it took no more steps than so many tries take; no more than one try
--- takes, and another for each milestone that its pass came to know of; and it counted no more tries as hindered than these
+-- takes, and another for each milestone that its pass came to know of; and it counted no more tries as hindered than
+-- these
 pub record IsWithin (t : TreeModel) (tries : ℕ) (old new : PassModel) : Type 0 where
   pub most : Took old new (change_steps t.plan.last_card tries)
   pub amortized : IsAmortized t.plan.last_card old new
   pub counted : CountsTries tries old new
 
--- so many tries of a pass ended without an answer, and that is others' doing: each is counted as hindered; each showed the pass a card that
--- was given out, or came to its end, of which it did not know that; and in every run of the tree others did something for each
+-- so many tries of a pass ended without an answer, and that is others' doing: each is counted as hindered; each showed
+-- the pass a card that was given out, or came to its end, of which it did not know that; and in every run of the tree
+-- others did something for each
 pub record IsOthersDoing (t : TreeModel) (tries : ℕ) (old new : PassModel) : Type 0 where
   pub each : new.view.hindered ≡ old.view.hindered + tries
   pub milestones : milestones_known t.plan.last_card old.view + tries ≤ milestones_known t.plan.last_card new.view

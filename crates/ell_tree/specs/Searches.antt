@@ -67,13 +67,14 @@ pub record IsAt (w : View) (place : LeafFound) : Type 0 where
 abbrev pub there_at : LeafFound → ℕ → Option ℕ
 there_at place k = if place.key == k then Some place.value else None
 
--- a search ended at a place, which has of the operation's key what the ledger has, if that has the key; and if the place has the key, there is
--- a grandparent
+-- a search ended at a place, which has of the operation's key what the ledger has, if that has the key; and if the
+-- place has the key, there is a grandparent
 pub record EndsAt (last : ℕ) (w : View) (op : Op) (place : LeafFound) : Type 0 where
   pub at : IsAt w place
   pub passed : KnowsPassed last w place.parent
   pub passed_above : IfSome place.grandparent (λ x. KnowsPassed last w x)
   pub unknown : EndWasUnknownAt w place.parent
   pub unknown_above : IfSome place.grandparent (EndWasUnknownAt w)
-  pub there : ledger_of w.worker.ledger (key_of op) ≢ None → contents_in (ledger_of w.worker.ledger) (key_of op) ≡ there_at place (key_of op)
+  pub there : ledger_of w.worker.ledger (key_of op) ≢ None
+      → contents_in (ledger_of w.worker.ledger) (key_of op) ≡ there_at place (key_of op)
   pub deep : place.key ≡ key_of op → place.grandparent ≢ None

@@ -82,8 +82,8 @@ pub record Lays (op : Op) (old new : PassModel) : Type 0 where
   pub taken : TakesNoCard old new
   pub took : Took old new 1
 
--- a try ended without an answer, though the operation would change the map; nothing of it is under way, and whatever was in its
--- way is over, what its search has read too; it met all that came to be in the way meanwhile
+-- a try ended without an answer, though the operation would change the map; nothing of it is under way, and whatever
+-- was in its way is over, what its search has read too; it met all that came to be in the way meanwhile
 pub record Halts (op : Op) (old new : PassModel) : Type 0 where
   pub table : new.table ≡ old.table
   pub label : new.label ≡ old.label
@@ -118,8 +118,8 @@ TryTakesValue t (Insert key value) old new ended = Unit {0}
 TryTakesValue t (Delete key) old new ended = TryTook t key old new ended
 TryTakesValue t (Swap key was value) old new ended = Unit {0}
 
--- a card was taken for an operation whose search ended at a place: it is to say this, nothing of it was stored, and its words
--- that never change are told
+-- a card was taken for an operation whose search ended at a place: it is to say this, nothing of it was stored, and its
+-- words that never change are told
 pub record HasCard (op : Op) (place : LeafFound) (filling : List (Field × ℕ)) (v : View) (c : ℕ) : Type 0 where
   pub busy : Does v op
   pub may : MayFill v c
@@ -148,7 +148,8 @@ put_reply (Some was) = replaced.Found was
 pub record HasCardToPut (what : Put) (place : LeafFound) (v : View) (c : ℕ) : Type 0 where
   pub op : Op
   pub puts : put_of op ≡ Some what
-  pub card : HasCard op place (insert_filling c what.key what.value place.parent.node place.leaf place.key place.value) v c
+  pub card : HasCard op place
+      (insert_filling c what.key what.value place.parent.node place.leaf place.key place.value) v c
 
 -- no card was taken, and the search stands where it stood
 pub record HasNone (old new : PassModel) : Type 0 where
@@ -158,11 +159,13 @@ pub record HasNone (old new : PassModel) : Type 0 where
 -- what comes of asking for a card
 abbrev pub Claims : ℕ → Op → LeafFound → PassModel → PassModel → Claimed → Type 0
 Claims last op place old new (claimed.Card c) =
-    HasCard op place (filling_of c old.view) new.view c × (c ≤ last) × (new.view.hindrances ≡ old.view.hindrances) × GivesOut last old.view new.view
+    HasCard op place (filling_of c old.view) new.view c × (c ≤ last) × (new.view.hindrances ≡ old.view.hindrances)
+        × GivesOut last old.view new.view
 Claims last op place old new claimed.NoneLeft =
     HasNone old new × (new.view.next ≡ Some (last + 1)) × (new.view.hindrances ≡ old.view.hindrances)
 Claims last op place old new claimed.Lost =
-    HasNone old new × Meets old.view new.view × (length old.view.hindrances + 1 ≤ length new.view.hindrances) × GivesOut last old.view new.view
+    HasNone old new × Meets old.view new.view × (length old.view.hindrances + 1 ≤ length new.view.hindrances)
+        × GivesOut last old.view new.view
 
 -- the card in hand was filled in so many steps, and nothing else was done
 pub record Fills (old new : PassModel) (n : ℕ) : Type 0 where

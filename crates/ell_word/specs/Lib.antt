@@ -1,4 +1,5 @@
--- Node numbers, and the keys above all others. Card c has the internal node 4 c, the left leaf 4 c + 1 and the right leaf 4 c + 2.
+-- Node numbers, and the keys above all others. Card c has the internal node 4 c, the left leaf 4 c + 1 and the right
+-- leaf 4 c + 2.
 pub mod Node
 -- Update words: four times the card, and the state.
 pub mod Word

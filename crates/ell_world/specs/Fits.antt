@@ -24,12 +24,13 @@ pub record WordsFit (cards : ℕ) (w : Words) : Type 0 where
   pub gp : (c : ℕ) → IsInner cards (w.gp c)
   pub p : (c : ℕ) → IsInner cards (w.p c)
 
--- a worker stands at a node of the table, with a card of it in hand and facts of its cards; what its search has behind it, while
--- that card is not flagged, are internal nodes of the table; and it may change its operation's key
+-- a worker stands at a node of the table, with a card of it in hand and facts of its cards; what its search has behind
+-- it, while that card is not flagged, are internal nodes of the table; and it may change its operation's key
 pub record WorkerFits (cards : ℕ) (v : Worker) : Type 0 where
   pub node : (x : ℕ) → v.search.node ≡ Some x → IsTableNode cards x
   pub card : (c : ℕ) → v.card ≡ Some c → c ≤ cards
-  pub parent : (c : ℕ) (seen : Seen) → v.card ≡ Some c → v.flagged ≡ false → v.search.parent ≡ Some seen → IsInner cards seen.node
+  pub parent : (c : ℕ) (seen : Seen) → v.card ≡ Some c → v.flagged ≡ false → v.search.parent ≡ Some seen
+      → IsInner cards seen.node
   pub grandparent : (c : ℕ) (seen : Seen) → v.card ≡ Some c → v.flagged ≡ false → v.search.grandparent ≡ Some seen
       → IsInner cards seen.node
   pub facts : (fact : Fact) → v.knows fact ≡ true → card_of_fact fact ≤ cards

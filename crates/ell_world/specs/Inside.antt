@@ -76,9 +76,10 @@ Answered a memory worker memory' worker' said =
 abbrev pub RefusedAt : {A : Type 0} → Act → Memory A → Worker A → CoreFault → Type 0
 RefusedAt a memory worker fault = TurnRefused memory.last_card a (scene_in memory worker) fault
 
--- a worker takes the turn of an act, of the words and worker before and after: the act is answered, or it is refused and the
--- worker and the words are as they were
-pub record TakesTurn {A : Type 0} (a : Act) (memory : Memory A) (worker : Worker A) (memory' : Memory A) (worker' : Worker A) (result : Result Stepped CoreFault) : Type 0 where
+-- a worker takes the turn of an act, of the words and worker before and after: the act is answered, or it is refused
+-- and the worker and the words are as they were
+pub record TakesTurn {A : Type 0} (a : Act) (memory : Memory A) (worker : Worker A) (memory' : Memory A)
+    (worker' : Worker A) (result : Result Stepped CoreFault) : Type 0 where
   pub done : IfOk result (Answered a memory worker memory' worker')
   pub refused : IfErr result (RefusedAt a memory worker)
   pub unchanged : OnErr result (view_of worker' ≡ view_of worker)

@@ -5,7 +5,8 @@ use Rattle.ell_world.specs.World.{WorldValue, WorldFits}
 
 -- the lists that contracts see
 abbrev pub value_in : {A : Type 0} → Inside A → WorldValue
-value_in w = record { words = w.memory.words.items; workers = map view_of w.workers.items; last_card = w.memory.last_card }
+value_in w =
+    record { words = w.memory.words.items; workers = map view_of w.workers.items; last_card = w.memory.last_card }
 
 abbrev pub InsideFits : {A : Type 0} → Inside A → Type 0
 InsideFits w = WorldFits (value_in w)

@@ -61,7 +61,8 @@ said_open = negsuc 10
 abbrev pub said_other_tree : ℤ
 said_other_tree = negsuc 11
 
--- a pointer is null that must not be: this and the two codes below it come from the header and the bindings, and not from a call
+-- a pointer is null that must not be: this and the two codes below it come from the header and the bindings, and not
+-- from a call
 abbrev pub said_null : ℤ
 said_null = negsuc 12
 

@@ -4,8 +4,8 @@ use Rattle.ell_handle.specs.Fresh.{AreOfOneShared, IsTooMuchShared}
 use Rattle.ell_handle.specs.declared.handle.Handle.{Handle}
 use Rattle.elltree.specs.Codes.{said_bad_cards, said_bad_start, said_no_memory, said_other_tree, said_too_many, said_yes}
 
--- what the code of a renewal of handles tells of them: they are of one tree of shared keys; or are not; or more keys were found in the tree of
--- the first than a tree may begin with; or the cards are too few or too many
+-- what the code of a renewal of handles tells of them: they are of one tree of shared keys; or are not; or more keys
+-- were found in the tree of the first than a tree may begin with; or the cards are too few or too many
 pub record SaysOfShared (cards : ℕ) (said : ℤ) (handles : List Handle) : Type 0 where
   pub one : said ≡ said_yes → AreOfOneShared handles
   pub other_tree : said ≡ said_other_tree → ¬ AreOfOneShared handles

@@ -48,7 +48,8 @@ HasSameHandle old new = handle_of new.raw.inside ≡ handle_of old.raw.inside
 -- the handles of the first slots are taken out
 abbrev pub AreTaken : List Slot → List Slot → List Handle → Type 0
 AreTaken olds news [] = AllZip HasSameHandle olds news
-AreTaken (old ∷ olds) (new ∷ news) (h ∷ hs) = (handle_of old.raw.inside ≡ Some h) × (IsEmptied new × AreTaken olds news hs)
+AreTaken (old ∷ olds) (new ∷ news) (h ∷ hs) =
+    (handle_of old.raw.inside ≡ Some h) × (IsEmptied new × AreTaken olds news hs)
 AreTaken _ _ (h ∷ hs) = ⊥
 
 -- the first slots have boxes without handles, as many as there are handles
@@ -63,8 +64,8 @@ AreFilled olds [] news = AllZip HasSameHandle olds news
 AreFilled (old ∷ olds) (h ∷ hs) (new ∷ news) = (handle_of new.raw.inside ≡ Some h) × AreFilled olds hs news
 AreFilled _ (h ∷ hs) _ = ⊥
 
--- what the code of a renewal of handles tells of them: they are of one tree, whose keys are not shared; or are not; or the keys of one are
--- shared; or too much is present in all; or the cards are too few or too many
+-- what the code of a renewal of handles tells of them: they are of one tree, whose keys are not shared; or are not; or
+-- the keys of one are shared; or too much is present in all; or the cards are too few or too many
 pub record SaysOfAll (cards : ℕ) (said : ℤ) (handles : List Handle) : Type 0 where
   pub one : said ≡ said_yes → AreOfOne handles
   pub owned : said ≡ said_yes → All HasOwnedKeys handles

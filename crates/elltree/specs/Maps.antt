@@ -41,7 +41,8 @@ abbrev pub steps_in : Option Handle → ℕ
 steps_in (Some handle) = handle.pass.steps
 steps_in None = 0
 
--- what a handle has found by its last look for a key of its tree: it was so in one state of the tree since the look began
+-- what a handle has found by its last look for a key of its tree: it was so in one state of the tree since the look
+-- began
 pub record FindsByLook (handle : Handle) (key : ℕ) (there : Option ℕ) : Type 0 where
   pub so : IsFoundIn (tree_of handle) handle.pass.view key there
 
@@ -59,7 +60,8 @@ IsJoined None right both = ⊥
 
 -- two handles are of one tree if their numbers are equal
 abbrev pub NumbersTell : Option Handle → Option Handle → Type 0
-NumbersTell (Some left) (Some right) = (arc_value right.shared).number ≡ (arc_value left.shared).number → right.pass.table ≡ left.pass.table
+NumbersTell (Some left) (Some right) =
+    (arc_value right.shared).number ≡ (arc_value left.shared).number → right.pass.table ≡ left.pass.table
 NumbersTell (Some left) None = Unit {0}
 NumbersTell None right = Unit {0}
 

@@ -11,7 +11,8 @@ use Rattle.elltree.specs.Maps.{as_pairs}
 -- what the code of a scan tells of a handle, with so many pairs that it has written, and the key where to go on: of
 -- each key from one on and below that one what it found in one state of the tree, on keys of the handle's own what its
 -- map has; the range is told to its end, or there was no room for more
-pub record TellsRange (from upto : ℕ) (said : ℤ) (count next : ℕ) (before after : List Pair) (old new : Handle) : Type 0 where
+pub record TellsRange (from upto : ℕ) (said : ℤ) (count next : ℕ) (before after : List Pair)
+    (old new : Handle) : Type 0 where
   pub codes : said ≡ said_yes
   pub found : AreFoundIn (tree_of old) new.pass.view from (real_end next) (contents_of (as_pairs (take count after)))
   pub ordered : AreInOrder from (real_end next) (as_pairs (take count after))

@@ -30,14 +30,16 @@ OfHandlesIfAny So (Some old) None = ⊥
 OfHandlesIfAny So None (Some new) = ⊥
 OfHandlesIfAny So None None = Unit {0}
 
--- a handle is parted: its part has what is present of these keys, and the rest what is of the others; both are of its tree, and may join
+-- a handle is parted: its part has what is present of these keys, and the rest what is of the others; both are of its
+-- tree, and may join
 pub record IsParted (wanted : List ℕ) (whole part rest : Handle) : Type 0 where
   pub given : (k : ℕ) → present_in part.pass k ≡ (if set_of wanted k then present_in whole.pass k else None)
   pub rest_is : (k : ℕ) → present_in rest.pass k ≡ (if set_of wanted k then None else present_in whole.pass k)
   pub parts : AreParts wanted whole part rest
   pub numbers : NumbersTell (Some rest) (Some part)
 
--- there is another handle of a handle's tree, which has none of its keys; the handle has all, as it had them, and both may join
+-- there is another handle of a handle's tree, which has none of its keys; the handle has all, as it had them, and both
+-- may join
 pub record HasAnother (whole kept other : Handle) : Type 0 where
   pub parts : AreParts (ledger_keys whole.pass.view.worker.ledger) whole kept other
   pub same : HasSame whole kept

@@ -31,7 +31,8 @@ text_of code =
 abbrev pub fitting : List ℕ → List ℕ → ℕ
 fitting text old = min (length text) (length old - 1)
 
--- an array begins with a text, as much of it as fits, and a 0 behind it, if there is room for anything; the others are as they were
+-- an array begins with a text, as much of it as fits, and a 0 behind it, if there is room for anything; the others are
+-- as they were
 pub record WritesText (text old new : List ℕ) : Type 0 where
   pub first : take (fitting text old) new ≡ take (fitting text old) text
   pub ended : 0 < length old → slice_get new (fitting text old) ≡ Some 0

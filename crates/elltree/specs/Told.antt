@@ -24,8 +24,9 @@ use Rattle.elltree.specs.Maps.{AreOfOneTree, IsFoundBy, IsJoined, NeedsMore, Num
 use Rattle.elltree.specs.Slots.{ArePartsIn, HasAnotherIn, OfHandle}
 use Rattle.ell_tree.specs.declared.scanning.Pair.{Pair}
 
--- what the code of a find tells of a handle, with the value that the find has left in its place: whether the key is present and has this
--- value, on a key of the handle's own as its map has it; or exactly that the key is neither the handle's nor shared
+-- what the code of a find tells of a handle, with the value that the find has left in its place: whether the key is
+-- present and has this value, on a key of the handle's own as its map has it; or exactly that the key is neither the
+-- handle's nor shared
 pub record TellsFind (key : ℕ) (said : ℤ) (value : ℕ) (old new : Handle) : Type 0 where
   pub codes : IsOneOf (said_yes ∷ said_no ∷ said_foreign ∷ []) said
   pub yes : said ≡ said_yes → Answers (tree_of old) (Find key) (Found value) old.pass new.pass
@@ -36,7 +37,8 @@ pub record TellsFind (key : ℕ) (said : ℤ) (value : ℕ) (old new : Handle) :
   pub may : said ≢ said_foreign → MayUse old key
   pub reads : OnlyFinds old new
 
--- and that of a look: what it found in one state of the tree, on keys of the handle's own what its map has; or exactly that no key is so great
+-- and that of a look: what it found in one state of the tree, on keys of the handle's own what its map has; or exactly
+-- that no key is so great
 pub record TellsLook (key : ℕ) (said : ℤ) (value : ℕ) (old new : Handle) : Type 0 where
   pub codes : IsOneOf (said_yes ∷ said_no ∷ said_bad_key ∷ []) said
   pub yes : said ≡ said_yes → IsFoundBy (Some new) key (Some value)
@@ -47,16 +49,17 @@ pub record TellsLook (key : ℕ) (said : ℤ) (value : ℕ) (old new : Handle) :
   pub real : said ≢ said_bad_key → key ≤ greatest_key
   pub reads : OnlyLooksUp old new
 
--- the cards that an insert or a delete of a key took, by its code: one a try at most; if the map has changed, one, and more only for tries
--- that something hindered; else only those for hindered tries; and none, if the answer is no on a key of the handle's own
+-- the cards that an insert or a delete of a key took, by its code: one a try at most; if the map has changed, one, and
+-- more only for tries that something hindered; else only those for hindered tries; and none, if the answer is no on a
+-- key of the handle's own
 pub record SpendsBy (key tries : ℕ) (said : ℤ) (old new : Handle) : Type 0 where
   pub most : TakesAtMost tries old.pass new.pass
   pub changed : said ≡ said_yes → TakesOneAndByHindered old.pass new.pass
   pub kept : said ≡ said_no → Owns old.pass key → TakesNoCard old.pass new.pass
   pub refused : said ≢ said_yes → TakesByHindered old.pass new.pass
 
--- what the code of an insert or a delete tells of a handle: the answer, which on a key of its own is the map's, and the map after it; or why there is none, each exactly if
--- it is so, and then the map is as it was
+-- what the code of an insert or a delete tells of a handle: the answer, which on a key of its own is the map's, and the
+-- map after it; or why there is none, each exactly if it is so, and then the map is as it was
 pub record TellsChange (op : Op) (tries : ℕ) (said : ℤ) (old new : Handle) : Type 0 where
   pub codes : IsOneOf (said_yes ∷ said_no ∷ said_no_tries ∷ said_foreign ∷ said_busy ∷ said_spent ∷ []) said
   pub yes : said ≡ said_yes → Answers (tree_of old) op Yes old.pass new.pass
@@ -72,13 +75,15 @@ pub record TellsChange (op : Op) (tries : ℕ) (said : ℤ) (old new : Handle) :
   pub took : TookTries tries old new
   pub cards : SpendsBy (key_of op) tries said old new
 
--- what the code of a take and the value that it wrote tell of a handle: what that of a delete tells; and that this value was taken
+-- what the code of a take and the value that it wrote tell of a handle: what that of a delete tells; and that this
+-- value was taken
 pub record TellsTake (key tries : ℕ) (said : ℤ) (taken : ℕ) (old new : Handle) : Type 0 where
   pub change : TellsChange (Delete key) tries said old new
   pub takes : said ≡ said_yes → TakesValue (tree_of old) key old.pass new.pass (Some taken)
 
--- what the code of a renewal tells of a handle, which keeps its keys and its map: that it is the first of a new tree; or why it has its
--- old tree still, as exactly that the keys of this are shared; want of memory is named only if nothing else is wrong
+-- what the code of a renewal tells of a handle, which keeps its keys and its map: that it is the first of a new tree;
+-- or why it has its old tree still, as exactly that the keys of this are shared; want of memory is named only if
+-- nothing else is wrong
 pub record TellsRenewal (cards number : ℕ) (said : ℤ) (old new : Handle) : Type 0 where
   pub codes : IsOneOf (said_yes ∷ said_shared_keys ∷ said_bad_start ∷ said_bad_cards ∷ said_no_memory ∷ []) said
   pub same : HasSame old new
@@ -91,8 +96,8 @@ pub record TellsRenewal (cards number : ℕ) (said : ℤ) (old new : Handle) : T
   pub no_memory : said ≡ said_no_memory → MayRenew (present_in old.pass) cards
   pub refused : said ≢ said_yes → new.shared ≡ old.shared
 
--- what the code of a list of pairs tells of a handle, which stays as it was: that its pairs are written, so many of them; or that they are
--- more than there is room for
+-- what the code of a list of pairs tells of a handle, which stays as it was: that its pairs are written, so many of
+-- them; or that they are more than there is room for
 pub record TellsPairs (said : ℤ) (count : ℕ) (before after : List Pair) (old new : Handle) : Type 0 where
   pub codes : IsOneOf (said_yes ∷ said_no_room ∷ []) said
   pub pairs : said ≡ said_yes → WritesPairs (present_in old.pass) count before after
@@ -121,7 +126,8 @@ pub record BeginsShared (start : List (ℕ × ℕ)) (cards number : ℕ) (handle
   pub opened : IsOpenedShared start cards number handle
   pub may : MayOpen [] start cards
 
--- what the code of an opening tells of these keys, start keys and cards: why there is no such tree, each exactly if it is so
+-- what the code of an opening tells of these keys, start keys and cards: why there is no such tree, each exactly if it
+-- is so
 pub record SaysWhyShut (keys : List ℕ) (start : List (ℕ × ℕ)) (cards : ℕ) (said : ℤ) : Type 0 where
   pub codes : IsOneOf (said_yes ∷ said_open ∷ said_bad_start ∷ said_bad_key ∷ said_bad_cards ∷ said_no_memory ∷ []) said
   pub bad_start : said ≡ said_bad_start → RefusesTree keys start cards BadStart
@@ -129,8 +135,9 @@ pub record SaysWhyShut (keys : List ℕ) (start : List (ℕ × ℕ)) (cards : �
   pub bad_cards : said ≡ said_bad_cards → RefusesTree keys start cards BadCards
   pub no_memory : said ≡ said_no_memory → MayOpen keys start cards
 
--- what the code of a split by these keys tells of a slot's handle, of the slot with its part and of its own after it: that these have the
--- parts; or why there are none, each exactly if it is so, but that want of memory is named only if nothing else is wrong
+-- what the code of a split by these keys tells of a slot's handle, of the slot with its part and of its own after it:
+-- that these have the parts; or why there are none, each exactly if it is so, but that want of memory is named only if
+-- nothing else is wrong
 pub record TellsSplit (keys : List ℕ) (said : ℤ) (whole part rest : Option Handle) : Type 0 where
   pub codes : IsOneOf (said_yes ∷ said_closed ∷ said_foreign ∷ said_too_many ∷ said_no_memory ∷ []) said
   pub parts : said ≡ said_yes → ArePartsIn keys whole part rest
@@ -150,8 +157,8 @@ pub record TellsAnother (said : ℤ) (whole kept other : Option Handle) : Type 0
   pub too_many : said ≡ said_too_many → OfHandle IsLeast whole
   pub may : said ≡ said_yes ⊎ said ≡ said_no_memory → OfHandle (λ h. ¬ IsLeast h) whole
 
--- what the code of a join tells of two slots' handles and of the first slot's after it, whose tree stays: that it has the keys of both; or
--- that their numbers differ, or that one slot has none, each exactly if it is so
+-- what the code of a join tells of two slots' handles and of the first slot's after it, whose tree stays: that it has
+-- the keys of both; or that their numbers differ, or that one slot has none, each exactly if it is so
 pub record TellsJoin (said : ℤ) (into from new : Option Handle) : Type 0 where
   pub codes : IsOneOf (said_yes ∷ said_closed ∷ said_other_tree ∷ said_no_memory ∷ []) said
   pub joined : said ≡ said_yes → IsJoined into from new

@@ -17,7 +17,8 @@ use Rattle.elltree.specs.Told.{SpendsBy}
 -- the expected value, and has the new one; that it is absent; that it has just this other value; or why there is no
 -- answer, each exactly if it is so, and then the map is as it was
 pub record TellsExchange (key current value tries : ℕ) (said : ℤ) (found : ℕ) (old new : Handle) : Type 0 where
-  pub codes : IsOneOf (said_yes ∷ said_no ∷ said_other_value ∷ said_no_tries ∷ said_foreign ∷ said_busy ∷ said_spent ∷ []) said
+  pub codes : IsOneOf
+      (said_yes ∷ said_no ∷ said_other_value ∷ said_no_tries ∷ said_foreign ∷ said_busy ∷ said_spent ∷ []) said
   pub yes : said ≡ said_yes → Answers (tree_of old) (Swap key current value) (Found current) old.pass new.pass
   pub no : said ≡ said_no → Answers (tree_of old) (Swap key current value) No old.pass new.pass
   pub other : said ≡ said_other_value → Answers (tree_of old) (Swap key current value) (Found found) old.pass new.pass

@@ -17,7 +17,8 @@ Run m (e ∷ es) (x ∷ xs) after = (between : Machine) × Shows m e x between �
 Run m [] (x ∷ xs) after = ⊥
 Run m (e ∷ es) [] after = ⊥
 
--- a state is passed by a run of a schedule, before its end: some first events of the schedule lead to it, and events are left
+-- a state is passed by a run of a schedule, before its end: some first events of the schedule lead to it, and events
+-- are left
 pub record Passes (m : Machine) (schedule : List Event) (state : Machine) : Type 0 where
   pub events : ℕ
   pub left : events < length schedule

@@ -86,9 +86,9 @@ pub record IsCopy (w : Words) (c leaf : ℕ) : Type 0 where
   pub key : w.key leaf ≡ w.key (w.l c)
   pub value : w.value leaf ≡ w.value (w.l c)
 
--- an insert's card: where it goes, with no grandparent and no update word that was read; two leaves, a copy of the old one and one of its own key,
--- which may be the same key, and
--- which lie on one side of the parent; and the child that it is to replace was not replaced by a lesser node
+-- an insert's card: where it goes, with no grandparent and no update word that was read; two leaves, a copy of the old
+-- one and one of its own key, which may be the same key, and which lie on one side of the parent; and the child that it
+-- is to replace was not replaced by a lesser node
 pub record InsertCard (w : Words) (stage : Stages) (c : ℕ) : Type 0 where
   pub gp : w.gp c ≡ 0
   pub was : w.was c ≡ 0
@@ -135,7 +135,8 @@ pub record CardIsSound (w : Words) (stage : Stages) (c : ℕ) : Type 0 where
   pub unborn : is_insert (stage c) ≡ true → is_born (stage c) ≡ false → Unborn w c
   pub blank : is_claimed (stage c) ≡ false → Blank w c
 
--- what an insert's stage says of the parent's update word and child; while it waits, the parent is on course for its key
+-- what an insert's stage says of the parent's update word and child; while it waits, the parent is on course for its
+-- key
 pub record InsertStage (w : Words) (stage : Stages) (c : ℕ) : Type 0 where
   pub flag : insert_open (stage c) ≡ true → w.update (w.p c) ≡ iflag c
   pub over : insert_over (stage c) ≡ true → iflag c < w.update (w.p c)
@@ -144,13 +145,14 @@ pub record InsertStage (w : Words) (stage : Stages) (c : ℕ) : Type 0 where
   pub changed : is_changed (stage c) ≡ true → w.l c < w.child (w.p c) (insert_side w c)
   pub brings : is_changed (stage c) ≡ true → is_born (stage c) ≡ not (is_replace_card w c)
 
--- the parent of a delete that may still be marked: its update word is the one that the search read, with the leaf still its
--- child, or past it
+-- the parent of a delete that may still be marked: its update word is the one that the search read, with the leaf still
+-- its child, or past it
 pub record Markable (w : Words) (c : ℕ) : Type 0 where
   pub at_least : w.was c ≤ w.update (w.p c)
   pub still : w.update (w.p c) ≡ w.was c → w.child (w.p c) (leaf_side w c) ≡ w.l c
 
--- the parent of a delete that was marked: the mark, the leaf its child, and the sibling on the side on which the delete cuts
+-- the parent of a delete that was marked: the mark, the leaf its child, and the sibling on the side on which the delete
+-- cuts
 pub record IsMarked (w : Words) (c : ℕ) : Type 0 where
   pub mark : w.update (w.p c) ≡ marked c
   pub leaf : w.child (w.p c) (leaf_side w c) ≡ w.l c
@@ -171,7 +173,8 @@ pub record DeleteStage (w : Words) (stage : Stages) (c : ℕ) : Type 0 where
   pub marked : is_marked (stage c) ≡ true → IsMarked w c
   pub cut : is_cut (stage c) ≡ true → IsCut w c
 
--- an internal node that came into the tree: its children came too, have greater numbers, and keys on their side of its own
+-- an internal node that came into the tree: its children came too, have greater numbers, and keys on their side of its
+-- own
 pub record ChildrenAreSound (w : Words) (stage : Stages) (x : ℕ) : Type 0 where
   pub born : (right : Bool) → Born stage (w.child x right)
   pub rising : (right : Bool) → x < w.child x right
@@ -185,8 +188,8 @@ pub record UpdateIsSound (w : Words) (stage : Stages) (x : ℕ) : Type 0 where
   pub dflagged : (c : ℕ) → w.update x ≡ dflag c → (delete_open (stage c) ≡ true) × (w.gp c ≡ x)
   pub marked : (c : ℕ) → w.update x ≡ marked c → (is_marked (stage c) ≡ true) × (w.p c ≡ x)
 
--- the tree: in order, with the two greatest keys in their places; and every internal node that came into it is still there, or
--- marked
+-- the tree: in order, with the two greatest keys in their places; and every internal node that came into it is still
+-- there, or marked
 pub record TreeIsSound (w : Words) (stage : Stages) : Type 0 where
   pub ordered : IsOrdered w.key w.child top
   pub root_key : w.key 0 ≡ infinity2
@@ -205,8 +208,8 @@ pub record WordsAreSound (w : Words) (stage : Stages) : Type 0 where
   pub updates : (x : ℕ) → IsInternal x → Born stage x → UpdateIsSound w stage x
   pub tree : TreeIsSound w stage
 
--- what a search has seen of a node on its way to x: the node came before x and has x's key on k's side; its update word was
--- read before its child; and if that word was clean and still stands, x is still the child
+-- what a search has seen of a node on its way to x: the node came before x and has x's key on k's side; its update word
+-- was read before its child; and if that word was clean and still stands, x is still the child
 pub record SeenIsSound (w : Words) (stage : Stages) (k : ℕ) (seen : Seen) (x : ℕ) : Type 0 where
   pub node : IsInnerBorn stage seen.node
   pub less : seen.node < x
@@ -281,7 +284,8 @@ abbrev pub Flagged : Words → Stages → Worker → Op → ℕ → Type 0
 Flagged w stage v (Find k) c = ⊥
 Flagged w stage v (Insert k value) c = FlaggedPut w stage v (record { key = k; value = value; was = None }) c
 Flagged w stage v (Swap k was value) c = FlaggedPut w stage v (record { key = k; value = value; was = Some was }) c
-Flagged w stage v (Delete k) c = (delete_won (stage c) ≡ true) × (delete_key w c ≡ k) × (WorkerOwns v k → (value : ℕ) × (v.ledger k ≡ Some (Present value)))
+Flagged w stage v (Delete k) c = (delete_won (stage c) ≡ true) × (delete_key w c ≡ k)
+    × (WorkerOwns v k → (value : ℕ) × (v.ledger k ≡ Some (Present value)))
 
 -- a worker
 pub record WorkerIsSound (w : Words) (stage : Stages) (v : Worker) : Type 0 where
@@ -290,17 +294,19 @@ pub record WorkerIsSound (w : Words) (stage : Stages) (v : Worker) : Type 0 wher
   pub free : v.operation ≡ None → WorkerIsIdle v
   pub owned : (op : Op) → v.operation ≡ Some op → MayChange v (key_of op)
   pub stands : (op : Op) (x : ℕ) → v.operation ≡ Some op → v.search.node ≡ Some x → StandIsSound w stage v (key_of op) x
-  pub unflagged : (op : Op) (c : ℕ) → v.operation ≡ Some op → v.card ≡ Some c → v.flagged ≡ false → Unflagged w stage v op c
+  pub unflagged : (op : Op) (c : ℕ) → v.operation ≡ Some op → v.card ≡ Some c → v.flagged ≡ false
+      → Unflagged w stage v op c
   pub flagged : (op : Op) (c : ℕ) → v.operation ≡ Some op → v.card ≡ Some c → v.flagged ≡ true
       → Flagged w stage v op c × (v.search.node ≡ None)
 
--- the workers: each key has one owner at most, and none if it is shared; the keys of the tree among a worker's, with their values, are those present
--- in its effective ledger, and each other key of the tree has an owner; a card is in one hand at most, and one whose flag stands is in hand; and past
--- the last worker there is nobody
+-- the workers: each key has one owner at most, and none if it is shared; the keys of the tree among a worker's, with
+-- their values, are those present in its effective ledger, and each other key of the tree has an owner; a card is in
+-- one hand at most, and one whose flag stands is in hand; and past the last worker there is nobody
 pub record WorkersAreSound (m : Machine) (stage : Stages) : Type 0 where
   pub each : (i : ℕ) → WorkerIsSound m.words stage (m.worker i)
   pub one_owner : (i j k : ℕ) → WorkerOwns (m.worker i) k → WorkerOwns (m.worker j) k → i ≡ j
-  pub present : (i k value : ℕ) → WorkerOwns (m.worker i) k → LeadsToValue m.words k value 0 ↔ (effective_at stage (m.worker i) k ≡ Some (Present value))
+  pub present : (i k value : ℕ) → WorkerOwns (m.worker i) k → LeadsToValue m.words k value 0
+      ↔ (effective_at stage (m.worker i) k ≡ Some (Present value))
   pub apart : (i j k : ℕ) → (m.worker i).shared k ≡ true → ¬ WorkerOwns (m.worker j) k
   pub owned : (k : ℕ) → k ≤ greatest_key → LeadsTo m.words k 0 → IsNotShared m k → IsOwned m k
   pub one_hand : (i j c : ℕ) → (m.worker i).card ≡ Some c → (m.worker j).card ≡ Some c → i ≡ j
@@ -320,7 +326,8 @@ pub record GoesNowhere (w : Words) (c : ℕ) : Type 0 where
 pub record KindsAreSound (w : Words) (stage : Stages) : Type 0 where
   pub start : (c : ℕ) → is_start (stage c) ≡ true → GoesNowhere w c
   pub some : 0 < w.next
-  pub kinds : (c : ℕ) → c < w.next → is_start (stage c) ≡ false → (is_insert (stage c) ≡ true) ⊎ (is_delete (stage c) ≡ true)
+  pub kinds : (c : ℕ) → c < w.next → is_start (stage c) ≡ false → (is_insert (stage c) ≡ true)
+      ⊎ (is_delete (stage c) ≡ true)
 
 -- a state of a run
 pub record Invariant (m : Machine) (stage : Stages) : Type 0 where

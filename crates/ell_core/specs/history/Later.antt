@@ -30,8 +30,8 @@ pub record SameNode (old new : Words) (x : ℕ) : Type 0 where
   pub update : new.update x ≡ old.update x
   pub child : (right : Bool) → new.child x right ≡ old.child x right
 
--- the words of a later state: the claim word, children and update words rose or stayed, a claimed card goes where it went and
--- its nodes have their keys and values, and a marked node is as it was
+-- the words of a later state: the claim word, children and update words rose or stayed, a claimed card goes where it
+-- went and its nodes have their keys and values, and a marked node is as it was
 pub record WordsLater (old new : Words) : Type 0 where
   pub next : old.next ≤ new.next
   pub child : (x : ℕ) (right : Bool) → old.child x right ≤ new.child x right
@@ -41,8 +41,8 @@ pub record WordsLater (old new : Words) : Type 0 where
   pub value : (x : ℕ) → card x < old.next → new.value x ≡ old.value x
   pub frozen : (x c : ℕ) → old.update x ≡ marked c → SameNode old new x
 
--- the stages of a later state: the cards of the opening tree are the same, no card changed its kind, no node that came into the tree went back, and
--- what might be known of a card still may
+-- the stages of a later state: the cards of the opening tree are the same, no card changed its kind, no node that came
+-- into the tree went back, and what might be known of a card still may
 pub record StagesLater (old new : Stages) : Type 0 where
   pub start : (c : ℕ) → is_start (new c) ≡ is_start (old c)
   pub insert : (c : ℕ) → is_insert (old c) ≡ true → is_insert (new c) ≡ true
@@ -65,8 +65,9 @@ wins_of DOver = exchange.DFlag ∷ exchange.Mark ∷ exchange.DChild ∷ exchang
 wins_of DBacked = exchange.DFlag ∷ exchange.Backtrack ∷ []
 wins_of _ = []
 
--- an act of worker i leads from a state that the invariant holds of to one that it holds of, with later words and stages; a
--- claimed card whose nodes did not come into the tree says what it said; and each card's wins grow by what the act wins for it
+-- an act of worker i leads from a state that the invariant holds of to one that it holds of, with later words and
+-- stages; a claimed card whose nodes did not come into the tree says what it said; and each card's wins grow by what
+-- the act wins for it
 pub record Follows (m : Machine) (stage : Stages) (a : Act) (i : ℕ) (said : Stepped) (after : Machine) : Type 0 where
   pub stages : Stages
   pub invariant : Invariant after stages
@@ -77,5 +78,6 @@ pub record Follows (m : Machine) (stage : Stages) (a : Act) (i : ℕ) (said : St
 
 -- an act keeps the invariant, whoever does it and whatever it answers
 abbrev pub KeepsInvariant : Act → Type 0
-KeepsInvariant a = (m : Machine) (stage : Stages) (i : ℕ) (said : Stepped) (becomes : Scene) → i < m.count → Invariant m stage
+KeepsInvariant a =
+    (m : Machine) (stage : Stages) (i : ℕ) (said : Stepped) (becomes : Scene) → i < m.count → Invariant m stage
     → Happens m.last_card a (scene m i) said becomes → Follows m stage a i said (with_scene m i becomes)

@@ -103,12 +103,12 @@ insert_open IChanged = true
 insert_open RChanged = true
 insert_open _ = false
 
--- an insert's flag stands and its child exchange was not entry_made yet
+-- an insert's flag stands and its child exchange was not made yet
 abbrev pub insert_waits : Stage → Bool
 insert_waits IFlagged = true
 insert_waits _ = false
 
--- an insert's child exchange was entry_made
+-- an insert's child exchange was made
 abbrev pub is_changed : Stage → Bool
 is_changed IChanged = true
 is_changed IOver = true
@@ -140,7 +140,7 @@ delete_open DMarked = true
 delete_open DCut = true
 delete_open _ = false
 
--- a delete's flag stands and its child exchange was not entry_made yet
+-- a delete's flag stands and its child exchange was not made yet
 abbrev pub delete_waits : Stage → Bool
 delete_waits DFlagged = true
 delete_waits DUnmarkable = true
@@ -165,7 +165,7 @@ is_marked DCut = true
 is_marked DOver = true
 is_marked _ = false
 
--- a delete's child exchange was entry_made
+-- a delete's child exchange was made
 abbrev pub is_cut : Stage → Bool
 is_cut DCut = true
 is_cut DOver = true
@@ -203,7 +203,7 @@ allows (fact.Backed c) stage = is_backed stage
 abbrev pub Born : Stages → ℕ → Type 0
 Born stage x = is_node_born (stage (card x)) (x % 4) ≡ true
 
--- what an operation has entry_made of its key by its card's stage
+-- what an operation has made of its key by its card's stage
 abbrev pub made_by_stage : Op → Stage → Option Entry
 made_by_stage op stage = entry_made op (is_changed stage) (is_cut stage)
 

@@ -14,7 +14,7 @@ use Rattle.ell_core.specs.declared.view.Entry.TheVariants.{Present, Absent}
 abbrev pub IFlagHolds : Words → ℕ → Type 0
 IFlagHolds w c = (is_delete_card w c ≡ false) × (iflag c ≤ w.update (w.p c))
 
--- the insert's child exchange was entry_made: the parent's child on the card's side is not the leaf any more
+-- the insert's child exchange was made: the parent's child on the card's side is not the leaf any more
 abbrev pub IChangeHolds : Words → ℕ → Type 0
 IChangeHolds w c = IFlagHolds w c × (card_child w c (w.p c) ≢ w.l c)
 
@@ -30,7 +30,7 @@ MarkHolds w c = DFlagHolds w c × (w.update (w.p c) ≡ marked c)
 abbrev pub UnmarkableHolds : Words → ℕ → Type 0
 UnmarkableHolds w c = DFlagHolds w c × (w.was c < w.update (w.p c)) × (w.update (w.p c) ≢ marked c)
 
--- the delete's child exchange was entry_made: the grandparent's child on the card's side is not the parent any more
+-- the delete's child exchange was made: the grandparent's child on the card's side is not the parent any more
 abbrev pub CutHolds : Words → ℕ → Type 0
 CutHolds w c = MarkHolds w c × (card_child w c (w.gp c) ≢ w.p c)
 
@@ -46,15 +46,15 @@ Holds w (fact.Cut c) = CutHolds w c
 Holds w (fact.DOver c) = CutHolds w c × (dflag c < w.update (w.gp c))
 Holds w (fact.Backed c) = UnmarkableHolds w c × (dflag c < w.update (w.gp c))
 
--- what an operation has entry_made of its key once its child exchange is entry_made: a present value, or for a delete absence.
--- So insert 5 with value 50 has entry_made nothing while its flag stands alone, and then Present 50
+-- what an operation has made of its key once its child exchange is made: a present value, or for a delete absence.
+-- So insert 5 with value 50 has made nothing while its flag stands alone, and then Present 50
 abbrev pub entry_made : Op → Bool → Bool → Option Entry
 entry_made (Insert key value) true cut = Some (Present value)
 entry_made (Delete key) changed true = Some Absent
 entry_made (Swap key was value) true cut = Some (Present value)
 entry_made _ _ _ = None
 
--- once an insert's flag was won: whether its child exchange was entry_made, which takes the leaf from the parent forever
+-- once an insert's flag was won: whether its child exchange was made, which takes the leaf from the parent forever
 abbrev pub is_changed_in : Words → ℕ → Bool
 is_changed_in w c = not (card_child w c (w.p c) == w.l c)
 
@@ -62,11 +62,11 @@ is_changed_in w c = not (card_child w c (w.p c) == w.l c)
 abbrev pub is_cut_in : Words → ℕ → Bool
 is_cut_in w c = if w.update (w.p c) == marked c then not (card_child w c (w.gp c) == w.p c) else false
 
--- what an operation has entry_made of its key by the words, once the flag of its card was won
+-- what an operation has made of its key by the words, once the flag of its card was won
 abbrev pub made_in : Words → Op → ℕ → Option Entry
 made_in w op c = entry_made op (is_changed_in w c) (is_cut_in w c)
 
--- a ledger where an operation has entry_made this of its key, if anything
+-- a ledger where an operation has made this of its key, if anything
 abbrev pub with_made : Ledger → ℕ → Option Entry → Ledger
 with_made ledger key None = ledger
 with_made ledger key (Some entry) = put ledger key (Some entry)
@@ -75,7 +75,7 @@ abbrev pub effective_of : Words → Ledger → Option Op → Option ℕ → Bool
 effective_of w ledger (Some op) (Some c) true = with_made ledger (key_of op) (made_in w op c)
 effective_of w ledger _ _ _ = ledger
 
--- the effective ledger, in which the key of an operation whose card is flagged counts as what that card has entry_made of it.
+-- the effective ledger, in which the key of an operation whose card is flagged counts as what that card has made of it.
 -- So after a helper has linked the node of insert 5 with value 50, 5 is absent in the ledger and Present 50 in this one
 abbrev pub effective : Words → Worker → Ledger
 effective w v = effective_of w v.ledger v.operation v.card v.flagged

@@ -18,7 +18,8 @@ five = with_update five_linked 0 (clean 1)
 
 -- the tree with keys 5 and 7: node 4's left child is node 8, with leaf 9 of key 5 and leaf 10 of key 7
 abbrev pub five_seven : Words
-five_seven = with_update (with_child (claimed five (insert_filling 2 7 70 (internal 1) (left_leaf 1) 5 50)) (internal 1) false (internal 2))
+five_seven = with_update
+    (with_child (claimed five (insert_filling 2 7 70 (internal 1) (left_leaf 1) 5 50)) (internal 1) false (internal 2))
     (internal 1) (clean 2)
 
 -- the tree with key 5, with card 2 filled to delete it: grandparent 0, parent 4, leaf 5

@@ -39,8 +39,8 @@ pub record LedgersAreSound (m : Machine) : Type 0 where
   pub present : (i key value : ℕ) → WorkerOwns (m.worker i) key
       → IsTreePair m.words key value ↔ (effective m.words (m.worker i) key ≡ Some (Present value))
 
--- where a worker stands, the walk for a key of its own finds it with a value exactly when its ledger has it present with
--- that value, and what is reached of that walk lies on the walk from the root
+-- where a worker stands, the walk for a key of its own finds it with a value exactly when its ledger has it present
+-- with that value, and what is reached of that walk lies on the walk from the root
 pub record WalkIsSound (w : Words) (v : Worker) (key x : ℕ) : Type 0 where
   pub finds : WorkerOwns v key → (value : ℕ) → Finds w key value x ↔ (v.ledger key ≡ Some (Present value))
   pub joins : (y : ℕ) → OnWalk w key x y → Reached w y → OnWalk w key 0 y

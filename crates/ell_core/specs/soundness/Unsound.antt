@@ -21,7 +21,8 @@ owner key entry = idle (one_key key entry) (λ _. false) (λ _. false)
 
 -- a worker that owns two keys, both present with ten times the key for their value, and has nothing in hand
 abbrev pub owner_of_two : ℕ → ℕ → Worker
-owner_of_two key other = idle (put (one_key key (Present (10 * key))) other (Some (Present (10 * other)))) (λ _. false) (λ _. false)
+owner_of_two key other =
+    idle (put (one_key key (Present (10 * key))) other (Some (Present (10 * other)))) (λ _. false) (λ _. false)
 
 -- the worker with a card in hand that won its flag
 abbrev pub holding : ℕ → Worker → Worker

@@ -44,7 +44,8 @@ flag_of_another = with_one root_flagged (holding 2 (owner 5 Absent))
 abbrev pub flag_not_won : Machine
 flag_not_won = with_one root_flagged (record (owner 5 Absent) { card = Some 1 })
 
--- place: card 2, whose grandparent is the root and whose parent is node 4, is in hand and flagged, with these update words there
+-- place: card 2, whose grandparent is the root and whose parent is node 4, is in hand and flagged, with these update
+-- words there
 abbrev pub placed : ℕ → ℕ → Machine
 placed above behind = with_one (five_updated above behind) (holding 2 (owner 5 (Present 50)))
 

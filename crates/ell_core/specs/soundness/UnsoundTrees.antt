@@ -29,15 +29,16 @@ node_with_lesser_key = with_one (with_key five (internal 1) 5) (owner 5 (Present
 abbrev pub node_with_key_too_great : Machine
 node_with_key_too_great = with_one (with_key five_seven (internal 2) 9) (owner_of_two 5 7)
 
--- the root's key: it is the lesser infinity (it lies between the lesser infinity, on its left, and the greater one, its right
--- leaf's, so that keys are out of order too)
+-- the root's key: it is the lesser infinity (it lies between the lesser infinity, on its left, and the greater one, its
+-- right leaf's, so that keys are out of order too)
 abbrev pub root_of_lesser_infinity : Machine
 root_of_lesser_infinity = with_one (with_key opening_words 0 infinity1) (owner 5 Absent)
 
 -- the root's right child: another leaf of the greater infinity
 abbrev pub root_with_other_leaf : Machine
 root_with_other_leaf = with_one
-    (record (with_child (with_key opening_words (right_leaf 1) infinity2) 0 true (right_leaf 1)) { next = 2 }) (owner 5 Absent)
+    (record (with_child (with_key opening_words (right_leaf 1) infinity2) 0 true (right_leaf 1)) { next = 2 })
+        (owner 5 Absent)
 
 -- the right leaf's key: one above the greater infinity
 abbrev pub leaf_past_infinity : Machine
@@ -45,18 +46,20 @@ leaf_past_infinity = with_one (with_key opening_words (right_leaf 0) (infinity2 
 
 -- the left side, there and last key: no leaf has the lesser infinity, the keys are 5 and 7
 abbrev pub lesser_infinity_lost : Machine
-lesser_infinity_lost = with_one (with_value (with_key (with_key five (internal 1) 7) (right_leaf 1) 7) (right_leaf 1) 70) (owner_of_two 5 7)
+lesser_infinity_lost = with_one
+    (with_value (with_key (with_key five (internal 1) 7) (right_leaf 1) 7) (right_leaf 1) 70) (owner_of_two 5 7)
 
--- the left side, outer: only the internal node has the lesser infinity, and its right leaf has 7 (where keys are in order, such a
--- node has a leaf of its own key)
+-- the left side, outer: only the internal node has the lesser infinity, and its right leaf has 7 (where keys are in
+-- order, such a node has a leaf of its own key)
 abbrev pub lesser_infinity_of_no_leaf : Machine
 lesser_infinity_of_no_leaf = with_one (with_value (with_key five (right_leaf 1) 7) (right_leaf 1) 70) (owner_of_two 5 7)
 
--- the left side, real: another leaf has the greater infinity (where keys are in order, the lesser infinity stands once, and the
--- greater one not on the left)
+-- the left side, real: another leaf has the greater infinity (where keys are in order, the lesser infinity stands once,
+-- and the greater one not on the left)
 abbrev pub infinity_on_the_left : Machine
 infinity_on_the_left = with_one (with_key five (left_leaf 1) infinity2) (owner 5 Absent)
 
--- the left side, deep: a leaf of a real key right below the root (then it is the only leaf there, and the lesser infinity is lost)
+-- the left side, deep: a leaf of a real key right below the root (then it is the only leaf there, and the lesser
+-- infinity is lost)
 abbrev pub leaf_below_the_root : Machine
 leaf_below_the_root = with_one (with_key opening_words (left_leaf 0) 5) (owner 5 (Present 0))

@@ -42,5 +42,6 @@ pub record Join (m : Machine) (i j : ℕ) (after : Machine) : Type 0 where
   pub both_free : WorkerIsIdle both
   pub ledgers : AreParted both.ledger (m.worker i).ledger (m.worker j).ledger
   pub shares : (key : ℕ) → both.shared key ≡ ((m.worker i).shared key || (m.worker j).shared key)
-  pub knows : (fact : Fact) → both.knows fact ≡ true → ((m.worker i).knows fact ≡ true) ⊎ ((m.worker j).knows fact ≡ true)
+  pub knows : (fact : Fact) → both.knows fact ≡ true → ((m.worker i).knows fact ≡ true)
+      ⊎ ((m.worker j).knows fact ≡ true)
   pub gives : after ≡ record m { worker = put (put m.worker i both) j nobody }

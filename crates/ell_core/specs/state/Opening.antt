@@ -15,12 +15,13 @@ gives i key entry = (entry.0 == i) && (entry.1 == key)
 abbrev pub start_entry : List (ℕ × ℕ) → ℕ → Entry
 start_entry start key = entry_of (contents_of start key)
 
--- the ledger of worker i at the start: its keys are those that the entries give it, and the start keys among them are present
+-- the ledger of worker i at the start: its keys are those that the entries give it, and the start keys among them are
+-- present
 abbrev pub opening_ledger : List (ℕ × ℕ) → List (ℕ × ℕ) → ℕ → Ledger
 opening_ledger owned start i = λ key. if list_any (gives i key) owned then Some (start_entry start key) else None
 
--- what a state opens with: so many workers, the keys that they own, by entries of a worker and a key, the start keys with their
--- values, so many cards beside those of the start keys' tree, and the shared keys
+-- what a state opens with: so many workers, the keys that they own, by entries of a worker and a key, the start keys
+-- with their values, so many cards beside those of the start keys' tree, and the shared keys
 pub record Setup : Type 0 where
   pub count : ℕ
   pub owned : List (ℕ × ℕ)
@@ -102,7 +103,8 @@ first_alone v (suc i) = nobody
 abbrev pub keys_at_start : List ℕ → List (ℕ × ℕ) → List (ℕ × Entry)
 keys_at_start keys start = map (λ k. (k, start_entry start k)) keys
 
--- the state at the start of one worker that owns these keys, of which the start keys are present, with so many cards to claim
+-- the state at the start of one worker that owns these keys, of which the start keys are present, with so many cards to
+-- claim
 abbrev pub opening_of_one : List ℕ → List (ℕ × ℕ) → ℕ → (ℕ → Bool) → Machine
 opening_of_one keys start cards shared = record {
   words = start_words start;

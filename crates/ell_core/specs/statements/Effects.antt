@@ -87,8 +87,8 @@ pub record AnswersAsMap (v : Worker) (new : Ledger) (reply : Reply) : Type 0 whe
   pub stays : v.ledger (key_of op) ≡ None → new ≡ v.ledger
   pub owned : (key : ℕ) → (new key ≡ None) ↔ (v.ledger key ≡ None)
 
--- what an event does to the ledgers: an answer is the map's, on the ledger of its own worker; no other event changes any
--- ledger, nor an answer another worker's
+-- what an event does to the ledgers: an answer is the map's, on the ledger of its own worker; no other event changes
+-- any ledger, nor an answer another worker's
 abbrev pub LedgersChange : Machine → ℕ → Stepped → Machine → Type 0
 LedgersChange m i (Answered reply) m' =
     AnswersAsMap (m.worker i) (m'.worker i).ledger reply

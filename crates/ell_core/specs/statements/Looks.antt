@@ -14,13 +14,14 @@ use Rattle.ell_core.specs.history.Stages.{Stages, Born}
 use Rattle.ell_core.specs.history.Invariant.{IsOnCourse, Invariant}
 use Rattle.ell_core.specs.statements.RunLaws.{IsPassed}
 
--- a reader for a key goes along a run from x to y, and only loads: through an event it stays where it is, and at any time it loads the
--- child of its node on the key's side, and goes there
+-- a reader for a key goes along a run from x to y, and only loads: through an event it stays where it is, and at any
+-- time it loads the child of its node on the key's side, and goes there
 pub data Looks (key : ℕ) : Machine → List Event → List Shown → Machine → ℕ → ℕ → Type 0 where
   ends : {m m' : Machine} {x y : ℕ} → m' ≡ m → y ≡ x → Looks key m [] [] m' x y
   loads : {m m' : Machine} {events : List Event} {answers : List Shown} {x y : ℕ} → IsInternal x
       → Looks key m events answers m' (child_for m.words key x) y → Looks key m events answers m' x y
-  stays : {m between m' : Machine} {e : Event} {said : Shown} {events : List Event} {answers : List Shown} {x y : ℕ} → Shows m e said between
+  stays : {m between m' : Machine} {e : Event} {said : Shown} {events : List Event} {answers : List Shown} {x y : ℕ}
+      → Shows m e said between
       → Looks key between events answers m' x y → Looks key m (e ∷ events) (said ∷ answers) m' x y
 
 -- a state of a run, its first and its last among them: some first events lead to it, and the others from it to the end
@@ -29,9 +30,10 @@ pub record IsAmid (m : Machine) (events : List Event) (answers : List Shown) (m'
   pub before : Run m (take first events) (take first answers) state
   pub after : Run state (drop first events) (drop first answers) m'
 
--- a leaf is the end of the walk for a key in one state of a run; so by the leaf's key and value, as the run's end has them, the tree had
--- the key in that state, with that value, or it had it not
-pub record IsOfOneState (key : ℕ) (m : Machine) (events : List Event) (answers : List Shown) (m' : Machine) (leaf : ℕ) : Type 0 where
+-- a leaf is the end of the walk for a key in one state of a run; so by the leaf's key and value, as the run's end has
+-- them, the tree had the key in that state, with that value, or it had it not
+pub record IsOfOneState (key : ℕ) (m : Machine) (events : List Event) (answers : List Shown) (m' : Machine)
+    (leaf : ℕ) : Type 0 where
   pub state : Machine
   pub amid : IsAmid m events answers m' state
   pub on : OnWalk state.words key 0 leaf
@@ -41,13 +43,16 @@ pub record IsOfOneState (key : ℕ) (m : Machine) (events : List Event) (answers
 
 -- so it is with the leaf at which a look from node 0 ends, whatever the events were, whoever owns the key
 abbrev pub LooksAreOfOneState : Type 0
-LooksAreOfOneState = (key : ℕ) (m : Machine) (events : List Event) (answers : List Shown) (m' : Machine) (leaf : ℕ) → IsPassed m
-    → key ≤ greatest_key → Looks key m events answers m' 0 leaf → IsLeaf leaf → IsOfOneState key m events answers m' leaf
+LooksAreOfOneState =
+    (key : ℕ) (m : Machine) (events : List Event) (answers : List Shown) (m' : Machine) (leaf : ℕ) → IsPassed m
+    → key ≤ greatest_key → Looks key m events answers m' 0 leaf → IsLeaf leaf
+    → IsOfOneState key m events answers m' leaf
 
--- after an event a node that was on course for a key still is, and its child on the key's side is as it was, or it is on the walk
--- for the key from node 0
+-- after an event a node that was on course for a key still is, and its child on the key's side is as it was, or it is
+-- on the walk for the key from node 0
 abbrev pub CoursesGoOn : Type 0
-CoursesGoOn = (m : Machine) (stage : Stages) (e : Event) (said : Stepped) (m' : Machine) → Invariant m stage → Steps m e said m'
+CoursesGoOn =
+    (m : Machine) (stage : Stages) (e : Event) (said : Stepped) (m' : Machine) → Invariant m stage → Steps m e said m'
     → (key x : ℕ) → Born stage x → IsOnCourse m.words key x
     → IsOnCourse m'.words key x
     × (IsInternal x → (child_for m'.words key x ≡ child_for m.words key x) ⊎ OnWalk m'.words key 0 x)

@@ -20,8 +20,10 @@ use Rattle.ell_core.specs.state.Opening.{opening_of_one}
 
 -- any two real keys can open, of workers that are there, be they two or one, with no start keys
 abbrev pub TwoKeysCanOpen : Type 0
-TwoKeysCanOpen = (count i j first second cards : ℕ) → i < count → j < count → first ≢ second → first ≤ greatest_key → second ≤ greatest_key
-    → CanOpen (record { count = count; owned = (i, first) ∷ (j, second) ∷ []; start = []; cards = cards; shared = λ _. false })
+TwoKeysCanOpen = (count i j first second cards : ℕ) → i < count → j < count → first ≢ second → first ≤ greatest_key
+    → second ≤ greatest_key
+    → CanOpen
+    (record { count = count; owned = (i, first) ∷ (j, second) ∷ []; start = []; cards = cards; shared = λ _. false })
 
 -- every opening is a state of a run
 abbrev pub OpeningsArePassed : Type 0
@@ -41,7 +43,8 @@ StatesFollowThemselves = (m : Machine) → IsPassed m → Follow m m
 
 -- what follows a state is followed by what any event makes of it
 abbrev pub EventsAreFollowed : Type 0
-EventsAreFollowed = (m m' : Machine) (e : Event) (x : Shown) (m'' : Machine) → Follow m m' → Shows m' e x m'' → Follow m m''
+EventsAreFollowed =
+    (m m' : Machine) (e : Event) (x : Shown) (m'' : Machine) → Follow m m' → Shows m' e x m'' → Follow m m''
 
 -- the entries of a ledger whose keys pass a test, and those whose keys fail it
 abbrev pub passing : (ℕ → Bool) → Ledger → Ledger
@@ -83,18 +86,21 @@ known_to_either first second = λ fact. first fact || second fact
 pub record JoinsInto (m : Machine) (i j : ℕ) (both : Ledger) : Type 0 where
   pub after : Machine
   pub join : Join m i j after
-  pub stays : after.worker i ≡ idle both (λ key. (m.worker i).shared key || (m.worker j).shared key) (known_to_either (m.worker i).knows (m.worker j).knows)
+  pub stays : after.worker i ≡ idle both (λ key. (m.worker i).shared key || (m.worker j).shared key)
+      (known_to_either (m.worker i).knows (m.worker j).knows)
   pub goes : after.worker j ≡ nobody
 
 -- each two idle workers can be joined, whichever ledger theirs together are
 abbrev pub EveryUnionIsAJoin : Type 0
 EveryUnionIsAJoin = (m : Machine) (i j : ℕ) (both : Ledger) → i < m.count → j < m.count → i ≢ j
-    → WorkerIsIdle (m.worker i) → WorkerIsIdle (m.worker j) → AreParted both (m.worker i).ledger (m.worker j).ledger → JoinsInto m i j both
+    → WorkerIsIdle (m.worker i) → WorkerIsIdle (m.worker j) → AreParted both (m.worker i).ledger (m.worker j).ledger
+    → JoinsInto m i j both
 
 -- so can each two of a state that the invariant holds of
 abbrev pub IdleWorkersJoin : Type 0
 IdleWorkersJoin = (m : Machine) (stage : Stages) (i j : ℕ) → Invariant m stage → i < m.count → j < m.count → i ≢ j
-    → WorkerIsIdle (m.worker i) → WorkerIsIdle (m.worker j) → JoinsInto m i j (united (m.worker i).ledger (m.worker j).ledger)
+    → WorkerIsIdle (m.worker i) → WorkerIsIdle (m.worker j)
+    → JoinsInto m i j (united (m.worker i).ledger (m.worker j).ledger)
 
 -- the one worker of an opening owns every key that any worker owns
 abbrev pub OneWorkerOwnsAll : Type 0
@@ -102,16 +108,18 @@ OneWorkerOwnsAll = (setup : Setup) → CanOpen setup → setup.count ≡ 1 → O
 
 -- so does the one worker of a state that the invariant holds of, where it has nothing in hand
 abbrev pub IdleWorkerOwnsAll : Type 0
-IdleWorkerOwnsAll = (m : Machine) (stage : Stages) → Invariant m stage → m.count ≡ 1 → WorkerIsIdle (m.worker 0) → OwnsAll m 0
+IdleWorkerOwnsAll =
+    (m : Machine) (stage : Stages) → Invariant m stage → m.count ≡ 1 → WorkerIsIdle (m.worker 0) → OwnsAll m 0
 
 -- it is an opening, and has the invariant
 pub record OpensForOne (keys : List ℕ) (start : List (ℕ × ℕ)) (cards : ℕ) (shared : ℕ → Bool) : Type 0 where
   pub opens : IsOpening (opening_of_one keys start cards shared)
   pub lawful : HasInvariant (opening_of_one keys start cards shared)
 
--- so it is with every ascending list of real keys, real keys that are shared, none among them, and every ascending list of start keys among
--- these and those
+-- so it is with every ascending list of real keys, real keys that are shared, none among them, and every ascending list
+-- of start keys among these and those
 abbrev pub OneWorkerOpens : Type 0
-OneWorkerOpens = (keys : List ℕ) (start : List (ℕ × ℕ)) (cards : ℕ) (shared : ℕ → Bool) → IsStrictlyIncreasing keys → All (λ k. k ≤ greatest_key) keys
+OneWorkerOpens = (keys : List ℕ) (start : List (ℕ × ℕ)) (cards : ℕ) (shared : ℕ → Bool) → IsStrictlyIncreasing keys
+    → All (λ k. k ≤ greatest_key) keys
     → IsStrictlyIncreasing (keys_of start) → All (λ k. (set_of keys k ≡ true) ⊎ (shared k ≡ true)) (keys_of start)
     → ((k : ℕ) → shared k ≡ true → (k ≤ greatest_key) × (set_of keys k ≡ false)) → OpensForOne keys start cards shared

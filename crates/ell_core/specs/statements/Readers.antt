@@ -36,7 +36,8 @@ pub data Comes (m : Machine) : List Event → List Shown → Machine → ℕ →
       → Comes m both all m' x low high
   goes : {events : List Event} {answers : List Shown} {m' : Machine} {x low high y from upto : ℕ} (right : Bool)
       → Comes m events answers m' x low high → IsInternal x → y ≡ m'.words.child x right
-      → from ≡ from_of right low (m'.words.key x) → upto ≡ upto_of right high (m'.words.key x) → Comes m events answers m' y from upto
+      → from ≡ from_of right low (m'.words.key x) → upto ≡ upto_of right high (m'.words.key x)
+      → Comes m events answers m' y from upto
 
 -- a leaf is the end of the walks for all keys of a stretch in ONE state of a run; so by the leaf's key and value, as
 -- the run's end has them, the tree had of these keys in that state the leaf's with that value, if it is one of them,
@@ -55,4 +56,5 @@ pub record StretchIsOfOneState (m : Machine) (events : List Event) (answers : Li
 -- so it is with each leaf to which a reader has come, whatever the events were, whoever owns the keys
 abbrev pub StretchesAreOfOneState : Type 0
 StretchesAreOfOneState = (m : Machine) (events : List Event) (answers : List Shown) (m' : Machine) (leaf low high : ℕ)
-    → IsPassed m → Comes m events answers m' leaf low high → IsLeaf leaf → StretchIsOfOneState m events answers m' leaf low high
+    → IsPassed m → Comes m events answers m' leaf low high → IsLeaf leaf
+    → StretchIsOfOneState m events answers m' leaf low high

@@ -54,7 +54,8 @@ child_first = exchange.IChild ∷ exchange.IFlag ∷ exchange.IUnflag ∷ []
 abbrev pub ChildExchangesComeFirst : Type 0
 ChildExchangesComeFirst = (m : Machine) (events : List Event) (answers : List Shown) (m' : Machine) → IsOpening m
     → (run : Run m events answers m') (c : ℕ) → BeginsWith child_first (wins_in m events answers m' run c)
-    ⊎ (BeginsWith cut_order (wins_in m events answers m' run c) ⊎ BeginsWith back_order (wins_in m events answers m' run c))
+    ⊎ (BeginsWith cut_order (wins_in m events answers m' run c)
+    ⊎ BeginsWith back_order (wins_in m events answers m' run c))
 
 -- all workers come to have the ledger of the one that made a step (in truth each keeps its own)
 abbrev pub OneLedgerForAll : Type 0
@@ -63,7 +64,8 @@ OneLedgerForAll = (m : Machine) (e : Event) (said : Stepped) (m' : Machine) → 
 
 -- a won ichild adds the key and the value of the next card (in truth its own card's)
 abbrev pub InsertsAddTheNextKey : Type 0
-InsertsAddTheNextKey = (m : Machine) (e : Event) (c : ℕ) (m' : Machine) → IsPassed m → e.act ≡ act.IChild c → Steps m e Won m'
+InsertsAddTheNextKey =
+    (m : Machine) (e : Event) (c : ℕ) (m' : Machine) → IsPassed m → e.act ≡ act.IChild c → Steps m e Won m'
     → AddsPair m.words m'.words (card_key m.words m.words.next) (card_value m.words m.words.next)
 
 -- an answer is that of the map after the operation (in truth of the map before it)
@@ -72,23 +74,30 @@ AnswersAreOfTheMapAfter = (m : Machine) (e : Event) (op : Op) (reply : Reply) (m
     → (m.worker e.worker).operation ≡ Some op → Steps m e (Answered reply) m'
     → reply ≡ reply_of op (contents_in (m'.worker e.worker).ledger)
 
--- one that owns every key finds every update word clean, with an operation in hand too (in truth its own flag may stand)
+-- one that owns every key finds every update word clean, with an operation in hand too (in truth its own flag may
+-- stand)
 abbrev pub BusyOwnersFindClean : Type 0
-BusyOwnersFindClean = (m : Machine) (i : ℕ) → IsPassed m → ((j k : ℕ) → WorkerOwns (m.worker j) k → WorkerOwns (m.worker i) k)
+BusyOwnersFindClean =
+    (m : Machine) (i : ℕ) → IsPassed m → ((j k : ℕ) → WorkerOwns (m.worker j) k → WorkerOwns (m.worker i) k)
     → (x : ℕ) → Reached m.words x → IsInternal x → IsClean (m.words.update x)
 
 -- the right part of a split may know what nobody knew (in truth what is known has to hold)
 abbrev pub SplitsMayTeach : Type 0
-SplitsMayTeach = (m : Machine) (stage : Stages) (i : ℕ) (left right : Worker) → Invariant m stage → i < m.count → WorkerIsIdle (m.worker i)
-    → WorkerIsIdle left → WorkerIsIdle right → AreParted (m.worker i).ledger left.ledger right.ledger → KnowsNoMore left (m.worker i)
+SplitsMayTeach = (m : Machine) (stage : Stages) (i : ℕ) (left right : Worker) → Invariant m stage → i < m.count
+    → WorkerIsIdle (m.worker i)
+    → WorkerIsIdle left → WorkerIsIdle right → AreParted (m.worker i).ledger left.ledger right.ledger
+    → KnowsNoMore left (m.worker i)
     → Invariant (record m { worker = put (put m.worker i left) m.count right; count = m.count + 1 }) stage
 
--- the leaf at which a look ends is the end of the walk for its key when the look ends (in truth in one of the states meanwhile)
+-- the leaf at which a look ends is the end of the walk for its key when the look ends (in truth in one of the states
+-- meanwhile)
 abbrev pub LooksAreOfTheLastState : Type 0
-LooksAreOfTheLastState = (key : ℕ) (m : Machine) (events : List Event) (answers : List Shown) (m' : Machine) (leaf : ℕ) → IsPassed m
+LooksAreOfTheLastState =
+    (key : ℕ) (m : Machine) (events : List Event) (answers : List Shown) (m' : Machine) (leaf : ℕ) → IsPassed m
     → key ≤ greatest_key → Looks key m events answers m' 0 leaf → IsLeaf leaf → OnWalk m'.words key 0 leaf
 
 -- or when it begins
 abbrev pub LooksAreOfTheFirstState : Type 0
-LooksAreOfTheFirstState = (key : ℕ) (m : Machine) (events : List Event) (answers : List Shown) (m' : Machine) (leaf : ℕ) → IsPassed m
+LooksAreOfTheFirstState =
+    (key : ℕ) (m : Machine) (events : List Event) (answers : List Shown) (m' : Machine) (leaf : ℕ) → IsPassed m
     → key ≤ greatest_key → Looks key m events answers m' 0 leaf → IsLeaf leaf → OnWalk m.words key 0 leaf

@@ -26,8 +26,8 @@ use Rattle.ell_core.specs.statements.Effects.{PairsChange, SamePairs, LedgersCha
 abbrev pub MayBeThere : Setup → ℕ → Type 0
 MayBeThere setup k = (is_given setup.owned k ≡ true) ⊎ ((0 < setup.count) × (setup.shared k ≡ true))
 
--- what an opening takes: each entry's worker is there, no key is owned twice, and each is a real one; the start keys ascend, and each
--- of them is owned or shared; and the shared keys are real ones that nobody owns
+-- what an opening takes: each entry's worker is there, no key is owned twice, and each is a real one; the start keys
+-- ascend, and each of them is owned or shared; and the shared keys are real ones that nobody owns
 pub record CanOpen (setup : Setup) : Type 0 where
   pub faultless : Faultless setup.count setup.owned
   pub real : All (λ entry. entry.1 ≤ greatest_key) setup.owned
@@ -71,14 +71,16 @@ abbrev pub AnswersAreTheMaps : Type 0
 AnswersAreTheMaps = (m : Machine) (e : Event) (x : Shown) (m' : Machine) → IsPassed m → Shows m e x m'
     → ShownLedgers m e.worker x m'
 
--- what is won for a card, by what is shown of an event: for the card that it names, or a flag for the card in hand before it
+-- what is won for a card, by what is shown of an event: for the card that it names, or a flag for the card in hand
+-- before it
 abbrev pub shown_wins : Machine → Event → Shown → ℕ → List Exchange
 shown_wins m e (shown.Step said) c = wins_by e.act (m.worker e.worker).card said c
 shown_wins m e (shown.Refused fault) c = []
 
 -- the wins of a card in a run, in their order
 abbrev pub wins_in :
-    (m : Machine) (events : List Event) (answers : List Shown) (m' : Machine) → Run m events answers m' → ℕ → List Exchange
+    (m : Machine) (events : List Event) (answers : List Shown) (m' : Machine) → Run m events answers m' → ℕ
+        → List Exchange
 wins_in m [] [] m' run c = []
 wins_in m (e ∷ es) (x ∷ xs) m' run c = shown_wins m e x c ++ wins_in run.0 es xs m' run.2 c
 wins_in m [] (x ∷ xs) m' run c = absurd run
@@ -96,7 +98,8 @@ WinsInOrder m events answers m' = (run : Run m events answers m') (c : ℕ) → 
 
 -- it is so in every run from an opening
 abbrev pub WinsAreInOrder : Type 0
-WinsAreInOrder = (m : Machine) (events : List Event) (answers : List Shown) (m' : Machine) → IsOpening m → WinsInOrder m events answers m'
+WinsAreInOrder = (m : Machine) (events : List Event) (answers : List Shown) (m' : Machine) → IsOpening m
+    → WinsInOrder m events answers m'
 
 -- a state of a run, and one that comes later in the run
 pub record Follow (m m' : Machine) : Type 0 where
@@ -123,10 +126,11 @@ KnowledgeIsNeverLost = (m m' : Machine) → Follow m m' → KnowledgeLasts m m' 
 -- where a claimed card goes and the keys and values of its nodes are fixed
 abbrev pub ClaimedCardsAreFixed : Type 0
 ClaimedCardsAreFixed = (m m' : Machine) → Follow m m' → (c : ℕ) → c < m.words.next →
-    SameInfo m.words m'.words c × ((x : ℕ) → card x ≡ c → (m'.words.key x ≡ m.words.key x) × (m'.words.value x ≡ m.words.value x))
+    SameInfo m.words m'.words c
+        × ((x : ℕ) → card x ≡ c → (m'.words.key x ≡ m.words.key x) × (m'.words.value x ≡ m.words.value x))
 
--- the stages of two states of a run, in their order: a node that came into the tree stays one that did, no card changes its kind,
--- and what may be known of it still may
+-- the stages of two states of a run, in their order: a node that came into the tree stays one that did, no card changes
+-- its kind, and what may be known of it still may
 pub record LaterInvariant (m m' : Machine) : Type 0 where
   pub before : Stages
   pub first : Invariant m before

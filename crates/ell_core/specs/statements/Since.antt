@@ -34,17 +34,20 @@ cut_at stage c = is_cut (stage c)
 abbrev pub IsOfUnended : Stages → ℕ → Type 0
 IsOfUnended stage word = (unpacked word).state ≢ state.Clean → has_ended (stage (unpacked word).card) ≡ false
 
--- what a search has read at a node since these words and stages: no less than the word that stood there then, of no card that had
--- ended then, at no node that was cut out then
+-- what a search has read at a node since these words and stages: no less than the word that stood there then, of no
+-- card that had ended then, at no node that was cut out then
 pub record SeenSince (w : Words) (stage : Stages) (seen : Seen) : Type 0 where
   pub word : w.update seen.node ≤ seen.word
   pub unended : IsOfUnended stage seen.word
   pub there : (c : ℕ) → is_cut (stage c) ≡ true → w.p c ≢ seen.node
 
--- a search that began at these words and stages: its walk goes by no node that was cut out then, and so is all that it has read
+-- a search that began at these words and stages: its walk goes by no node that was cut out then, and so is all that it
+-- has read
 pub record SearchSince (w : Words) (stage : Stages) (now : Words) (v : Worker) : Type 0 where
-  pub walk : (op : Op) (x : ℕ) → v.operation ≡ Some op → v.search.node ≡ Some x → Avoids now (cut_at stage) (key_of op) x
-  pub read : (x word : ℕ) → v.search.node ≡ Some x → v.search.read ≡ Some word → SeenSince w stage (record { node = x; word = word })
+  pub walk : (op : Op) (x : ℕ) → v.operation ≡ Some op → v.search.node ≡ Some x
+      → Avoids now (cut_at stage) (key_of op) x
+  pub read : (x word : ℕ) → v.search.node ≡ Some x → v.search.read ≡ Some word
+      → SeenSince w stage (record { node = x; word = word })
   pub parent : (seen : Seen) → v.search.parent ≡ Some seen → SeenSince w stage seen
   pub grandparent : (seen : Seen) → v.search.grandparent ≡ Some seen → SeenSince w stage seen
 
@@ -63,22 +66,28 @@ SearchesBegin = (m : Machine) (stage : Stages) (i : ℕ) → Invariant m stage �
 
 -- and it goes on so, whatever event of whatever worker comes, but a new beginning or an end of its own
 abbrev pub SearchesGoOn : Type 0
-SearchesGoOn = (m : Machine) (stage : Stages) (old : Machine) (before : Stages) (e : Event) (said : Stepped) (new : Machine) (i : ℕ)
-    → Invariant m stage → Invariant old before → WordsLater m.words old.words → StagesLater stage before → Steps old e said new
-    → (e.worker ≡ i → GoesOn e.act) → SearchSince m.words stage old.words (old.worker i) → SearchSince m.words stage new.words (new.worker i)
+SearchesGoOn = (m : Machine) (stage : Stages) (old : Machine) (before : Stages) (e : Event) (said : Stepped)
+    (new : Machine) (i : ℕ)
+    → Invariant m stage → Invariant old before → WordsLater m.words old.words → StagesLater stage before
+    → Steps old e said new
+    → (e.worker ≡ i → GoesOn e.act) → SearchSince m.words stage old.words (old.worker i)
+    → SearchSince m.words stage new.words (new.worker i)
 
--- a card is an insert's, or another claimed one, and its flag is set at this node: an insert's at the parent, a delete's at the grandparent
+-- a card is an insert's, or another claimed one, and its flag is set at this node: an insert's at the parent, a
+-- delete's at the grandparent
 abbrev pub IsFlaggedAt : Words → Stages → ℕ → ℕ → Type 0
 IsFlaggedAt now after x c = (c < now.next) × (((is_insert (after c) ≡ true) × (now.p c ≡ x)) ⊎ (now.gp c ≡ x))
 
--- each update word that has risen since to a clean one, of a card that may have a flag, is of one that has ended since, whose flag
--- was set there
+-- each update word that has risen since to a clean one, of a card that may have a flag, is of one that has ended since,
+-- whose flag was set there
 abbrev pub CleansSince : Words → Stages → Words → Stages → Type 0
 CleansSince w stage now after = (x c : ℕ) → w.update x < now.update x → now.update x ≡ clean c → 0 < c
     → (has_ended (stage c) ≡ false) × (has_ended (after c) ≡ true) × IsFlaggedAt now after x c
 
 -- and it goes on so, whatever event comes
 abbrev pub CleansGoOn : Type 0
-CleansGoOn = (m : Machine) (stage : Stages) (old : Machine) (before : Stages) (e : Event) (said : Stepped) (new : Machine)
-    → Invariant old before → StagesLater stage before → Steps old e said new → (follows : Follows old before e.act e.worker said new)
+CleansGoOn =
+    (m : Machine) (stage : Stages) (old : Machine) (before : Stages) (e : Event) (said : Stepped) (new : Machine)
+    → Invariant old before → StagesLater stage before → Steps old e said new
+    → (follows : Follows old before e.act e.worker said new)
     → CleansSince m.words stage old.words before → CleansSince m.words stage new.words follows.stages

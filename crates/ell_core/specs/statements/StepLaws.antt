@@ -40,11 +40,13 @@ EventsAreLawful = (m : Machine) (stage : Stages) (e : Event) (said : Stepped) (m
 
 -- the invariant holds after a split, with the same stages
 abbrev pub SplitsAreLawful : Type 0
-SplitsAreLawful = (m : Machine) (stage : Stages) (i : ℕ) (m' : Machine) → Invariant m stage → Split m i m' → Invariant m' stage
+SplitsAreLawful =
+    (m : Machine) (stage : Stages) (i : ℕ) (m' : Machine) → Invariant m stage → Split m i m' → Invariant m' stage
 
 -- and after a join
 abbrev pub JoinsAreLawful : Type 0
-JoinsAreLawful = (m : Machine) (stage : Stages) (i j : ℕ) (m' : Machine) → Invariant m stage → Join m i j m' → Invariant m' stage
+JoinsAreLawful =
+    (m : Machine) (stage : Stages) (i j : ℕ) (m' : Machine) → Invariant m stage → Join m i j m' → Invariant m' stage
 
 -- a state that the invariant holds of is sound
 abbrev pub InvariantIsSound : Type 0
@@ -77,7 +79,8 @@ pub record IsDeepening (w : Words) (stage : Stages) (c : ℕ) : Type 0 where
   pub parent : IsReadable w stage (w.p c)
   pub leaf : Born stage (w.l c)
 
--- where a claimed card goes: nodes that came into the tree, the first two internal ones; node 0 where a card does not go
+-- where a claimed card goes: nodes that came into the tree, the first two internal ones; node 0 where a card does not
+-- go
 pub record GoesInTree (w : Words) (stage : Stages) (c : ℕ) : Type 0 where
   pub grandparent : IsReadable w stage (w.gp c)
   pub parent : IsReadable w stage (w.p c)
@@ -110,22 +113,24 @@ is_of_marked (fact.Cut c) = true
 is_of_marked (fact.DOver c) = true
 is_of_marked _ = false
 
--- what a step of worker i may rely on: where it stands, and what it reads and has read there; that a down leads to a greater
--- node of the table; what its search has behind it; where the cards go of which it knows anything, and that the mark of one
--- that was marked stands; the key and the value of a leaf where it stands, and the grandparent that there is above its own
--- key's; that a node that came into the tree, the card in hand, and each card of which anything is known, are claimed ones of
--- the table; that with a card in hand that is not flagged it stands somewhere; that it owns its operation's key; and where
--- claimed cards go
+-- what a step of worker i may rely on: where it stands, and what it reads and has read there; that a down leads to a
+-- greater node of the table; what its search has behind it; where the cards go of which it knows anything, and that the
+-- mark of one that was marked stands; the key and the value of a leaf where it stands, and the grandparent that there
+-- is above its own key's; that a node that came into the tree, the card in hand, and each card of which anything is
+-- known, are claimed ones of the table; that with a card in hand that is not flagged it stands somewhere; that it owns
+-- its operation's key; and where claimed cards go
 pub record Reliance (m : Machine) (stage : Stages) (i : ℕ) : Type 0 where
   pub stands : (x : ℕ) → (m.worker i).search.node ≡ Some x → Born stage x
   pub reads : (x : ℕ) → (m.worker i).search.node ≡ Some x → IsInternal x → IsReadable m.words stage x
   pub has_read : (x word : ℕ) → (m.worker i).search.node ≡ Some x → IsInternal x → (m.worker i).search.read ≡ Some word
       → (unpacked word).card < m.words.next
-  pub down : (said : Stepped) (after : Scene) (x y : ℕ) → Down (scene m i) said after → (m.worker i).search.node ≡ Some x
+  pub down : (said : Stepped) (after : Scene) (x y : ℕ) → Down (scene m i) said after
+      → (m.worker i).search.node ≡ Some x
       → after.worker.search.node ≡ Some y → (x < y) × (card y ≤ m.last_card)
   pub parent : (x : ℕ) (seen : Seen) → (m.worker i).search.node ≡ Some x → (m.worker i).search.parent ≡ Some seen
       → HasSeen m.words stage seen x
-  pub grandparent : (x : ℕ) (seen above : Seen) → (m.worker i).search.node ≡ Some x → (m.worker i).search.parent ≡ Some seen
+  pub grandparent : (x : ℕ) (seen above : Seen) → (m.worker i).search.node ≡ Some x
+      → (m.worker i).search.parent ≡ Some seen
       → (m.worker i).search.grandparent ≡ Some above → HasSeen m.words stage above seen.node
   pub deep : (op : Op) (x : ℕ) → (m.worker i).operation ≡ Some op → (m.worker i).search.node ≡ Some x → IsLeaf x
       → m.words.key x ≡ key_of op → (m.worker i).search.grandparent ≢ None
@@ -135,8 +140,10 @@ pub record Reliance (m : Machine) (stage : Stages) (i : ℕ) : Type 0 where
       → IsDeepening m.words stage (card_of_fact f)
   pub marked : (f : Fact) → (m.worker i).knows f ≡ true → is_of_marked f ≡ true
       → m.words.update (m.words.p (card_of_fact f)) ≡ marked (card_of_fact f)
-  pub leaf_key : (op : Op) (x : ℕ) → (m.worker i).operation ≡ Some op → WorkerOwns (m.worker i) (key_of op) → (m.worker i).search.node ≡ Some x → IsLeaf x
-      → (value : ℕ) → ((m.words.key x ≡ key_of op) × (m.words.value x ≡ value)) ↔ ((m.worker i).ledger (key_of op) ≡ Some (Present value))
+  pub leaf_key : (op : Op) (x : ℕ) → (m.worker i).operation ≡ Some op → WorkerOwns (m.worker i) (key_of op)
+      → (m.worker i).search.node ≡ Some x → IsLeaf x
+      → (value : ℕ) → ((m.words.key x ≡ key_of op) × (m.words.value x ≡ value))
+      ↔ ((m.worker i).ledger (key_of op) ≡ Some (Present value))
   pub claimed : (x : ℕ) → Born stage x → card x < m.words.next
   pub known : (f : Fact) → (m.worker i).knows f ≡ true → card_of_fact f < m.words.next
   pub hand : (c : ℕ) → (m.worker i).card ≡ Some c → c < m.words.next

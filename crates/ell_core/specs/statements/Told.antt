@@ -25,4 +25,5 @@ pub record IsFrozen (w : Words) (c : ℕ) (child : Bool → ℕ) : Type 0 where
 
 -- the same mark and the same children stand there in later words
 abbrev pub FrozenParentsStay : Type 0
-FrozenParentsStay = (old new : Words) → WordsLater old new → (c : ℕ) (child : Bool → ℕ) → IsFrozen old c child → IsFrozen new c child
+FrozenParentsStay =
+    (old new : Words) → WordsLater old new → (c : ℕ) (child : Bool → ℕ) → IsFrozen old c child → IsFrozen new c child

@@ -19,10 +19,12 @@ pub record IsUnflagged (m : Machine) (i c : ℕ) : Type 0 where
   pub holds : (m.worker i).card ≡ Some c
   pub unflagged : (m.worker i).flagged ≡ false
 
--- which cards wait: each that was claimed, but those of the opening tree, and has won nothing; so none whose nodes came into the tree. A card in
--- hand waits if it is not flagged, and then it is in no other hand; a flagged one does not wait
+-- which cards wait: each that was claimed, but those of the opening tree, and has won nothing; so none whose nodes came
+-- into the tree. A card in hand waits if it is not flagged, and then it is in no other hand; a flagged one does not
+-- wait
 pub record CardsWait (m : Machine) (stage : Stages) : Type 0 where
-  pub which : (c : ℕ) → (waits (stage c) ≡ true) ↔ ((c < m.words.next) × (is_start (stage c) ≡ false) × (wins_of (stage c) ≡ []))
+  pub which : (c : ℕ) → (waits (stage c) ≡ true)
+      ↔ ((c < m.words.next) × (is_start (stage c) ≡ false) × (wins_of (stage c) ≡ []))
   pub born : (x : ℕ) → Born stage x → waits (stage (card x)) ≡ false
   pub hand : (i c : ℕ) → IsUnflagged m i c → waits (stage c) ≡ true
   pub alone : (i j c : ℕ) → IsUnflagged m i c → (m.worker j).card ≡ Some c → i ≡ j
@@ -38,18 +40,21 @@ pub record WinsFlag (m : Machine) (e : Event) (said : Stepped) (c : ℕ) : Type 
   pub holds : (m.worker e.worker).card ≡ Some c
   pub flags : (e.act ≡ act.IFlag) ⊎ (e.act ≡ act.DFlag)
 
--- what an event does to cards that wait: it changes none of their words; one waits on where the event wins nothing for it, and
--- leaves off by its own flag alone; and none but the next card, by a claim, begins to wait
-pub record LeavesWaiting (m : Machine) (stage : Stages) (e : Event) (said : Stepped) (m' : Machine) (stages : Stages) : Type 0 where
+-- what an event does to cards that wait: it changes none of their words; one waits on where the event wins nothing for
+-- it, and leaves off by its own flag alone; and none but the next card, by a claim, begins to wait
+pub record LeavesWaiting (m : Machine) (stage : Stages) (e : Event) (said : Stepped) (m' : Machine)
+    (stages : Stages) : Type 0 where
   pub words : (c : ℕ) → waits (stage c) ≡ true → SaysTheSame m.words m'.words c
-  pub stays : (c : ℕ) → waits (stage c) ≡ true → wins_by e.act (m.worker e.worker).card said c ≡ [] → waits (stages c) ≡ true
+  pub stays : (c : ℕ) → waits (stage c) ≡ true → wins_by e.act (m.worker e.worker).card said c ≡ []
+      → waits (stages c) ≡ true
   pub ends : (c : ℕ) → waits (stage c) ≡ true → waits (stages c) ≡ false → WinsFlag m e said c
   pub begins : (c : ℕ) → waits (stage c) ≡ false → waits (stages c) ≡ true → (e.act ≡ act.Claim) × (c ≡ m.words.next)
   pub claims : e.act ≡ act.Claim → waits (stages m.words.next) ≡ true
 
 -- so does every event, with the stages that follow
 abbrev pub EventsLeaveWaiting : Type 0
-EventsLeaveWaiting = (m : Machine) (stage : Stages) (e : Event) (said : Stepped) (m' : Machine) → Invariant m stage → Steps m e said m'
+EventsLeaveWaiting =
+    (m : Machine) (stage : Stages) (e : Event) (said : Stepped) (m' : Machine) → Invariant m stage → Steps m e said m'
     → (follows : Follows m stage e.act e.worker said m') → LeavesWaiting m stage e said m' follows.stages
 
 -- after a claim, each field of the card has what its filling has of it, or 0

@@ -23,6 +23,7 @@ RootsAvoid = (m : Machine) (stage : Stages) (cards : ℕ → Bool) (key : ℕ) �
 
 -- and a walk that comes by none of them comes by none after any event: what is new on a walk is in the tree
 abbrev pub EventsKeepAvoiding : Type 0
-EventsKeepAvoiding = (m : Machine) (stage : Stages) (e : Event) (said : Stepped) (m' : Machine) → Invariant m stage → Steps m e said m'
+EventsKeepAvoiding =
+    (m : Machine) (stage : Stages) (e : Event) (said : Stepped) (m' : Machine) → Invariant m stage → Steps m e said m'
     → (cards : ℕ → Bool) → HaveCut stage cards → (key x : ℕ) → Born stage x → Avoids m.words cards key x
     → Avoids m'.words cards key x

@@ -34,9 +34,11 @@ pub record IsSpanned (key : ℕ → ℕ) (child : ℕ → Bool → ℕ) (top x :
 -- the walk for a key from x ends at a leaf that has the key, and of which this holds
 pub data FindsLeaf (key : ℕ → ℕ) (child : ℕ → Bool → ℕ) (holds : ℕ → Type 0) (k : ℕ) : ℕ → Type 0 where
   at_leaf : {x : ℕ} → ¬ IsInternal x → key x ≡ k → holds x → FindsLeaf key child holds k x
-  below : {x y : ℕ} → IsInternal x → y ≡ next_node key child k x → FindsLeaf key child holds k y → FindsLeaf key child holds k x
+  below : {x y : ℕ} → IsInternal x → y ≡ next_node key child k x → FindsLeaf key child holds k y
+      → FindsLeaf key child holds k x
 
--- each reached node has its key among those that lead to it, an internal one not as the first, and children have greater numbers
+-- each reached node has its key among those that lead to it, an internal one not as the first, and children have
+-- greater numbers
 pub record IsOrdered (key : ℕ → ℕ) (child : ℕ → Bool → ℕ) (top : ℕ) : Type 0 where
   pub within : (x low high : ℕ) → Spans key child top x low high → (low ≤ key x) × (key x < high)
   pub proper : (x low high : ℕ) → Spans key child top x low high → IsInternal x → low < key x
@@ -47,8 +49,8 @@ pub record Relinked (old new : ℕ → Bool → ℕ) (node : ℕ) (side : Bool) 
   pub there : new node side ≡ to
   pub others : (x : ℕ) (right : Bool) → ((x ≡ node) × (right ≡ side)) ⊎ (new x right ≡ old x right)
 
--- x is on course for a key: it is reached and the key leads to it; or it was cut out, and so is what follows on the walk for the
--- key, up to a node of the first kind or a leaf
+-- x is on course for a key: it is reached and the key leads to it; or it was cut out, and so is what follows on the
+-- walk for the key, up to a node of the first kind or a leaf
 pub data OnCourse (key : ℕ → ℕ) (child : ℕ → Bool → ℕ) (top k : ℕ) : ℕ → Type 0 where
   here : {x low high : ℕ} → Spans key child top x low high → low ≤ k → k < high → OnCourse key child top k x
   off : {x y : ℕ} → IsInternal x → IsCutOut key child top x → y ≡ next_node key child k x → OnCourse key child top k y

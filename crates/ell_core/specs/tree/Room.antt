@@ -3,7 +3,8 @@ use Rattle.ell_word.specs.Node.{card}
 use Rattle.ell_layout.specs.Words.{Words}
 use Rattle.ell_core.specs.tree.Tree.{Reached, ListsKeys}
 
--- so many places are enough for the nodes that wait on a walk: no reached node's card is greater than their number less two
+-- so many places are enough for the nodes that wait on a walk: no reached node's card is greater than their number less
+-- two
 abbrev pub HasRoom : Words → ℕ → Type 0
 HasRoom w places = (x : ℕ) → Reached w x → card x + 2 ≤ places
 

@@ -163,7 +163,8 @@ said_at at.Events parts = said_event parts
 
 -- what a line says at a place, nothing where it is skipped, or its fault
 abbrev pub replay_line_at : Place → List ℕ → Result (Option Said) ReplayLineFault
-replay_line_at place line = if is_skipped line then Ok None else (said_at place (pieces line) >>= λ said. Ok (Some said))
+replay_line_at place line =
+    if is_skipped line then Ok None else (said_at place (pieces line) >>= λ said. Ok (Some said))
 
 -- what a line says has its numbers in their ranges, a card's aside
 abbrev pub SaidFits : Said → Type 0

@@ -15,7 +15,8 @@ use Rattle.ell_text.specs.replays.Trace.{trace}
 
 -- what a script opens with: it has no start keys
 abbrev pub setup_of : ScriptValue → Setup
-setup_of value = record { count = value.workers; owned = value.owned; start = []; cards = value.cards; shared = λ _. false }
+setup_of value =
+    record { count = value.workers; owned = value.owned; start = []; cards = value.cards; shared = λ _. false }
 
 -- a run of the script's events from its opening state shows this list and ends in a state whose tree has these keys
 pub record IsReplay (value : ScriptValue) (shown : List Shown) (keys : List ℕ) : Type 0 where
@@ -53,7 +54,8 @@ abbrev pub ScriptFaultTells : ScriptFault → Option (List ℕ) → Option (List
 ScriptFaultTells Read input before after = Keeps before after
 ScriptFaultTells TooLong input before after = Keeps before after × IfSome input (λ bytes. most_bytes < length bytes)
 ScriptFaultTells (Text fault) input before after = Keeps before after × IfSome input (λ bytes. script bytes ≡ Err fault)
-ScriptFaultTells (Start fault) input before after = Keeps before after × IfSome input (λ bytes. IsStartRefused bytes fault)
+ScriptFaultTells (Start fault) input before after =
+    Keeps before after × IfSome input (λ bytes. IsStartRefused bytes fault)
 ScriptFaultTells NoMemory input before after = Keeps before after
 ScriptFaultTells (Write written) input before after = IfSome input (λ bytes.
     (text : List ℕ) × IsTrace bytes text × (written < length text) × Appends before after (take written text))

@@ -106,14 +106,16 @@ pub record HasSoundEntry (text : List (List ℕ)) : Type 0 where
 
 -- a script of these parts, where both numbers are there
 abbrev pub script_from : Option ℕ → Option ℕ → List (ℕ × ℕ) → List Event → Option ScriptValue
-script_from (Some workers) (Some cards) owned events = Some (record { workers = workers; cards = cards; owned = owned; events = events })
+script_from (Some workers) (Some cards) owned events =
+    Some (record { workers = workers; cards = cards; owned = owned; events = events })
 script_from (Some workers) None owned events = None
 script_from None cards owned events = None
 
 -- the script of the lines that are not skipped: the first two say the numbers of workers and of cards
 abbrev pub script_of : List (List ℕ) → Option ScriptValue
 script_of (head ∷ second ∷ more) =
-    script_from (workers_said (replay_line_at at.Workers head)) (cards_said (replay_line_at at.Cards second)) (entries more) (events_in more)
+    script_from (workers_said (replay_line_at at.Workers head)) (cards_said (replay_line_at at.Cards second))
+        (entries more) (events_in more)
 script_of other = None
 
 -- the fault, or else the script, where the text did not end before it
@@ -124,7 +126,8 @@ unless_replay_fault None None = Err Ended
 
 -- the script of a replay text, or its first fault
 abbrev pub script : List ℕ → Result ScriptValue ReplayFault
-script bytes = unless_replay_fault (first (replay_fault_at (lines bytes)) (length (lines bytes))) (script_of (spoken (lines bytes)))
+script bytes = unless_replay_fault (first (replay_fault_at (lines bytes)) (length (lines bytes)))
+    (script_of (spoken (lines bytes)))
 
 -- what a script is, its lists without their places in memory
 abbrev pub script_value : {A : Type 0} → Script A → ScriptValue

@@ -74,7 +74,7 @@ module _ (w t : Words) (stage : Stages) (sound : WordsAreSound w stage) (same : 
   grandparent_child : card_child t c (t.gp c) ≡ card_child w c (w.gp c)
   grandparent_child = child_there (t.gp c) (w.gp c) (here field.Gp) goes.grandparent
 
-  -- what it has entry_made
+  -- what it has made
   changed_same : is_changed_in t c ≡ is_changed_in w c
   changed_same = λ i. not (parent_child i == here field.L i)
 
@@ -132,7 +132,7 @@ fact_same w t stage sound same (fact.Cut c) calm goes = cut_holds w t stage soun
 fact_same w t stage sound same (fact.DOver c) calm goes = dover_holds w t stage sound same c calm goes
 fact_same w t stage sound same (fact.Backed c) calm goes = backed_holds w t stage sound same c calm goes
 
--- the effective ledger by what the card in hand has entry_made, where that is flagged
+-- the effective ledger by what the card in hand has made, where that is flagged
 pub effective_same : (w t : Words) (v : Worker) → ((op : Op) (c : ℕ) → v.card ≡ Some c → v.flagged ≡ true → made_in t op c ≡ made_in w op c) → effective t v ≡ effective w v
 effective_same w t v same = by v.operation v.card v.flagged same
   where

@@ -49,7 +49,7 @@ no_less : (flag update : ℕ) → (update ≡ flag) ⊎ (flag < update) → flag
 no_less flag update (inl e) = omega arith
 no_less flag update (inr h) = omega arith
 
--- what an insert or a swap has entry_made does not depend on cuts, nor what a delete has entry_made on changes
+-- what an insert or a swap has made does not depend on cuts, nor what a delete has made on changes
 made_insert : (k value : ℕ) (changed : Bool) (cut cut' : Bool) → entry_made (Insert k value) changed cut ≡ entry_made (Insert k value) changed cut'
 made_insert k value true cut cut' = refl
 made_insert k value false cut cut' = refl
@@ -184,7 +184,7 @@ module _ (w : Words) (stage : Stages) (sound : WordsAreSound w stage) where
   fact_holds (fact.Backed c) h =
       let backed = backed-unmarkable (stage c) h in (unmarkable_holds c backed.0, (sound.deletes c).past backed.1)
 
-  -- the words of a card that won its flag show whether its child exchange was entry_made
+  -- the words of a card that won its flag show whether its child exchange was made
   changed_in : (c : ℕ) → insert_won (stage c) ≡ true → is_changed_in w c ≡ is_changed (stage c)
   changed_in c h =
       let child = insert_card_child c (insert_won-insert (stage c) h) in
@@ -201,7 +201,7 @@ module _ (w : Words) (stage : Stages) (sound : WordsAreSound w stage) where
       (λ g. child ∙ says.waits g) (λ g. subst (λ n. w.p c < n) (sym child) (says.cut g).past)
       (λ g. (says.marked g).mark) (mark_means c kind)
 
-  -- so what they show that it has entry_made, its stage has entry_made
+  -- so what they show that it has made, its stage has made
   pub insert_made : (k value c : ℕ) → insert_won (stage c) ≡ true → made_in w (Insert k value) c ≡ made_by_stage (Insert k value) (stage c)
   insert_made k value c h =
       ap (λ b. entry_made (Insert k value) b (is_cut_in w c)) (changed_in c h) ∙ made_insert k value (is_changed (stage c)) (is_cut_in w c) (is_cut (stage c))
