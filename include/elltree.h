@@ -49,7 +49,7 @@
 extern "C" {
 #endif
 
-#define ELLTREE_VERSION "0.1.0"
+#define ELLTREE_VERSION "0.2.0"
 #define ELLTREE_VERSION_MAJOR 0
 #define ELLTREE_VERSION_MINOR 1
 #define ELLTREE_VERSION_PATCH 0

@@ -70,7 +70,7 @@ from ._codes import (
 from ._handle import Handle, open, open_shared, renew_all, renew_all_shared
 from ._map import Map
 
-__version__ = "0.1.0"
+__version__ = "0.2.0"
 
 __all__ = [
     "BAD_CARDS",

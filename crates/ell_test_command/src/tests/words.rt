@@ -11,7 +11,7 @@ use std::test::Fail;
 use std::thread::Threads;
 
 // What `--version` writes; `tests/copies` compares it with the file VERSION.
-const VERSION: &str = "elltree 0.1.0\n";
+const VERSION: &str = "elltree 0.2.0\n";
 
 static REFUSED: [&[&str]; 18] = [
     &[],
