@@ -51,7 +51,7 @@ extern "C" {
 
 #define ELLTREE_VERSION "0.2.0"
 #define ELLTREE_VERSION_MAJOR 0
-#define ELLTREE_VERSION_MINOR 1
+#define ELLTREE_VERSION_MINOR 2
 #define ELLTREE_VERSION_PATCH 0
 
 /* What the library keeps for a handle, and the handle: do not touch the members. */
