@@ -16,10 +16,10 @@ use Rattle.ell_layout.specs.declared.field.Field.{Field}
 use Rattle.ell_layout.specs.declared.field.Field.TheVariants.{Gp, P, L, Left, Right, Update as UpdateField}
 use Rattle.ell_core.specs.declared.view.Search.{Search}
 use Rattle.ell_core.specs.declared.view.Seen.{Seen}
-use Rattle.ell_core.specs.declared.view.WorkerView.{WorkerView}
-use Rattle.ell_core.specs.state.Machine.{no_search}
 use Rattle.ell_layout.specs.Cards.{insert_filling, delete_filling}
-use Rattle.ell_core.specs.acts.Searching.{with_read, at_root}
+use Rattle.ell_core.specs.state.Machine.{WorkerView, idle}
+use Rattle.ell_core.specs.acts.Searching.{with_read, begun, with_card}
+use Rattle.ell_core.specs.acts.Exchanges.{off_the_tree}
 use Rattle.ell_core.specs.state.Opening.{keys_at_start}
 use Rattle.ell_core.specs.statements.Readers.{from_of, upto_of}
 use Rattle.ell_cards.specs.declared.view.Told.{Told}
@@ -92,18 +92,18 @@ was_hindered facts (h ∷ hs) = list_all (is_over facts) (h ∷ hs)
 
 -- how many tries something hindered that was over by then, once a try is given up
 abbrev pub tries_hindered : View → ℕ
-tries_hindered v = v.hindered + (if was_hindered v.worker.facts (way_now v ++ v.met) then 1 else 0)
+tries_hindered v = v.hindered + (if was_hindered v.worker.knows (way_now v ++ v.met) then 1 else 0)
 
 -- the pass has found an update at a node
 abbrev pub finding : ℕ → Update → View → View
 finding x u v = record v {
-  worker = record (v.worker) { facts = facts_by u.state u.card v.worker.facts };
+  worker = record (v.worker) { knows = facts_by u.state u.card v.worker.knows };
   told = places_by x u.state u.card v.told;
 }
 
 -- the pass has learnt a fact
 abbrev pub learning : Fact → View → View
-learning new v = record v { worker = record (v.worker) { facts = new ∷ v.worker.facts } }
+learning new v = record v { worker = record (v.worker) { knows = new ∷ v.worker.knows } }
 
 -- an exchange of a kind for a card, if it was won
 abbrev pub if_won : Bool → Exchange → ℕ → List (Exchange × ℕ)
@@ -137,16 +137,10 @@ abbrev pub child_found : ℕ → Result (Unit {0}) ℕ → ℕ
 child_found expected (Ok won) = expected
 child_found expected (Err found) = found
 
--- a worker with nothing in hand
-abbrev pub idle_worker : List (ℕ × Entry) → Option (List ℕ) → List Fact → WorkerView
-idle_worker ledger ownable facts = record {
-  ledger = ledger; ownable = ownable; operation = None; search = no_search; card = None; flagged = false; facts = facts;
-}
-
 -- nothing is in hand, and the ledger is this one
 abbrev pub at_rest : List (ℕ × Entry) → View → View
 at_rest ledger v = record v {
-  worker = idle_worker ledger v.worker.ownable v.worker.facts;
+  worker = idle ledger v.worker.shared v.worker.knows;
   here = None; planned = []; stores = []; met = [];
 }
 
@@ -157,8 +151,8 @@ afresh ledger v = record (at_rest ledger v) { next = None; glances = []; answere
 -- begin: nothing is left of what was before, this operation is in hand, and the search stands at the root, which is met
 abbrev pub after_begin : Option Op → View → View
 after_begin op v = record (afresh v.worker.ledger v) {
-  worker = record (v.worker) { operation = op; search = at_root; card = None; flagged = false };
-  told = Met 0 ∷ v.told; knew_before = v.worker.facts; made = v.made + 1;
+  worker = begun op v.worker;
+  told = Met 0 ∷ v.told; knew_before = v.worker.knows; made = v.made + 1;
 }
 
 -- again: the operation begins anew; what its search read in the way was a hindrance, and the try counts if that is over
@@ -264,7 +258,7 @@ told_filling c (e ∷ es) told = told_fixed c e.0 e.1 (told_filling c es told)
 -- claim: the card is in hand, and its words are told; or it was lost, a hindrance
 abbrev pub after_claim : Bool → ℕ → View → View
 after_claim true c v = record v {
-  worker = record (v.worker) { card = Some c; flagged = false };
+  worker = with_card c v.worker;
   told = told_filling c (filling_of c v) v.told;
   planned = filling_of c v; stores = []; won = (exchange.Claim, c) ∷ v.won; next_at_least = c + 1; made = v.made + 1;
 }
@@ -285,21 +279,15 @@ steps_with (e ∷ es) n = steps_with es n + 1
 abbrev pub with_stores : List (Field × ℕ) → View → View
 with_stores stores v = record v { stores = stores; made = steps_with stores v.made }
 
--- the search stands nowhere any more
-abbrev pub nowhere : Search → Search
-nowhere search = record search { node = None; read = None }
-
--- the search stands nowhere any more, and this card is in hand, flagged or not
-abbrev pub off_the_tree : Option ℕ → Bool → View → View
-off_the_tree card flagged v = record v {
-  worker = record (v.worker) { search = nowhere v.worker.search; card = card; flagged = flagged };
-  here = None;
-}
-
 -- iflag and dflag: the card in hand is flagged; or another update was found at the node, and the card is laid aside
 abbrev pub after_flag : Bool → Fact → ℕ → Update → View → View
-after_flag true new x u v = off_the_tree v.worker.card true (learning new v)
-after_flag false new x u v = record (off_the_tree None false (finding x u v)) {
+after_flag true new x u v = record v {
+  worker = off_the_tree v.worker.card true (learning new v).worker;
+  here = None;
+}
+after_flag false new x u v = record (finding x u v) {
+  worker = off_the_tree None false (finding x u v).worker;
+  here = None;
   hindrances = Found u ∷ v.hindrances; met = Found u ∷ v.met;
 }
 
@@ -341,11 +329,11 @@ ownable_if shared keys = if shared then Some keys else None
 -- the first pass of a table: it owns the keys of its plan, the start keys present with their values, the others absent
 abbrev pub first_of : TablePlan → View
 first_of plan =
-    idle_view whole_share (idle_worker (keys_at_start plan.keys plan.start) (ownable_if plan.shared plan.keys) [])
+    idle_view whole_share (idle (keys_at_start plan.keys plan.start) (ownable_if plan.shared plan.keys) [])
 
 -- what is left of a pass that was joined to another: it has no share
 abbrev pub spent_view : View
-spent_view = idle_view 0 (idle_worker [] None [])
+spent_view = idle_view 0 (idle [] None [])
 
 -- split, the left part: it gets these keys, and keeps all that the pass knew, won and counted; the split is its step
 abbrev pub left_view : List ℕ → View → View
@@ -379,8 +367,8 @@ later (Some n) (Some m) = Some (max n m)
 -- join: one pass with the keys, shares and counts of two, all that both knew and won, and the later reading of next
 abbrev pub joined_view : View → View → View
 joined_view v w = record (idle_view ((v.share + w.share) % 2 ^ 64)
-    (idle_worker (united_ledgers v.worker.ledger w.worker.ledger) (option_or v.worker.ownable w.worker.ownable)
-    (v.worker.facts ++ w.worker.facts))) {
+    (idle (united_ledgers v.worker.ledger w.worker.ledger) (option_or v.worker.shared w.worker.shared)
+    (v.worker.knows ++ w.worker.knows))) {
       told = v.told ++ w.told; won = v.won ++ w.won; hindrances = v.hindrances ++ w.hindrances;
       next = later v.next w.next; next_at_least = max v.next_at_least w.next_at_least;
       answers = v.answers + w.answers; hindered = v.hindered + w.hindered; looks = v.looks + w.looks;

@@ -12,7 +12,7 @@ use Rattle.ell_cards.specs.Naming.{IsNamed}
 -- the share of a pass as its code keeps it is that of its view, and it counts where some keys are shared
 pub record HasShare (share : Share) (v : View) : Type 0 where
   pub units : v.share ≡ share.units
-  pub counts : (share.counts ≡ true) ↔ (v.worker.ownable ≢ None)
+  pub counts : (share.counts ≡ true) ↔ (v.worker.shared ≢ None)
 
 -- the keys of a pass as its code keeps them are those of its ledger, ascending; so is its share; and what it names is
 -- in its table

@@ -59,7 +59,7 @@ pub record ViewHolds (words : List ℕ) (w : Words) (stage : Stages) (v : View) 
 
 -- no pass of a table takes any key for shared
 abbrev pub NobodyShares : TableState → Type 0
-NobodyShares s = (j : ℕ) (v : View) → get_elem? s.views j ≡ some v → v.worker.ownable ≡ None
+NobodyShares s = (j : ℕ) (v : View) → get_elem? s.views j ≡ some v → v.worker.shared ≡ None
 
 -- a state of a table with these keys and this last card has a machine that the invariant holds of: its workers are the
 -- passes; the table has its claim word, and its words at every card that does not wait for its flag; what passes know
@@ -75,5 +75,5 @@ pub record HasMachine (keys : List ℕ) (last : ℕ) (s : TableState) : Type 0 w
   pub settled : (c : ℕ) (f : Field) → waits (stages c) ≡ false → listed s.words c f ≡ word words c f
   pub views : (j : ℕ) (v : View) → get_elem? s.views j ≡ some v → ViewHolds s.words words stages v
   pub owned : (j k : ℕ) (v : View) → get_elem? s.views j ≡ some v → WorkerOwns (worker_of v.worker) k → Contains keys k
-  pub listed : (j : ℕ) (v : View) (list : List ℕ) → get_elem? s.views j ≡ some v → v.worker.ownable ≡ Some list
+  pub listed : (j : ℕ) (v : View) (list : List ℕ) → get_elem? s.views j ≡ some v → v.worker.shared ≡ Some list
       → list ≡ keys

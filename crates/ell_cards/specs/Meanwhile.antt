@@ -92,7 +92,7 @@ ended_since plan r c = has_end (run_wins plan.last_card r.begun r.meanwhile r.no
 -- a card had not ended when the search began; and if the pass knows now that it has, then that was since
 pub record EndsMeanwhile (plan : TablePlan) (r : SearchRun plan) (c : ℕ) : Type 0 where
   pub before : ended_before plan r c ≡ false
-  pub since : EndedBy r.view.worker.facts c → ended_since plan r c ≡ true
+  pub since : EndedBy r.view.worker.knows c → ended_since plan r c ≡ true
 
 -- an update word is clean, or of such a card
 abbrev pub WordEndsMeanwhile : (plan : TablePlan) → SearchRun plan → ℕ → Type 0
@@ -150,7 +150,7 @@ SearchesMeetMeanwhile = (plan : TablePlan) (r : SearchRun plan) → MetMeanwhile
 pub record KnowsWhatIsReached (last : ℕ) (first : TableState) (turns : List Turn) (s : TableState)
     (run : TableRun last first turns s) (v : View) : Type 0 where
   pub given_out : v.next_at_least ≤ (own_words s).next
-  pub ended : (c : ℕ) → EndedBy v.worker.facts c → has_end (run_wins last first turns s run c) ≡ true
+  pub ended : (c : ℕ) → EndedBy v.worker.knows c → has_end (run_wins last first turns s run c) ≡ true
 
 -- so it is of each pass after every run from a start
 abbrev pub KnownMilestonesWereReached : Type 0

@@ -56,7 +56,7 @@ given_share n = if nat_le 4294967296 n then n / 65536 else n / 2
 
 -- a pass may be parted: where some keys are shared, each part gets a share
 abbrev pub MayPart : View → Type 0
-MayPart v = v.worker.ownable ≢ None → 2 ≤ v.share
+MayPart v = v.worker.shared ≢ None → 2 ≤ v.share
 
 -- one step more, but no more than 64 bits hold
 abbrev pub one_more : ℕ → ℕ
@@ -97,7 +97,7 @@ pub record HasCome (v : View) (node low high : ℕ) : Type 0 where
 
 -- the pass knows a fact
 abbrev pub Knows : View → Fact → Type 0
-Knows v fact = known_of v.worker.facts fact ≡ true
+Knows v fact = known_of v.worker.knows fact ≡ true
 
 -- the pass knew a fact when its search began
 abbrev pub KnewBefore : View → Fact → Type 0

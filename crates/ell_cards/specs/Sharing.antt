@@ -15,7 +15,7 @@ all_shares (v ∷ vs) = v.share + all_shares vs
 -- that has the whole is the only one that may
 pub record HaveTheWhole (s : TableState) : Type 0 where
   pub whole : all_shares s.views ≡ whole_share
-  pub each : (j : ℕ) (v : View) → get_elem? s.views j ≡ some v → v.worker.ownable ≢ None → 1 ≤ v.share
+  pub each : (j : ℕ) (v : View) → get_elem? s.views j ≡ some v → v.worker.shared ≢ None → 1 ≤ v.share
 
 -- so they do wherever turns have led a table
 abbrev pub SharesAddUp : Type 0

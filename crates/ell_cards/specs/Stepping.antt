@@ -41,7 +41,7 @@ MayJoin plan v w both spent = (id other : ℕ) → Joins (IsReached plan) id v o
 -- a pass has the share that it had
 pub record SameShare (old new : View) : Type 0 where
   pub share : new.share ≡ old.share
-  pub ownable : new.worker.ownable ≡ old.worker.ownable
+  pub ownable : new.worker.shared ≡ old.worker.shared
 
 -- a pass with these keys may know this, where a pass of its table knew that
 pub record MayHave (last : ℕ) (old : View) (keys : List ℕ) (v : View) : Type 0 where

@@ -27,4 +27,4 @@ pub use laws::{
     told_words_stay, two_keys_can_open, wins_are_in_order, words_rise,
 };
 pub use put::Put;
-pub use view::{Entry, Search, Seen, WorkerView};
+pub use view::{Entry, Search, Seen, WorkerOf, WorkerView};

@@ -44,13 +44,14 @@ impl Entry {
     }
 }
 
-/// What a worker has and knows, as contracts see it. No value of this type is made.
+/// What a worker has and knows, as contracts see it: the machine keeps a worker's ledger, the shared keys and its
+/// knowledge as functions, and a view keeps them as lists. No value of this type is made.
 #[derive(Drop)]
-pub struct WorkerView {
-    /// The keys that it owns, strictly ascending, and what is said of each.
-    pub ledger: LinkedList<(u64, Entry)>,
-    /// The keys that may have an owner, where every other key is shared, or nothing, where no key is shared.
-    pub ownable: Option<LinkedList<u64>>,
+pub struct WorkerOf<L, S, K> {
+    /// Which keys it owns, and what is said of each.
+    pub ledger: L,
+    /// Which keys are shared.
+    pub shared: S,
     /// The operation in hand.
     pub operation: Option<Op>,
     pub search: Search,
@@ -58,6 +59,10 @@ pub struct WorkerView {
     pub card: Option<u64>,
     /// Whether the card in hand has won its flag.
     pub flagged: bool,
-    /// The facts that it knows.
-    pub facts: LinkedList<Fact>,
+    /// Which facts it knows.
+    pub knows: K,
 }
+
+/// A worker of lists: its keys, strictly ascending, and what is said of each; the keys that may have an owner, if every
+/// other key is shared, or nothing, if no key is; and the facts that it knows.
+pub type WorkerView = WorkerOf<LinkedList<(u64, Entry)>, Option<LinkedList<u64>>, LinkedList<Fact>>;

@@ -79,7 +79,7 @@ pub struct Handle {
     ghost own: { pass.table ≡ (arc_value shared).tree.id },
     ghost idle: { IsIdle pass },
     ghost real: { (k : ℕ) → Owns pass k → k ≤ greatest_key },
-    ghost knows: { pass.view.worker.ownable ≡
+    ghost knows: { pass.view.worker.shared ≡
         ownable_if (arc_value shared).tree.plan.shared (arc_value shared).tree.plan.keys },
     ghost mine: { (k : ℕ) → HasKey table k → Owns pass k },
 }

@@ -13,5 +13,5 @@ of_split split.NoMemory = NoMemory
 -- workers that began with a pass did not come to their end: there were too many passes only if some keys of its tree
 -- are shared
 abbrev pub StopsWork : PassModel → WorkFault → Type 0
-StopsWork pass TooManyPasses = pass.view.worker.ownable ≢ None
+StopsWork pass TooManyPasses = pass.view.worker.shared ≢ None
 StopsWork pass NoMemory = ⊤

@@ -5,7 +5,7 @@ use Rattle.ell_tree.specs.Ledgers.{TreeModel, PassModel, IsIdle}
 pub record IsMember (owned : List ℕ) (t : TreeModel) (p : PassModel) : Type 0 where
   pub own : p.table ≡ t.id
   pub idle : IsIdle p
-  pub ownable : p.view.worker.ownable ≡ Some owned
+  pub ownable : p.view.worker.shared ≡ Some owned
 
 -- one of a tree of which no key has an owner, so that it may change each
 abbrev pub IsSharer : TreeModel → PassModel → Type 0

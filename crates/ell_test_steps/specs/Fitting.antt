@@ -10,7 +10,7 @@ use Rattle.ell_cards.specs.declared.view.Told.{Told}
 use Rattle.ell_cards.specs.declared.view.Told.TheVariants.{Met}
 use Rattle.ell_cards.specs.declared.view.View.{View}
 use Rattle.ell_cards.specs.Models.{PassModel, TableModel, IsTold, Knows}
-use Rattle.ell_cards.specs.Changes.{idle_worker}
+use Rattle.ell_core.specs.state.Machine.{idle}
 use Rattle.ell_cards.specs.Guards.{IsFilled}
 use Rattle.ell_test_steps.specs.declared.memory.Remembered.{Remembered}
 use Rattle.ell_test_steps.specs.declared.memory.Passed.{Passed}
@@ -69,7 +69,7 @@ MayStopBy m = (v : View) → KnowsAll v m.known → (c : ℕ) → m.card ≡ Som
 -- steps beside the search: the pass learns, and all else is as it was
 pub record StepsAside (old new : PassModel) : Type 0 where
   pub table : new.table ≡ old.table
-  pub worker : new.view.worker ≡ record (old.view.worker) { facts = new.view.worker.facts }
+  pub worker : new.view.worker ≡ record (old.view.worker) { knows = new.view.worker.knows }
   pub filling : new.view.planned ≡ old.view.planned
   pub filled : new.view.stores ≡ old.view.stores
   pub knows : (f : Fact) → Knows old.view f → Knows new.view f
@@ -77,7 +77,7 @@ pub record StepsAside (old new : PassModel) : Type 0 where
 
 -- a pass with nothing in hand and nowhere to stand
 abbrev pub IsIdle : View → Type 0
-IsIdle v = v.worker ≡ idle_worker v.worker.ledger v.worker.ownable v.worker.facts
+IsIdle v = v.worker ≡ idle v.worker.ledger v.worker.shared v.worker.knows
 
 -- nothing is remembered
 abbrev pub IsNothing : Remembered → Type 0

@@ -18,7 +18,7 @@ pub record SeesEnd (last_card : ℕ) (v w : View) : Type 0 where
   pub first : 0 < card
   pub last : card ≤ last_card
   pub before : ¬ EndedBy v.knew_before card
-  pub after : EndedBy w.worker.facts card
+  pub after : EndedBy w.worker.knows card
   pub least : v.next_at_least ≤ w.next_at_least
 
 -- it saw one or the other
@@ -34,4 +34,4 @@ ends_known (suc n) facts = (if knows_end facts (suc n) then 1 else 0) + ends_kno
 -- whose end it knows, and those that its claims have shown it to be given out. After a claim of card 3, won or lost,
 -- that is 3 cards
 abbrev pub milestones_known : ℕ → View → ℕ
-milestones_known last_card v = ends_known last_card v.worker.facts + (v.next_at_least - 1)
+milestones_known last_card v = ends_known last_card v.worker.knows + (v.next_at_least - 1)

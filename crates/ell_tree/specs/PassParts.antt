@@ -26,7 +26,7 @@ pub record IsFirst (t : TreeModel) (p : PassModel) : Type 0 where
   pub label : p.label ≡ 0
   pub milestones : (last : ℕ) → milestones_known last p.view ≡ 0
   pub share : p.view.share ≡ whole_share
-  pub ownable : p.view.worker.ownable ≡ ownable_if t.plan.shared t.plan.keys
+  pub ownable : p.view.worker.shared ≡ ownable_if t.plan.shared t.plan.keys
   pub idle : IsIdle p
 
 -- the left part of a pass: it has these keys as the pass had them, and keeps the counts; of the steps made, the split
@@ -43,7 +43,7 @@ pub record IsLeftPart (keys : List ℕ) (p part : PassModel) : Type 0 where
   pub label : part.label ≡ p.label
   pub milestones : (last : ℕ) → milestones_known last part.view ≡ milestones_known last p.view
   pub share : part.view.share ≡ p.view.share - given_share p.view.share
-  pub ownable : part.view.worker.ownable ≡ p.view.worker.ownable
+  pub ownable : part.view.worker.shared ≡ p.view.worker.shared
   pub idle : IsIdle part
 
 -- the right part: it has the other keys, and counts anew
@@ -59,7 +59,7 @@ pub record IsRightPart (keys : List ℕ) (p part : PassModel) : Type 0 where
   pub label : part.label ≡ p.label
   pub milestones : (last : ℕ) → milestones_known last part.view ≡ milestones_known last p.view
   pub share : part.view.share ≡ given_share p.view.share
-  pub ownable : part.view.worker.ownable ≡ p.view.worker.ownable
+  pub ownable : part.view.worker.shared ≡ p.view.worker.shared
   pub idle : IsIdle part
 
 -- an entry of one ledger, or else of another
@@ -82,5 +82,5 @@ pub record IsUnion (left right both : PassModel) : Type 0 where
   pub milestones : (last : ℕ) → (milestones_known last left.view ≤ milestones_known last both.view)
       × (milestones_known last right.view ≤ milestones_known last both.view)
   pub share : both.view.share ≡ (left.view.share + right.view.share) % 2 ^ 64
-  pub ownable : both.view.worker.ownable ≡ option_or left.view.worker.ownable right.view.worker.ownable
+  pub ownable : both.view.worker.shared ≡ option_or left.view.worker.shared right.view.worker.shared
   pub idle : IsIdle both

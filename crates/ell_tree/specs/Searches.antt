@@ -22,7 +22,7 @@ pub record AtRoot (op : Op) (v : View) : Type 0 where
   pub root : v.worker.search ≡ at_root
   pub no_card : v.worker.card ≡ None
   pub met : IsTold v (Met 0)
-  pub before : v.knew_before ≡ v.worker.facts
+  pub before : v.knew_before ≡ v.worker.knows
   pub unmet : v.met ≡ []
 
 -- a node that a search passed, as the view has it

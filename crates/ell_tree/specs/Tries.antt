@@ -52,7 +52,7 @@ pub record Begins (op : Op) (met : List Hindrance) (tries : ℕ) (old new : Pass
   pub hindrances : new.view.hindrances ≡ met ++ old.view.hindrances
   pub hindered : new.view.hindered ≡ tries
   pub knows : StillKnows old.view new.view
-  pub before : new.view.knew_before ≡ old.view.worker.facts
+  pub before : new.view.knew_before ≡ old.view.worker.knows
   pub least : new.view.next_at_least ≡ old.view.next_at_least
   pub root : AtRoot op new.view
   pub taken : TakesNoCard old new
@@ -75,7 +75,7 @@ pub record Lays (op : Op) (old new : PassModel) : Type 0 where
   pub hindered : new.view.hindered ≡ tries_hindered old.view
   pub knows : StillKnows old.view new.view
   pub next : new.view.next ≡ old.view.next
-  pub facts : new.view.worker.facts ≡ old.view.worker.facts
+  pub facts : new.view.worker.knows ≡ old.view.worker.knows
   pub least : new.view.next_at_least ≡ old.view.next_at_least
   pub idle : IsIdle new
   pub no_card : new.view.worker.card ≡ None

@@ -95,7 +95,7 @@ pub(crate) fn answer<A: Allocator + Copy, G: StepGate>(
     ensures hindered { pass.new.view.hindered ≡ pass.old.view.hindered }
     ensures last { pass.new.view.answered ≡ answered_so pass.old.view.worker.operation pass.old.view.worker.card said }
     ensures told { pass.new.view.told ≡ pass.old.view.told }
-    ensures facts { pass.new.view.worker.facts ≡ pass.old.view.worker.facts }
+    ensures facts { pass.new.view.worker.knows ≡ pass.old.view.worker.knows }
     ensures least { pass.new.view.next_at_least ≡ pass.old.view.next_at_least }
     ensures room { pass.new.view.next_at_least ≤ table.now.plan.last_card + 1 }
     ensures taken { TakesNoCard pass.old pass.new }

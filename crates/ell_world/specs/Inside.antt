@@ -2,7 +2,7 @@ use Rattle.std.specs.Prelude.{◌≡◌, ℕ, ◌≤◌, ◌⊎◌, false, Optio
 use Rattle.ell_word.specs.Node.{greatest_card}
 use Rattle.ell_world.specs.declared.memory.Memory.{Memory}
 use Rattle.ell_world.specs.declared.worker.Worker.{Worker}
-use Rattle.ell_core.specs.declared.view.WorkerView.{WorkerView}
+use Rattle.ell_core.specs.state.Machine.{WorkerView}
 use Rattle.ell_core.specs.declared.fact.Fact.{Fact}
 use Rattle.ell_core.specs.declared.event.Act.{Act}
 use Rattle.ell_core.specs.declared.event.Stepped.{Stepped}
@@ -33,12 +33,12 @@ pub record SameSize {A : Type 0} (old new : Memory A) : Type 0 where
 abbrev pub view_of : {A : Type 0} → Worker A → WorkerView
 view_of v = record {
   ledger = v.ledger.entries;
-  ownable = None;
+  shared = None;
   operation = v.operation;
   search = v.search;
   card = v.card;
   flagged = v.flagged;
-  facts = v.facts.keys;
+  knows = v.facts.keys;
 }
 
 -- the machine's worker

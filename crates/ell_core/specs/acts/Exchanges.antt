@@ -8,6 +8,7 @@ use Rattle.ell_core.specs.declared.fact.Fact.{Fact}
 use Rattle.ell_core.specs.declared.fact.Fact.TheVariants.{IFlagged, IChanged, IOver, DFlagged, Marked, Unmarkable, Cut, DOver, Backed}
 use Rattle.ell_core.specs.declared.put.Put.{Put}
 use Rattle.ell_core.specs.declared.view.Seen.{Seen}
+use Rattle.ell_core.specs.declared.view.WorkerOf.{WorkerOf}
 use Rattle.ell_layout.specs.Words.{Words, with_update, with_child}
 use Rattle.ell_core.specs.state.Facts.{Knowledge, learned, learned_any, told_by}
 use Rattle.ell_core.specs.state.Machine.{Worker, Scene}
@@ -35,19 +36,16 @@ exchanged_child w node expected new =
 abbrev pub knowing : Worker → Knowledge → Worker
 knowing v known = record v { knows = known }
 
+-- the search stands nowhere any more, and this card is in hand, flagged or not
+abbrev pub off_the_tree : {L S K : Type 0} → Option ℕ → Bool → WorkerOf L S K → WorkerOf L S K
+off_the_tree card flagged v = record v {
+  search = record (v.search) { node = None; read = None }; card = card; flagged = flagged;
+}
+
 -- a worker after its own flag exchange: it stands nowhere, with its card flagged, or with none and what it found
 abbrev pub flagged_worker : Worker → Bool → Fact → ℕ → Worker
-flagged_worker v true fact found = record v {
-  search = record (v.search) { node = None; read = None };
-  flagged = true;
-  knows = learned v.knows fact;
-}
-flagged_worker v false fact found = record v {
-  search = record (v.search) { node = None; read = None };
-  card = None;
-  flagged = false;
-  knows = learned_any v.knows (told_by found);
-}
+flagged_worker v true fact found = record (off_the_tree v.card true v) { knows = learned v.knows fact }
+flagged_worker v false fact found = record (off_the_tree None false v) { knows = learned_any v.knows (told_by found) }
 
 -- the fact that a flag exchange tells, if any: its own, or what was found
 abbrev pub flag_tells : Seen → Words → Fact → Option Fact

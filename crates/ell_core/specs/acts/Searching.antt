@@ -11,6 +11,7 @@ use Rattle.ell_core.specs.declared.fact.Fact.TheVariants.{IOver, DOver, Backed}
 use Rattle.ell_core.specs.declared.put.Put.{Put}
 use Rattle.ell_core.specs.declared.view.Seen.{Seen}
 use Rattle.ell_core.specs.declared.view.Search.{Search}
+use Rattle.ell_core.specs.declared.view.WorkerOf.{WorkerOf}
 use Rattle.ell_layout.specs.declared.field.Field.{Field}
 use Rattle.ell_layout.specs.Words.{Words, put, IsLeaf}
 use Rattle.ell_core.specs.state.Facts.{Knowledge, learned_any, told_by}
@@ -30,7 +31,7 @@ abbrev pub at_root : Search
 at_root = record { node = Some 0; read = None; parent = None; grandparent = None }
 
 -- the worker with an operation in hand, at the root, without a card
-abbrev pub begun : Option Op → Worker → Worker
+abbrev pub begun : {L S K : Type 0} → Option Op → WorkerOf L S K → WorkerOf L S K
 begun operation v = record v { operation = operation; search = at_root; card = None; flagged = false }
 
 -- the worker with nothing in hand
@@ -88,11 +89,15 @@ pub record AtCleanLeaf (v : Worker) (leaf : ℕ) (parent : Seen) : Type 0 where
   pub calm : IsClean parent.word
   pub no_card : v.card ≡ None
 
+-- a card is in hand, not flagged
+abbrev pub with_card : {L S K : Type 0} → ℕ → WorkerOf L S K → WorkerOf L S K
+with_card c v = record v { card = Some c; flagged = false }
+
 -- the next card is claimed, filled, and in hand
 abbrev pub claims : Scene → List (Field × ℕ) → Scene
 claims s filling = record {
   words = claimed s.words filling;
-  worker = record (s.worker) { card = Some s.words.next; flagged = false };
+  worker = with_card s.words.next s.worker;
 }
 
 -- what an operation puts into the tree, if anything: its key with its value, if that is absent or has a certain value

@@ -2,7 +2,8 @@ use Rattle.std.specs.Prelude.{ℕ, ◌==◌, Bool, false, Option, Some, None, Li
 use Rattle.std.specs.Map.{lookup}
 use Rattle.ell_ops.specs.declared.op.Op.{Op}
 use Rattle.ell_core.specs.declared.view.Search.{Search}
-use Rattle.ell_core.specs.declared.view.WorkerView.{WorkerView}
+use Rattle.ell_core.specs.declared.view.WorkerOf.{WorkerOf}
+use Rattle.ell_core.specs.declared.fact.Fact.{Fact}
 use Rattle.ell_layout.specs.Words.{Words, put}
 use Rattle.ell_core.specs.state.Facts.{Knowledge, known_of}
 use Rattle.ell_core.specs.declared.view.Entry.{Entry}
@@ -19,15 +20,13 @@ abbrev pub entry_of : Option ℕ → Entry
 entry_of (Some value) = Present value
 entry_of None = Absent
 
--- a worker: its ledger, the shared keys, the operation in hand, its search, its card, flagged or not, and its knowledge
-pub record Worker : Type 0 where
-  pub ledger : Ledger
-  pub shared : ℕ → Bool
-  pub operation : Option Op
-  pub search : Search
-  pub card : Option ℕ
-  pub flagged : Bool
-  pub knows : Knowledge
+-- a worker of the machine, whose ledger, shared keys and knowledge are functions
+abbrev pub Worker : Type 0
+Worker = WorkerOf Ledger (ℕ → Bool) Knowledge
+
+-- a worker of a view, where they are lists
+abbrev pub WorkerView : Type 0
+WorkerView = WorkerOf (List (ℕ × Entry)) (Option (List ℕ)) (List Fact)
 
 -- the words, the workers by their numbers and how many they are, and the number of the last card
 pub record Machine : Type 0 where
@@ -53,7 +52,7 @@ abbrev pub no_search : Search
 no_search = record { node = None; read = None; parent = None; grandparent = None }
 
 -- a worker that has nothing in hand
-abbrev pub idle : Ledger → (ℕ → Bool) → Knowledge → Worker
+abbrev pub idle : {L S K : Type 0} → L → S → K → WorkerOf L S K
 idle ledger shared known = record {
   ledger = ledger; shared = shared; operation = None; search = no_search; card = None; flagged = false; knows = known;
 }
@@ -74,8 +73,8 @@ shared_of (Some keys) key = nat_le key greatest_key && not (set_of keys key)
 -- the worker that a view is
 abbrev pub worker_of : WorkerView → Worker
 worker_of v = record {
-  ledger = ledger_of v.ledger; shared = shared_of v.ownable; operation = v.operation; search = v.search;
-  card = v.card; flagged = v.flagged; knows = known_of v.facts;
+  ledger = ledger_of v.ledger; shared = shared_of v.shared; operation = v.operation; search = v.search;
+  card = v.card; flagged = v.flagged; knows = known_of v.knows;
 }
 
 abbrev pub worker_or_nobody : Option WorkerView → Worker

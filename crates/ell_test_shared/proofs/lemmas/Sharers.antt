@@ -5,7 +5,7 @@ use Rattle.ell_ops.specs.declared.reply.Reply.{Reply}
 use Rattle.ell_ops.specs.KeySet.{set_of}
 use Rattle.ell_ops.specs.Meaning.{greatest_key}
 use Rattle.ell_core.specs.state.Machine.{shared_of}
-use Rattle.ell_core.specs.declared.view.WorkerView.{WorkerView}
+use Rattle.ell_core.specs.state.Machine.{WorkerView}
 use Rattle.ell_tree.specs.Computing.{Concludes, IsNotDone, PutsValue, UpdatesValue}
 use Rattle.ell_tree.specs.declared.operations.NotDone.{NotDone}
 use Rattle.ell_tree.specs.Ends.{Answers, LaidDown}
@@ -68,7 +68,7 @@ pub member_looking : (owned : List ℕ) (t : TreeModel) (n : ℕ) (p q : PassMod
 member_looking owned t n p q h l = record {
   own = l.table ∙ h.own;
   idle = ap (λ (w : WorkerView). w.operation) l.worker ∙ h.idle;
-  ownable = ap (λ (w : WorkerView). w.ownable) l.worker ∙ h.ownable;
+  ownable = ap (λ (w : WorkerView). w.shared) l.worker ∙ h.ownable;
 }
 
 -- so are the parts of one
@@ -86,5 +86,5 @@ pub member_joined : (owned : List ℕ) (t : TreeModel) (p q r : PassModel) → I
 member_joined owned t p q r h k u = record {
   own = u.own ∙ h.own;
   idle = u.idle;
-  ownable = u.ownable ∙ ap (λ (o : Option (List ℕ)). option_or o q.view.worker.ownable) h.ownable;
+  ownable = u.ownable ∙ ap (λ (o : Option (List ℕ)). option_or o q.view.worker.shared) h.ownable;
 }

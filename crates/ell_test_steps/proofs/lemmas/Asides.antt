@@ -4,7 +4,7 @@ use Rattle.ell_word.specs.declared.update.Update.{Update}
 use Rattle.ell_core.specs.declared.fact.Fact.{Fact}
 use Rattle.ell_core.specs.declared.fact.Fact.TheVariants as fact
 use Rattle.ell_layout.specs.declared.field.Field.{Field}
-use Rattle.ell_core.specs.declared.view.WorkerView.{WorkerView}
+use Rattle.ell_core.specs.state.Machine.{WorkerView}
 use Rattle.ell_cards.specs.declared.view.Told.{Told}
 use Rattle.ell_cards.specs.declared.view.Told.TheVariants.{Frozen}
 use Rattle.ell_cards.specs.declared.view.View.{View}
@@ -35,7 +35,7 @@ aside_sibling a b c l s k (inr h) = inr (k.told (Frozen c true l) h.0, k.told (F
 pub aside_trans : (a b d : PassModel) → StepsAside a b → StepsAside b d → StepsAside a d
 aside_trans a b d h k = record {
   table = k.table ∙ h.table;
-  worker = k.worker ∙ ap (λ (w : WorkerView). record w { facts = d.view.worker.facts }) h.worker;
+  worker = k.worker ∙ ap (λ (w : WorkerView). record w { knows = d.view.worker.knows }) h.worker;
   filling = k.filling ∙ h.filling;
   filled = k.filled ∙ h.filled;
   knows = λ f e. k.knows f (h.knows f e);
@@ -73,10 +73,10 @@ frozen_aside old new c right x s =
 pub learn_aside : (old new : PassModel) (wins : List (Exchange × ℕ)) (f : Fact) (n : ℕ) → Steps old new (exchanged wins n (learning f old.view)) → StepsAside old new
 learn_aside old new wins f n s =
     subst (StepsAside old) (sym s)
-    (record { table = refl; worker = refl; filling = refl; filled = refl; knows = λ g h. knows_more f g old.view.worker.facts h; told = λ e h. h })
+    (record { table = refl; worker = refl; filling = refl; filled = refl; knows = λ g h. knows_more f g old.view.worker.knows h; told = λ e h. h })
 
 pub learns : (old new : PassModel) (wins : List (Exchange × ℕ)) (f : Fact) (n : ℕ) → Steps old new (exchanged wins n (learning f old.view)) → Knows new.view f
-learns old new wins f n s = subst (λ (w : View). Knows w f) (sym (view_after old new (exchanged wins n (learning f old.view)) s)) (knows_new f old.view.worker.facts)
+learns old new wins f n s = subst (λ (w : View). Knows w f) (sym (view_after old new (exchanged wins n (learning f old.view)) s)) (knows_new f old.view.worker.knows)
 
 -- and a mark, won or lost
 beside_marked : (old : PassModel) (wins : List (Exchange × ℕ)) (steps label n c : ℕ)
@@ -86,7 +86,7 @@ beside_marked old wins steps label n c = record {
   worker = refl;
   filling = refl;
   filled = refl;
-  knows = λ g h. knows_more (fact.Marked c) g old.view.worker.facts h;
+  knows = λ g h. knows_more (fact.Marked c) g old.view.worker.knows h;
   told = λ e h. h;
 }
 
@@ -102,7 +102,7 @@ beside_mark old wins steps label n false c x u = by (is_mark_of c u.state u.card
       worker = refl;
       filling = refl;
       filled = refl;
-      knows = λ g h. facts_by_more u.state u.card (fact.Unmarkable c ∷ old.view.worker.facts) g (knows_more (fact.Unmarkable c) g old.view.worker.facts h);
+      knows = λ g h. facts_by_more u.state u.card (fact.Unmarkable c ∷ old.view.worker.knows) g (knows_more (fact.Unmarkable c) g old.view.worker.knows h);
       told = places_more x u.state u.card old.view.told;
     }
 

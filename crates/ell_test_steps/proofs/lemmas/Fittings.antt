@@ -10,7 +10,7 @@ use Rattle.ell_core.specs.declared.fact.Fact.TheVariants as fact
 use Rattle.ell_layout.specs.declared.field.Field.{Field}
 use Rattle.ell_core.specs.declared.view.Search.{Search}
 use Rattle.ell_core.specs.declared.view.Seen.{Seen}
-use Rattle.ell_core.specs.declared.view.WorkerView.{WorkerView}
+use Rattle.ell_core.specs.state.Machine.{WorkerView}
 use Rattle.ell_core.specs.state.Facts.{known_of, told_by_state}
 use Rattle.ell_core.specs.acts.Searching.{with_read}
 use Rattle.ell_cards.specs.declared.view.Told.TheVariants.{Met}
@@ -36,7 +36,7 @@ pub knows_all_more : (v w : View) → ((f : Fact) → Knows v f → Knows w f) �
 knows_all_more v w more facts h = λ k d low. knows_any_more v w more _ (h k d low)
 
 -- what an update tells is known
-pub facts_by_new : (s : State) (c : ℕ) (fs : List Fact) (v : View) → v.worker.facts ≡ facts_by s c fs → KnowsAny v (told_by_state s c)
+pub facts_by_new : (s : State) (c : ℕ) (fs : List Fact) (v : View) → v.worker.knows ≡ facts_by s c fs → KnowsAny v (told_by_state s c)
 facts_by_new state.IFlag c fs v e = subst (λ (es : List Fact). known_of es (fact.IFlagged c) ≡ true) (sym e) (knows_new (fact.IFlagged c) fs)
 facts_by_new state.DFlag c fs v e = subst (λ (es : List Fact). known_of es (fact.DFlagged c) ≡ true) (sym e) (knows_new (fact.DFlagged c) fs)
 facts_by_new state.Mark c fs v e = subst (λ (es : List Fact). known_of es (fact.Marked c) ≡ true) (sym e) (knows_new (fact.Marked c) fs)
@@ -83,7 +83,7 @@ fits_read v m x u h = record {
   search = ap (λ (s : Search). with_read s (packed u)) h.search;
   card = h.card;
   flagged = h.flagged;
-  knows = knows_all_more v (after_upd x u v) (facts_by_more u.state u.card v.worker.facts) m.known h.knows;
+  knows = knows_all_more v (after_upd x u v) (facts_by_more u.state u.card v.worker.knows) m.known h.knows;
   met = λ y e. places_more x u.state u.card v.told (Met y) (h.met y e);
   filled = h.filled;
 }
@@ -125,7 +125,7 @@ fits_flag_won v m wins n f x u h = record {
   search = ap nowhere h.search;
   card = h.card;
   flagged = refl;
-  knows = knows_all_more v (after_flag true f x u v) (λ g k. knows_more f g v.worker.facts k) m.known h.knows;
+  knows = knows_all_more v (after_flag true f x u v) (λ g k. knows_more f g v.worker.knows k) m.known h.knows;
   met = λ y e. cc e;
   filled = λ c e g. cc g;
 }
@@ -137,7 +137,7 @@ fits_flag_lost v m wins n f x u h = record {
   search = ap nowhere h.search;
   card = refl;
   flagged = refl;
-  knows = knows_all_more v (after_flag false f x u v) (facts_by_more u.state u.card v.worker.facts) m.known h.knows;
+  knows = knows_all_more v (after_flag false f x u v) (facts_by_more u.state u.card v.worker.knows) m.known h.knows;
   met = λ y e. cc e;
   filled = λ c e g. cc e;
 }

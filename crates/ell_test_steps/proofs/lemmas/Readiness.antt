@@ -13,7 +13,7 @@ use Rattle.ell_core.specs.declared.fact.Fact.{Fact}
 use Rattle.ell_core.specs.declared.fact.Fact.TheVariants as fact
 use Rattle.ell_layout.specs.declared.field.Field.{Field}
 use Rattle.ell_core.specs.declared.view.Search.{Search}
-use Rattle.ell_core.specs.declared.view.WorkerView.{WorkerView}
+use Rattle.ell_core.specs.state.Machine.{WorkerView}
 use Rattle.std.proofs.lemmas.List.Elements.{All-replicate}
 use Rattle.ell_core.specs.state.Facts.{told_by_state}
 use Rattle.ell_core.specs.acts.Searching.{leaf_answer, put_of, MayStop}
@@ -64,7 +64,7 @@ ready_learnt t a b m n Learnt h s = ready_known t b m n Learnt (ready_aside t a 
 -- what an update that was read tells is known
 pub update_known : (a b : PassModel) (x : ℕ) (u : Update) (o : Option Fact) → Steps a b (after_upd x u a.view) → o ≡ told_by_state u.state u.card → KnowsAny b.view o
 update_known a b x u o s e =
-    subst (KnowsAny b.view) (sym e) (facts_by_new u.state u.card a.view.worker.facts b.view (ap (λ (v : View). v.worker.facts) (view_after a b (after_upd x u a.view) s)))
+    subst (KnowsAny b.view) (sym e) (facts_by_new u.state u.card a.view.worker.knows b.view (ap (λ (v : View). v.worker.knows) (view_after a b (after_upd x u a.view) s)))
 
 pub ready_again : (t : TableModel) (a b : PassModel) (m n : Remembered) (op : Op) → IsReady t a m → m.op ≡ Some op → Steps a b (after_again a.view)
     → n ≡ root_memory (Some op) m → IsReady t b n
@@ -173,12 +173,12 @@ ready_flagged t a b m n k c f x u (Ok won) h s more =
     let w = exchanged (if_won true k c) (packed u) (after_flag true f x u a.view) in
     ready_known t b (ended_search true m) n (λ v. Knows v f)
     (ready_step t a b m (ended_search true m) (ended_search true m) w h s refl (fits_flag_won a.view m (if_won true k c) (packed u) f x u h.fits)) more
-    (subst (λ (v : View). Knows v f) (sym (view_after a b w s)) (knows_new f a.view.worker.facts))
+    (subst (λ (v : View). Knows v f) (sym (view_after a b w s)) (knows_new f a.view.worker.knows))
 ready_flagged t a b m n k c f x u (Err found) h s more =
     let w = exchanged [] (packed found) (after_flag false f x found a.view) in
     ready_known t b (ended_search false m) n (λ v. KnowsAny v (told_by_state found.state found.card))
     (ready_step t a b m (ended_search false m) (ended_search false m) w h s refl (fits_flag_lost a.view m [] (packed found) f x found h.fits)) more
-    (facts_by_new found.state found.card a.view.worker.facts b.view (ap (λ (v : View). v.worker.facts) (view_after a b w s)))
+    (facts_by_new found.state found.card a.view.worker.knows b.view (ap (λ (v : View). v.worker.knows) (view_after a b w s)))
 
 -- a card that is claimed and filled
 pub ready_claimed : (t : TableModel) (a b d : PassModel) (m : Remembered) (c : ℕ) (stores : List (Field × ℕ)) → IsReady t a m → b.table ≡ a.table → d.table ≡ b.table
@@ -221,10 +221,10 @@ lost_mark_known v c x w u = by (is_mark_of c u.state u.card)
   where
     by : (b : Bool) → (let v' : View = exchanged [] w (if b then learning (fact.Marked c) v else unmarking c x u v) in
         MatchBool b (Knows v' (fact.Marked c)) (Knows v' (fact.Unmarkable c) × KnowsAny v' (told_by_state u.state u.card)))
-    by true = knows_new (fact.Marked c) v.worker.facts
+    by true = knows_new (fact.Marked c) v.worker.knows
     by false = (
-      facts_by_more u.state u.card (fact.Unmarkable c ∷ v.worker.facts) (fact.Unmarkable c) (knows_new (fact.Unmarkable c) v.worker.facts),
-      facts_by_new u.state u.card (fact.Unmarkable c ∷ v.worker.facts) (exchanged [] w (unmarking c x u v)) refl,
+      facts_by_more u.state u.card (fact.Unmarkable c ∷ v.worker.knows) (fact.Unmarkable c) (knows_new (fact.Unmarkable c) v.worker.knows),
+      facts_by_new u.state u.card (fact.Unmarkable c ∷ v.worker.knows) (exchanged [] w (unmarking c x u v)) refl,
     )
 
 -- a mark that was won, or lost
@@ -232,7 +232,7 @@ pub ready_marked : (t : TableModel) (a b : PassModel) (m n : Remembered) (c x w 
     → Steps a b (exchanged (if_won (is_ok r) exchange.Mark c) (found_word w r) (after_mark (is_ok r) c x (found_update u r) a.view)) → Learns m n (λ v. KnowsMark v c r) → IsReady t b n
 ready_marked t a b m n c x w u (Ok won) h s more =
     ready_learnt t a b m n (λ v. Knows v (fact.Marked c)) h (mark_aside a b (if_won true exchange.Mark c) w true c x u s) more
-    (subst (λ (v : View). Knows v (fact.Marked c)) (sym (view_after a b (exchanged (if_won true exchange.Mark c) w (after_mark true c x u a.view)) s)) (knows_new (fact.Marked c) a.view.worker.facts))
+    (subst (λ (v : View). Knows v (fact.Marked c)) (sym (view_after a b (exchanged (if_won true exchange.Mark c) w (after_mark true c x u a.view)) s)) (knows_new (fact.Marked c) a.view.worker.knows))
 ready_marked t a b m n c x w u (Err found) h s more =
     ready_learnt t a b m n (λ v. KnowsLostMark v c found) h (mark_aside a b [] (packed found) false c x found s) more
     (subst (λ (v : View). KnowsLostMark v c found) (sym (view_after a b (exchanged [] (packed found) (after_mark false c x found a.view)) s)) (lost_mark_known a.view c x (packed found) found))

@@ -82,7 +82,7 @@ module _ (k : Exchange) (flag : ℕ → Fact) (c x : ℕ) (from : Update) where
     operation = refl;
     answers = refl;
     share = record { share = refl; ownable = refl };
-    knows = λ g h. knows_more (flag c) g v.worker.facts h;
+    knows = λ g h. knows_more (flag c) g v.worker.knows h;
     told = λ e h. h;
     before = refl;
     least = omega arith;
@@ -94,7 +94,7 @@ module _ (k : Exchange) (flag : ℕ → Fact) (c x : ℕ) (from : Update) where
     operation = refl;
     answers = refl;
     share = record { share = refl; ownable = refl };
-    knows = facts_by_more u.state u.card v.worker.facts;
+    knows = facts_by_more u.state u.card v.worker.knows;
     told = places_more x u.state u.card v.told;
     before = refl;
     least = omega arith;
@@ -128,7 +128,7 @@ module _ (k : Exchange) (flag : ℕ → Fact) (c x : ℕ) (from : Update) where
       where
         by : (q : Result (Unit {0}) Update) → d.view ≡ flagging q (with_stores b.view.stores a.view) → IfErr q (λ u. u.card ≤ cards) → Flags cards flag c x a d q
         by (Ok won) e m = subst (IsFlagged flag c a.view) (sym e) (record {
-          knows = knows_new (flag c) a.view.worker.facts;
+          knows = knows_new (flag c) a.view.worker.knows;
           card = holds;
           flagged = refl;
           nowhere = refl;

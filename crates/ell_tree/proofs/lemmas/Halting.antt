@@ -21,7 +21,7 @@ seek_meets a b n h = keeps_meets a b n h.keeps h.hindrances
 pub walk_meets : (a b : PassModel) (n : ℕ) → KeepsAll a b n → Meets a.view b.view
 walk_meets a b n h = keeps_meets a b n h.keeps h.hindrances
 
-pub said_meets : (v w : View) → w.hindrances ≡ v.hindrances → w.worker.facts ≡ v.worker.facts → Meets v w
+pub said_meets : (v w : View) → w.hindrances ≡ v.hindrances → w.worker.knows ≡ v.worker.knows → Meets v w
 said_meets v w e facts = meets_none v w e (λ f h. subst (λ (fs : List Fact). known_of fs f ≡ true) (sym facts) h)
 
 -- a flag was lost, and what was found in its place was helped

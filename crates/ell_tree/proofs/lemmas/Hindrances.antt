@@ -29,31 +29,31 @@ root_in_try op v at = ap (λ hs. hs ++ v.hindrances) (sym at.unmet)
 pub root_hindered : (op : Op) (v : View) → AtRoot op v → tries_hindered v ≡ v.hindered
 root_hindered op v at =
     let none : met_in_try v ≡ [] = try_way op v at.busy ∙ (ap (λ hs. hs ++ v.met) (root_way op v at.root) ∙ at.unmet) in
-    let zero = ap {B = ℕ} (λ hs. if was_hindered v.worker.facts hs then 1 else 0) none in
+    let zero = ap {B = ℕ} (λ hs. if was_hindered v.worker.knows hs then 1 else 0) none in
     omega (arith, zero)
 
 -- no try is counted but the one that is given up
 pub one_hindered : (v : View) → (v.hindered ≤ tries_hindered v) × (tries_hindered v ≤ v.hindered + 1)
-one_hindered v = by (was_hindered v.worker.facts (met_in_try v))
+one_hindered v = by (was_hindered v.worker.knows (met_in_try v))
   where
     by : (b : Bool) → (v.hindered ≤ v.hindered + (if b then 1 else 0)) × (v.hindered + (if b then 1 else 0) ≤ v.hindered + 1)
     by true = (omega arith, omega arith)
     by false = (omega arith, omega arith)
 
 -- what has ended, as a test of the facts
-update_test : (w : View) (s : State) (c : ℕ) → IsEnded w s c → update_over w.worker.facts s c ≡ true
-update_test w state.IFlag c h = ended_test w.worker.facts c (help_ended w state.IFlag c (λ e. cc) h)
-update_test w state.DFlag c h = ended_test w.worker.facts c (help_ended w state.DFlag c (λ e. cc) h)
-update_test w state.Mark c h = ended_test w.worker.facts c (help_ended w state.Mark c (λ e. cc) h)
+update_test : (w : View) (s : State) (c : ℕ) → IsEnded w s c → update_over w.worker.knows s c ≡ true
+update_test w state.IFlag c h = ended_test w.worker.knows c (help_ended w state.IFlag c (λ e. cc) h)
+update_test w state.DFlag c h = ended_test w.worker.knows c (help_ended w state.DFlag c (λ e. cc) h)
+update_test w state.Mark c h = ended_test w.worker.knows c (help_ended w state.Mark c (λ e. cc) h)
 update_test w state.Clean c h = refl
 
-over_test : (w : View) (hs : List Hindrance) → AreOver w hs → list_all (is_over w.worker.facts) hs ≡ true
+over_test : (w : View) (hs : List Hindrance) → AreOver w hs → list_all (is_over w.worker.knows) hs ≡ true
 over_test w [] h = refl
 over_test w (Claim c ∷ hs) h = over_test w hs h.1
-over_test w (Found u ∷ hs) h = ap (λ b. b && list_all (is_over w.worker.facts) hs) (update_test w u.state u.card h.0) ∙ over_test w hs h.1
+over_test w (Found u ∷ hs) h = ap (λ b. b && list_all (is_over w.worker.knows) hs) (update_test w u.state u.card h.0) ∙ over_test w hs h.1
 
 -- all that a try met is over, and it met something
-hindered_test : (w : View) (hs : List Hindrance) → AreOver w hs → 1 ≤ length hs → was_hindered w.worker.facts hs ≡ true
+hindered_test : (w : View) (hs : List Hindrance) → AreOver w hs → 1 ≤ length hs → was_hindered w.worker.knows hs ≡ true
 hindered_test w [] h some = absurd (omega arith)
 hindered_test w (x ∷ hs) h some = over_test w (x ∷ hs) h
 
@@ -66,6 +66,6 @@ halts_hindered op old new h some =
     let all = ap length h.in_try in
     let test = hindered_test new.view (way_of op new.view ++ new.view.met) over
     (omega (arith, some, all, length-append new.view.met old.view.hindrances, length-append (way_of op new.view) new.view.met)) in
-    let counts = ap (was_hindered new.view.worker.facts) (try_way op new.view h.stops.busy) ∙ test in
+    let counts = ap (was_hindered new.view.worker.knows) (try_way op new.view h.stops.busy) ∙ test in
     let one = ap {B = ℕ} (λ b. if b then 1 else 0) counts in
     omega (arith, one)

@@ -141,17 +141,17 @@ seen_kept cards v w x u k h = record {
 }
 
 -- the place of an update's card, once the update was read or found at a node
-pub place_told : (x : ℕ) (s : State) (c : ℕ) (v w : View) → w.worker.facts ≡ facts_by s c v.worker.facts → w.told ≡ places_by x s c v.told → TellsPlace w x s c
+pub place_told : (x : ℕ) (s : State) (c : ℕ) (v w : View) → w.worker.knows ≡ facts_by s c v.worker.knows → w.told ≡ places_by x s c v.told → TellsPlace w x s c
 place_told x state.IFlag c v w f t = (
-  subst (λ (fs : List Fact). known_of fs (fact.IFlagged c) ≡ true) (sym f) (knows_new (fact.IFlagged c) v.worker.facts),
+  subst (λ (fs : List Fact). known_of fs (fact.IFlagged c) ≡ true) (sym f) (knows_new (fact.IFlagged c) v.worker.knows),
   subst (λ (es : List Told). Has es (Info c field.P x)) (sym t) (latest _ v.told),
 )
 place_told x state.DFlag c v w f t = (
-  subst (λ (fs : List Fact). known_of fs (fact.DFlagged c) ≡ true) (sym f) (knows_new (fact.DFlagged c) v.worker.facts),
+  subst (λ (fs : List Fact). known_of fs (fact.DFlagged c) ≡ true) (sym f) (knows_new (fact.DFlagged c) v.worker.knows),
   subst (λ (es : List Told). Has es (Info c field.Gp x)) (sym t) (latest _ v.told),
 )
 place_told x state.Mark c v w f t = (
-  subst (λ (fs : List Fact). known_of fs (fact.Marked c) ≡ true) (sym f) (knows_new (fact.Marked c) v.worker.facts),
+  subst (λ (fs : List Fact). known_of fs (fact.Marked c) ≡ true) (sym f) (knows_new (fact.Marked c) v.worker.knows),
   subst (λ (es : List Told). Has es (Info c field.P x)) (sym t) (latest _ v.told),
 )
 place_told x state.Clean c v w f t = tt
@@ -208,7 +208,7 @@ upd_keeps x u v = record {
   operation = refl;
   answers = refl;
   share = record { share = refl; ownable = refl };
-  knows = facts_by_more u.state u.card v.worker.facts;
+  knows = facts_by_more u.state u.card v.worker.knows;
   told = places_more x u.state u.card v.told;
   before = refl;
   least = omega arith;
@@ -237,7 +237,7 @@ learning_keeps wins n f v = record {
   operation = refl;
   answers = refl;
   share = record { share = refl; ownable = refl };
-  knows = λ g h. knows_more f g v.worker.facts h;
+  knows = λ g h. knows_more f g v.worker.knows h;
   told = λ e h. h;
   before = refl;
   least = omega arith;

@@ -12,7 +12,7 @@ use Rattle.ell_cards.specs.Models.{PassModel, Counts, Sees, some_more, Has, HasC
 use Rattle.ell_cards.proofs.lemmas.views.Afters.{after_look, after_look_down, after_key_of, after_value_of}
 use Rattle.ell_cards.specs.Guards.{MayLookDown}
 use Rattle.ell_cards.specs.Looking.{HasFound, ReadsItsOwn}
-use Rattle.ell_core.specs.declared.view.WorkerView.{WorkerView}
+use Rattle.ell_core.specs.state.Machine.{WorkerView}
 use Rattle.ell_core.specs.state.Machine.{ledger_of}
 use Rattle.ell_core.specs.statements.Effects.{contents_in}
 use Rattle.ell_tree.specs.Counts.{HasUncounted}

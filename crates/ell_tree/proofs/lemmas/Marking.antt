@@ -31,7 +31,7 @@ unmarking_keeps n c p u v = record {
   operation = refl;
   answers = refl;
   share = record { share = refl; ownable = refl };
-  knows = λ g h. facts_by_more u.state u.card (fact.Unmarkable c ∷ v.worker.facts) g (knows_more (fact.Unmarkable c) g v.worker.facts h);
+  knows = λ g h. facts_by_more u.state u.card (fact.Unmarkable c ∷ v.worker.knows) g (knows_more (fact.Unmarkable c) g v.worker.knows h);
   told = places_more p u.state u.card v.told;
   before = refl;
   least = omega arith;
@@ -53,14 +53,14 @@ module _ (n c p : ℕ) (u : Update) (old new : PassModel) where
   either_met false s = ap (λ (w : View). w.hindrances) (view_after old new (either false) s)
 
   either_marked : (b : Bool) → Steps old new (either b) → (if b then None else Some u) ≡ None → Knows new.view (fact.Marked c)
-  either_marked true s e = subst (λ (w : View). Knows w (fact.Marked c)) (sym (view_after old new (either true) s)) (knows_new (fact.Marked c) old.view.worker.facts)
+  either_marked true s e = subst (λ (w : View). Knows w (fact.Marked c)) (sym (view_after old new (either true) s)) (knows_new (fact.Marked c) old.view.worker.knows)
   either_marked false s e = cc
 
   either_lost : (cards : ℕ) (b : Bool) → Steps old new (either b) → IsInnerMet cards old.view p → u.card ≤ cards
       → IfSome (if b then None else Some u) (λ x. IsLost cards c p x new.view)
   either_lost cards true s node named = tt
   either_lost cards false s node named = subst (λ (w : View). IsLost cards c p u w) (sym (view_after old new (either false) s)) (record {
-    knows = facts_by_more u.state u.card (fact.Unmarkable c ∷ old.view.worker.facts) (fact.Unmarkable c) (knows_new (fact.Unmarkable c) old.view.worker.facts);
+    knows = facts_by_more u.state u.card (fact.Unmarkable c ∷ old.view.worker.knows) (fact.Unmarkable c) (knows_new (fact.Unmarkable c) old.view.worker.knows);
     seen = record {
       node = record { met = places_more p u.state u.card old.view.told (Met p) node.met; inner = node.inner; there = node.there };
       named = named;
@@ -79,7 +79,7 @@ module _ (c p was : ℕ) (old new : PassModel) where
   mark_met (Err u) s = either_met (found_word was (Err u)) c p u old new (is_mark_of c u.state u.card) s
 
   pub mark_marked : (r : Result (Unit {0}) Update) → Steps old new (marking c p was r old.view) → found_instead c r ≡ None → Knows new.view (fact.Marked c)
-  mark_marked (Ok won) s e = subst (λ (w : View). Knows w (fact.Marked c)) (sym (view_after old new (marking c p was (Ok won) old.view) s)) (knows_new (fact.Marked c) old.view.worker.facts)
+  mark_marked (Ok won) s e = subst (λ (w : View). Knows w (fact.Marked c)) (sym (view_after old new (marking c p was (Ok won) old.view) s)) (knows_new (fact.Marked c) old.view.worker.knows)
   mark_marked (Err u) s e = either_marked (found_word was (Err u)) c p u old new (is_mark_of c u.state u.card) s e
 
   pub mark_lost : (cards : ℕ) (r : Result (Unit {0}) Update) → Steps old new (marking c p was r old.view) → IsInnerMet cards old.view p

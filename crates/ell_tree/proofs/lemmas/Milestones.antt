@@ -67,19 +67,19 @@ ends_one (suc n) f g k c first last before after = elim (cases_eq c (suc n)) [
     below false false i h = omega arith
 
 -- a pass that saw a move since it began its search, with what it knew then, knows of one more
-pub milestones_one : (cards : ℕ) (u v w : View) → v.knew_before ≡ u.worker.facts → v.next_at_least ≡ u.next_at_least
+pub milestones_one : (cards : ℕ) (u v w : View) → v.knew_before ≡ u.worker.knows → v.next_at_least ≡ u.next_at_least
     → ((f : Fact) → Knows u f → Knows w f) → SeesMilestone cards v w → milestones_known cards u + 1 ≤ milestones_known cards w
 milestones_one cards u v w before least k (inl g) =
-    let more = ends_more cards u.worker.facts w.worker.facts (test_still u.worker.facts w.worker.facts k) in
+    let more = ends_more cards u.worker.knows w.worker.knows (test_still u.worker.knows w.worker.knows k) in
     omega (arith, more, least, g.first, g.before, g.after)
 milestones_one cards u v w before least k (inr e) =
-    let more = ends_one cards u.worker.facts w.worker.facts (test_still u.worker.facts w.worker.facts k) e.card e.first e.last
-    (λ h. e.before (subst (λ (fs : List Fact). EndedBy fs e.card) (sym before) (test_ended u.worker.facts e.card h)))
-    (ended_test w.worker.facts e.card e.after) in
+    let more = ends_one cards u.worker.knows w.worker.knows (test_still u.worker.knows w.worker.knows k) e.card e.first e.last
+    (λ h. e.before (subst (λ (fs : List Fact). EndedBy fs e.card) (sym before) (test_ended u.worker.knows e.card h)))
+    (ended_test w.worker.knows e.card e.after) in
     omega (arith, more, least, e.least)
 
 -- what a help ended is over
-pub help_ended : (w : View) (s : State) (c : ℕ) → s ≢ state.Clean → IsEnded w s c → EndedBy w.worker.facts c
+pub help_ended : (w : View) (s : State) (c : ℕ) → s ≢ state.Clean → IsEnded w s c → EndedBy w.worker.knows c
 help_ended w state.IFlag c n h = inl h
 help_ended w state.DFlag c n h = inr h
 help_ended w state.Mark c n h = inr (inl h)
@@ -112,19 +112,19 @@ gives_out cards v s t w low g same = inl (record {
 -- steps that forget nothing leave the milestones known
 pub milestones_still : (cards : ℕ) (u v : View) → ((f : Fact) → Knows u f → Knows v f) → v.next_at_least ≡ u.next_at_least → milestones_known cards u ≤ milestones_known cards v
 milestones_still cards u v k least =
-    let more = ends_more cards u.worker.facts v.worker.facts (test_still u.worker.facts v.worker.facts k) in omega (arith, more, least)
+    let more = ends_more cards u.worker.knows v.worker.knows (test_still u.worker.knows v.worker.knows k) in omega (arith, more, least)
 
 pub milestones_more : (cards : ℕ) (u v : View) → ((f : Fact) → Knows u f → Knows v f) → u.next_at_least ≤ v.next_at_least → milestones_known cards u ≤ milestones_known cards v
 milestones_more cards u v k least =
-    let more = ends_more cards u.worker.facts v.worker.facts (test_still u.worker.facts v.worker.facts k) in omega (arith, more, least)
+    let more = ends_more cards u.worker.knows v.worker.knows (test_still u.worker.knows v.worker.knows k) in omega (arith, more, least)
 
 -- after a pass has laid its operation down, they are the same
-pub milestones_same : (cards : ℕ) (u v : View) → v.worker.facts ≡ u.worker.facts → v.next_at_least ≡ u.next_at_least → milestones_known cards v ≡ milestones_known cards u
+pub milestones_same : (cards : ℕ) (u v : View) → v.worker.knows ≡ u.worker.knows → v.next_at_least ≡ u.next_at_least → milestones_known cards v ≡ milestones_known cards u
 milestones_same cards u v facts least = λ t. ends_known cards (facts t) + (least t - 1)
 
 -- there are no more milestones than two of each card
 pub milestones_most : (cards : ℕ) (v : View) → v.next_at_least ≤ cards + 1 → milestones_known cards v ≤ 2 * cards
-milestones_most cards v room = let most = ends_most cards v.worker.facts in omega (arith, most, room)
+milestones_most cards v room = let most = ends_most cards v.worker.knows in omega (arith, most, room)
 
 -- so many rounds of so many steps at most, each of which but the last saw a move
 amortized_steps : (a b r start after most : ℕ) → a + r ≤ b → after ≤ start + ((r + 1) * most + 1) → after + a * most ≤ start + (b + 1) * most + 1

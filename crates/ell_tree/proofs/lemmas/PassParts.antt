@@ -137,8 +137,8 @@ union left right both e = subst (IsUnion left right) (sym e) (record {
   made = refl;
   label = refl;
   milestones = λ cards. (
-    milestones_more cards left.view (joined_view left.view right.view) (λ f h. known_left left.view.worker.facts right.view.worker.facts f h) (omega arith),
-    milestones_more cards right.view (joined_view left.view right.view) (λ f h. known_right left.view.worker.facts right.view.worker.facts f h) (omega arith),
+    milestones_more cards left.view (joined_view left.view right.view) (λ f h. known_left left.view.worker.knows right.view.worker.knows f h) (omega arith),
+    milestones_more cards right.view (joined_view left.view right.view) (λ f h. known_right left.view.worker.knows right.view.worker.knows f h) (omega arith),
   );
   share = refl;
   ownable = refl;

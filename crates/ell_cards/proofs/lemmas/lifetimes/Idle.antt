@@ -43,7 +43,7 @@ met_root P root e (latest _ _) = root
 met_root P root e (earlier _ _ _ h) = elim h [ ]
 
 -- so it names what is in any table
-pub root_named : (cards : ℕ) (v : View) → v.told ≡ Met 0 ∷ [] → v.worker.facts ≡ [] → v.worker.search.node ≡ None → v.worker.card ≡ None
+pub root_named : (cards : ℕ) (v : View) → v.told ≡ Met 0 ∷ [] → v.worker.knows ≡ [] → v.worker.search.node ≡ None → v.worker.card ≡ None
     → v.next_at_least ≡ 0 → IsNamed cards v
 root_named cards v told facts node card next = rest_named cards v
     (λ e h. met_root (EntryIsNamed cards) (omega arith) e (subst (λ (es : List Told). Has es e) told h))

@@ -134,11 +134,11 @@ joins_are_handovers keys cards s r id other v w here there apart free other_free
       right_free = subst WorkerIsIdle (sym same') ((mine_sound keys cards s r other w there).free other_free);
       both = worker_of both.worker;
       both_free = refl;
-      shares = λ k. shared_both keys v.worker.ownable w.worker.ownable (λ l is. r.listed id v l here is) (λ l is. r.listed other w l there is) k
+      shares = λ k. shared_both keys v.worker.shared w.worker.shared (λ l is. r.listed id v l here is) (λ l is. r.listed other w l there is) k
           ∙ (λ t. (ap (λ (u : Worker). u.shared k) (sym same) t) || (ap (λ (u : Worker). u.shared k) (sym same') t));
       ledgers = subst (λ (u : Worker). AreParted (ledger_of both.worker.ledger) u.ledger (m.worker other).ledger) (sym same)
           (subst (λ (u : Worker). AreParted (ledger_of both.worker.ledger) (ledger_of v.worker.ledger) u.ledger) (sym same') parts);
-      knows = λ f k. elim (known_either v.worker.facts w.worker.facts f k) [
+      knows = λ f k. elim (known_either v.worker.knows w.worker.knows f k) [
         | inl a ↦ inl (ap (λ (u : Worker). u.knows f) same ∙ a)
         | inr b ↦ inr (ap (λ (u : Worker). u.knows f) same' ∙ b)
       ];
@@ -170,8 +170,8 @@ joins_are_handovers keys cards s r id other v w here there apart free other_free
             ])
             (λ has. absurd (has refl))
             (λ i u at has. r.owned i k u at has) j;
-        listed = λ j u l at. each_joined s.views id other v w here there turned both (λ u. u.worker.ownable ≡ Some l → l ≡ keys)
-            (first_list keys l v.worker.ownable w.worker.ownable (λ is. r.listed id v l here is) (λ is. r.listed other w l there is))
+        listed = λ j u l at. each_joined s.views id other v w here there turned both (λ u. u.worker.shared ≡ Some l → l ≡ keys)
+            (first_list keys l v.worker.shared w.worker.shared (λ is. r.listed id v l here is) (λ is. r.listed other w l there is))
             (λ is. absurd (some_not_none is refl)) (λ i u at is. r.listed i u l at is) j u at;
       };
       join = join;
@@ -181,7 +181,7 @@ joins_are_handovers keys cards s r id other v w here there apart free other_free
 joined_named : (cards : ℕ) (v w : View) → IsNamed cards v → IsNamed cards w → IsNamed cards (joined_view v w)
 joined_named cards v w h g = rest_named cards (joined_view v w)
     (λ e told. elim (told_either v.told w.told e told) [ inl a ↦ h.entries e a | inr b ↦ g.entries e b ])
-    (λ f k. elim (known_either v.worker.facts w.worker.facts f k) [ inl a ↦ h.facts f a | inr b ↦ g.facts f b ])
+    (λ f k. elim (known_either v.worker.knows w.worker.knows f k) [ inl a ↦ h.facts f a | inr b ↦ g.facts f b ])
     refl refl (let a = h.next in let b = g.next in omega arith)
 
 -- the share of both counts where one of the two does
@@ -210,7 +210,7 @@ joined_fits words left right ours theirs one other keys mine yours v w h g same_
       ascending = ascending.ascending;
       share = record {
         units = (λ t. (h.share.units t + g.share.units t) % 2 ^ 64);
-        counts = either_counts mine.counts yours.counts v.worker.ownable w.worker.ownable h.share.counts g.share.counts;
+        counts = either_counts mine.counts yours.counts v.worker.shared w.worker.shared h.share.counts g.share.counts;
       };
       named = λ cards size. joined_named cards v w (h.named cards (sym same_left ∙ size)) (g.named cards (sym same_right ∙ size));
     }

@@ -119,7 +119,7 @@ opening_is_kept plan words may at =
         owned = λ j k. each_first first (λ v. WorkerOwns (worker_of v.worker) k → Contains plan.keys k)
             (λ owns. subst (λ (ks : List ℕ). Contains ks k) (keys_start plan.keys plan.start)
             (among_contains (ledger_keys (keys_at_start plan.keys plan.start)) k (owned_among (keys_at_start plan.keys plan.start) k owns))) j;
-        listed = λ j v l. each_first first (λ v. v.worker.ownable ≡ Some l → l ≡ plan.keys) (list_is plan.shared plan.keys l) j v;
+        listed = λ j v l. each_first first (λ v. v.worker.shared ≡ Some l → l ≡ plan.keys) (list_is plan.shared plan.keys l) j v;
       };
       opening = subst IsOpening (one_opens plan cards all) one.opens;
       unwon = opening_wins (length plan.start + 1);

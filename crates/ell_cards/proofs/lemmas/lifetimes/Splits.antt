@@ -109,7 +109,7 @@ splits_are_handovers keys cards s r id v chosen here free =
             (λ has. r.owned id k v here ((owns k).0 has))
             (λ has. r.owned id k v here ((owns k).1 has))
             (λ i u at has. r.owned i k u at has) j;
-        listed = λ j u l at. each_split s.views id v here left right (λ u. u.worker.ownable ≡ Some l → l ≡ keys)
+        listed = λ j u l at. each_split s.views id v here left right (λ u. u.worker.shared ≡ Some l → l ≡ keys)
             (λ is. r.listed id v l here is) (λ is. r.listed id v l here is) (λ i u at is. r.listed i u l at is) j u at;
       };
       split = split;

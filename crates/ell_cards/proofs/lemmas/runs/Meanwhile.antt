@@ -264,7 +264,7 @@ module _ (m0 : Machine) (stage0 : Stages) (first : Invariant m0 stage0) (seat : 
 
 -- what a pass knows to have ended has
 facts_ended : (m : Machine) (stages : Stages) → Invariant m stages → (seat : ℕ) (v : View) → m.worker seat ≡ worker_of v.worker
-    → (c : ℕ) → EndedBy v.worker.facts c → has_ended (stages c) ≡ true
+    → (c : ℕ) → EndedBy v.worker.knows c → has_ended (stages c) ≡ true
 facts_ended m stages holds seat v mine c ended =
     let facts = (holds.workers.each seat).facts in elim ended [
       | inl k ↦ insert_over-ended (stages c) (facts (IOver c) (ap (λ (u : Worker). u.knows (IOver c)) mine ∙ k))
@@ -343,7 +343,7 @@ module _ (plan : TablePlan) (q : SearchRun plan) where
       (ap has_end (sym (led.went.wins c)) ∙ (wins_end (led.went.stages c) ∙ after)) (wins_end (stage c) ∙ un)
 
   -- what the pass knows to have ended has
-  known_ended : (c : ℕ) → EndedBy q.view.worker.facts c → has_ended (led.went.stages c) ≡ true
+  known_ended : (c : ℕ) → EndedBy q.view.worker.knows c → has_ended (led.went.stages c) ≡ true
   known_ended c ended = facts_ended now led.went.stages led.went.invariant q.seat q.view mine c ended
 
   ends_by : (c : ℕ) → has_ended (stage c) ≡ false → EndsMeanwhile plan q c

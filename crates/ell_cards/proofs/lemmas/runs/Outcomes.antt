@@ -270,23 +270,23 @@ module _ (plan : TablePlan) (s : TableState) (h : IsReached plan s) (id : ℕ) (
 
   ichild_alike : (c p l q : ℕ) (right : Bool) → Alike (call.IChild c p l q right)
   ichild_alike c p l q right may n on = taught_alike plan s h id v here (call.IChild c p l q right) may n on exchange.IChild (omega arith)
-      (fact.IChanged c) (changed-once c) refl refl (knows_new (fact.IChanged c) v.worker.facts) (knows_new (fact.IChanged c) v.worker.facts)
+      (fact.IChanged c) (changed-once c) refl refl (knows_new (fact.IChanged c) v.worker.knows) (knows_new (fact.IChanged c) v.worker.knows)
 
   iunflag_alike : (c p : ℕ) → Alike (call.IUnflag c p)
   iunflag_alike c p may n on = taught_alike plan s h id v here (call.IUnflag c p) may n on exchange.IUnflag (omega arith)
-      (fact.IOver c) (over-once c) refl refl (knows_new (fact.IOver c) v.worker.facts) (knows_new (fact.IOver c) v.worker.facts)
+      (fact.IOver c) (over-once c) refl refl (knows_new (fact.IOver c) v.worker.knows) (knows_new (fact.IOver c) v.worker.knows)
 
   dchild_alike : (c gp p y : ℕ) (right : Bool) → Alike (call.DChild c gp p y right)
   dchild_alike c gp p y right may n on = taught_alike plan s h id v here (call.DChild c gp p y right) may n on exchange.DChild (omega arith)
-      (fact.Cut c) (cut-once c) refl refl (knows_new (fact.Cut c) v.worker.facts) (knows_new (fact.Cut c) v.worker.facts)
+      (fact.Cut c) (cut-once c) refl refl (knows_new (fact.Cut c) v.worker.knows) (knows_new (fact.Cut c) v.worker.knows)
 
   dunflag_alike : (c gp : ℕ) → Alike (call.DUnflag c gp)
   dunflag_alike c gp may n on = taught_alike plan s h id v here (call.DUnflag c gp) may n on exchange.DUnflag (omega arith)
-      (fact.DOver c) (gone-once c) refl refl (knows_new (fact.DOver c) v.worker.facts) (knows_new (fact.DOver c) v.worker.facts)
+      (fact.DOver c) (gone-once c) refl refl (knows_new (fact.DOver c) v.worker.knows) (knows_new (fact.DOver c) v.worker.knows)
 
   backtrack_alike : (c gp : ℕ) → Alike (call.Backtrack c gp)
   backtrack_alike c gp may n on = taught_alike plan s h id v here (call.Backtrack c gp) may n on exchange.Backtrack (omega arith)
-      (fact.Backed c) (backed-once c) refl refl (knows_new (fact.Backed c) v.worker.facts) (knows_new (fact.Backed c) v.worker.facts)
+      (fact.Backed c) (backed-once c) refl refl (knows_new (fact.Backed c) v.worker.knows) (knows_new (fact.Backed c) v.worker.knows)
 
   -- a claim: it is counted by the claim word
   claim_alike : (c : ℕ) → Alike (call.Claim c)
@@ -307,11 +307,11 @@ module _ (plan : TablePlan) (s : TableState) (h : IsReached plan s) (id : ℕ) (
   mark_teaches c p was n = by (n == was)
     where
       lost : (b : Bool) → b ≡ (n == marked c) → KnowsOf (if b then learning (fact.Marked c) v else unmarking c p (unpacked n) v) c b
-      lost true e = knows_new (fact.Marked c) v.worker.facts
-      lost false e = facts_by_more (unpacked n).state (unpacked n).card (fact.Unmarkable c ∷ v.worker.facts) (fact.Unmarkable c) (knows_new (fact.Unmarkable c) v.worker.facts)
+      lost true e = knows_new (fact.Marked c) v.worker.knows
+      lost false e = facts_by_more (unpacked n).state (unpacked n).card (fact.Unmarkable c ∷ v.worker.knows) (fact.Unmarkable c) (knows_new (fact.Unmarkable c) v.worker.knows)
 
       by : (b : Bool) → KnowsOf (exchanged (if_won b exchange.Mark c) n (after_mark b c p (unpacked n) v)) c (if b then true else n == marked c)
-      by true = knows_new (fact.Marked c) v.worker.facts
+      by true = knows_new (fact.Marked c) v.worker.knows
       by false = subst (KnowsOf (after_mark false c p (unpacked n) v) c) (is_mark c n) (lost (is_mark_of c (unpacked n).state (unpacked n).card) (is_mark c n))
 
   mark_alike : (c p was : ℕ) → Alike (call.Mark c p was)
@@ -385,7 +385,7 @@ module _ (plan : TablePlan) (s : TableState) (h : IsReached plan s) (id : ℕ) (
   flag_aside false new x u e = refl
 
   flag_known : (b : Bool) (new : Fact) (x : ℕ) (u : Update) → b ≡ true → Knows (after_flag b new x u v) new
-  flag_known true new x u e = knows_new new v.worker.facts
+  flag_known true new x u e = knows_new new v.worker.knows
   flag_known false new x u e = absurd (false≢true e)
 
   iflag_alike : (c p : ℕ) (from : Update) → Alike (call.IFlag c p from)

@@ -74,7 +74,7 @@ turn_shares cards s (Makes id c) s' turn h =
       whole = omega arith;
       each = λ j u at sharing. ⊎_elim
           (λ (t : (j ≡ id) × (w ≡ u)).
-          let had = h.each id v turn.there (λ none. sharing (ap (λ (x : View). x.worker.ownable) (sym t.1) ∙ (owned_stays c (found_by s c) v ∙ none))) in
+          let had = h.each id v turn.there (λ none. sharing (ap (λ (x : View). x.worker.shared) (sym t.1) ∙ (owned_stays c (found_by s c) v ∙ none))) in
           subst (λ (x : View). 1 ≤ x.share) t.1 (omega arith))
           (λ (t : (j ≢ id) × (get_elem? s.views j ≡ some u)). h.each j u t.1 sharing)
           (at_set s.views id j w u at);
@@ -89,7 +89,7 @@ turn_shares cards s (Splits id chosen) s' turn h =
     let whole = h.whole in
     subst HaveTheWhole (sym turn.gives) (record {
       whole = omega arith;
-      each = each_split s.views id v turn.there left right (λ u. u.worker.ownable ≢ None → 1 ≤ u.share)
+      each = each_split s.views id v turn.there left right (λ u. u.worker.shared ≢ None → 1 ≤ u.share)
           (λ sharing. let some = given_some v.share (turn.may sharing) in let less = some.1 in omega arith)
           (λ sharing. (given_some v.share (turn.may sharing)).0)
           h.each;
@@ -106,13 +106,13 @@ turn_shares cards s (Joins id other) s' turn h =
     let same = no_round (v.share + w.share) (omega arith) in
     subst HaveTheWhole (sym turn.gives) (record {
       whole = omega arith;
-      each = each_joined s.views id other v w turn.there turn.there' turned both (λ u. u.worker.ownable ≢ None → 1 ≤ u.share)
-          (λ sharing. by v.worker.ownable w.worker.ownable refl refl sharing same)
+      each = each_joined s.views id other v w turn.there turn.there' turned both (λ u. u.worker.shared ≢ None → 1 ≤ u.share)
+          (λ sharing. by v.worker.shared w.worker.shared refl refl sharing same)
           (λ sharing. absurd (sharing refl))
           h.each;
     })
   where
-    by : (l m : Option (List ℕ)) → turn.view.worker.ownable ≡ l → turn.view'.worker.ownable ≡ m → option_or l m ≢ None
+    by : (l m : Option (List ℕ)) → turn.view.worker.shared ≡ l → turn.view'.worker.shared ≡ m → option_or l m ≢ None
         → (turn.view.share + turn.view'.share) % 2 ^ 64 ≡ turn.view.share + turn.view'.share → 1 ≤ (turn.view.share + turn.view'.share) % 2 ^ 64
     by None m ours theirs sharing same =
         let some = h.each other turn.view' turn.there' (λ none. sharing (sym theirs ∙ none)) in omega arith
@@ -127,21 +127,21 @@ run_shares cards s (t ∷ ts) s' run h = run_shares cards run.0 ts s' run.2 (tur
 pub shares_add_up : SharesAddUp
 shares_add_up plan s h = run_shares plan.last_card h.first h.turns s h.run (subst HaveTheWhole (sym h.starts.is) (record {
   whole = omega arith;
-  each = each_first (first_of plan) (λ u. u.worker.ownable ≢ None → 1 ≤ u.share) (λ sharing. omega arith);
+  each = each_first (first_of plan) (λ u. u.worker.shared ≢ None → 1 ≤ u.share) (λ sharing. omega arith);
 }))
 
 -- a pass that has the whole is alone
 pub alone_with_the_whole : (plan : TablePlan) (s : TableState) → IsReached plan s → (id : ℕ) (v : View) → get_elem? s.views id ≡ some v → v.share ≡ whole_share
-    → (j : ℕ) (u : View) → get_elem? s.views j ≡ some u → (j ≡ id) ⊎ (u.worker.ownable ≡ None)
+    → (j : ℕ) (u : View) → get_elem? s.views j ≡ some u → (j ≡ id) ⊎ (u.worker.shared ≡ None)
 alone_with_the_whole plan s h id v here all j u there = elim (cases_eq j id) [
   | inl same ↦ inl same
-  | inr apart ↦ inr (by u.worker.ownable refl apart)
+  | inr apart ↦ inr (by u.worker.shared refl apart)
 ]
   where
     have : HaveTheWhole s
     have = shares_add_up plan s h
 
-    by : (o : Option (List ℕ)) → u.worker.ownable ≡ o → j ≢ id → o ≡ None
+    by : (o : Option (List ℕ)) → u.worker.shared ≡ o → j ≢ id → o ≡ None
     by None is apart = refl
     by (Some l) is apart =
         let some = have.each j u there (λ none. some_not_none is none) in

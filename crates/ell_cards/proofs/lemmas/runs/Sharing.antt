@@ -24,7 +24,7 @@ use Rattle.ell_cards.proofs.lemmas.runs.Reaching.{reached_kept}
 
 -- a pass takes no key for a shared one
 abbrev Closed : View → Type 0
-Closed v = v.worker.ownable ≡ None
+Closed v = v.worker.shared ≡ None
 
 turn_closed : (cards : ℕ) (s : TableState) (t : Turn) (s' : TableState) → TableTurns cards s t s' → NobodyShares s → NobodyShares s'
 turn_closed cards s (Makes id c) s' turn h = λ j u at.
@@ -58,7 +58,7 @@ reached_closed plan s closed h = run_closed plan.last_card h.first h.turns s h.r
 pub shared_is : (plan : TablePlan) (s : TableState) → IsReached plan s → (i key : ℕ) → (seat_worker (get_elem? s.views i)).shared key ≡ true → IsSharedIn plan key
 shared_is plan s h i key e = by (get_elem? s.views i) refl e
   where
-    of : (b : Bool) → plan.shared ≡ b → (v : View) → get_elem? s.views i ≡ some v → (o : Option (List ℕ)) → v.worker.ownable ≡ o → shared_of o key ≡ true
+    of : (b : Bool) → plan.shared ≡ b → (v : View) → get_elem? s.views i ≡ some v → (o : Option (List ℕ)) → v.worker.shared ≡ o → shared_of o key ≡ true
         → IsSharedIn plan key
     of b mode v at None is e = absurd (false≢true e)
     of false mode v at (Some l) is e = absurd (some_not_none is (reached_closed plan s mode h i v at))
@@ -68,7 +68,7 @@ shared_is plan s h i key e = by (get_elem? s.views i) refl e
 
     by : (o : Item View) → get_elem? s.views i ≡ o → (seat_worker o).shared key ≡ true → IsSharedIn plan key
     by none at e = absurd (false≢true e)
-    by (some v) at e = of plan.shared refl v at v.worker.ownable refl e
+    by (some v) at e = of plan.shared refl v at v.worker.shared refl e
 
 -- so a key of which something follows where no pass takes it for a shared one is so, or is shared
 pub tree_key_is : (plan : TablePlan) (s : TableState) → IsReached plan s → (key : ℕ)
@@ -89,7 +89,7 @@ tree_key_is plan s h key owned = by plan.shared (nat_le key greatest_key) (set_o
 
 -- no other pass takes any key for a shared one
 abbrev pub IsAlone : TableState → ℕ → Type 0
-IsAlone s id = (j : ℕ) (u : View) → get_elem? s.views j ≡ some u → (j ≡ id) ⊎ (u.worker.ownable ≡ None)
+IsAlone s id = (j : ℕ) (u : View) → get_elem? s.views j ≡ some u → (j ≡ id) ⊎ (u.worker.shared ≡ None)
 
 pub only_sharer : (s : TableState) (id : ℕ) → IsAlone s id → (j key : ℕ) → (seat_worker (get_elem? s.views j)).shared key ≡ true → j ≡ id
 only_sharer s id alone j key e = by (get_elem? s.views j) refl e

@@ -163,7 +163,7 @@ module _ (plan : TablePlan) where
   abbrev IsOfOthers : TableState → TableState → View → Hindrance → Type 0
   IsOfOthers b s v (Claim c) = (get_or b.words 0 0 ≤ c) × (c < get_or s.words 0 0) × (times exchange.Claim c v.won ≡ 0)
   IsOfOthers b s v (Found u) =
-      (ends u.card b ≡ 0) × (update_over v.worker.facts u.state u.card ≡ true → 0 < ends u.card s)
+      (ends u.card b ≡ 0) × (update_over v.worker.knows u.state u.card ≡ true → 0 < ends u.card s)
       × ((c : ℕ) → v.worker.card ≡ Some c → v.worker.flagged ≡ true → u.card ≢ c)
 
   over_cases : (facts : List Fact) (st : State) (c : ℕ) → update_over facts st c ≡ true → (st ≡ state.Clean) ⊎ EndedBy facts c
@@ -224,7 +224,7 @@ module _ (plan : TablePlan) where
         → IsOfOthers h.begun s v (Found u)
     found_others u is calm apart = (
       unended u.card is.before,
-      λ over. ended_then u.card (elim (over_cases v.worker.facts u.state u.card over) [
+      λ over. ended_then u.card (elim (over_cases v.worker.knows u.state u.card over) [
         | inl clean ↦ calm clean
         | inr known ↦ is.since known
       ]),
@@ -332,12 +332,12 @@ module _ (plan : TablePlan) where
 
     -- a try that is given up: if it was hindered, others have done something since its search began
     more_hindered : MayStop (worker_of v.worker) → (s' : TableState) (w : View) → Grows s v s' w → tries_hindered v ≤ v0.hindered + done_since s0 s' w.won
-    more_hindered may s' w g = by (was_hindered v.worker.facts (met_in_try v)) refl
+    more_hindered may s' w g = by (was_hindered v.worker.knows (met_in_try v)) refl
       where
         on : Grows h.begun h.begins.view s' w
         on = grows_on h.begun h.begins.view s v s' w h.since g
 
-        hinders : (x : Hindrance) → IsOfOthers h.begun s v x → is_over v.worker.facts x ≡ true → done_since s0 h.begun h.begins.view.won + 1 ≤ done_since s0 s' w.won
+        hinders : (x : Hindrance) → IsOfOthers h.begun s v x → is_over v.worker.knows x ≡ true → done_since s0 h.begun h.begins.view.won + 1 ≤ done_since s0 s' w.won
         hinders (Claim c) is over =
             let more = g.next in
             let high = is.1 in
@@ -356,14 +356,14 @@ module _ (plan : TablePlan) where
         first_over facts [] e each = absurd (false≢true e)
         first_over facts (x ∷ hs) e each = (x, each.0, (and_both (is_over facts x) (list_all (is_over facts) hs) e))
 
-        by : (b : Bool) → was_hindered v.worker.facts (met_in_try v) ≡ b → v.hindered + (if b then 1 else 0) ≤ v0.hindered + done_since s0 s' w.won
+        by : (b : Bool) → was_hindered v.worker.knows (met_in_try v) ≡ b → v.hindered + (if b then 1 else 0) ≤ v0.hindered + done_since s0 s' w.won
         by false e =
             let was = h.counted in
             let more = done_more s0 h.begun h.begins.view s' w on in
             omega arith
         by true e =
             let was = h.counted in
-            let x = first_over v.worker.facts (met_in_try v) e (try_others may) in
+            let x = first_over v.worker.knows (met_in_try v) e (try_others may) in
             let more = hinders x.0 x.1 x.2 in
             omega arith
 

@@ -49,7 +49,7 @@ pub record Onward (w : Words) (stage : Stages) (v after : View) : Type 0 where
   pub hand : (c : ℕ) → after.worker.card ≡ Some c → after.worker.flagged ≡ false
       → (v.worker.card ≡ Some c) × (v.worker.flagged ≡ false) × (after.planned ≡ v.planned) × (after.stores ≡ v.stores)
   pub owns : (k : ℕ) → WorkerOwns (worker_of after.worker) k → WorkerOwns (worker_of v.worker) k
-  pub list : after.worker.ownable ≡ v.worker.ownable
+  pub list : after.worker.shared ≡ v.worker.shared
   pub read : (n : ℕ) → after.next ≡ Some n → v.next ≡ Some n
   pub least : after.next_at_least ≡ v.next_at_least
   pub before : (f : Fact) → KnewBefore after f → Knows v f
@@ -186,7 +186,7 @@ module _ (keys : List ℕ) (cards : ℕ) (s : TableState) (r : HasMachine keys c
           (λ (t : (j ≢ id) × (get_elem? s.views j ≡ some u)). r.owned j k u t.1 has)
           (at_set s.views id j after u e);
       listed = λ j u l e is. ⊎_elim
-          (λ (t : (j ≡ id) × (after ≡ u)). r.listed id v l here (ap (λ z. z.ownable) (sym same) ∙ (ap (λ (z : View). z.worker.ownable) t.1 ∙ is)))
+          (λ (t : (j ≡ id) × (after ≡ u)). r.listed id v l here (ap (λ z. z.shared) (sym same) ∙ (ap (λ (z : View). z.worker.shared) t.1 ∙ is)))
           (λ (t : (j ≢ id) × (get_elem? s.views j ≡ some u)). r.listed j u l t.1 is)
           (at_set s.views id j after u e);
     };

@@ -23,18 +23,18 @@ mark_ledger false c x u v = by (is_mark_of c u.state u.card)
     by false = refl
 
 -- a claim, a flag and a mark leave the keys that may have an owner
-pub claim_list : (b : Bool) (c : ℕ) (v : View) → (after_claim b c v).worker.ownable ≡ v.worker.ownable
+pub claim_list : (b : Bool) (c : ℕ) (v : View) → (after_claim b c v).worker.shared ≡ v.worker.shared
 claim_list true c v = refl
 claim_list false c v = refl
 
-pub flag_list : (b : Bool) (new : Fact) (x : ℕ) (u : Update) (v : View) → (after_flag b new x u v).worker.ownable ≡ v.worker.ownable
+pub flag_list : (b : Bool) (new : Fact) (x : ℕ) (u : Update) (v : View) → (after_flag b new x u v).worker.shared ≡ v.worker.shared
 flag_list true new x u v = refl
 flag_list false new x u v = refl
 
-pub mark_list : (b : Bool) (c x : ℕ) (u : Update) (v : View) → (after_mark b c x u v).worker.ownable ≡ v.worker.ownable
+pub mark_list : (b : Bool) (c x : ℕ) (u : Update) (v : View) → (after_mark b c x u v).worker.shared ≡ v.worker.shared
 mark_list true c x u v = refl
 mark_list false c x u v = by (is_mark_of c u.state u.card)
   where
-    by : (b : Bool) → (if b then learning (Marked c) v else unmarking c x u v).worker.ownable ≡ v.worker.ownable
+    by : (b : Bool) → (if b then learning (Marked c) v else unmarking c x u v).worker.shared ≡ v.worker.shared
     by true = refl
     by false = refl

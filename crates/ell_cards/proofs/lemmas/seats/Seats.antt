@@ -173,7 +173,7 @@ module _ (keys : List ℕ) (cards : ℕ) (s : TableState) (r : HasMachine keys c
   pub kept_event : (a : Act) (said : Stepped) (new : Words) (after : View) (list : List ℕ) (stages : Stages)
       → Leads a said new after stages → Moves list new stages → ViewHolds list new stages after
       → ((k : ℕ) → WorkerOwns (worker_of after.worker) k → WorkerOwns (worker_of v.worker) k)
-      → after.worker.ownable ≡ v.worker.ownable
+      → after.worker.shared ≡ v.worker.shared
       → IsKept keys cards (record { words = list; homes = s.homes; views = set s.views id after }) new r.stages
   kept_event a said new after list stages led moves own owns same_list = record {
     kept = record {
@@ -193,7 +193,7 @@ module _ (keys : List ℕ) (cards : ℕ) (s : TableState) (r : HasMachine keys c
           (λ (t : (j ≢ id) × (get_elem? s.views j ≡ some u)). r.owned j k u t.1 has)
           (at_set s.views id j after u e);
       listed = λ j u l e is. ⊎_elim
-          (λ (t : (j ≡ id) × (after ≡ u)). r.listed id v l here (sym same_list ∙ (ap (λ (z : View). z.worker.ownable) t.1 ∙ is)))
+          (λ (t : (j ≡ id) × (after ≡ u)). r.listed id v l here (sym same_list ∙ (ap (λ (z : View). z.worker.shared) t.1 ∙ is)))
           (λ (t : (j ≢ id) × (get_elem? s.views j ≡ some u)). r.listed j u l t.1 is)
           (at_set s.views id j after u e);
     };

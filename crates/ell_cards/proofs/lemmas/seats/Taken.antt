@@ -51,7 +51,7 @@ keys_stay (call.Mark c p was) n v = ap ledger_keys (mark_ledger (n == was) c p (
 keys_stay _ n v = refl
 
 -- nor the keys that may have an owner, as it knows them
-pub owned_stays : (c : Call) (n : ℕ) (v : View) → (after c n v).worker.ownable ≡ v.worker.ownable
+pub owned_stays : (c : Call) (n : ℕ) (v : View) → (after c n v).worker.shared ≡ v.worker.shared
 owned_stays (call.Claim c) n v = claim_list (n == c) c v
 owned_stays (call.IFlag c p from) n v = flag_list (n == packed from) (IFlagged c) p (unpacked n) v
 owned_stays (call.DFlag c gp from) n v = flag_list (n == packed from) (DFlagged c) gp (unpacked n) v

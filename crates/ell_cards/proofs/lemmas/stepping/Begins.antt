@@ -49,7 +49,7 @@ use Rattle.std.proofs.lemmas.Bool.{false≢true}
 -- a view with no key told where it stands and no card in hand
 bare : (w : Words) (stage : Stages) (v after : View) → after.here ≡ None → after.worker.card ≡ None
     → ((k : ℕ) → ledger_of after.worker.ledger k ≢ None → ledger_of v.worker.ledger k ≢ None)
-    → after.worker.ownable ≡ v.worker.ownable → ((n : ℕ) → after.next ≡ Some n → v.next ≡ Some n) → after.next_at_least ≡ v.next_at_least → ((f : Fact) → KnewBefore after f → Knows v f) → ((f : Fact) → KnewBefore after f → Knows after f)
+    → after.worker.shared ≡ v.worker.shared → ((n : ℕ) → after.next ≡ Some n → v.next ≡ Some n) → after.next_at_least ≡ v.next_at_least → ((f : Fact) → KnewBefore after f → Knows v f) → ((f : Fact) → KnewBefore after f → Knows after f)
     → ((op : Op) (x : ℕ) → after.worker.operation ≡ Some op → after.worker.search.node ≡ Some x
     → Born stage x × Avoids w (over_before after) (key_of op) x) → Onward w stage v after
 bare w stage v after no_key no_card owns list read least before knew walk = record {
@@ -70,10 +70,10 @@ module _ (keys : List ℕ) (cards : ℕ) (s : TableState) (r : HasMachine keys c
   root_entries = with_entry (EntryHolds r.words r.stages) (Met 0) v.told (start_there r.words r.stages r.invariant.words 0 (omega arith) refl) (r.views id v here).entries
 
   -- where a search begins, its walk comes by nothing that was cut out
-  root_walk : (op : Op) (x : ℕ) → Some 0 ≡ Some x → Born r.stages x × Avoids r.words (λ c. known_of v.worker.facts (DOver c)) (key_of op) x
-  root_walk op x at = subst (λ y. Born r.stages y × Avoids r.words (λ c. known_of v.worker.facts (DOver c)) (key_of op) y) (same_Some 0 x at) (
+  root_walk : (op : Op) (x : ℕ) → Some 0 ≡ Some x → Born r.stages x × Avoids r.words (λ c. known_of v.worker.knows (DOver c)) (key_of op) x
+  root_walk op x at = subst (λ y. Born r.stages y × Avoids r.words (λ c. known_of v.worker.knows (DOver c)) (key_of op) y) (same_Some 0 x at) (
     start_there r.words r.stages r.invariant.words 0 (omega arith) refl,
-    roots_avoid (machine keys cards s r id v here) r.stages (λ c. known_of v.worker.facts (DOver c)) (key_of op) r.invariant
+    roots_avoid (machine keys cards s r id v here) r.stages (λ c. known_of v.worker.knows (DOver c)) (key_of op) r.invariant
         (λ c has. over-cut (r.stages c) ((mine_sound keys cards s r id v here).facts (DOver c) has)),
   )
 
@@ -146,7 +146,7 @@ answered (Swap k was value) (Found had) l key = by (had == was)
     by false = refl
 
 -- the answer by a card that is over
-over_answers : (v : View) (op : Op) (c : ℕ) (said : Reply) → CardIsOver v op c → said ≡ reply_of_change op → card_answer op c (known_of v.worker.facts) ≡ Some said
+over_answers : (v : View) (op : Op) (c : ℕ) (said : Reply) → CardIsOver v op c → said ≡ reply_of_change op → card_answer op c (known_of v.worker.knows) ≡ Some said
 over_answers v (Find k) c said over e = absurd over
 over_answers v (Insert k value) c said over e = ap (λ b. if b then Some Yes else None) over ∙ ap Some (sym e)
 over_answers v (Swap k was value) c said over e = ap (λ b. if b then Some (Found was) else None) over ∙ ap Some (sym e)

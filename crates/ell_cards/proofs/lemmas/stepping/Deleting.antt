@@ -39,19 +39,19 @@ use Rattle.ell_cards.proofs.lemmas.stepping.Known.{known_delete, delete_cut, del
 
 -- what a mark teaches, as the view has it
 marking_worker : (v : View) (c x n : ℕ) (b : Bool)
-    → worker_of (after_mark b c x (unpacked n) v).worker ≡ knowing (worker_of v.worker) (mark_teaches (known_of v.worker.facts) c b n)
+    → worker_of (after_mark b c x (unpacked n) v).worker ≡ knowing (worker_of v.worker) (mark_teaches (known_of v.worker.knows) c b n)
 marking_worker v c x n true = refl
 marking_worker v c x n false = by (is_mark_of c (unpacked n).state (unpacked n).card) (is_mark c n)
   where
     by : (m : Bool) → m ≡ (n == marked c)
         → worker_of (if m then learning (Marked c) v else unmarking c x (unpacked n) v).worker
-        ≡ knowing (worker_of v.worker) (if n == marked c then learned (known_of v.worker.facts) (Marked c)
-        else learned_any (learned (known_of v.worker.facts) (Unmarkable c)) (told_by n))
-    by true e = ap (λ b. knowing (worker_of v.worker) (if b then learned (known_of v.worker.facts) (Marked c)
-        else learned_any (learned (known_of v.worker.facts) (Unmarkable c)) (told_by n))) e
-    by false e = ap (knowing (worker_of v.worker)) (facts_known (unpacked n).state (unpacked n).card (Unmarkable c ∷ v.worker.facts))
-        ∙ ap (λ b. knowing (worker_of v.worker) (if b then learned (known_of v.worker.facts) (Marked c)
-        else learned_any (learned (known_of v.worker.facts) (Unmarkable c)) (told_by n))) e
+        ≡ knowing (worker_of v.worker) (if n == marked c then learned (known_of v.worker.knows) (Marked c)
+        else learned_any (learned (known_of v.worker.knows) (Unmarkable c)) (told_by n))
+    by true e = ap (λ b. knowing (worker_of v.worker) (if b then learned (known_of v.worker.knows) (Marked c)
+        else learned_any (learned (known_of v.worker.knows) (Unmarkable c)) (told_by n))) e
+    by false e = ap (knowing (worker_of v.worker)) (facts_known (unpacked n).state (unpacked n).card (Unmarkable c ∷ v.worker.knows))
+        ∙ ap (λ b. knowing (worker_of v.worker) (if b then learned (known_of v.worker.knows) (Marked c)
+        else learned_any (learned (known_of v.worker.knows) (Unmarkable c)) (told_by n))) e
 
 module _ (keys : List ℕ) (cards : ℕ) (s : TableState) (r : HasMachine keys cards s) (id : ℕ) (v : View) (here : get_elem? s.views id ≡ some v) where
   -- what is so of a pass after a mark
@@ -69,8 +69,8 @@ module _ (keys : List ℕ) (cards : ℕ) (s : TableState) (r : HasMachine keys c
         read = λ m at. at;
         least = refl;
         before = (r.views id v here).knew;
-        knew = λ f k. facts_by_more (unpacked n).state (unpacked n).card (Unmarkable c ∷ v.worker.facts) f
-            (knows_more (Unmarkable c) f v.worker.facts ((r.views id v here).knew f k));
+        knew = λ f k. facts_by_more (unpacked n).state (unpacked n).card (Unmarkable c ∷ v.worker.knows) f
+            (knows_more (Unmarkable c) f v.worker.knows ((r.views id v here).knew f k));
         walk = λ op y busy at. (stands_born keys cards s r id v here y at, (r.views id v here).walk op y busy at);
       }
 

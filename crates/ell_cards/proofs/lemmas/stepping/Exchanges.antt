@@ -114,7 +114,7 @@ module _ (keys : List ℕ) (cards : ℕ) (s : TableState) (r : HasMachine keys c
     read = λ m at. at;
     least = refl;
     before = (r.views id v here).knew;
-    knew = λ f k. knows_more new f v.worker.facts ((r.views id v here).knew f k);
+    knew = λ f k. knows_more new f v.worker.knows ((r.views id v here).knew f k);
     walk = λ op x busy at. (stands_born keys cards s r id v here x at, (r.views id v here).walk op x busy at);
   }
 

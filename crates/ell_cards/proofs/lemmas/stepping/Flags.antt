@@ -48,7 +48,7 @@ flagging_worker v new x n false = λ t. record (worker_of v.worker) {
   search = record (v.worker.search) { node = None; read = None };
   card = None;
   flagged = false;
-  knows = facts_known (unpacked n).state (unpacked n).card v.worker.facts t;
+  knows = facts_known (unpacked n).state (unpacked n).card v.worker.knows t;
 }
 
 module _ (keys : List ℕ) (cards : ℕ) (s : TableState) (r : HasMachine keys cards s) (id : ℕ) (v : View) (here : get_elem? s.views id ≡ some v) where
@@ -66,7 +66,7 @@ module _ (keys : List ℕ) (cards : ℕ) (s : TableState) (r : HasMachine keys c
     read = λ m at. at;
     least = refl;
     before = (r.views id v here).knew;
-    knew = λ f g. knows_more new f v.worker.facts ((r.views id v here).knew f g);
+    knew = λ f g. knows_more new f v.worker.knows ((r.views id v here).knew f g);
     walk = λ op y busy at. absurd (some_not_none at refl);
   }
   flag_on new k c x false =
@@ -78,7 +78,7 @@ module _ (keys : List ℕ) (cards : ℕ) (s : TableState) (r : HasMachine keys c
         read = λ m at. at;
         least = refl;
         before = (r.views id v here).knew;
-        knew = λ f g. facts_by_more u.state u.card v.worker.facts f ((r.views id v here).knew f g);
+        knew = λ f g. facts_by_more u.state u.card v.worker.knows f ((r.views id v here).knew f g);
         walk = λ op y busy at. absurd (some_not_none at refl);
       }
 

@@ -192,8 +192,8 @@ module _ (keys : List ℕ) (cards : ℕ) (s : TableState) (r : HasMachine keys c
             words = r.words;
             worker = record (worker_of v.worker) {
               search = record (v.worker.search) { read = Some ((packed_again n ∙ sym is) t) };
-              knows = (facts_known (unpacked n).state (unpacked n).card v.worker.facts
-                  ∙ ap (λ m. learned_any (known_of v.worker.facts) (told_by m)) (sym is)) t;
+              knows = (facts_known (unpacked n).state (unpacked n).card v.worker.knows
+                  ∙ ap (λ m. learned_any (known_of v.worker.knows) (told_by m)) (sym is)) t;
             };
           };
         };
@@ -210,7 +210,7 @@ module _ (keys : List ℕ) (cards : ℕ) (s : TableState) (r : HasMachine keys c
         read = λ m at. at;
         least = refl;
         before = (r.views id v here).knew;
-        knew = λ f k. facts_by_more (unpacked n).state (unpacked n).card v.worker.facts f ((r.views id v here).knew f k);
+        knew = λ f k. facts_by_more (unpacked n).state (unpacked n).card v.worker.knows f ((r.views id v here).knew f k);
         walk = λ op y busy at. (stands_born keys cards s r id v here y at, (r.views id v here).walk op y busy at);
       })
       (update_address x))

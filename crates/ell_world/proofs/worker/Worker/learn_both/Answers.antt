@@ -1,6 +1,6 @@
 use Rattle.std.proofs.Common.{ap, ◌∙◌, inl, List}
 use Rattle.ell_core.specs.declared.fact.Fact.{Fact}
-use Rattle.ell_core.specs.declared.view.WorkerView.{WorkerView}
+use Rattle.ell_core.specs.state.Machine.{WorkerView}
 use Rattle.ell_core.specs.acts.Exchanges.{knowing}
 use Rattle.ell_core.specs.state.Facts.{Knowledge, learned_any}
 use Rattle.ell_world.specs.Inside.{view_of, worker_in}
@@ -22,7 +22,7 @@ returns-then-added-clause-unchanged g c =
     let old = c.args.self.now in
     let kept = c.in-Err.ensures.unchanged in
     let lacks = known_of-added old.facts.keys c.args.fact c.in_ok-added.added c.in_ok-added.ensures.added c.if-added.true in
-    ap (λ (v : WorkerView). record v { facts = c.remove.new.self.keys }) kept
-    ∙ ap (λ (facts : List Fact). record (view_of old) { facts = facts })
+    ap (λ (v : WorkerView). record v { knows = c.remove.new.self.keys }) kept
+    ∙ ap (λ (facts : List Fact). record (view_of old) { knows = facts })
     (facts_undone old.facts.keys c.learn_any.new.self.facts.keys c.remove.new.self.keys c.args.fact lacks
-    (ap (λ (v : WorkerView). v.facts) kept ∙ c.in_ok-added.ensures.keys) c.remove.ensures.keys)
+    (ap (λ (v : WorkerView). v.knows) kept ∙ c.in_ok-added.ensures.keys) c.remove.ensures.keys)
