@@ -1,4 +1,4 @@
-use Rattle.std.specs.Prelude.{◌≡◌, ◌≢◌, ℕ, ◌+◌, ◌<◌, ◌≤◌, ◌==◌, ◌%◌, if◌then◌else◌, Bool, false, Option, Some, None, is_some, [], ◌∷◌}
+use Rattle.std.specs.Prelude.{◌≡◌, ◌≢◌, ℕ, ◌+◌, ◌<◌, ◌≤◌, ◌==◌, ◌%◌, if◌then◌else◌, Bool, false, Option, Some, None, is_some, unwrap_or, [], ◌∷◌}
 use Rattle.ell_ops.specs.declared.op.Op.{Op}
 use Rattle.ell_ops.specs.Meaning.{key_of, greatest_key}
 use Rattle.ell_core.specs.declared.exchange.Exchange.TheVariants as exchange
@@ -15,7 +15,7 @@ use Rattle.ell_layout.specs.Layout.{address}
 use Rattle.ell_layout.specs.Words.{key_field, value_field, child_field, IsLeaf}
 use Rattle.ell_core.specs.state.Machine.{Machine, ledger_of, worker_of}
 use Rattle.ell_layout.specs.Cards.{iflag, dflag, marked, clean}
-use Rattle.ell_core.specs.acts.Searching.{MayStop}
+use Rattle.ell_core.specs.acts.Searching.{MayStop, gone_down}
 use Rattle.ell_core.specs.acts.Exchanges.{won_or_lost}
 use Rattle.ell_core.specs.acts.Events.{Steps}
 use Rattle.ell_core.specs.statements.Effects.{AnswersAsMap, contents_in}
@@ -24,7 +24,7 @@ use Rattle.ell_cards.specs.declared.call.Call.TheVariants as call
 use Rattle.ell_cards.specs.declared.view.Told.TheVariants.{Met, Key, Value, Info, Frozen}
 use Rattle.ell_cards.specs.declared.view.View.{View}
 use Rattle.ell_cards.specs.Models.{IsTold, IsFree, Does, StandsAt, InTable, KnowsDelete, EndWasUnknown}
-use Rattle.ell_cards.specs.Changes.{learning, if_won, exchanged, after_begin, after_again, after_leave, after_answer, after_upd, after_claim, after_flag, after_mark, gone_from, glance_down, is_this, told_info, after_fill}
+use Rattle.ell_cards.specs.Changes.{learning, if_won, exchanged, after_begin, after_again, after_leave, after_answer, after_upd, after_claim, after_flag, after_mark, glance_down, is_this, told_info, after_fill}
 use Rattle.ell_cards.specs.Guards.{MayBegin, MayAnswer, MayRead, MayGoDown, MayAsk, KnowsPlace, MayLookDown, MayClaim, MayFill, MayIFlag, MayDFlag, MayIChild, MayMark, MayDChild}
 
 -- the address of the update word of a node
@@ -105,7 +105,9 @@ after call.Leave n v = after_leave v
 after (call.Answer said) n v = after_answer said v
 after (call.Upd x) n v = after_upd x (unpacked n) v
 after (call.Down x right) n v = record v {
-  worker = record (v.worker) { search = gone_from x n v.worker.search };
+  worker = record (v.worker) {
+    search = gone_down v.worker.search (record { node = x; word = unwrap_or v.worker.search.read 0 }) n;
+  };
   told = Met n ∷ v.told; here = None; made = v.made + 1;
 }
 after call.Next n v = record v { next = Some n; made = v.made + 1 }

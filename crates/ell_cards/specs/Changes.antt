@@ -18,7 +18,7 @@ use Rattle.ell_core.specs.declared.view.Search.{Search}
 use Rattle.ell_core.specs.declared.view.Seen.{Seen}
 use Rattle.ell_layout.specs.Cards.{insert_filling, delete_filling}
 use Rattle.ell_core.specs.state.Machine.{WorkerView, idle}
-use Rattle.ell_core.specs.acts.Searching.{with_read, begun, with_card}
+use Rattle.ell_core.specs.acts.Searching.{with_read, begun, ended, with_card}
 use Rattle.ell_core.specs.acts.Exchanges.{off_the_tree}
 use Rattle.ell_core.specs.state.Opening.{keys_at_start}
 use Rattle.ell_core.specs.statements.Readers.{from_of, upto_of}
@@ -140,7 +140,7 @@ child_found expected (Err found) = found
 -- nothing is in hand, and the ledger is this one
 abbrev pub at_rest : List (ℕ × Entry) → View → View
 at_rest ledger v = record v {
-  worker = idle ledger v.worker.shared v.worker.knows;
+  worker = record (ended v.worker) { ledger = ledger };
   here = None; planned = []; stores = []; met = [];
 }
 
@@ -196,13 +196,6 @@ abbrev pub after_upd : ℕ → Update → View → View
 after_upd x u v = record (finding x u v) {
   worker = record ((finding x u v).worker) { search = with_read v.worker.search (packed u) };
   made = v.made + 1;
-}
-
--- a search that goes from a node to this child
-abbrev pub gone_from : ℕ → ℕ → Search → Search
-gone_from x child search = record {
-  node = Some child; read = None; grandparent = search.parent;
-  parent = option_map (λ word. record { node = x; word = word }) search.read;
 }
 
 -- whether there is one, and it is this

@@ -35,7 +35,7 @@ abbrev pub begun : {L S K : Type 0} → Option Op → WorkerOf L S K → WorkerO
 begun operation v = record v { operation = operation; search = at_root; card = None; flagged = false }
 
 -- the worker with nothing in hand
-abbrev pub ended : Worker → Worker
+abbrev pub ended : {L S K : Type 0} → WorkerOf L S K → WorkerOf L S K
 ended v = record v { operation = None; search = no_search; card = None; flagged = false }
 
 -- begin: no operation is in hand; this one is, and the search stands at the root

@@ -17,7 +17,7 @@ use Rattle.ell_cards.specs.declared.view.Told.TheVariants.{Met}
 use Rattle.ell_cards.specs.declared.view.View.{View}
 use Rattle.ell_cards.specs.Models.{PassModel, latest, IsTold, Knows, stored_at}
 use Rattle.ell_layout.specs.Cards.{stored}
-use Rattle.ell_cards.specs.Changes.{after_begin, after_upd, after_claim, after_flag, exchanged, facts_by, filling_of, with_stores, nowhere}
+use Rattle.ell_cards.specs.Changes.{after_begin, after_upd, after_claim, after_flag, exchanged, facts_by, filling_of, with_stores}
 use Rattle.ell_cards.proofs.lemmas.views.Afters.{after_down, after_next}
 use Rattle.ell_cards.proofs.lemmas.views.Searches.{seen_at}
 use Rattle.ell_cards.specs.Guards.{IsFilled}
@@ -122,7 +122,7 @@ pub fits_flag_won : (v : View) (m : Remembered) (wins : List (Exchange × ℕ)) 
     → Fits (exchanged wins n (after_flag true f x u v)) (ended_search true m)
 fits_flag_won v m wins n f x u h = record {
   operation = h.operation;
-  search = ap nowhere h.search;
+  search = ap (λ (s : Search). record s { node = None; read = None }) h.search;
   card = h.card;
   flagged = refl;
   knows = knows_all_more v (after_flag true f x u v) (λ g k. knows_more f g v.worker.knows k) m.known h.knows;
@@ -134,7 +134,7 @@ pub fits_flag_lost : (v : View) (m : Remembered) (wins : List (Exchange × ℕ))
     → Fits (exchanged wins n (after_flag false f x u v)) (ended_search false m)
 fits_flag_lost v m wins n f x u h = record {
   operation = h.operation;
-  search = ap nowhere h.search;
+  search = ap (λ (s : Search). record s { node = None; read = None }) h.search;
   card = refl;
   flagged = refl;
   knows = knows_all_more v (after_flag false f x u v) (facts_by_more u.state u.card v.worker.knows) m.known h.knows;

@@ -93,8 +93,7 @@ met_same v w more same = met_still v w more (λ x e. sym (ap (λ (k : Search). k
 
 -- the parent, once it went down from a node
 seen_met : (x : ℕ) (read : Option ℕ) (seen : Seen) → seen_at x read ≡ Some seen → x ≡ seen.node
-seen_met x None seen e = absurd (some_not_none e refl)
-seen_met x (Some word) seen e = ap (λ (k : Seen). k.node) (some_same e)
+seen_met x read seen e = ap (λ (k : Seen). k.node) (some_same e)
 
 after_met : (cards : ℕ) (c : Call) (n : ℕ) (v : View) → May cards c v → SearchIsMet v → SearchIsMet (after c n v)
 after_met cards (call.Begin op) n v may h = met_root (after (call.Begin op) n v) refl (latest (Met 0) v.told) refl refl

@@ -16,8 +16,7 @@ use Rattle.ell_cards.proofs.lemmas.views.Steps.{view_after, view_seen}
 
 -- a node with the word that was read there, if one was
 abbrev pub seen_at : ℕ → Option ℕ → Option Seen
-seen_at x None = None
-seen_at x (Some word) = Some (record { node = x; word = word })
+seen_at x read = Some (record { node = x; word = unwrap_or read 0 })
 
 -- the key that was asked at the node where the pass stands is the key there
 pub told_here : (o here : Option ℕ) (x key : ℕ) → o ≡ Some x → (if is_this o x then Some key else here) ≡ Some key
