@@ -16,7 +16,7 @@ use Rattle.ell_cards.specs.Machines.{HasMachine}
 use Rattle.ell_cards.specs.Turns.{Turn, CallIsMade, TableTurns, TableRun, Makes, found_by}
 use Rattle.ell_cards.specs.TurnEffects.{own_words, turn_wins}
 use Rattle.ell_cards.specs.Meanwhile.{KeepOn}
-use Rattle.ell_cards.specs.Looking.{WasSo}
+use Rattle.ell_cards.specs.Looking.{HasThere, WasSo}
 use Rattle.ell_ops.specs.Contents.{Contents, contents_of}
 use Rattle.ell_core.specs.tree.Tree.{IsTreePair}
 use Rattle.ell_cards.specs.Starts.{Starts}
@@ -41,7 +41,7 @@ pub record SaysWhatWas (last : ℕ) (op : Op) (begun : TableState) (turns : List
     (said : Reply) : Type 0 where
   pub there : Option ℕ
   pub says : leaf_answer op there ≡ Some said
-  pub so : WasSo last begun turns s' (key_of op) there
+  pub so : WasSo last begun turns s' (HasThere (key_of op) there)
 
 -- the win by which a card's operation changes the tree
 abbrev pub change_of : Op → List Exchange

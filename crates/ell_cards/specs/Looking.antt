@@ -24,16 +24,22 @@ pub record IsAmid (last : ℕ) (s : TableState) (turns : List Turn) (s' state : 
   pub after : TableRun last state (drop first turns) s'
 
 -- the tree of these words has a key with this value, or it has the key not at all
-abbrev pub HasThere : Words → ℕ → Option ℕ → Type 0
-HasThere w key (Some value) = IsTreePair w key value
-HasThere w key None = ¬ IsTreeKey w key
+abbrev pub HasThere : ℕ → Option ℕ → Words → Type 0
+HasThere key (Some value) w = IsTreePair w key value
+HasThere key None w = ¬ IsTreeKey w key
 
--- so it was in one state of a run, by the table's own words
-pub record WasSo (last : ℕ) (s : TableState) (turns : List Turn) (s' : TableState) (key : ℕ)
-    (there : Option ℕ) : Type 0 where
+-- of the keys from low on and below high the tree of these words has this one with its value and no other, or none
+abbrev pub HasBetween : ℕ → ℕ → Option (ℕ × ℕ) → Words → Type 0
+HasBetween low high None w = (key : ℕ) → low ≤ key → key < high → ¬ IsTreeKey w key
+HasBetween low high (Some pair) w = (low ≤ pair.0) × (pair.0 < high) × IsTreePair w pair.0 pair.1
+    × ((key : ℕ) → low ≤ key → key < high → pair.0 ≢ key → ¬ IsTreeKey w key)
+
+-- this was so of the table's own words in ONE state of a run
+pub record WasSo (last : ℕ) (s : TableState) (turns : List Turn) (s' : TableState) (what : Words → Type 0)
+    : Type 0 where
   pub state : TableState
   pub amid : IsAmid last s turns s' state
-  pub so : HasThere (own_words state) key there
+  pub so : what (own_words state)
 
 -- what a pass has found of a key by its look: the look has come to a leaf by the key, maybe with others, and the pass
 -- was told the leaf's key and, if that is this key, its value
@@ -68,30 +74,23 @@ pub record Began (last : ℕ) (s : TableState) (turns : List Turn) (s' : TableSt
   pub after : TableRun last to (drop (suc first) turns) s'
   pub on : LooksOn seat (drop (suc first) turns)
 
--- and what it has found of a key was so in one state of the run since
-pub record FoundInRun (last : ℕ) (s : TableState) (turns : List Turn) (s' : TableState) (seat key : ℕ)
-    (there : Option ℕ) : Type 0 where
+-- and this was so in one state of the run since
+pub record FoundInRun (last : ℕ) (s : TableState) (turns : List Turn) (s' : TableState) (seat : ℕ)
+    (what : Words → Type 0) : Type 0 where
   pub began : Began last s turns s' seat
-  pub so : WasSo last began.to (drop (suc began.first) turns) s' key there
+  pub so : WasSo last began.to (drop (suc began.first) turns) s' what
 
 -- so it is in every run of a table with this plan, from its start to a state in which a pass knows this
-abbrev pub IsFoundInRuns : TablePlan → View → ℕ → Option ℕ → Type 0
-IsFoundInRuns plan v key there = (s : TableState) → Starts plan s
-    → (turns : List Turn) (s' : TableState) → TableRun plan.last_card s turns s'
-    → (seat : ℕ) → get_elem? s'.views seat ≡ some v
-    → FoundInRun plan.last_card s turns s' seat key there
+abbrev pub IsFoundInRuns : TablePlan → View → (Words → Type 0) → Type 0
+IsFoundInRuns plan v what = (s : TableState) → Starts plan s → (turns : List Turn) (s' : TableState)
+    → TableRun plan.last_card s turns s' → (seat : ℕ) → get_elem? s'.views seat ≡ some v
+    → FoundInRun plan.last_card s turns s' seat what
 
 -- what any pass has found of any key by its last look, whoever owns it, whatever turns of whatever passes came
 -- meanwhile
 abbrev pub LooksAreOfOneState : Type 0
 LooksAreOfOneState = (plan : TablePlan) (v : View) (key : ℕ) (there : Option ℕ) → HasFound v key there
-    → IsFoundInRuns plan v key there
-
--- of the keys from low on and below high the tree of these words has this one with its value and no other, or none
-abbrev pub HasBetween : Words → ℕ → ℕ → Option (ℕ × ℕ) → Type 0
-HasBetween w low high None = (key : ℕ) → low ≤ key → key < high → ¬ IsTreeKey w key
-HasBetween w low high (Some pair) = (low ≤ pair.0) × (pair.0 < high) × IsTreePair w pair.0 pair.1
-    × ((key : ℕ) → low ≤ key → key < high → pair.0 ≢ key → ¬ IsTreeKey w key)
+    → IsFoundInRuns plan v (HasThere key there)
 
 -- what a pass was told of a leaf, with this key, about a stretch of keys: the leaf's key is one of them, with this
 -- value, or none of them
@@ -109,54 +108,30 @@ pub record HasFoundBetween (v : View) (low high : ℕ) (there : Option (ℕ × �
   pub told : IsTold v (Key leaf leaf_key)
   pub tells : TellsBetween v leaf leaf_key low high there
 
--- so it was with all keys of the stretch in ONE state of a run
-pub record WasSoBetween (last : ℕ) (s : TableState) (turns : List Turn) (s' : TableState)
-    (low high : ℕ) (there : Option (ℕ × ℕ)) : Type 0 where
-  pub state : TableState
-  pub amid : IsAmid last s turns s' state
-  pub so : HasBetween (own_words state) low high there
-
--- and that is a state since the last look of the pass in a seat began
-pub record FoundBetweenInRun (last : ℕ) (s : TableState) (turns : List Turn) (s' : TableState)
-    (seat low high : ℕ) (there : Option (ℕ × ℕ)) : Type 0 where
-  pub began : Began last s turns s' seat
-  pub so : WasSoBetween last began.to (drop (suc began.first) turns) s' low high there
-
--- so it is in every run of a table with this plan, from its start to a state in which a pass knows this
-abbrev pub IsFoundBetweenInRuns : TablePlan → View → ℕ → ℕ → Option (ℕ × ℕ) → Type 0
-IsFoundBetweenInRuns plan v low high there = (s : TableState) → Starts plan s
-    → (turns : List Turn) (s' : TableState) → TableRun plan.last_card s turns s'
-    → (seat : ℕ) → get_elem? s'.views seat ≡ some v
-    → FoundBetweenInRun plan.last_card s turns s' seat low high there
-
 -- what any pass has found of any stretch of keys by its last look
 abbrev pub StretchesAreOfOneState : Type 0
 StretchesAreOfOneState = (plan : TablePlan) (v : View) (low high : ℕ) (there : Option (ℕ × ℕ))
-    → HasFoundBetween v low high there → IsFoundBetweenInRuns plan v low high there
+    → HasFoundBetween v low high there → IsFoundInRuns plan v (HasBetween low high there)
 
--- two looks, by one pass or by two, of one stretch of keys or of two, of which the second began after the first had
--- come to its end: the first found what was so before the second began, and the second what was so since
-abbrev pub StretchesAreInOrder : Type 0
-StretchesAreInOrder = (plan : TablePlan) (s : TableState) → Starts plan s
+-- two looks, by one pass or by two, of which the second began after the first had come to its end: what the first has
+-- found was so before the second began, and what the second has found was so since
+abbrev pub AreInOrder : {A : Type 0} → (View → A → Type 0) → (A → Words → Type 0) → Type 0
+AreInOrder {A = A} finds what = (plan : TablePlan) (s : TableState) → Starts plan s
     → (turns : List Turn) (ended : TableState) → TableRun plan.last_card s turns ended
-    → (seat : ℕ) (v : View) → get_elem? ended.views seat ≡ some v
-    → (low high : ℕ) (there : Option (ℕ × ℕ)) → HasFoundBetween v low high there
+    → (seat : ℕ) (v : View) → get_elem? ended.views seat ≡ some v → (first : A) → finds v first
     → (other : ℕ) (begun : TableState) → CallIsMade plan.last_card ended other call.Look begun
     → (more : List Turn) (s' : TableState) → TableRun plan.last_card begun more s' → LooksOn other more
-    → (w : View) → get_elem? s'.views other ≡ some w
-    → (least upto : ℕ) (there' : Option (ℕ × ℕ)) → HasFoundBetween w least upto there'
-    → FoundBetweenInRun plan.last_card s turns ended seat low high there
-    × WasSoBetween plan.last_card begun more s' least upto there'
+    → (w : View) → get_elem? s'.views other ≡ some w → (second : A) → finds w second
+    → FoundInRun plan.last_card s turns ended seat (what first) × WasSo plan.last_card begun more s' (what second)
 
 -- so it is of two looks of one key or of two
 abbrev pub LooksAreInOrder : Type 0
-LooksAreInOrder = (plan : TablePlan) (s : TableState) → Starts plan s
-    → (turns : List Turn) (ended : TableState) → TableRun plan.last_card s turns ended
-    → (seat : ℕ) (v : View) → get_elem? ended.views seat ≡ some v → (key : ℕ) (there : Option ℕ) → HasFound v key there
-    → (other : ℕ) (begun : TableState) → CallIsMade plan.last_card ended other call.Look begun
-    → (more : List Turn) (s' : TableState) → TableRun plan.last_card begun more s' → LooksOn other more
-    → (w : View) → get_elem? s'.views other ≡ some w → (next : ℕ) (there' : Option ℕ) → HasFound w next there'
-    → FoundInRun plan.last_card s turns ended seat key there × WasSo plan.last_card begun more s' next there'
+LooksAreInOrder = AreInOrder {A = ℕ × Option ℕ} (λ v a. HasFound v a.0 a.1) (λ a. HasThere a.0 a.1)
+
+-- and of one stretch of keys or of two
+abbrev pub StretchesAreInOrder : Type 0
+StretchesAreInOrder =
+    AreInOrder {A = ℕ × ℕ × Option (ℕ × ℕ)} (λ v a. HasFoundBetween v a.0 a.1 a.2) (λ a. HasBetween a.0 a.1 a.2)
 
 -- what a pass has found by a look of a key of its own is what its ledger has: it reads its own changes
 abbrev pub ReadsItsOwn : View → Type 0

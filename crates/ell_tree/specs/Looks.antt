@@ -1,7 +1,7 @@
 use Rattle.std.specs.Prelude.{◌≡◌, ℕ, ◌+◌, ◌*◌, ◌≤◌, Option}
 use Rattle.ell_cards.specs.declared.view.Told.{Told}
 use Rattle.ell_cards.specs.declared.view.View.{View}
-use Rattle.ell_cards.specs.Looking.{IsFoundInRuns}
+use Rattle.ell_cards.specs.Looking.{HasThere, IsFoundInRuns}
 use Rattle.ell_cards.specs.Models.{PassModel, IsTold}
 use Rattle.ell_tree.specs.Ledgers.{TreeModel}
 
@@ -41,4 +41,4 @@ stretch_steps last = 2 * last + 2
 -- what a look found of a key was so in one state of the tree since it began, in every run in which its pass now knows
 -- this
 abbrev pub IsFoundIn : TreeModel → View → ℕ → Option ℕ → Type 0
-IsFoundIn t v key there = IsFoundInRuns t.plan v key there
+IsFoundIn t v key there = IsFoundInRuns t.plan v (HasThere key there)

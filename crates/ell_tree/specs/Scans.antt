@@ -5,7 +5,7 @@ use Rattle.std.specs.List.Sorted.{IsStrictlyIncreasing}
 use Rattle.ell_ops.specs.Contents.{Contents}
 use Rattle.ell_ops.specs.Meaning.{greatest_key}
 use Rattle.ell_cards.specs.declared.view.View.{View}
-use Rattle.ell_cards.specs.Looking.{HasFound, IsFoundBetweenInRuns}
+use Rattle.ell_cards.specs.Looking.{HasFound, HasBetween, IsFoundInRuns}
 use Rattle.ell_tree.specs.declared.cursor.About.{About}
 use Rattle.ell_tree.specs.declared.scanning.Pair.{Pair}
 use Rattle.ell_tree.specs.declared.scanning.Scanned.{Scanned}
@@ -21,7 +21,7 @@ pub record IsAbout (key : ℕ) (about : About) : Type 0 where
 -- what a look has found of a stretch of keys was so, of all of them, in ONE state of the tree since it began, in every
 -- run in which its pass now knows this
 abbrev pub IsFoundAboutIn : TreeModel → View → About → Type 0
-IsFoundAboutIn t v about = IsFoundBetweenInRuns t.plan v about.low about.high about.found
+IsFoundAboutIn t v about = IsFoundInRuns t.plan v (HasBetween about.low about.high about.found)
 
 -- what it says of a key of the stretch
 abbrev pub value_there : Option (ℕ × ℕ) → Contents

@@ -28,7 +28,7 @@ use Rattle.ell_cards.proofs.lemmas.runs.TurnsOfRuns.{turn_lawful}
 use Rattle.ell_cards.proofs.lemmas.runs.Starting.{starts_are_kept, starts_have_their_keys}
 
 -- what the tree has of a key is what its map has
-pub map_has : (w : Words) (there : Contents) → HasMap w there → (key : ℕ) (o : Option ℕ) → HasThere w key o → there key ≡ o
+pub map_has : (w : Words) (there : Contents) → HasMap w there → (key : ℕ) (o : Option ℕ) → HasThere key o w → there key ≡ o
 map_has w there map key (Some value) h = (map key value).0 h
 map_has w there map key None h = by (there key) refl
   where

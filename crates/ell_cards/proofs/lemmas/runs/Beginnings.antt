@@ -16,7 +16,7 @@ use Rattle.ell_cards.specs.TurnEffects.{own_words}
 use Rattle.ell_cards.specs.States.{TableState}
 use Rattle.ell_cards.specs.Starts.{Starts}
 use Rattle.ell_cards.specs.Turns.{Turn, Makes, Splits, Joins, TableTurns, TableRun, found_by, view_after}
-use Rattle.ell_cards.specs.Looking.{BeginsNothing, LooksOn, Began, HasFound, HasThere, WasSo, HasBetween, TellsBetween, HasFoundBetween, WasSoBetween, LooksAreOfOneState, LooksAreInOrder, StretchesAreOfOneState, StretchesAreInOrder}
+use Rattle.ell_cards.specs.Looking.{BeginsNothing, LooksOn, Began, HasFound, HasThere, WasSo, HasBetween, TellsBetween, HasFoundBetween, LooksAreOfOneState, LooksAreInOrder, StretchesAreOfOneState, StretchesAreInOrder}
 use Rattle.ell_cards.proofs.lemmas.runs.Glances.{claim_look, flag_look, mark_look, stretches_of_one_state}
 use Rattle.ell_cards.proofs.lemmas.runs.Starting.{starts_are_kept}
 use Rattle.ell_cards.proofs.lemmas.runs.TurnsOfRuns.{runs_are_lawful}
@@ -162,11 +162,11 @@ stretches_are_of_one_state plan v low high said found s starts turns s' run seat
 
 -- of two looks, one after the other, the second is of no earlier state
 pub stretches_are_in_order : StretchesAreInOrder
-stretches_are_in_order plan s starts turns ended run seat v at low high there found other begun call more s' run' on w at' least upto there' found' =
-    let last = plan.last_card in
-    let first = stretches_are_of_one_state plan v low high there found s starts turns ended run seat at in
-    let kept = (runs_are_lawful plan.keys plan.last_card s (starts_are_kept plan s starts).kept turns ended run).kept in
-    (first, stretches_of_one_state plan.keys plan.last_card w least upto there' found' ended kept other begun call more s' run' on at')
+stretches_are_in_order plan s starts turns ended run seat v at first found other begun call more s' run' on w at' second found' =
+    let kept = (runs_are_lawful plan.keys plan.last_card s (starts_are_kept plan s starts).kept turns ended run).kept in (
+      stretches_are_of_one_state plan v first.0 first.1 first.2 found s starts turns ended run seat at,
+      stretches_of_one_state plan.keys plan.last_card w second.0 second.1 second.2 found' ended kept other begun call more s' run' on at',
+    )
 
 -- a key with its value, if it has one
 abbrev pub with_key : ℕ → Option ℕ → Option (ℕ × ℕ)
@@ -189,10 +189,10 @@ one_key v key there found = record {
     by (Some value) tells = (tells.0, omega arith, omega arith, tells.1)
 
 was_of_key : (cards : ℕ) (s : TableState) (turns : List Turn) (s' : TableState) (key : ℕ) (there : Option ℕ)
-    → WasSoBetween cards s turns s' key (key + 1) (with_key key there) → WasSo cards s turns s' key there
+    → WasSo cards s turns s' (HasBetween key (key + 1) (with_key key there)) → WasSo cards s turns s' (HasThere key there)
 was_of_key cards s turns s' key there was = record { state = was.state; amid = was.amid; so = by there was.so }
   where
-    by : (o : Option ℕ) → HasBetween (own_words was.state) key (key + 1) (with_key key o) → HasThere (own_words was.state) key o
+    by : (o : Option ℕ) → HasBetween key (key + 1) (with_key key o) (own_words was.state) → HasThere key o (own_words was.state)
     by None so = so key (omega arith) (omega arith)
     by (Some value) so = so.2
 
@@ -203,8 +203,8 @@ looks_are_of_one_state plan v key said found s starts turns s' run seat there =
     record { began = was.began; so = was_of_key plan.last_card was.began.to _ s' key said was.so }
 
 pub looks_are_in_order : LooksAreInOrder
-looks_are_in_order plan s starts turns ended run seat v at key there found other begun call more s' run' on w at' next there' found' =
-    let first = looks_are_of_one_state plan v key there found s starts turns ended run seat at in
-    let both = stretches_are_in_order plan s starts turns ended run seat v at key (key + 1) (with_key key there) (one_key v key there found)
-    other begun call more s' run' on w at' next (next + 1) (with_key next there') (one_key w next there' found') in
-    (first, was_of_key plan.last_card begun more s' next there' both.1)
+looks_are_in_order plan s starts turns ended run seat v at first found other begun call more s' run' on w at' second found' =
+    let both = stretches_are_in_order plan s starts turns ended run seat v at (first.0, first.0 + 1, with_key first.0 first.1)
+    (one_key v first.0 first.1 found) other begun call more s' run' on w at' (second.0, second.0 + 1, with_key second.0 second.1)
+    (one_key w second.0 second.1 found') in
+    (looks_are_of_one_state plan v first.0 first.1 found s starts turns ended run seat at, was_of_key plan.last_card begun more s' second.0 second.1 both.1)

@@ -42,7 +42,7 @@ use Rattle.ell_cards.specs.Machines.{HasMachine}
 use Rattle.ell_cards.specs.Laws.{machine_of_table}
 use Rattle.ell_cards.specs.TurnEffects.{own_words}
 use Rattle.ell_cards.specs.Turns.{Turn, Makes, Splits, Joins, CallIsMade, TableTurns, TableRun, found_by, view_after}
-use Rattle.ell_cards.specs.Looking.{IsAmid, HasBetween, TellsBetween, HasFoundBetween, WasSoBetween, BeginsNothing, LooksOn}
+use Rattle.ell_cards.specs.Looking.{IsAmid, HasBetween, TellsBetween, HasFoundBetween, WasSo, BeginsNothing, LooksOn}
 use Rattle.ell_cards.proofs.lemmas.own_words.OwnTree.{same_keys}
 use Rattle.ell_cards.proofs.lemmas.own_words.OwnWords.{own_pairs}
 use Rattle.ell_cards.proofs.lemmas.seats.Seats.{set_there}
@@ -404,7 +404,7 @@ came_amid keys cards s0 turns s x low high c =
 module _ (keys : List ℕ) (cards : ℕ) (s0 : TableState) (turns : List Turn) (s : TableState) (seat : ℕ) (v : View) (there : get_elem? s.views seat ≡ some v) where
   -- what was found at a leaf by all keys of a stretch
   found_there : (low high : ℕ) (what : Option (ℕ × ℕ)) → (found : HasFoundBetween v low high what) → Came keys cards s0 turns s found.leaf low high
-      → WasSoBetween cards s0 turns s low high what
+      → WasSo cards s0 turns s (HasBetween low high what)
   found_there low high what found c = record { state = c.state; amid = came_amid keys cards s0 turns s found.leaf low high c; so = by what found.tells }
     where
       w : Words
@@ -428,7 +428,7 @@ module _ (keys : List ℕ) (cards : ℕ) (s0 : TableState) (turns : List Turn) (
           sym (goes.1.words.value found.leaf ((c.kept.invariant.words.cards (card found.leaf)).claimed.0 (born-claimed (c.kept.stages (card found.leaf)) (found.leaf % 4) born')))
           ∙ ((goes.0.views seat v there).entries (Value found.leaf value) told).1
 
-      by : (o : Option (ℕ × ℕ)) → TellsBetween v found.leaf found.leaf_key low high o → HasBetween (own_words c.state) low high o
+      by : (o : Option (ℕ × ℕ)) → TellsBetween v found.leaf found.leaf_key low high o → HasBetween low high o (own_words c.state)
       by None tells = λ k a b tree. let is = only k a b tree in elim tells [ inl less ↦ absurd (omega arith) | inr more ↦ absurd (omega arith) ]
       by (Some pair) tells = (
         tells.1,
@@ -447,7 +447,7 @@ module _ (keys : List ℕ) (cards : ℕ) (s0 : TableState) (turns : List Turn) (
 -- so what a look finds of a stretch was so in one state since it began
 pub stretches_of_one_state : (keys : List ℕ) (cards : ℕ) (v : View) (low high : ℕ) (there : Option (ℕ × ℕ)) → HasFoundBetween v low high there
     → (s : TableState) → HasMachine keys cards s → (seat : ℕ) (s1 : TableState) → CallIsMade cards s seat call.Look s1 → (turns : List Turn) (s' : TableState)
-    → TableRun cards s1 turns s' → LooksOn seat turns → get_elem? s'.views seat ≡ some v → WasSoBetween cards s1 turns s' low high there
+    → TableRun cards s1 turns s' → LooksOn seat turns → get_elem? s'.views seat ≡ some v → WasSo cards s1 turns s' (HasBetween low high there)
 stretches_of_one_state keys cards v low high what found s r seat s1 call turns s' run on there =
     let looks = run_looks keys cards seat s1 [] s1 (look_begins keys cards seat s r s1 call) turns s' run on in
     let same : looks.view ≡ v = some-injective looks.view v (sym looks.there ∙ there) in

@@ -340,7 +340,7 @@ module _ (plan : TablePlan) (opened : TableState) (starts : Starts plan opened) 
   reads_at : (i j : ℕ) (op : Op) (said : Reply) → i < j → SaysWhatWas plan.last_card op (after_turns (suc i)) (slice (suc i) j) (after_turns j) said → ReadsAt i j op said
   reads_at i j op said low was =
       let at = state_between (suc i) j was.so.amid.first was.so.state (omega arith) was.so.amid.before in
-      let so = subst (λ (s : TableState). HasThere (own_words s) (key_of op) was.there) at.is was.so.so in
+      let so = subst (λ (s : TableState). HasThere (key_of op) was.there (own_words s)) at.is was.so.so in
       let there = map_has (own_words (after_turns at.place)) (map_after at.place) (is_map at.place) (key_of op) was.there so in
       let first = at.low in record {
         point = at.place;

@@ -244,7 +244,7 @@ module _ (keys : List ℕ) (cards : ℕ) (seat key : ℕ) (real : key ≤ greate
   -- what the search found at a leaf was so in one state
   pub found_there : (s : TableState) (turns : List Turn) (s' : TableState) → (v : View) → get_elem? s'.views seat ≡ some v
       → (leaf has_key : ℕ) (there : Option ℕ) → IsLeaf leaf → StandsAt v leaf → v.here ≡ Some has_key → TellsOf v leaf has_key key there
-      → WasOn keys cards seat key real s turns s' leaf → WasSo cards s turns s' key there
+      → WasOn keys cards seat key real s turns s' leaf → WasSo cards s turns s' (HasThere key there)
   found_there s turns s' v at leaf has_key there outer stands told tells was =
       let r = was.kept in
       let sound = r.invariant.words in
@@ -257,7 +257,7 @@ module _ (keys : List ℕ) (cards : ℕ) (seat key : ℕ) (real : key ≤ greate
       record { state = was.state; amid = was.amid; so = by there tells has last.words last.stages (goes.1.words.value leaf below) (last.views seat v at).entries }
     where
       by : (o : Option ℕ) → TellsOf v leaf has_key key o → was.kept.words.key leaf ≡ has_key → (w : Words) (stage : Stages)
-          → w.value leaf ≡ was.kept.words.value leaf → ((e : Told) → IsTold v e → EntryHolds w stage e) → HasThere (own_words was.state) key o
+          → w.value leaf ≡ was.kept.words.value leaf → ((e : Told) → IsTold v e → EntryHolds w stage e) → HasThere key o (own_words was.state)
       by None other has w stage same entries = λ there'. absurd (other (sym has ∙ walk_ends was.kept.words key was.on outer
           (tree_key_leads was.kept.words was.kept.invariant.words.tree.ordered key ((same_keys (own_words was.state) was.kept.words (own_pairs keys cards was.state was.kept) key).1 there'))))
       by (Some value) tells has w stage same entries = ((own_pairs keys cards was.state was.kept) key value).0 (record {
