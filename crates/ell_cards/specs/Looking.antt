@@ -24,12 +24,12 @@ pub record IsAmid (last : ℕ) (s : TableState) (turns : List Turn) (s' state : 
   pub after : TableRun last state (drop first turns) s'
 
 -- the tree of these words has a key with this value, or it has the key not at all
-abbrev pub HasThere : ℕ → Option ℕ → Words → Type 0
+unfoldable pub HasThere : ℕ → Option ℕ → Words → Type 0
 HasThere key (Some value) w = IsTreePair w key value
 HasThere key None w = ¬ IsTreeKey w key
 
 -- of the keys from low on and below high the tree of these words has this one with its value and no other, or none
-abbrev pub HasBetween : ℕ → ℕ → Option (ℕ × ℕ) → Words → Type 0
+unfoldable pub HasBetween : ℕ → ℕ → Option (ℕ × ℕ) → Words → Type 0
 HasBetween low high None w = (key : ℕ) → low ≤ key → key < high → ¬ IsTreeKey w key
 HasBetween low high (Some pair) w = (low ≤ pair.0) × (pair.0 < high) × IsTreePair w pair.0 pair.1
     × ((key : ℕ) → low ≤ key → key < high → pair.0 ≢ key → ¬ IsTreeKey w key)
@@ -115,8 +115,8 @@ StretchesAreOfOneState = (plan : TablePlan) (v : View) (low high : ℕ) (there :
 
 -- two looks, by one pass or by two, of which the second began after the first had come to its end: what the first has
 -- found was so before the second began, and what the second has found was so since
-abbrev pub AreInOrder : {A : Type 0} → (View → A → Type 0) → (A → Words → Type 0) → Type 0
-AreInOrder {A = A} finds what = (plan : TablePlan) (s : TableState) → Starts plan s
+abbrev pub ComeInOrder : {A : Type 0} → (View → A → Type 0) → (A → Words → Type 0) → Type 0
+ComeInOrder {A = A} finds what = (plan : TablePlan) (s : TableState) → Starts plan s
     → (turns : List Turn) (ended : TableState) → TableRun plan.last_card s turns ended
     → (seat : ℕ) (v : View) → get_elem? ended.views seat ≡ some v → (first : A) → finds v first
     → (other : ℕ) (begun : TableState) → CallIsMade plan.last_card ended other call.Look begun
@@ -126,12 +126,12 @@ AreInOrder {A = A} finds what = (plan : TablePlan) (s : TableState) → Starts p
 
 -- so it is of two looks of one key or of two
 abbrev pub LooksAreInOrder : Type 0
-LooksAreInOrder = AreInOrder {A = ℕ × Option ℕ} (λ v a. HasFound v a.0 a.1) (λ a. HasThere a.0 a.1)
+LooksAreInOrder = ComeInOrder {A = ℕ × Option ℕ} (λ v a. HasFound v a.0 a.1) (λ a. HasThere a.0 a.1)
 
 -- and of one stretch of keys or of two
 abbrev pub StretchesAreInOrder : Type 0
 StretchesAreInOrder =
-    AreInOrder {A = ℕ × ℕ × Option (ℕ × ℕ)} (λ v a. HasFoundBetween v a.0 a.1 a.2) (λ a. HasBetween a.0 a.1 a.2)
+    ComeInOrder {A = ℕ × ℕ × Option (ℕ × ℕ)} (λ v a. HasFoundBetween v a.0 a.1 a.2) (λ a. HasBetween a.0 a.1 a.2)
 
 -- what a pass has found by a look of a key of its own is what its ledger has: it reads its own changes
 abbrev pub ReadsItsOwn : View → Type 0

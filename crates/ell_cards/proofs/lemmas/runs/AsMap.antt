@@ -29,6 +29,7 @@ use Rattle.ell_cards.proofs.lemmas.runs.Starting.{starts_are_kept, starts_have_t
 
 -- what the tree has of a key is what its map has
 pub map_has : (w : Words) (there : Contents) → HasMap w there → (key : ℕ) (o : Option ℕ) → HasThere key o w → there key ≡ o
+unfolding HasThere
 map_has w there map key (Some value) h = (map key value).0 h
 map_has w there map key None h = by (there key) refl
   where
@@ -57,6 +58,7 @@ leaf_leaves (Swap k was value) None said there is e key = sym (swap_lacked there
 
 -- a tree that lacks a key has a map that lacks it
 lacks : (w : Words) (there : Contents) → HasMap w there → (key : ℕ) → ¬ IsTreeKey w key → there key ≡ None
+unfolding HasThere
 lacks w there map key none = map_has w there map key None none
 
 -- an insert of a key that is not there

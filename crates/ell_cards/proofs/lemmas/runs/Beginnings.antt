@@ -190,6 +190,7 @@ one_key v key there found = record {
 
 was_of_key : (cards : ℕ) (s : TableState) (turns : List Turn) (s' : TableState) (key : ℕ) (there : Option ℕ)
     → WasSo cards s turns s' (HasBetween key (key + 1) (with_key key there)) → WasSo cards s turns s' (HasThere key there)
+unfolding HasThere HasBetween
 was_of_key cards s turns s' key there was = record { state = was.state; amid = was.amid; so = by there was.so }
   where
     by : (o : Option ℕ) → HasBetween key (key + 1) (with_key key o) (own_words was.state) → HasThere key o (own_words was.state)

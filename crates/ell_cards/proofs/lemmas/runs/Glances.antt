@@ -405,6 +405,7 @@ module _ (keys : List ℕ) (cards : ℕ) (s0 : TableState) (turns : List Turn) (
   -- what was found at a leaf by all keys of a stretch
   found_there : (low high : ℕ) (what : Option (ℕ × ℕ)) → (found : HasFoundBetween v low high what) → Came keys cards s0 turns s found.leaf low high
       → WasSo cards s0 turns s (HasBetween low high what)
+  unfolding HasBetween
   found_there low high what found c = record { state = c.state; amid = came_amid keys cards s0 turns s found.leaf low high c; so = by what found.tells }
     where
       w : Words

@@ -31,6 +31,7 @@ looks_first seat (suc n) (Joins one other ∷ ts) on = (on.0, on.1, looks_first 
 by_ledger : (keys : List ℕ) (cards : ℕ) (s : TableState) → HasMachine keys cards s → (seat : ℕ) (v : View) → get_elem? s.views seat ≡ some v
     → v.worker.operation ≡ None → (key : ℕ) (there : Option ℕ) → ledger_of v.worker.ledger key ≢ None → HasThere key there (own_words s)
     → there ≡ contents_in (ledger_of v.worker.ledger) key
+unfolding HasThere
 by_ledger keys cards s r seat v at free key (Some value) owns so =
     sym (ap value_in ((ledgers_tell_the_tree keys cards s r seat v at free key value owns).0 so))
 by_ledger keys cards s r seat v at free key None owns so = by (ledger_of v.worker.ledger key) refl

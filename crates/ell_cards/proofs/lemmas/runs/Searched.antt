@@ -245,6 +245,7 @@ module _ (keys : List ℕ) (cards : ℕ) (seat key : ℕ) (real : key ≤ greate
   pub found_there : (s : TableState) (turns : List Turn) (s' : TableState) → (v : View) → get_elem? s'.views seat ≡ some v
       → (leaf has_key : ℕ) (there : Option ℕ) → IsLeaf leaf → StandsAt v leaf → v.here ≡ Some has_key → TellsOf v leaf has_key key there
       → WasOn keys cards seat key real s turns s' leaf → WasSo cards s turns s' (HasThere key there)
+  unfolding HasThere
   found_there s turns s' v at leaf has_key there outer stands told tells was =
       let r = was.kept in
       let sound = r.invariant.words in

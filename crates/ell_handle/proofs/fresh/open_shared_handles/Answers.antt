@@ -14,10 +14,10 @@ loop-preserved c =
     let items = c.in_ok-push.ensures.items in
     record {
       whole = c.in_ok-rest.ensures.first ∙ c.loop.invariant.whole;
-      quiet = λ most. c.in_ok-rest.ensures.first_moves most ∙ c.loop.invariant.quiet most;
+      quiet = λ most. c.in_ok-rest.ensures.first_milestones most ∙ c.loop.invariant.quiet most;
       others = subst (All has_tree) (sym items) (All-push has_tree c.loop.handles.items c.in_ok-rest.other c.loop.invariant.others (c.in_ok-rest.ensures.second ∙ c.loop.invariant.whole));
       fresh = subst (All knows_none) (sym items)
-          (All-push knows_none c.loop.handles.items c.in_ok-rest.other c.loop.invariant.fresh (λ most. c.in_ok-rest.ensures.second_moves most ∙ c.loop.invariant.quiet most));
+          (All-push knows_none c.loop.handles.items c.in_ok-rest.other c.loop.invariant.fresh (λ most. c.in_ok-rest.ensures.second_milestones most ∙ c.loop.invariant.quiet most));
       count = omega (arith, c.loop.invariant.count, ap length items, length_push c.loop.handles.items c.in_ok-rest.other);
     }
 
