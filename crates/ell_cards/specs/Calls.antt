@@ -24,7 +24,7 @@ use Rattle.ell_cards.specs.declared.call.Call.TheVariants as call
 use Rattle.ell_cards.specs.declared.view.Told.TheVariants.{Met, Key, Value, Info, Frozen}
 use Rattle.ell_cards.specs.declared.view.View.{View}
 use Rattle.ell_cards.specs.Models.{IsTold, IsFree, Does, StandsAt, InTable, KnowsDelete, EndWasUnknown}
-use Rattle.ell_cards.specs.Changes.{learning, if_won, exchanged, after_begin, after_again, after_leave, after_answer, after_upd, after_claim, after_flag, after_mark, glance_down, is_this, told_info, after_fill}
+use Rattle.ell_cards.specs.Changes.{with_fact, if_won, exchanged, after_begin, after_again, after_leave, after_answer, after_upd, after_claim, after_flag, after_mark, glance_down, is_this, told_info, after_fill}
 use Rattle.ell_cards.specs.Guards.{MayBegin, MayAnswer, MayRead, MayGoDown, MayAsk, KnowsPlace, MayLookDown, MayClaim, MayFill, MayIFlag, MayDFlag, MayIChild, MayMark, MayDChild}
 
 -- the address of the update word of a node
@@ -131,16 +131,16 @@ after (call.Fill c f value) n v = after_fill f value v
 after (call.IFlag c p from) n v =
     exchanged (if_won (n == packed from) exchange.IFlag c) n
     (after_flag (n == packed from) (fact.IFlagged c) p (unpacked n) v)
-after (call.IChild c p l q right) n v = exchanged (if_won (n == l) exchange.IChild c) n (learning (fact.IChanged c) v)
-after (call.IUnflag c p) n v = exchanged (if_won (n == iflag c) exchange.IUnflag c) n (learning (fact.IOver c) v)
+after (call.IChild c p l q right) n v = exchanged (if_won (n == l) exchange.IChild c) n (with_fact (fact.IChanged c) v)
+after (call.IUnflag c p) n v = exchanged (if_won (n == iflag c) exchange.IUnflag c) n (with_fact (fact.IOver c) v)
 after (call.DFlag c gp from) n v =
     exchanged (if_won (n == packed from) exchange.DFlag c) n
     (after_flag (n == packed from) (fact.DFlagged c) gp (unpacked n) v)
 after (call.Mark c p was) n v =
     exchanged (if_won (n == was) exchange.Mark c) n (after_mark (n == was) c p (unpacked n) v)
-after (call.DChild c gp p s right) n v = exchanged (if_won (n == p) exchange.DChild c) n (learning (fact.Cut c) v)
-after (call.DUnflag c gp) n v = exchanged (if_won (n == dflag c) exchange.DUnflag c) n (learning (fact.DOver c) v)
-after (call.Backtrack c gp) n v = exchanged (if_won (n == dflag c) exchange.Backtrack c) n (learning (fact.Backed c) v)
+after (call.DChild c gp p s right) n v = exchanged (if_won (n == p) exchange.DChild c) n (with_fact (fact.Cut c) v)
+after (call.DUnflag c gp) n v = exchanged (if_won (n == dflag c) exchange.DUnflag c) n (with_fact (fact.DOver c) v)
+after (call.Backtrack c gp) n v = exchanged (if_won (n == dflag c) exchange.Backtrack c) n (with_fact (fact.Backed c) v)
 
 -- what a call asks of what the pass knows
 abbrev pub May : ℕ → Call → View → Type 0

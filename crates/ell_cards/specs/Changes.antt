@@ -19,7 +19,7 @@ use Rattle.ell_core.specs.declared.view.Seen.{Seen}
 use Rattle.ell_layout.specs.Cards.{insert_filling, delete_filling}
 use Rattle.ell_core.specs.state.Machine.{WorkerView, idle}
 use Rattle.ell_core.specs.acts.Searching.{with_read, begun, ended, with_card}
-use Rattle.ell_core.specs.acts.Exchanges.{off_the_tree}
+use Rattle.ell_core.specs.acts.Exchanges.{knowing, off_the_tree}
 use Rattle.ell_core.specs.state.Opening.{keys_at_start}
 use Rattle.ell_core.specs.statements.Readers.{from_of, upto_of}
 use Rattle.ell_cards.specs.declared.view.Told.{Told}
@@ -95,15 +95,15 @@ abbrev pub tries_hindered : View → ℕ
 tries_hindered v = v.hindered + (if was_hindered v.worker.knows (way_now v ++ v.met) then 1 else 0)
 
 -- the pass has found an update at a node
-abbrev pub finding : ℕ → Update → View → View
-finding x u v = record v {
-  worker = record (v.worker) { knows = facts_by u.state u.card v.worker.knows };
+abbrev pub with_found : ℕ → Update → View → View
+with_found x u v = record v {
+  worker = knowing v.worker (facts_by u.state u.card v.worker.knows);
   told = places_by x u.state u.card v.told;
 }
 
 -- the pass has learnt a fact
-abbrev pub learning : Fact → View → View
-learning new v = record v { worker = record (v.worker) { knows = new ∷ v.worker.knows } }
+abbrev pub with_fact : Fact → View → View
+with_fact new v = record v { worker = knowing v.worker (new ∷ v.worker.knows) }
 
 -- an exchange of a kind for a card, if it was won
 abbrev pub if_won : Bool → Exchange → ℕ → List (Exchange × ℕ)
@@ -193,8 +193,8 @@ after_answer said v = record (at_rest (answered_ledger v.worker.operation said v
 
 -- upd: this update was read at the node where the pass stands
 abbrev pub after_upd : ℕ → Update → View → View
-after_upd x u v = record (finding x u v) {
-  worker = record ((finding x u v).worker) { search = with_read v.worker.search (packed u) };
+after_upd x u v = record (with_found x u v) {
+  worker = record ((with_found x u v).worker) { search = with_read v.worker.search (packed u) };
   made = v.made + 1;
 }
 
@@ -275,11 +275,11 @@ with_stores stores v = record v { stores = stores; made = steps_with stores v.ma
 -- iflag and dflag: the card in hand is flagged; or another update was found at the node, and the card is laid aside
 abbrev pub after_flag : Bool → Fact → ℕ → Update → View → View
 after_flag true new x u v = record v {
-  worker = off_the_tree v.worker.card true (learning new v).worker;
+  worker = off_the_tree v.worker.card true (with_fact new v).worker;
   here = None;
 }
-after_flag false new x u v = record (finding x u v) {
-  worker = off_the_tree None false (finding x u v).worker;
+after_flag false new x u v = record (with_found x u v) {
+  worker = off_the_tree None false (with_found x u v).worker;
   here = None;
   hindrances = Found u ∷ v.hindrances; met = Found u ∷ v.met;
 }
@@ -291,15 +291,15 @@ is_mark_of c _ d = false
 
 -- a lost mark: by the update found at its parent the card is unmarkable, which is a hindrance if it is the card in hand
 abbrev pub unmarking : ℕ → ℕ → Update → View → View
-unmarking c x u v = record (finding x u (learning (fact.Unmarkable c) v)) {
+unmarking c x u v = record (with_found x u (with_fact (fact.Unmarkable c) v)) {
   hindrances = if is_this v.worker.card c then Found u ∷ v.hindrances else v.hindrances;
   met = if is_this v.worker.card c then Found u ∷ v.met else v.met;
 }
 
 -- mark: the mark stands, set by this pass or found there; or another update was found
 abbrev pub after_mark : Bool → ℕ → ℕ → Update → View → View
-after_mark true c x u v = learning (fact.Marked c) v
-after_mark false c x u v = if is_mark_of c u.state u.card then learning (fact.Marked c) v else unmarking c x u v
+after_mark true c x u v = with_fact (fact.Marked c) v
+after_mark false c x u v = if is_mark_of c u.state u.card then with_fact (fact.Marked c) v else unmarking c x u v
 
 -- the keys of a ledger, in its order
 abbrev pub ledger_keys : List (ℕ × Entry) → List ℕ
@@ -352,10 +352,10 @@ united_ledgers [] ds = ds
 united_ledgers (e ∷ es) ds = put_entry e (united_ledgers es ds)
 
 -- the later of two readings of the claim word, which only grows
-abbrev pub later : Option ℕ → Option ℕ → Option ℕ
-later None m = m
-later (Some n) None = Some n
-later (Some n) (Some m) = Some (max n m)
+abbrev pub later_reading : Option ℕ → Option ℕ → Option ℕ
+later_reading None m = m
+later_reading (Some n) None = Some n
+later_reading (Some n) (Some m) = Some (max n m)
 
 -- join: one pass with the keys, shares and counts of two, all that both knew and won, and the later reading of next
 abbrev pub joined_view : View → View → View
@@ -363,7 +363,7 @@ joined_view v w = record (idle_view ((v.share + w.share) % 2 ^ 64)
     (idle (united_ledgers v.worker.ledger w.worker.ledger) (option_or v.worker.shared w.worker.shared)
     (v.worker.knows ++ w.worker.knows))) {
       told = v.told ++ w.told; won = v.won ++ w.won; hindrances = v.hindrances ++ w.hindrances;
-      next = later v.next w.next; next_at_least = max v.next_at_least w.next_at_least;
+      next = later_reading v.next w.next; next_at_least = max v.next_at_least w.next_at_least;
       answers = v.answers + w.answers; hindered = v.hindered + w.hindered; looks = v.looks + w.looks;
       made = v.made + w.made + 1;
     }

@@ -7,7 +7,7 @@ ghost use Rattle.ell_core.specs.declared.fact.Fact.TheVariants.{IChanged, IOver,
 ghost use Rattle.ell_layout.specs.declared.field.Field.TheVariants.{Gp, P};
 ghost use Rattle.ell_layout.specs.Cards.{iflag, dflag};
 ghost use Rattle.ell_cards.specs.Models.{Steps, InTable};
-ghost use Rattle.ell_cards.specs.Changes.{after_mark, learning, if_won, exchanged, found_update, found_word, child_found};
+ghost use Rattle.ell_cards.specs.Changes.{after_mark, with_fact, if_won, exchanged, found_update, found_word, child_found};
 ghost use Rattle.ell_cards.specs.declared.call.Call.TheVariants as call;
 ghost use Rattle.ell_cards.specs.Guards.{KnowsPlace, MayAsk, MayDChild, MayIChild, MayMark};
 ghost use Rattle.ell_cards.specs.Calls.{after, TellsNode, TellsDepth};
@@ -70,7 +70,7 @@ impl<A: Allocator + Copy> CardTable<A> {
         requires may { MayIChild pass.old.view card parent leaf node right }
         // It makes one step and counts it. The pass then knows exactly what this call tells.
         ensures step { Steps pass.old pass.new (exchanged (if_won (is_ok result) exchange.IChild card)
-            (child_found leaf result) (learning (IChanged card) pass.old.view)) }
+            (child_found leaf result) (with_fact (IChanged card) pass.old.view)) }
         // If the exchange is lost, it has found another word than the expected one.
         ensures lost { IfErr result (λ found. found ≢ leaf) }
     {
@@ -87,7 +87,7 @@ impl<A: Allocator + Copy> CardTable<A> {
         requires may { KnowsPlace pass.old.view (IChanged card) card P parent }
         // It makes one step and counts it. The pass then knows exactly what this call tells.
         ensures step { Steps pass.old pass.new (exchanged (if_won (is_ok result) exchange.IUnflag card)
-            (found_word (iflag card) result) (learning (IOver card) pass.old.view)) }
+            (found_word (iflag card) result) (with_fact (IOver card) pass.old.view)) }
         // If the exchange is lost, it has found another word than the expected one.
         ensures lost { IfErr result (λ found. packed found ≢ iflag card) }
     {
@@ -136,7 +136,7 @@ impl<A: Allocator + Copy> CardTable<A> {
         requires may { MayDChild pass.old.view card grandparent parent sibling right }
         // It makes one step and counts it. The pass then knows exactly what this call tells.
         ensures step { Steps pass.old pass.new (exchanged (if_won (is_ok result) exchange.DChild card)
-            (child_found parent result) (learning (Cut card) pass.old.view)) }
+            (child_found parent result) (with_fact (Cut card) pass.old.view)) }
         // If the exchange is lost, it has found another word than the expected one.
         ensures lost { IfErr result (λ found. found ≢ parent) }
     {
@@ -154,7 +154,7 @@ impl<A: Allocator + Copy> CardTable<A> {
         requires may { KnowsPlace pass.old.view (Cut card) card Gp grandparent }
         // It makes one step and counts it. The pass then knows exactly what this call tells.
         ensures step { Steps pass.old pass.new (exchanged (if_won (is_ok result) exchange.DUnflag card)
-            (found_word (dflag card) result) (learning (DOver card) pass.old.view)) }
+            (found_word (dflag card) result) (with_fact (DOver card) pass.old.view)) }
         // If the exchange is lost, it has found another word than the expected one.
         ensures lost { IfErr result (λ found. packed found ≢ dflag card) }
     {
@@ -174,7 +174,7 @@ impl<A: Allocator + Copy> CardTable<A> {
         requires may { KnowsPlace pass.old.view (Unmarkable card) card Gp grandparent }
         // It makes one step and counts it. The pass then knows exactly what this call tells.
         ensures step { Steps pass.old pass.new (exchanged (if_won (is_ok result) exchange.Backtrack card)
-            (found_word (dflag card) result) (learning (Backed card) pass.old.view)) }
+            (found_word (dflag card) result) (with_fact (Backed card) pass.old.view)) }
         // If the exchange is lost, it has found another word than the expected one.
         ensures lost { IfErr result (λ found. packed found ≢ dflag card) }
     {

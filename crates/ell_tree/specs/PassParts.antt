@@ -2,7 +2,7 @@ use Rattle.std.specs.Prelude.{◌≡◌, ℕ, ◌+◌, ◌-◌, ◌%◌, ◌^◌
 use Rattle.ell_ops.specs.KeySet.{set_of}
 use Rattle.ell_ops.specs.Contents.{contents_of}
 use Rattle.ell_cards.specs.Models.{PassModel, given_share, one_more, whole_share}
-pub use Rattle.ell_cards.specs.Changes.{later, ownable_if}
+pub use Rattle.ell_cards.specs.Changes.{later_reading, ownable_if}
 pub use Rattle.std.specs.Option.{option_or}
 use Rattle.ell_tree.specs.CardsTaken.{cards_taken}
 use Rattle.ell_tree.specs.Milestones.{milestones_known}
@@ -75,7 +75,7 @@ pub record IsUnion (left right both : PassModel) : Type 0 where
   pub hindrances : hindrances both ≡ hindrances left + hindrances right
   pub hindered : both.view.hindered ≡ left.view.hindered + right.view.hindered
   pub taken : cards_taken both ≡ cards_taken left + cards_taken right
-  pub next : both.view.next ≡ later left.view.next right.view.next
+  pub next : both.view.next ≡ later_reading left.view.next right.view.next
   pub steps : both.steps ≡ one_more (max left.steps right.steps)
   pub made : both.view.made ≡ left.view.made + right.view.made + 1
   pub label : both.label ≡ left.label

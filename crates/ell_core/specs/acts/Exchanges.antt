@@ -33,7 +33,7 @@ exchanged_child w node expected new =
     if found_child w node new == expected then with_child w node (exchange_side w node new) new else w
 
 -- a worker that knows more
-abbrev pub knowing : Worker → Knowledge → Worker
+abbrev pub knowing : {L S K : Type 0} → WorkerOf L S K → K → WorkerOf L S K
 knowing v known = record v { knows = known }
 
 -- the search stands nowhere any more, and this card is in hand, flagged or not

@@ -3,7 +3,7 @@ use Rattle.std.specs.List.{insert}
 use Rattle.std.proofs.Math.Nat.{mul-add, mul-one, mul-zero, zero-add}
 use Rattle.std.proofs.lemmas.List.{length-append}
 use Rattle.ell_parts.specs.PartedOps.{PartedOps, part}
-use Rattle.ell_tree.specs.PassParts.{later}
+use Rattle.ell_tree.specs.PassParts.{later_reading}
 use Rattle.ell_tree.specs.declared.operations.NotDone.{NotDone}
 use Rattle.ell_tree.specs.declared.operations.NotDone.TheVariants.{Busy, Spent}
 use Rattle.ell_tree.specs.Ends.{NotDoneFor}
@@ -33,23 +33,23 @@ once_not_done cards tries count before mid after Busy one grows h =
     inr (subst (λ n. hindrances before + tries * n ≤ hindrances after) (sym one) (omega (arith, mul-one tries)))
 once_not_done cards tries count before mid after Spent one grows h = inl (record { next = cards + 1; read = h; past = omega arith })
 
-later_left : (cards n : ℕ) (other : Option ℕ) (both : PassModel) → cards < n → both.view.next ≡ later (Some n) other → HasNoCards cards both
+later_left : (cards n : ℕ) (other : Option ℕ) (both : PassModel) → cards < n → both.view.next ≡ later_reading (Some n) other → HasNoCards cards both
 later_left cards n None both past e = record { next = n; read = e; past = past }
 later_left cards n (Some m) both past e = record { next = max n m; read = e; past = omega arith }
 
-later_right : (cards n : ℕ) (other : Option ℕ) (both : PassModel) → cards < n → both.view.next ≡ later other (Some n) → HasNoCards cards both
+later_right : (cards n : ℕ) (other : Option ℕ) (both : PassModel) → cards < n → both.view.next ≡ later_reading other (Some n) → HasNoCards cards both
 later_right cards n None both past e = record { next = n; read = e; past = past }
 later_right cards n (Some m) both past e = record { next = max m n; read = e; past = omega arith }
 
 -- why operations of two passes were not done is told by the one that both come together in
 pub both_not_done : (cards tries a b : ℕ) (pass left right first second both : PassModel) → hindrances left ≡ hindrances pass → hindrances right ≡ 0 →
-    hindrances both ≡ hindrances first + hindrances second → both.view.next ≡ later first.view.next second.view.next →
+    hindrances both ≡ hindrances first + hindrances second → both.view.next ≡ later_reading first.view.next second.view.next →
     AreNotDone cards tries a left first → AreNotDone cards tries b right second → AreNotDone cards tries (a + b) pass both
 both_not_done cards tries a b pass left right first second both kept anew sum next on_left on_right =
     ⊎_elim
-    (λ spent. inl (later_left cards spent.next second.view.next both spent.past (next ∙ ap (λ n. later n second.view.next) spent.read)))
+    (λ spent. inl (later_left cards spent.next second.view.next both spent.past (next ∙ ap (λ n. later_reading n second.view.next) spent.read)))
     (λ few. ⊎_elim
-    (λ spent. inl (later_right cards spent.next first.view.next both spent.past (next ∙ ap (later first.view.next) spent.read)))
+    (λ spent. inl (later_right cards spent.next first.view.next both spent.past (next ∙ ap (later_reading first.view.next) spent.read)))
     (λ more. inr (omega (arith, mul-add tries a b)))
     on_right)
     on_left

@@ -9,7 +9,7 @@ use Rattle.ell_cards.specs.declared.view.Told.{Told}
 use Rattle.ell_cards.specs.declared.view.Told.TheVariants.{Frozen}
 use Rattle.ell_cards.specs.declared.view.View.{View}
 use Rattle.ell_cards.specs.Models.{PassModel, Steps, earlier, IsTold, Knows, KnowsCard}
-use Rattle.ell_cards.specs.Changes.{learning, exchanged, after_claim, after_mark, is_mark_of, unmarking}
+use Rattle.ell_cards.specs.Changes.{with_fact, exchanged, after_claim, after_mark, is_mark_of, unmarking}
 use Rattle.ell_cards.proofs.lemmas.views.Afters.{after_key_of, after_value_of, after_next, after_info, after_frozen_child}
 use Rattle.ell_cards.specs.Guards.{IsSibling}
 use Rattle.ell_cards.proofs.lemmas.views.Facts.{knows_new, knows_more, facts_by_more}
@@ -70,17 +70,17 @@ frozen_aside old new c right x s =
     (record { table = refl; worker = refl; filling = refl; filled = refl; knows = λ f h. h; told = λ e h. earlier e _ _ (earlier e _ _ h) })
 
 -- so is one that teaches a fact, which the pass knows then
-pub learn_aside : (old new : PassModel) (wins : List (Exchange × ℕ)) (f : Fact) (n : ℕ) → Steps old new (exchanged wins n (learning f old.view)) → StepsAside old new
+pub learn_aside : (old new : PassModel) (wins : List (Exchange × ℕ)) (f : Fact) (n : ℕ) → Steps old new (exchanged wins n (with_fact f old.view)) → StepsAside old new
 learn_aside old new wins f n s =
     subst (StepsAside old) (sym s)
     (record { table = refl; worker = refl; filling = refl; filled = refl; knows = λ g h. knows_more f g old.view.worker.knows h; told = λ e h. h })
 
-pub learns : (old new : PassModel) (wins : List (Exchange × ℕ)) (f : Fact) (n : ℕ) → Steps old new (exchanged wins n (learning f old.view)) → Knows new.view f
-learns old new wins f n s = subst (λ (w : View). Knows w f) (sym (view_after old new (exchanged wins n (learning f old.view)) s)) (knows_new f old.view.worker.knows)
+pub learns : (old new : PassModel) (wins : List (Exchange × ℕ)) (f : Fact) (n : ℕ) → Steps old new (exchanged wins n (with_fact f old.view)) → Knows new.view f
+learns old new wins f n s = subst (λ (w : View). Knows w f) (sym (view_after old new (exchanged wins n (with_fact f old.view)) s)) (knows_new f old.view.worker.knows)
 
 -- and a mark, won or lost
 beside_marked : (old : PassModel) (wins : List (Exchange × ℕ)) (steps label n c : ℕ)
-    → StepsAside old (record { table = old.table; view = exchanged wins n (learning (fact.Marked c) old.view); steps = steps; label = label })
+    → StepsAside old (record { table = old.table; view = exchanged wins n (with_fact (fact.Marked c) old.view); steps = steps; label = label })
 beside_marked old wins steps label n c = record {
   table = refl;
   worker = refl;
@@ -95,7 +95,7 @@ beside_mark : (old : PassModel) (wins : List (Exchange × ℕ)) (steps label n :
 beside_mark old wins steps label n true c x u = beside_marked old wins steps label n c
 beside_mark old wins steps label n false c x u = by (is_mark_of c u.state u.card)
   where
-    by : (b : Bool) → StepsAside old (record { table = old.table; view = exchanged wins n (if b then learning (fact.Marked c) old.view else unmarking c x u old.view); steps = steps; label = label })
+    by : (b : Bool) → StepsAside old (record { table = old.table; view = exchanged wins n (if b then with_fact (fact.Marked c) old.view else unmarking c x u old.view); steps = steps; label = label })
     by true = beside_marked old wins steps label n c
     by false = record {
       table = refl;

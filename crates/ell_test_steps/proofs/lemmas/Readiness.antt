@@ -24,7 +24,7 @@ use Rattle.ell_core.specs.state.Machine.{worker_of}
 use Rattle.ell_cards.specs.declared.view.View.{View}
 use Rattle.ell_cards.specs.declared.view.Told.TheVariants.{Value}
 use Rattle.ell_cards.specs.Models.{PassModel, TableModel, Steps, latest, IsTold, Knows}
-use Rattle.ell_cards.specs.Changes.{after_begin, after_again, after_upd, after_claim, after_flag, after_mark, is_mark_of, learning, unmarking, if_won, exchanged, found_word, found_update, told_value, with_stores}
+use Rattle.ell_cards.specs.Changes.{after_begin, after_again, after_upd, after_claim, after_flag, after_mark, is_mark_of, with_fact, unmarking, if_won, exchanged, found_word, found_update, told_value, with_stores}
 use Rattle.ell_cards.proofs.lemmas.views.Afters.{after_key_of, after_value_of, after_next}
 use Rattle.ell_cards.specs.Guards.{CardIsOver, MayGoDown, MayAnswer, TellsOf, MayIFlag, MayDFlag, IsFilled}
 use Rattle.ell_test_steps.specs.declared.memory.Remembered.{Remembered}
@@ -219,7 +219,7 @@ claims_at a b d m op x key value parent h s s' busy at behind no_card outer calm
 lost_mark_known : (v : View) (c x w : ℕ) (u : Update) → KnowsLostMark (exchanged [] w (after_mark false c x u v)) c u
 lost_mark_known v c x w u = by (is_mark_of c u.state u.card)
   where
-    by : (b : Bool) → (let v' : View = exchanged [] w (if b then learning (fact.Marked c) v else unmarking c x u v) in
+    by : (b : Bool) → (let v' : View = exchanged [] w (if b then with_fact (fact.Marked c) v else unmarking c x u v) in
         MatchBool b (Knows v' (fact.Marked c)) (Knows v' (fact.Unmarkable c) × KnowsAny v' (told_by_state u.state u.card)))
     by true = knows_new (fact.Marked c) v.worker.knows
     by false = (

@@ -11,7 +11,7 @@ use Rattle.ell_core.specs.state.Machine.{ledger_of}
 use Rattle.ell_core.specs.statements.Effects.{contents_in, reply_of_change}
 use Rattle.ell_cards.specs.declared.view.View.{View}
 use Rattle.ell_cards.specs.Models.{PassModel, Steps}
-use Rattle.ell_cards.specs.Changes.{learning, if_won, exchanged}
+use Rattle.ell_cards.specs.Changes.{with_fact, if_won, exchanged}
 use Rattle.ell_tree.specs.declared.operations.NotDone.{NotDone}
 use Rattle.ell_tree.specs.declared.trying.Tried.TheVariants.{Answered}
 use Rattle.ell_tree.specs.CardsTaken.{claims_in, cards_taken, TakesNoCard, TakesAtMost, TakesCards, TakesOneIf, TryTakes}
@@ -40,9 +40,9 @@ no_claims false k c es other = refl
 
 -- such an exchange, from which a fact is learnt, takes no card
 pub learning_walks : (old new : PassModel) (won : Bool) (k : Exchange) (c n : ℕ) (f : Fact) → is_claim k ≡ false
-    → Steps old new (exchanged (if_won won k c) n (learning f old.view)) → KeepsAll old new 1
+    → Steps old new (exchanged (if_won won k c) n (with_fact f old.view)) → KeepsAll old new 1
 learning_walks old new won k c n f other s =
-    keeps_all_step old new (exchanged (if_won won k c) n (learning f old.view)) s (learning_keeps (if_won won k c) n f old.view) refl
+    keeps_all_step old new (exchanged (if_won won k c) n (with_fact f old.view)) s (learning_keeps (if_won won k c) n f old.view) refl
     (no_claims won k c old.view.won other) refl refl refl refl
 
 -- a step to a view with the same claims

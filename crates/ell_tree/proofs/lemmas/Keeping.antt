@@ -12,7 +12,7 @@ use Rattle.ell_cards.specs.declared.view.Told.{Told}
 use Rattle.ell_cards.specs.declared.view.Told.TheVariants.{Met, Info}
 use Rattle.ell_cards.specs.declared.view.View.{View}
 use Rattle.ell_cards.specs.Models.{PassModel, Counts, Sees, Steps, some_more, Has, latest, earlier, IsTold, Knows}
-use Rattle.ell_cards.specs.Changes.{facts_by, places_by, learning, exchanged, after_upd}
+use Rattle.ell_cards.specs.Changes.{facts_by, places_by, with_fact, exchanged, after_upd}
 use Rattle.ell_cards.proofs.lemmas.views.Afters.{after_down, after_key_of, after_value_of, after_info, after_frozen_child, after_next}
 use Rattle.ell_cards.proofs.lemmas.views.Facts.{knows_new, knows_more, facts_by_more}
 use Rattle.ell_cards.proofs.lemmas.views.Entries.{places_more, info_more}
@@ -231,7 +231,7 @@ info_keeps c f x v = record { ledger = refl; operation = refl; answers = refl; s
 pub frozen_keeps : (c : ℕ) (right : Bool) (x : ℕ) (v : View) → LosesNothing v (after_frozen_child c right x v)
 frozen_keeps c right x v = record { ledger = refl; operation = refl; answers = refl; share = record { share = refl; ownable = refl }; knows = λ f h. h; told = λ e h. earlier e _ _ (earlier e _ _ h); before = refl; least = omega arith; hindered = refl; earlier = λ hs e. e }
 
-pub learning_keeps : (wins : List (Exchange × ℕ)) (n : ℕ) (f : Fact) (v : View) → LosesNothing v (exchanged wins n (learning f v))
+pub learning_keeps : (wins : List (Exchange × ℕ)) (n : ℕ) (f : Fact) (v : View) → LosesNothing v (exchanged wins n (with_fact f v))
 learning_keeps wins n f v = record {
   ledger = refl;
   operation = refl;

@@ -8,7 +8,7 @@ use Rattle.ell_cards.specs.declared.view.Hindrance.{Hindrance}
 use Rattle.ell_cards.specs.declared.view.Hindrance.TheVariants.{Found}
 use Rattle.ell_cards.specs.declared.view.View.{View}
 use Rattle.ell_cards.specs.Models.{PassModel, Steps, Knows}
-use Rattle.ell_cards.specs.Changes.{learning, if_won, exchanged, found_word, found_update, is_mark_of, is_this, unmarking, after_mark}
+use Rattle.ell_cards.specs.Changes.{with_fact, if_won, exchanged, found_word, found_update, is_mark_of, is_this, unmarking, after_mark}
 use Rattle.ell_cards.proofs.lemmas.views.Facts.{knows_new, knows_more, facts_by_more}
 use Rattle.ell_cards.proofs.lemmas.views.Entries.{places_more}
 use Rattle.ell_cards.proofs.lemmas.views.Steps.{view_after}
@@ -42,7 +42,7 @@ unmarking_keeps n c p u v = record {
 module _ (n c p : ℕ) (u : Update) (old new : PassModel) where
   -- the mark was found to stand, or another update
   abbrev either : Bool → View
-  either b = exchanged [] n (if b then learning (fact.Marked c) old.view else unmarking c p u old.view)
+  either b = exchanged [] n (if b then with_fact (fact.Marked c) old.view else unmarking c p u old.view)
 
   either_works : (b : Bool) → Steps old new (either b) → KeepsAllButMet old new 1
   either_works true s = keeps_but_met_step old new (either true) s (learning_keeps [] n (fact.Marked c) old.view) refl refl refl refl refl
@@ -64,7 +64,7 @@ module _ (n c p : ℕ) (u : Update) (old new : PassModel) where
     seen = record {
       node = record { met = places_more p u.state u.card old.view.told (Met p) node.met; inner = node.inner; there = node.there };
       named = named;
-      place = place_told p u.state u.card (learning (fact.Unmarkable c) old.view) (either false) refl refl;
+      place = place_told p u.state u.card (with_fact (fact.Unmarkable c) old.view) (either false) refl refl;
     };
   })
 

@@ -15,7 +15,7 @@ use Rattle.ell_core.specs.soundness.Sound.{WorkerOwns}
 use Rattle.ell_core.proofs.lemmas.following.Lawful.{joins_lawful}
 use Rattle.ell_core.proofs.lemmas.outcomes.Decide.{some_not_none}
 use Rattle.ell_cards.specs.declared.view.View.{View}
-use Rattle.ell_cards.specs.Changes.{united_ledgers, later, joined_view, spent_view}
+use Rattle.ell_cards.specs.Changes.{united_ledgers, later_reading, joined_view, spent_view}
 use Rattle.std.specs.Option.{option_or}
 use Rattle.ell_cards.specs.Naming.{IsNamed}
 use Rattle.ell_cards.specs.States.{seat_worker, seated}
@@ -84,7 +84,7 @@ united_parts l m apart k = elim (ledger_united l m k) [
 ]
 
 -- the later of two readings is no more than both
-later_most : (most : ℕ) (a b : Option ℕ) → ((n : ℕ) → a ≡ Some n → n ≤ most) → ((n : ℕ) → b ≡ Some n → n ≤ most) → (n : ℕ) → later a b ≡ Some n → n ≤ most
+later_most : (most : ℕ) (a b : Option ℕ) → ((n : ℕ) → a ≡ Some n → n ≤ most) → ((n : ℕ) → b ≡ Some n → n ≤ most) → (n : ℕ) → later_reading a b ≡ Some n → n ≤ most
 later_most most None b h g n e = g n e
 later_most most (Some x) None h g n e = h n e
 later_most most (Some x) (Some y) h g n e =

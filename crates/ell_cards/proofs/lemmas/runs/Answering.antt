@@ -16,7 +16,7 @@ use Rattle.ell_cards.specs.declared.call.Call.TheVariants as call
 use Rattle.ell_cards.specs.declared.view.Answered.{Answered}
 use Rattle.ell_cards.specs.declared.view.View.{View}
 use Rattle.ell_cards.specs.Models.{TablePlan}
-use Rattle.ell_cards.specs.Changes.{answered_so, after_claim, after_flag, after_mark, is_mark_of, learning, unmarking, left_view, right_view, joined_view, spent_view, first_of}
+use Rattle.ell_cards.specs.Changes.{answered_so, after_claim, after_flag, after_mark, is_mark_of, with_fact, unmarking, left_view, right_view, joined_view, spent_view, first_of}
 use Rattle.ell_cards.specs.Calls.{after}
 use Rattle.ell_cards.specs.States.{TableState}
 use Rattle.ell_cards.specs.Turns.{Turn, Makes, Splits, Joins, CallIsMade, TableTurns, TableRun, found_by, view_after}
@@ -163,7 +163,7 @@ module _ (op : Op) (said : Reply) where
   mark_answered true c x u v = refl
   mark_answered false c x u v = by (is_mark_of c u.state u.card)
     where
-      by : (b : Bool) → (if b then learning (fact.Marked c) v else unmarking c x u v).answered ≡ v.answered
+      by : (b : Bool) → (if b then with_fact (fact.Marked c) v else unmarking c x u v).answered ≡ v.answered
       by true = refl
       by false = refl
 
@@ -220,7 +220,7 @@ module _ (op : Op) (said : Reply) where
   mark_busy true c x u v = refl
   mark_busy false c x u v = by (is_mark_of c u.state u.card)
     where
-      by : (b : Bool) → (if b then learning (fact.Marked c) v else unmarking c x u v).worker.operation ≡ v.worker.operation
+      by : (b : Bool) → (if b then with_fact (fact.Marked c) v else unmarking c x u v).worker.operation ≡ v.worker.operation
       by true = refl
       by false = refl
 

@@ -19,7 +19,7 @@ use Rattle.ell_cards.specs.declared.view.Told.{Told}
 use Rattle.ell_cards.specs.declared.view.Told.TheVariants.{Met, Key, Value, Info, Frozen}
 use Rattle.ell_cards.specs.declared.view.View.{View}
 use Rattle.ell_cards.specs.Models.{TablePlan, Has, latest, earlier, IsTold}
-use Rattle.ell_cards.specs.Changes.{told_filling, filling_of, filling_for, told_value, after_claim, after_flag, after_mark, is_mark_of, learning, unmarking, left_view, right_view, joined_view, spent_view}
+use Rattle.ell_cards.specs.Changes.{told_filling, filling_of, filling_for, told_value, after_claim, after_flag, after_mark, is_mark_of, with_fact, unmarking, left_view, right_view, joined_view, spent_view}
 use Rattle.ell_cards.specs.Guards.{MayClaim, Wants}
 use Rattle.ell_cards.specs.Calls.{word_of, atomic_of, left_by, after}
 use Rattle.ell_cards.specs.States.{TableState}
@@ -38,7 +38,7 @@ mark_told : (b : Bool) (c x : ℕ) (u : Update) (v : View) (e : Told) → IsTold
 mark_told true c x u v e h = h
 mark_told false c x u v e h = by (is_mark_of c u.state u.card)
   where
-    by : (b : Bool) → IsTold (if b then learning (fact.Marked c) v else unmarking c x u v) e
+    by : (b : Bool) → IsTold (if b then with_fact (fact.Marked c) v else unmarking c x u v) e
     by true = h
     by false = places_more x u.state u.card v.told e h
 

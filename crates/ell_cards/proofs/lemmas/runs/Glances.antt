@@ -33,7 +33,7 @@ use Rattle.ell_cards.specs.declared.call.Call.TheVariants as call
 use Rattle.ell_cards.specs.declared.glance.Glance.{Glance}
 use Rattle.ell_cards.specs.declared.view.Told.TheVariants.{Key, Value}
 use Rattle.ell_cards.specs.declared.view.View.{View}
-use Rattle.ell_cards.specs.Changes.{after_claim, after_flag, after_mark, is_mark_of, learning, unmarking}
+use Rattle.ell_cards.specs.Changes.{after_claim, after_flag, after_mark, is_mark_of, with_fact, unmarking}
 use Rattle.ell_cards.specs.Models.{IsTold, IsFree, Has, latest, earlier}
 use Rattle.ell_cards.specs.Guards.{MayLookDown}
 use Rattle.ell_cards.specs.Calls.{act_of, said_of, Becomes, May}
@@ -64,7 +64,7 @@ pub mark_look : (b : Bool) (c x : ℕ) (u : Update) (v : View) → (after_mark b
 mark_look true c x u v = refl
 mark_look false c x u v = by (is_mark_of c u.state u.card)
   where
-    by : (b : Bool) → (if b then learning (fact.Marked c) v else unmarking c x u v).glances ≡ v.glances
+    by : (b : Bool) → (if b then with_fact (fact.Marked c) v else unmarking c x u v).glances ≡ v.glances
     by true = refl
     by false = refl
 

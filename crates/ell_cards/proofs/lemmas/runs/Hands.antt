@@ -12,7 +12,7 @@ use Rattle.ell_core.proofs.lemmas.outcomes.Decide.{some_not_none}
 use Rattle.ell_cards.specs.declared.call.Call.{Call}
 use Rattle.ell_cards.specs.declared.call.Call.TheVariants as call
 use Rattle.ell_cards.specs.declared.view.View.{View}
-use Rattle.ell_cards.specs.Changes.{first_of, left_view, right_view, joined_view, spent_view, after_claim, after_flag, after_mark, is_mark_of, learning, unmarking}
+use Rattle.ell_cards.specs.Changes.{first_of, left_view, right_view, joined_view, spent_view, after_claim, after_flag, after_mark, is_mark_of, with_fact, unmarking}
 use Rattle.ell_cards.specs.Calls.{after, May}
 use Rattle.ell_cards.specs.States.{TableState}
 use Rattle.ell_cards.specs.Turns.{Turn, Makes, Splits, Joins, TableTurns, TableRun, found_by}
@@ -54,8 +54,8 @@ mark_keeps : (b : Bool) (c x : ℕ) (u : Update) (v w : View) → w.worker ≡ (
 mark_keeps true c x u v w same next = keeps_all v w (ap (λ k. k.card) same) next (ap (λ k. k.search.node) same)
 mark_keeps false c x u v w same next = by (is_mark_of c u.state u.card) same next
   where
-    by : (b : Bool) → w.worker ≡ (if b then learning (fact.Marked c) v else unmarking c x u v).worker
-        → w.next ≡ (if b then learning (fact.Marked c) v else unmarking c x u v).next → KeepsHand v w
+    by : (b : Bool) → w.worker ≡ (if b then with_fact (fact.Marked c) v else unmarking c x u v).worker
+        → w.next ≡ (if b then with_fact (fact.Marked c) v else unmarking c x u v).next → KeepsHand v w
     by true same next = keeps_all v w (ap (λ k. k.card) same) next (ap (λ k. k.search.node) same)
     by false same next = keeps_all v w (ap (λ k. k.card) same) next (ap (λ k. k.search.node) same)
 

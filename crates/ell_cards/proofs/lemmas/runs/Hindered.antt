@@ -43,7 +43,7 @@ use Rattle.ell_cards.specs.declared.call.Call.TheVariants as call
 use Rattle.ell_cards.specs.declared.view.Hindrance.{Hindrance}
 use Rattle.ell_cards.specs.declared.view.Hindrance.TheVariants.{Claim, Found}
 use Rattle.ell_cards.specs.declared.view.View.{View}
-use Rattle.ell_cards.specs.Changes.{unless_clean, read_in_way, first_in_way, in_the_way, way_now, after_again, after_leave, after_answer, after_claim, after_flag, after_mark, if_won, exchanged, learning, unmarking, is_mark_of, is_this}
+use Rattle.ell_cards.specs.Changes.{unless_clean, read_in_way, first_in_way, in_the_way, way_now, after_again, after_leave, after_answer, after_claim, after_flag, after_mark, if_won, exchanged, with_fact, unmarking, is_mark_of, is_this}
 use Rattle.ell_cards.proofs.lemmas.views.Searches.{seen_at}
 use Rattle.ell_cards.specs.Calls.{after, May}
 use Rattle.ell_cards.specs.States.{TableState, seat_worker}
@@ -461,7 +461,7 @@ module _ (keys : List ℕ) (cards : ℕ) (m0 : Machine) (stage : Stages) (first 
           (λ k d busy has flagged. hand_later d (rely.hand d (ap (λ (z : Worker). z.card) me ∙ has)) (hindered.hand k d busy has flagged))
       held false e other apart = quiet _ refl refl refl refl refl refl (λ seen h. h)
 
-      lost : (b : Bool) → is_mark_of c (unpacked n).state (unpacked n).card ≡ b → n ≢ was → HinderedSince m0.words stage later_words ends old (exchanged [] n (if b then learning (Marked c) v else unmarking c p (unpacked n) v))
+      lost : (b : Bool) → is_mark_of c (unpacked n).state (unpacked n).card ≡ b → n ≢ was → HinderedSince m0.words stage later_words ends old (exchanged [] n (if b then with_fact (Marked c) v else unmarking c p (unpacked n) v))
       lost true e other = quiet _ refl refl refl refl refl refl (λ seen h. h)
       lost false e other = held (is_this v.worker.card c) refl other e
 

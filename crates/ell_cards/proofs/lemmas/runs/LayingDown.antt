@@ -12,7 +12,7 @@ use Rattle.ell_cards.specs.declared.call.Call.{Call}
 use Rattle.ell_cards.specs.declared.call.Call.TheVariants as call
 use Rattle.ell_cards.specs.declared.view.View.{View}
 use Rattle.ell_cards.specs.Models.{TablePlan, IsFree}
-use Rattle.ell_cards.specs.Changes.{after_claim, after_flag, after_mark, is_mark_of, learning, unmarking, first_of}
+use Rattle.ell_cards.specs.Changes.{after_claim, after_flag, after_mark, is_mark_of, with_fact, unmarking, first_of}
 use Rattle.ell_cards.specs.Calls.{after}
 use Rattle.ell_cards.specs.States.{TableState}
 use Rattle.ell_cards.specs.Starts.{Starts}
@@ -94,7 +94,7 @@ module _ (op : Op) where
   mark_laid true c x u v = refl
   mark_laid false c x u v = by (is_mark_of c u.state u.card)
     where
-      by : (b : Bool) → (if b then learning (fact.Marked c) v else unmarking c x u v).laid_down ≡ v.laid_down
+      by : (b : Bool) → (if b then with_fact (fact.Marked c) v else unmarking c x u v).laid_down ≡ v.laid_down
       by true = refl
       by false = refl
 

@@ -17,7 +17,7 @@ use Rattle.ell_cards.specs.declared.call.Call.{Call}
 use Rattle.ell_cards.specs.declared.call.Call.TheVariants as call
 use Rattle.ell_cards.specs.declared.view.View.{View}
 use Rattle.ell_cards.specs.Models.{IsFree, Knows}
-use Rattle.ell_cards.specs.Changes.{after_mark, is_mark_of, learning, unmarking}
+use Rattle.ell_cards.specs.Changes.{after_mark, is_mark_of, with_fact, unmarking}
 use Rattle.ell_cards.specs.Calls.{after, May}
 use Rattle.ell_cards.specs.States.{TableState}
 use Rattle.ell_cards.specs.Machines.{HasMachine}
@@ -57,7 +57,7 @@ mark_held : (b : Bool) (d x : ℕ) (u : Update) (v w : View) → w.worker ≡ (a
 mark_held true d x u v w same c h = record { holds = ap (λ k. k.card) same ∙ h.holds; flagged = ap (λ k. k.flagged) same ∙ h.flagged }
 mark_held false d x u v w same c h = by (is_mark_of d u.state u.card) same
   where
-    by : (b : Bool) → w.worker ≡ (if b then learning (fact.Marked d) v else unmarking d x u v).worker → HasFlagged w c
+    by : (b : Bool) → w.worker ≡ (if b then with_fact (fact.Marked d) v else unmarking d x u v).worker → HasFlagged w c
     by true same = record { holds = ap (λ k. k.card) same ∙ h.holds; flagged = ap (λ k. k.flagged) same ∙ h.flagged }
     by false same = record { holds = ap (λ k. k.card) same ∙ h.holds; flagged = ap (λ k. k.flagged) same ∙ h.flagged }
 

@@ -16,7 +16,7 @@ use Rattle.ell_cards.specs.declared.view.Told.{Told}
 use Rattle.ell_cards.specs.declared.view.Told.TheVariants.{Met}
 use Rattle.ell_cards.specs.declared.view.View.{View}
 use Rattle.ell_cards.specs.Models.{TablePlan, latest, IsTold}
-use Rattle.ell_cards.specs.Changes.{first_of, left_view, right_view, joined_view, after_claim, after_flag, after_mark, is_mark_of, learning, unmarking}
+use Rattle.ell_cards.specs.Changes.{first_of, left_view, right_view, joined_view, after_claim, after_flag, after_mark, is_mark_of, with_fact, unmarking}
 use Rattle.ell_cards.proofs.lemmas.views.Searches.{seen_at}
 use Rattle.ell_cards.specs.Calls.{after, May}
 use Rattle.ell_cards.specs.States.{TableState}
@@ -79,7 +79,7 @@ mark_search : (b : Bool) (c x : ℕ) (u : Update) (v : View) → (after_mark b c
 mark_search true c x u v = refl
 mark_search false c x u v = by (is_mark_of c u.state u.card)
   where
-    by : (b : Bool) → (if b then learning (fact.Marked c) v else unmarking c x u v).worker.search ≡ v.worker.search
+    by : (b : Bool) → (if b then with_fact (fact.Marked c) v else unmarking c x u v).worker.search ≡ v.worker.search
     by true = refl
     by false = refl
 

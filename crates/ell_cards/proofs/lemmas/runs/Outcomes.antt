@@ -37,7 +37,7 @@ use Rattle.ell_cards.specs.declared.view.View.{View}
 use Rattle.ell_cards.specs.Models.{TablePlan, Knows}
 use Rattle.ell_cards.specs.Guards.{MayFill, IsFilled}
 use Rattle.ell_cards.specs.Laws.{machine_of_table}
-use Rattle.ell_cards.specs.Changes.{if_won, exchanged, after_flag, learning, unmarking, is_mark_of, after_mark}
+use Rattle.ell_cards.specs.Changes.{if_won, exchanged, after_flag, with_fact, unmarking, is_mark_of, after_mark}
 use Rattle.ell_cards.specs.Calls.{word_of, atomic_of, left_by, is_won, after, May, update_address}
 use Rattle.ell_cards.specs.States.{TableState, seat_worker}
 use Rattle.ell_cards.specs.TurnEffects.{own_words}
@@ -306,7 +306,7 @@ module _ (plan : TablePlan) (s : TableState) (h : IsReached plan s) (id : ℕ) (
   mark_teaches : (c p was n : ℕ) → KnowsOf (after (call.Mark c p was) n v) c (if n == was then true else n == marked c)
   mark_teaches c p was n = by (n == was)
     where
-      lost : (b : Bool) → b ≡ (n == marked c) → KnowsOf (if b then learning (fact.Marked c) v else unmarking c p (unpacked n) v) c b
+      lost : (b : Bool) → b ≡ (n == marked c) → KnowsOf (if b then with_fact (fact.Marked c) v else unmarking c p (unpacked n) v) c b
       lost true e = knows_new (fact.Marked c) v.worker.knows
       lost false e = facts_by_more (unpacked n).state (unpacked n).card (fact.Unmarkable c ∷ v.worker.knows) (fact.Unmarkable c) (knows_new (fact.Unmarkable c) v.worker.knows)
 

@@ -12,7 +12,7 @@ use Rattle.ell_cards.specs.declared.call.Call.{Call}
 use Rattle.ell_cards.specs.declared.call.Call.TheVariants as call
 use Rattle.ell_cards.specs.declared.view.View.{View}
 use Rattle.ell_cards.specs.Models.{IsFree}
-use Rattle.ell_cards.specs.Changes.{after_claim, after_flag, after_mark, is_mark_of, learning, unmarking, left_view, right_view, joined_view, spent_view}
+use Rattle.ell_cards.specs.Changes.{after_claim, after_flag, after_mark, is_mark_of, with_fact, unmarking, left_view, right_view, joined_view, spent_view}
 use Rattle.ell_cards.specs.Calls.{after, May}
 use Rattle.ell_cards.specs.States.{TableState}
 use Rattle.ell_cards.specs.Turns.{Turn, Makes, Splits, Joins, TableTurns, TableRun, found_by, view_after}
@@ -37,7 +37,7 @@ mark_free : (b : Bool) (c x : ℕ) (u : Update) (v w : View) → w.worker ≡ (a
 mark_free true c x u v w same free = record { free = ap (λ k. k.operation) same ∙ free; ledger = ap (λ k. k.ledger) same }
 mark_free false c x u v w same free = by (is_mark_of c u.state u.card) same
   where
-    by : (b : Bool) → w.worker ≡ (if b then learning (fact.Marked c) v else unmarking c x u v).worker → StaysFree v w
+    by : (b : Bool) → w.worker ≡ (if b then with_fact (fact.Marked c) v else unmarking c x u v).worker → StaysFree v w
     by true same = record { free = ap (λ k. k.operation) same ∙ free; ledger = ap (λ k. k.ledger) same }
     by false same = record { free = ap (λ k. k.operation) same ∙ free; ledger = ap (λ k. k.ledger) same }
 

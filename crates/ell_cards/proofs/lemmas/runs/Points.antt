@@ -38,7 +38,7 @@ use Rattle.ell_core.specs.state.Facts.{card_of_fact}
 use Rattle.ell_core.specs.state.Machine.{worker_of}
 use Rattle.ell_core.specs.history.Stages.{allows}
 use Rattle.ell_cards.specs.declared.view.View.{View}
-use Rattle.ell_cards.specs.Changes.{after_claim, after_flag, after_mark, is_mark_of, learning, unmarking}
+use Rattle.ell_cards.specs.Changes.{after_claim, after_flag, after_mark, is_mark_of, with_fact, unmarking}
 use Rattle.ell_cards.specs.Models.{Does, Knows}
 use Rattle.ell_cards.specs.Guards.{CardIsOver, KnowsAnswerAtLeaf}
 use Rattle.ell_cards.specs.Calls.{atomic_of, is_won, after}
@@ -148,7 +148,7 @@ module _ (keys : List ℕ) (cards : ℕ) where
   hand_mark old low true d y u v w same h c e = h c (sym (ap (λ k. k.card) same) ∙ e)
   hand_mark old low false d y u v w same h c e = by (is_mark_of d u.state u.card) same
     where
-      by : (b : Bool) → w.worker ≡ (if b then learning (fact.Marked d) v else unmarking d y u v).worker → (old ≡ Some c) ⊎ (low ≤ c)
+      by : (b : Bool) → w.worker ≡ (if b then with_fact (fact.Marked d) v else unmarking d y u v).worker → (old ≡ Some c) ⊎ (low ≤ c)
       by true same = h c (sym (ap (λ k. k.card) same) ∙ e)
       by false same = h c (sym (ap (λ k. k.card) same) ∙ e)
 

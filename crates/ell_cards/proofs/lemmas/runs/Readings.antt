@@ -16,7 +16,7 @@ use Rattle.ell_cards.specs.declared.call.Call.TheVariants as call
 use Rattle.ell_cards.specs.declared.view.Hindrance.{Hindrance}
 use Rattle.ell_cards.specs.declared.view.Hindrance.TheVariants.{Claim, Found}
 use Rattle.ell_cards.specs.declared.view.View.{View}
-use Rattle.ell_cards.specs.Changes.{first_of, left_view, right_view, joined_view, later, unless_clean, read_in_way, first_in_way, in_the_way, way_now, after_claim, after_flag, after_mark, is_mark_of, is_this, learning, unmarking}
+use Rattle.ell_cards.specs.Changes.{first_of, left_view, right_view, joined_view, later_reading, unless_clean, read_in_way, first_in_way, in_the_way, way_now, after_claim, after_flag, after_mark, is_mark_of, is_this, with_fact, unmarking}
 use Rattle.ell_cards.specs.Calls.{word_of, after, May}
 use Rattle.ell_cards.specs.States.{TableState}
 use Rattle.ell_cards.specs.Machines.{HasMachine}
@@ -45,7 +45,7 @@ read_rises : (n m : ℕ) (o : Option ℕ) → n ≤ m → IsRead n o → IsRead 
 read_rises n m None low h = tt
 read_rises n m (Some k) low h = omega arith
 
-read_later : (n : ℕ) (o p : Option ℕ) → IsRead n o → IsRead n p → IsRead n (later o p)
+read_later : (n : ℕ) (o p : Option ℕ) → IsRead n o → IsRead n p → IsRead n (later_reading o p)
 read_later n None p a b = b
 read_later n (Some k) None a b = a
 read_later n (Some k) (Some l) a b = omega arith
@@ -94,7 +94,7 @@ past_mark n false c x u v h = by (is_mark_of c u.state u.card) (is_this v.worker
     hinders true = h.claims
     hinders false = h.claims
 
-    by : (marked held : Bool) → IsPast n (if marked then learning (Marked c) v else unmarking c x u v)
+    by : (marked held : Bool) → IsPast n (if marked then with_fact (Marked c) v else unmarking c x u v)
     by true held = record { next = h.next; claims = h.claims }
     by false held = record { next = h.next; claims = hinders (is_this v.worker.card c) }
 
@@ -116,11 +116,11 @@ past_after last n m call.Next found v low is may h =
 past_after last n m (call.Claim c) found v low is may h =
     subst (λ (k : ℕ). IsPast m (after_claim (k == c) c v)) (sym (is refl)) (past_claim n m (n == c) c v refl low may.0.read h)
 past_after last n m (call.IFlag c p from) found v low is may h =
-    let later = past_flag m (found == packed from) (IFlagged c) p (unpacked found) v (past_rises n m v low h) in record { next = later.next; claims = later.claims }
+    let later_reading = past_flag m (found == packed from) (IFlagged c) p (unpacked found) v (past_rises n m v low h) in record { next = later_reading.next; claims = later_reading.claims }
 past_after last n m (call.DFlag c gp from) found v low is may h =
-    let later = past_flag m (found == packed from) (DFlagged c) gp (unpacked found) v (past_rises n m v low h) in record { next = later.next; claims = later.claims }
+    let later_reading = past_flag m (found == packed from) (DFlagged c) gp (unpacked found) v (past_rises n m v low h) in record { next = later_reading.next; claims = later_reading.claims }
 past_after last n m (call.Mark c p was) found v low is may h =
-    let later = past_mark m (found == was) c p (unpacked found) v (past_rises n m v low h) in record { next = later.next; claims = later.claims }
+    let later_reading = past_mark m (found == was) c p (unpacked found) v (past_rises n m v low h) in record { next = later_reading.next; claims = later_reading.claims }
 past_after last n m _ found v low is may h = record { next = read_rises n m v.next low h.next; claims = below_rises n m v.hindrances low h.claims }
 
 -- what each pass knows of the claim word is past

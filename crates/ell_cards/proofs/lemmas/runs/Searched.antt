@@ -25,7 +25,7 @@ use Rattle.ell_cards.specs.declared.call.Call.TheVariants as call
 use Rattle.ell_cards.specs.declared.view.Told.{Told}
 use Rattle.ell_cards.specs.declared.view.Told.TheVariants.{Value}
 use Rattle.ell_cards.specs.declared.view.View.{View}
-use Rattle.ell_cards.specs.Changes.{after_claim, after_flag, after_mark, is_mark_of, learning, unmarking}
+use Rattle.ell_cards.specs.Changes.{after_claim, after_flag, after_mark, is_mark_of, with_fact, unmarking}
 use Rattle.ell_cards.specs.Models.{IsTold, Does, StandsAt}
 use Rattle.ell_cards.specs.Guards.{MayGoDown, TellsOf, KnowsAnswerAtLeaf}
 use Rattle.ell_cards.specs.Calls.{May}
@@ -62,7 +62,7 @@ mark_stays : (b : Bool) (c y : ℕ) (u : Update) (v w : View) → w.worker ≡ (
 mark_stays true c y u v w same op x does stands = (sym (ap (λ k. k.operation) same) ∙ does, sym (ap (λ k. k.search.node) same) ∙ stands)
 mark_stays false c y u v w same op x does stands = by (is_mark_of c u.state u.card) same
   where
-    by : (b : Bool) → w.worker ≡ (if b then learning (fact.Marked c) v else unmarking c y u v).worker → Does v op × StandsAt v x
+    by : (b : Bool) → w.worker ≡ (if b then with_fact (fact.Marked c) v else unmarking c y u v).worker → Does v op × StandsAt v x
     by true same = (sym (ap (λ k. k.operation) same) ∙ does, sym (ap (λ k. k.search.node) same) ∙ stands)
     by false same = (sym (ap (λ k. k.operation) same) ∙ does, sym (ap (λ k. k.search.node) same) ∙ stands)
 
@@ -151,7 +151,7 @@ module _ (keys : List ℕ) (cards : ℕ) (seat key : ℕ) (real : key ≤ greate
         marks true u w same = stays w (λ op d. sym (ap (λ k. k.operation) same) ∙ d) (mark_stays true c p u at.view w same)
         marks false u w same = by (is_mark_of c u.state u.card) same
           where
-            by : (b : Bool) → w.worker ≡ (if b then learning (fact.Marked c) at.view else unmarking c p u at.view).worker → Goes met w
+            by : (b : Bool) → w.worker ≡ (if b then with_fact (fact.Marked c) at.view else unmarking c p u at.view).worker → Goes met w
             by true same = stays w (λ op d. sym (ap (λ k. k.operation) same) ∙ d)
                 (λ op x d e. (sym (ap (λ k. k.operation) same) ∙ d, sym (ap (λ k. k.search.node) same) ∙ e))
             by false same = stays w (λ op d. sym (ap (λ k. k.operation) same) ∙ d)

@@ -23,7 +23,7 @@ use Rattle.ell_cards.specs.declared.call.Call.TheVariants as call
 use Rattle.ell_cards.specs.declared.view.Hindrance.{Hindrance}
 use Rattle.ell_cards.specs.declared.view.Hindrance.TheVariants.{Claim, Found}
 use Rattle.ell_cards.specs.declared.view.View.{View}
-use Rattle.ell_cards.specs.Changes.{if_won, exchanged, after_claim, after_flag, after_mark, is_mark_of, is_this, learning, unmarking, unless_clean, read_in_way, first_in_way, in_the_way, way_now, update_over, is_over, was_hindered, tries_hindered}
+use Rattle.ell_cards.specs.Changes.{if_won, exchanged, after_claim, after_flag, after_mark, is_mark_of, is_this, with_fact, unmarking, unless_clean, read_in_way, first_in_way, in_the_way, way_now, update_over, is_over, was_hindered, tries_hindered}
 use Rattle.ell_cards.proofs.lemmas.runs.InHand.{met_in_try}
 use Rattle.std.specs.List.{list_all}
 use Rattle.ell_cards.specs.Calls.{after, May}
@@ -489,8 +489,8 @@ module _ (plan : TablePlan) where
           held true g = alike _ g refl refl refl (λ y. refl) (lost_on v.won (λ y low. refl))
           held false g = alike _ g refl refl refl (λ y. refl) (lost_on v.won (λ y low. refl))
 
-          by : (b : Bool) → Grows s v s' (exchanged [] n (if b then learning (fact.Marked d) v else unmarking d x (unpacked n) v))
-              → Rests s v s' (exchanged [] n (if b then learning (fact.Marked d) v else unmarking d x (unpacked n) v))
+          by : (b : Bool) → Grows s v s' (exchanged [] n (if b then with_fact (fact.Marked d) v else unmarking d x (unpacked n) v))
+              → Rests s v s' (exchanged [] n (if b then with_fact (fact.Marked d) v else unmarking d x (unpacked n) v))
           by true g = alike _ g refl refl refl (λ y. refl) (lost_on v.won (λ y low. refl))
           by false g = held (is_this v.worker.card d) g
 
@@ -616,8 +616,8 @@ module _ (plan : TablePlan) where
   call_stays (call.DFlag c gp from) n v keeps may free = absurd (some_not_none may.busy free)
   call_stays (call.Mark c p was) n v keeps may free = by (n == was)
     where
-      lost : (b : Bool) → ((if b then learning (fact.Marked c) v else unmarking c p (unpacked n) v).worker.operation ≡ None)
-          × ((if b then learning (fact.Marked c) v else unmarking c p (unpacked n) v).hindered ≡ v.hindered)
+      lost : (b : Bool) → ((if b then with_fact (fact.Marked c) v else unmarking c p (unpacked n) v).worker.operation ≡ None)
+          × ((if b then with_fact (fact.Marked c) v else unmarking c p (unpacked n) v).hindered ≡ v.hindered)
       lost true = (free, refl)
       lost false = (free, refl)
 

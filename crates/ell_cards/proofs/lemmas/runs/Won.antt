@@ -14,7 +14,7 @@ use Rattle.ell_cards.specs.declared.call.Call.{Call}
 use Rattle.ell_cards.specs.declared.call.Call.TheVariants as call
 use Rattle.ell_cards.specs.declared.view.View.{View}
 use Rattle.ell_word.specs.declared.update.Update.{Update}
-use Rattle.ell_cards.specs.Changes.{if_won, after_claim, after_flag, after_mark, is_mark_of, learning, unmarking, left_view, right_view, joined_view, spent_view}
+use Rattle.ell_cards.specs.Changes.{if_won, after_claim, after_flag, after_mark, is_mark_of, with_fact, unmarking, left_view, right_view, joined_view, spent_view}
 use Rattle.ell_cards.specs.Calls.{atomic_of, is_won, after}
 use Rattle.ell_cards.specs.States.{TableState}
 use Rattle.ell_cards.specs.Turns.{Turn, Makes, Splits, Joins, TableTurns, TableRun, found_by}
@@ -80,7 +80,7 @@ mark_won : (b : Bool) (c x : ℕ) (u : Update) (v : View) → (after_mark b c x 
 mark_won true c x u v = refl
 mark_won false c x u v = by (is_mark_of c u.state u.card)
   where
-    by : (b : Bool) → (if b then learning (fact.Marked c) v else unmarking c x u v).won ≡ v.won
+    by : (b : Bool) → (if b then with_fact (fact.Marked c) v else unmarking c x u v).won ≡ v.won
     by true = refl
     by false = refl
 

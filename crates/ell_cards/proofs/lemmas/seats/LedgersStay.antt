@@ -3,7 +3,7 @@ use Rattle.ell_word.specs.declared.update.Update.{Update}
 use Rattle.ell_core.specs.declared.fact.Fact.{Fact}
 use Rattle.ell_core.specs.declared.fact.Fact.TheVariants.{Marked}
 use Rattle.ell_cards.specs.declared.view.View.{View}
-use Rattle.ell_cards.specs.Changes.{after_claim, after_flag, after_mark, is_mark_of, learning, unmarking}
+use Rattle.ell_cards.specs.Changes.{after_claim, after_flag, after_mark, is_mark_of, with_fact, unmarking}
 
 -- a claim, a flag and a mark leave the ledger
 pub claim_ledger : (b : Bool) (c : ℕ) (v : View) → (after_claim b c v).worker.ledger ≡ v.worker.ledger
@@ -18,7 +18,7 @@ pub mark_ledger : (b : Bool) (c x : ℕ) (u : Update) (v : View) → (after_mark
 mark_ledger true c x u v = refl
 mark_ledger false c x u v = by (is_mark_of c u.state u.card)
   where
-    by : (b : Bool) → (if b then learning (Marked c) v else unmarking c x u v).worker.ledger ≡ v.worker.ledger
+    by : (b : Bool) → (if b then with_fact (Marked c) v else unmarking c x u v).worker.ledger ≡ v.worker.ledger
     by true = refl
     by false = refl
 
@@ -35,6 +35,6 @@ pub mark_list : (b : Bool) (c x : ℕ) (u : Update) (v : View) → (after_mark b
 mark_list true c x u v = refl
 mark_list false c x u v = by (is_mark_of c u.state u.card)
   where
-    by : (b : Bool) → (if b then learning (Marked c) v else unmarking c x u v).worker.shared ≡ v.worker.shared
+    by : (b : Bool) → (if b then with_fact (Marked c) v else unmarking c x u v).worker.shared ≡ v.worker.shared
     by true = refl
     by false = refl

@@ -14,7 +14,7 @@ use Rattle.ell_cards.specs.declared.call.Call.TheVariants as call
 use Rattle.ell_cards.specs.declared.view.View.{View}
 use Rattle.ell_cards.specs.declared.view.Told.TheVariants.{Met, Info}
 use Rattle.ell_cards.specs.Models.{KnowsCard, PassModel, Sees, Steps}
-use Rattle.ell_cards.specs.Changes.{ledger_keys, with_entry, answered_ledger, after_claim, after_mark, after_flag, is_mark_of, learning, unmarking}
+use Rattle.ell_cards.specs.Changes.{ledger_keys, with_entry, answered_ledger, after_claim, after_mark, after_flag, is_mark_of, with_fact, unmarking}
 use Rattle.ell_cards.specs.Calls.{word_of, after, May}
 use Rattle.ell_cards.specs.Naming.{IsNamed}
 use Rattle.ell_cards.specs.Stepping.{KeepsPass, SeesBy, StepsBy, IsTaken, SameShare}
@@ -71,7 +71,7 @@ share_mark : (b : Bool) (c x : ℕ) (u : Update) (v : View) → (after_mark b c 
 share_mark true c x u v = refl
 share_mark false c x u v = by (is_mark_of c u.state u.card)
   where
-    by : (b : Bool) → (if b then learning (Marked c) v else unmarking c x u v).share ≡ v.share
+    by : (b : Bool) → (if b then with_fact (Marked c) v else unmarking c x u v).share ≡ v.share
     by true = refl
     by false = refl
 

@@ -21,7 +21,7 @@ use Rattle.ell_cards.specs.declared.view.Told.{Told}
 use Rattle.ell_cards.specs.declared.view.Told.TheVariants.{Key, Frozen}
 use Rattle.ell_cards.specs.declared.view.View.{View}
 use Rattle.ell_cards.specs.Models.{IsTold}
-use Rattle.ell_cards.specs.Changes.{learning, if_won, exchanged, after_mark, unmarking, is_mark_of}
+use Rattle.ell_cards.specs.Changes.{with_fact, if_won, exchanged, after_mark, unmarking, is_mark_of}
 use Rattle.ell_cards.specs.Guards.{MayMark, MayDChild, KnowsPlace, IsSibling}
 use Rattle.ell_cards.specs.States.{TableState}
 use Rattle.ell_cards.specs.Machines.{EntryHolds, HasMachine}
@@ -44,7 +44,7 @@ marking_worker v c x n true = refl
 marking_worker v c x n false = by (is_mark_of c (unpacked n).state (unpacked n).card) (is_mark c n)
   where
     by : (m : Bool) → m ≡ (n == marked c)
-        → worker_of (if m then learning (Marked c) v else unmarking c x (unpacked n) v).worker
+        → worker_of (if m then with_fact (Marked c) v else unmarking c x (unpacked n) v).worker
         ≡ knowing (worker_of v.worker) (if n == marked c then learned (known_of v.worker.knows) (Marked c)
         else learned_any (learned (known_of v.worker.knows) (Unmarkable c)) (told_by n))
     by true e = ap (λ b. knowing (worker_of v.worker) (if b then learned (known_of v.worker.knows) (Marked c)
@@ -59,7 +59,7 @@ module _ (keys : List ℕ) (cards : ℕ) (s : TableState) (r : HasMachine keys c
   mark_on c x n true = learning_on keys cards s r id v here (Marked c) (if_won true exchange.Mark c) n
   mark_on c x n false = by (is_mark_of c (unpacked n).state (unpacked n).card)
     where
-      by : (m : Bool) → Onward r.words r.stages v (exchanged [] n (if m then learning (Marked c) v else unmarking c x (unpacked n) v))
+      by : (m : Bool) → Onward r.words r.stages v (exchanged [] n (if m then with_fact (Marked c) v else unmarking c x (unpacked n) v))
       by true = learning_on keys cards s r id v here (Marked c) [] n
       by false = record {
         here = λ y key at told. places_more x (unpacked n).state (unpacked n).card v.told (Key y key) ((r.views id v here).here y key at told);
@@ -80,7 +80,7 @@ module _ (keys : List ℕ) (cards : ℕ) (s : TableState) (r : HasMachine keys c
   mark_entries c x n reads is true = (r.views id v here).entries
   mark_entries c x n reads is false = by (is_mark_of c (unpacked n).state (unpacked n).card)
     where
-      by : (m : Bool) (e : Told) → IsTold (if m then learning (Marked c) v else unmarking c x (unpacked n) v) e → EntryHolds r.words r.stages e
+      by : (m : Bool) (e : Told) → IsTold (if m then with_fact (Marked c) v else unmarking c x (unpacked n) v) e → EntryHolds r.words r.stages e
       by true = (r.views id v here).entries
       by false = found_entries keys cards s r id v here x n v.told reads is (r.views id v here).entries
 
@@ -165,7 +165,7 @@ module _ (keys : List ℕ) (cards : ℕ) (s : TableState) (r : HasMachine keys c
             words = (ap (λ z. exchanged_words keys cards s r id v here (card gp) g y (n == z)) (sym p_is)
                 ∙ (child_exchanged w (w.gp c) gp (w.p c) y n right gp_is inner side is
                 ∙ ap (λ z. exchanged_child w (w.gp c) (w.p c) z) (sym y_is))) t;
-            worker = worker_of (learning (Cut c) v).worker;
+            worker = worker_of (with_fact (Cut c) v).worker;
           };
         };
         room = λ h. h;

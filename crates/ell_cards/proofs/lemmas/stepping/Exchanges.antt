@@ -26,7 +26,7 @@ use Rattle.ell_cards.specs.declared.view.Told.{Told}
 use Rattle.ell_cards.specs.declared.view.Told.TheVariants.{Info, Key}
 use Rattle.ell_cards.specs.declared.view.View.{View}
 use Rattle.ell_cards.specs.Models.{IsTold}
-use Rattle.ell_cards.specs.Changes.{learning, if_won, exchanged}
+use Rattle.ell_cards.specs.Changes.{with_fact, if_won, exchanged}
 use Rattle.ell_cards.specs.States.{TableState}
 use Rattle.ell_cards.specs.Machines.{EntryHolds, HasMachine}
 use Rattle.ell_cards.specs.Calls.{after}
@@ -105,7 +105,7 @@ module _ (keys : List ℕ) (cards : ℕ) (s : TableState) (r : HasMachine keys c
           }
 
   -- what is so of a pass that an exchange taught a fact
-  pub learning_on : (new : Fact) (wins : List (Exchange × ℕ)) (n : ℕ) → Onward r.words r.stages v (exchanged wins n (learning new v))
+  pub learning_on : (new : Fact) (wins : List (Exchange × ℕ)) (n : ℕ) → Onward r.words r.stages v (exchanged wins n (with_fact new v))
   learning_on new wins n = record {
     here = (r.views id v here).here;
     hand = λ c has un. (has, un, refl, refl);
@@ -123,12 +123,12 @@ module _ (keys : List ℕ) (cards : ℕ) (s : TableState) (r : HasMachine keys c
       → address d g < length s.words → waits (r.stages d) ≡ false → k ≢ exchange.IFlag → k ≢ exchange.DFlag
       → ((e : ℕ) → wins_by a v.worker.card Won e ≡ win_for (Some c) k e) → ((e : ℕ) → wins_by a v.worker.card Lost e ≡ [])
       → Happens cards a (mine keys cards s r id v here) (won_or_lost (found_at d g == expected))
-      (becomes keys cards s r id v here (exchanged_words d g value (found_at d g == expected)) (learning new v))
+      (becomes keys cards s r id v here (exchanged_words d g value (found_at d g == expected)) (with_fact new v))
       → IsReached keys cards s r id v here (set s.words (address d g) (if found_at d g == expected then value else found_at d g))
-      (exchanged_words d g value (found_at d g == expected)) (exchanged (if_won (found_at d g == expected) k c) (found_at d g) (learning new v)) a (won_or_lost (found_at d g == expected))
+      (exchanged_words d g value (found_at d g == expected)) (exchanged (if_won (found_at d g == expected) k c) (found_at d g) (with_fact new v)) a (won_or_lost (found_at d g == expected))
   teaches a d g expected value new k c fits calm not_i not_d wins none happens =
-      exchange_leads a d g expected value (λ b. exchanged (if_won b k c) (found_at d g) (learning new v)) fits calm happens
-      (λ stages led e f wait still. absurd (flags_never a Won (written r.words d g value) (exchanged (if_won true k c) (found_at d g) (learning new v)) stages led k c not_i not_d wins e wait still))
+      exchange_leads a d g expected value (λ b. exchanged (if_won b k c) (found_at d g) (with_fact new v)) fits calm happens
+      (λ stages led e f wait still. absurd (flags_never a Won (written r.words d g value) (exchanged (if_won true k c) (found_at d g) (with_fact new v)) stages led k c not_i not_d wins e wait still))
       none (λ b. (r.views id v here).entries) (λ b. learning_on new (if_won b k c) (found_at d g))
 
 module _ (w : Words) (x y expected value n : ℕ) (same : x ≡ y) (inner : IsInternal x) (is : w.update x ≡ n) where
@@ -157,14 +157,14 @@ module _ (keys : List ℕ) (cards : ℕ) (s : TableState) (r : HasMachine keys c
   pub unflags : (a : Act) (c x y flag : ℕ) (new : Fact) (k : Exchange) → x ≡ y → IsInnerBorn r.stages x → k ≢ exchange.IFlag → k ≢ exchange.DFlag
       → ((e : ℕ) → wins_by a v.worker.card Won e ≡ win_for (Some c) k e) → ((e : ℕ) → wins_by a v.worker.card Lost e ≡ [])
       → (won_or_lost (found_at keys cards s r id v here (card y) field.Update == flag) ≡ won_or_lost (r.words.update x == flag)
-      → becomes keys cards s r id v here (exchanged_words keys cards s r id v here (card y) field.Update (clean c) (found_at keys cards s r id v here (card y) field.Update == flag)) (learning new v)
+      → becomes keys cards s r id v here (exchanged_words keys cards s r id v here (card y) field.Update (clean c) (found_at keys cards s r id v here (card y) field.Update == flag)) (with_fact new v)
       ≡ record { words = exchanged_update r.words x flag (clean c); worker = knowing (worker_of v.worker) (learned (worker_of v.worker).knows new) }
       → Happens cards a (mine keys cards s r id v here) (won_or_lost (found_at keys cards s r id v here (card y) field.Update == flag))
-      (becomes keys cards s r id v here (exchanged_words keys cards s r id v here (card y) field.Update (clean c) (found_at keys cards s r id v here (card y) field.Update == flag)) (learning new v)))
+      (becomes keys cards s r id v here (exchanged_words keys cards s r id v here (card y) field.Update (clean c) (found_at keys cards s r id v here (card y) field.Update == flag)) (with_fact new v)))
       → IsReached keys cards s r id v here
       (set s.words (address (card y) field.Update) (if found_at keys cards s r id v here (card y) field.Update == flag then clean c else found_at keys cards s r id v here (card y) field.Update))
       (exchanged_words keys cards s r id v here (card y) field.Update (clean c) (found_at keys cards s r id v here (card y) field.Update == flag))
-      (exchanged (if_won (found_at keys cards s r id v here (card y) field.Update == flag) k c) (found_at keys cards s r id v here (card y) field.Update) (learning new v)) a (won_or_lost (found_at keys cards s r id v here (card y) field.Update == flag))
+      (exchanged (if_won (found_at keys cards s r id v here (card y) field.Update == flag) k c) (found_at keys cards s r id v here (card y) field.Update) (with_fact new v)) a (won_or_lost (found_at keys cards s r id v here (card y) field.Update == flag))
   unflags a c x y flag new k same node not_i not_d wins none happens =
       let n = found_at keys cards s r id v here (card y) field.Update in
       let born = subst (Born r.stages) same node.born in
@@ -172,4 +172,4 @@ module _ (keys : List ℕ) (cards : ℕ) (s : TableState) (r : HasMachine keys c
       teaches keys cards s r id v here a (card y) field.Update flag (clean c) new k c
       (in_list keys cards s r id v here y field.Update born) (born-settled (r.stages (card y)) (y % 4) born) not_i not_d wins none
       (happens (update_says r.words x y flag (clean c) n same node.inner is)
-      (λ t. record { words = update_exchanged r.words x y flag (clean c) n same node.inner is t; worker = worker_of (learning new v).worker }))
+      (λ t. record { words = update_exchanged r.words x y flag (clean c) n same node.inner is t; worker = worker_of (with_fact new v).worker }))

@@ -14,7 +14,7 @@ use Rattle.ell_core.specs.acts.Exchanges.{won_or_lost}
 use Rattle.ell_core.specs.history.Stages.{Born}
 use Rattle.ell_cards.specs.declared.call.Call.TheVariants as call
 use Rattle.ell_cards.specs.declared.view.View.{View}
-use Rattle.ell_cards.specs.Changes.{learning}
+use Rattle.ell_cards.specs.Changes.{with_fact}
 use Rattle.ell_cards.specs.Guards.{MayIChild, KnowsPlace}
 use Rattle.ell_cards.specs.States.{TableState}
 use Rattle.ell_cards.specs.Machines.{HasMachine}
@@ -56,7 +56,7 @@ module _ (keys : List ℕ) (cards : ℕ) (s : TableState) (r : HasMachine keys c
             words = (ap (λ z. exchanged_words keys cards s r id v here (card p) g q (n == z)) (sym l_is)
                 ∙ (ap (λ z. exchanged_words keys cards s r id v here (card p) g z (n == w.l c)) (sym brought_is)
                 ∙ child_exchanged w (w.p c) p (w.l c) (brought w c) n right p_is said.parent.inner side is)) t;
-            worker = worker_of (learning (IChanged c) v).worker;
+            worker = worker_of (with_fact (IChanged c) v).worker;
           };
         };
         room = λ h. h;
