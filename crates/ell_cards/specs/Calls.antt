@@ -108,12 +108,15 @@ after (call.Down x right) n v = record v {
   worker = record (v.worker) {
     search = gone_down v.worker.search (record { node = x; word = unwrap_or v.worker.search.read 0 }) n;
   };
-  told = Met n ∷ v.told; here = None; made = v.made + 1;
+  told = Met n ∷ v.told;
+  here = None;
+  made = v.made + 1;
 }
 after call.Next n v = record v { next = Some n; made = v.made + 1 }
 after (call.KeyOf x) n v = record v {
   told = Key x n ∷ v.told;
-  here = if is_this v.worker.search.node x then Some n else v.here; made = v.made + 1;
+  here = if is_this v.worker.search.node x then Some n else v.here;
+  made = v.made + 1;
 }
 after (call.ValueOf x) n v = record v { told = Value x n ∷ v.told; made = v.made + 1 }
 after (call.Info c f) n v = record v { told = told_info c f n v.told; made = v.made + 1 }
@@ -121,10 +124,13 @@ after (call.FrozenChild c p right) n v = record v { told = Frozen c right n ∷ 
 after call.Look n v = record v {
   told = Met n ∷ v.told;
   glances = record { node = n; low = 0; high = greatest_key + 1 } ∷ [];
-  looks = v.looks + 1; made = v.made + 1;
+  looks = v.looks + 1;
+  made = v.made + 1;
 }
 after (call.LookDown from key right) n v = record v {
-  told = Met n ∷ v.told; glances = glance_down from key right n ∷ v.glances; made = v.made + 1;
+  told = Met n ∷ v.told;
+  glances = glance_down from key right n ∷ v.glances;
+  made = v.made + 1;
 }
 after (call.Claim c) n v = after_claim (n == c) c v
 after (call.Fill c f value) n v = after_fill f value v
@@ -222,7 +228,7 @@ abbrev pub TellsDepth : View → ℕ → Field → ℕ → Type 0
 TellsDepth v c field.Gp x = KnowsDelete v c → (p : ℕ) → IsTold v (Info c field.P p) → x < p
 TellsDepth v c field.P x =
     (KnowsDelete v c → (gp : ℕ) → IsTold v (Info c field.Gp gp) → gp < x)
-        × ((l : ℕ) → IsTold v (Info c field.L l) → x < l)
+    × ((l : ℕ) → IsTold v (Info c field.L l) → x < l)
 TellsDepth v c field.L x = (p : ℕ) → IsTold v (Info c field.P p) → p < x
 TellsDepth v c _ x = Unit {0}
 

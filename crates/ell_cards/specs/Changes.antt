@@ -14,7 +14,6 @@ use Rattle.ell_core.specs.declared.fact.Fact.{Fact}
 use Rattle.ell_core.specs.declared.fact.Fact.TheVariants as fact
 use Rattle.ell_layout.specs.declared.field.Field.{Field}
 use Rattle.ell_layout.specs.declared.field.Field.TheVariants.{Gp, P, L, Left, Right, Update as UpdateField}
-use Rattle.ell_core.specs.declared.view.Search.{Search}
 use Rattle.ell_core.specs.declared.view.Seen.{Seen}
 use Rattle.ell_layout.specs.Cards.{insert_filling, delete_filling}
 use Rattle.ell_core.specs.state.Machine.{WorkerView, idle}
@@ -141,7 +140,10 @@ child_found expected (Err found) = found
 abbrev pub at_rest : List (ℕ × Entry) → View → View
 at_rest ledger v = record v {
   worker = record (ended v.worker) { ledger = ledger };
-  here = None; planned = []; stores = []; met = [];
+  here = None;
+  planned = [];
+  stores = [];
+  met = [];
 }
 
 -- nothing is left of the last operation, answered or laid down, nor of the last look
@@ -152,19 +154,24 @@ afresh ledger v = record (at_rest ledger v) { next = None; glances = []; answere
 abbrev pub after_begin : Option Op → View → View
 after_begin op v = record (afresh v.worker.ledger v) {
   worker = begun op v.worker;
-  told = Met 0 ∷ v.told; knew_before = v.worker.knows; made = v.made + 1;
+  told = Met 0 ∷ v.told;
+  knew_before = v.worker.knows;
+  made = v.made + 1;
 }
 
 -- again: the operation begins anew; what its search read in the way was a hindrance, and the try counts if that is over
 abbrev pub after_again : View → View
 after_again v = record (after_begin v.worker.operation v) {
-  hindrances = way_now v ++ v.hindrances; hindered = tries_hindered v;
+  hindrances = way_now v ++ v.hindrances;
+  hindered = tries_hindered v;
 }
 
 -- leave: nothing is in hand any more, the operation was laid down, and the last try is given up as by again
 abbrev pub after_leave : View → View
 after_leave v = record (at_rest v.worker.ledger v) {
-  hindrances = way_now v ++ v.hindrances; hindered = tries_hindered v; laid_down = v.worker.operation;
+  hindrances = way_now v ++ v.hindrances;
+  hindered = tries_hindered v;
+  laid_down = v.worker.operation;
   made = v.made + 1;
 }
 
@@ -188,7 +195,8 @@ answered_so op card said = option_map (λ o. record { op = o; said = said; card 
 abbrev pub after_answer : Reply → View → View
 after_answer said v = record (at_rest (answered_ledger v.worker.operation said v.worker.ledger) v) {
   answered = answered_so v.worker.operation v.worker.card said;
-  answers = v.answers + 1; made = v.made + 1;
+  answers = v.answers + 1;
+  made = v.made + 1;
 }
 
 -- upd: this update was read at the node where the pass stands
@@ -253,10 +261,17 @@ abbrev pub after_claim : Bool → ℕ → View → View
 after_claim true c v = record v {
   worker = with_card c v.worker;
   told = told_filling c (filling_of c v) v.told;
-  planned = filling_of c v; stores = []; won = (exchange.Claim, c) ∷ v.won; next_at_least = c + 1; made = v.made + 1;
+  planned = filling_of c v;
+  stores = [];
+  won = (exchange.Claim, c) ∷ v.won;
+  next_at_least = c + 1;
+  made = v.made + 1;
 }
 after_claim false c v = record v {
-  next_at_least = c + 1; hindrances = Claim c ∷ v.hindrances; met = Claim c ∷ v.met; made = v.made + 1;
+  next_at_least = c + 1;
+  hindrances = Claim c ∷ v.hindrances;
+  met = Claim c ∷ v.met;
+  made = v.made + 1;
 }
 
 -- fill: a word of the card in hand was stored
@@ -281,7 +296,8 @@ after_flag true new x u v = record v {
 after_flag false new x u v = record (with_found x u v) {
   worker = off_the_tree None false (with_found x u v).worker;
   here = None;
-  hindrances = Found u ∷ v.hindrances; met = Found u ∷ v.met;
+  hindrances = Found u ∷ v.hindrances;
+  met = Found u ∷ v.met;
 }
 
 -- whether an update is the mark of a card
@@ -309,10 +325,26 @@ ledger_keys (e ∷ es) = e.0 ∷ ledger_keys es
 -- a pass with nothing in hand, with this share and worker, which has met the root alone
 abbrev pub idle_view : ℕ → WorkerView → View
 idle_view share worker = record {
-  worker = worker; share = share; told = Met 0 ∷ []; knew_before = [];
-  here = None; next = None; next_at_least = 0; planned = []; stores = []; found = None; glances = [];
-  won = []; answered = None; laid_down = None; hindrances = []; met = [];
-  answers = 0; hindered = 0; looks = 0; made = 0;
+  worker = worker;
+  share = share;
+  told = Met 0 ∷ [];
+  knew_before = [];
+  here = None;
+  next = None;
+  next_at_least = 0;
+  planned = [];
+  stores = [];
+  found = None;
+  glances = [];
+  won = [];
+  answered = None;
+  laid_down = None;
+  hindrances = [];
+  met = [];
+  answers = 0;
+  hindered = 0;
+  looks = 0;
+  made = 0;
 }
 
 -- the keys that may have an owner, if every other key is shared
@@ -331,14 +363,18 @@ spent_view = idle_view 0 (idle [] None [])
 -- split, the left part: it gets these keys, and keeps all that the pass knew, won and counted; the split is its step
 abbrev pub left_view : List ℕ → View → View
 left_view keys v = record (afresh (filter (λ e. set_of keys e.0) v.worker.ledger) v) {
-  found = None; share = v.share - given_share v.share; made = v.made + 1;
+  found = None;
+  share = v.share - given_share v.share;
+  made = v.made + 1;
 }
 
 -- split, the right part: it gets the other keys and a part of the share, and facts and what was told too
 abbrev pub right_view : List ℕ → View → View
 right_view keys v = record (idle_view (given_share v.share)
     (at_rest (filter (λ e. not (set_of keys e.0)) v.worker.ledger) v).worker) {
-      told = v.told; knew_before = v.knew_before; next_at_least = v.next_at_least;
+      told = v.told;
+      knew_before = v.knew_before;
+      next_at_least = v.next_at_least;
     }
 
 -- an entry put into an ascending ledger at its place, or in place of that of its key
@@ -362,8 +398,13 @@ abbrev pub joined_view : View → View → View
 joined_view v w = record (idle_view ((v.share + w.share) % 2 ^ 64)
     (idle (united_ledgers v.worker.ledger w.worker.ledger) (option_or v.worker.shared w.worker.shared)
     (v.worker.knows ++ w.worker.knows))) {
-      told = v.told ++ w.told; won = v.won ++ w.won; hindrances = v.hindrances ++ w.hindrances;
-      next = later_reading v.next w.next; next_at_least = max v.next_at_least w.next_at_least;
-      answers = v.answers + w.answers; hindered = v.hindered + w.hindered; looks = v.looks + w.looks;
+      told = v.told ++ w.told;
+      won = v.won ++ w.won;
+      hindrances = v.hindrances ++ w.hindrances;
+      next = later_reading v.next w.next;
+      next_at_least = max v.next_at_least w.next_at_least;
+      answers = v.answers + w.answers;
+      hindered = v.hindered + w.hindered;
+      looks = v.looks + w.looks;
       made = v.made + w.made + 1;
     }

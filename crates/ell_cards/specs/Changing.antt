@@ -127,7 +127,7 @@ abbrev pub CallsAnswerAsAMap : Type 0
 CallsAnswerAsAMap = (keys : List ℕ) (last : ℕ) (s : TableState) → HasMachine keys last s
     → (seat : ℕ) (op : Op) (begun : TableState) (turns : List Turn)
     (s' : TableState) (said : Reply) → IsCalled last s seat op begun turns s' said
-        → AnswersAt last seat op begun turns s' said
+    → AnswersAt last seat op begun turns s' said
 
 -- a card that a pass has in hand in a state is in no other call's hand later: not in that of another pass whose call
 -- goes on, nor of a call that begins later

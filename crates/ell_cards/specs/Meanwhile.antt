@@ -112,7 +112,7 @@ abbrev pub IsMeanwhile : (plan : TablePlan) → SearchRun plan → Hindrance →
 IsMeanwhile plan r (Claim c) = ((own_words r.begun).next ≤ c) × (c < (own_words r.now).next)
 IsMeanwhile plan r (Found u) =
     EndsMeanwhile plan r u.card × (u.state ≡ state.Clean → ended_since plan r u.card ≡ true)
-        × (u.card < (own_words r.now).next)
+    × (u.card < (own_words r.now).next)
 
 abbrev pub AreMeanwhile : (plan : TablePlan) → SearchRun plan → List Hindrance → Type 0
 AreMeanwhile plan r [] = Unit {0}

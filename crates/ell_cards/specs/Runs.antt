@@ -39,7 +39,7 @@ abbrev pub TurnsAreLawful : (keys : List ℕ) (last : ℕ) (s : TableState) (r :
 TurnsAreLawful keys last s r [] s' r' run = machine_of_table keys last s' r' ≡ machine_of_table keys last s r
 TurnsAreLawful keys last s r (t ∷ ts) s' r' run =
     (between : HasMachine keys last run.0) × TurnIsLawful keys last s r t run.0 between
-        × TurnsAreLawful keys last run.0 between ts s' r' run.2
+    × TurnsAreLawful keys last run.0 between ts s' r' run.2
 
 -- a run leads from a state that has a machine to one that has, by such turns
 pub record RunIsLawful (keys : List ℕ) (last : ℕ) (s : TableState) (r : HasMachine keys last s) (turns : List Turn)

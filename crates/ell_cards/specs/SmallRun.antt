@@ -30,38 +30,38 @@ parting =
 abbrev pub delete_flags : List Turn
 delete_flags =
     Makes 0 (call.Begin (Delete 5)) ∷ Makes 0 (call.Upd 0) ∷ Makes 0 (call.KeyOf 0) ∷ Makes 0 (call.Down 0 false)
-        ∷ Makes 0 (call.Upd 4) ∷
+    ∷ Makes 0 (call.Upd 4) ∷
     Makes 0 (call.KeyOf 4) ∷ Makes 0 (call.Down 4 false) ∷ Makes 0 (call.KeyOf 5) ∷ Makes 0 call.Next ∷ Makes 0
-        (call.Claim 2) ∷
+    (call.Claim 2) ∷
     Makes 0 (call.Fill 2 field.Gp 0) ∷ Makes 0 (call.Fill 2 field.P 4) ∷ Makes 0 (call.Fill 2 field.L 5) ∷ Makes 0
-        (call.Fill 2 field.Was 3) ∷
+    (call.Fill 2 field.Was 3) ∷
     Makes 0 (call.DFlag 2 0 (record { state = state.Clean; card = 0 })) ∷ []
 
 -- seat 1 begins to insert key 7: it goes past the flag, and takes card 3
 abbrev pub insert_claims : List Turn
 insert_claims =
     Makes 1 (call.Begin (Insert 7 70)) ∷ Makes 1 (call.Upd 0) ∷ Makes 1 (call.KeyOf 0) ∷ Makes 1 (call.Down 0 false)
-        ∷ Makes 1 (call.Upd 4) ∷
+    ∷ Makes 1 (call.Upd 4) ∷
     Makes 1 (call.KeyOf 4) ∷ Makes 1 (call.Down 4 false) ∷ Makes 1 (call.KeyOf 5) ∷ Makes 1 (call.ValueOf 5)
-        ∷ Makes 1 call.Next ∷
+    ∷ Makes 1 call.Next ∷
     Makes 1 (call.Claim 3) ∷ []
 
 -- it fills card 3, and flags the node that seat 0 is about to mark
 abbrev pub insert_flags : List Turn
 insert_flags =
     Makes 1 (call.Fill 3 field.P 4) ∷ Makes 1 (call.Fill 3 field.L 5) ∷ Makes 1 (call.Fill 3 field.Key 7) ∷ Makes 1
-        (call.Fill 3 field.Left 13) ∷
+    (call.Fill 3 field.Left 13) ∷
     Makes 1 (call.Fill 3 field.Right 14) ∷ Makes 1 (call.Fill 3 field.Update 3) ∷ Makes 1
-        (call.Fill 3 field.LeftLeafKey 5) ∷
+    (call.Fill 3 field.LeftLeafKey 5) ∷
     Makes 1 (call.Fill 3 field.RightLeafKey 7) ∷ Makes 1 (call.Fill 3 field.LeftValue 50) ∷ Makes 1
-        (call.Fill 3 field.RightValue 70) ∷
+    (call.Fill 3 field.RightValue 70) ∷
     Makes 1 (call.IFlag 3 4 (record { state = state.Clean; card = 0 })) ∷ []
 
 -- seat 0 loses the mark, helps the insert to its end, and takes its own flag away
 abbrev pub mark_is_lost : List Turn
 mark_is_lost =
     Makes 0 (call.Mark 2 4 3) ∷ Makes 0 (call.Info 3 field.L) ∷ Makes 0 (call.Info 3 field.Key) ∷ Makes 0
-        (call.Info 3 field.LeftLeafKey) ∷ Makes 0 (call.IChild 3 4 5 12 false) ∷
+    (call.Info 3 field.LeftLeafKey) ∷ Makes 0 (call.IChild 3 4 5 12 false) ∷
     Makes 0 (call.IUnflag 3 4) ∷ Makes 0 (call.Backtrack 2 0) ∷ []
 
 -- seat 1 finds that its insert was made, and answers
@@ -73,26 +73,26 @@ insert_ends =
 abbrev pub delete_begins_anew : List Turn
 delete_begins_anew =
     Makes 0 call.Again ∷ Makes 0 (call.Upd 0) ∷ Makes 0 (call.KeyOf 0) ∷ Makes 0 (call.Down 0 false) ∷ Makes 0
-        (call.Upd 4) ∷ Makes 0 (call.KeyOf 4) ∷
+    (call.Upd 4) ∷ Makes 0 (call.KeyOf 4) ∷
     Makes 0 (call.Down 4 false) ∷ Makes 0 (call.Upd 12) ∷ Makes 0 (call.KeyOf 12) ∷ Makes 0 (call.Down 12 false)
-        ∷ Makes 0 (call.KeyOf 13) ∷
+    ∷ Makes 0 (call.KeyOf 13) ∷
     Makes 0 call.Next ∷ Makes 0 (call.Claim 4) ∷ []
 
 -- it flags, marks, cuts the node out, and answers
 abbrev pub delete_ends : List Turn
 delete_ends =
     Makes 0 (call.Fill 4 field.Gp 4) ∷ Makes 0 (call.Fill 4 field.P 12) ∷ Makes 0 (call.Fill 4 field.L 13) ∷ Makes 0
-        (call.Fill 4 field.Was 3) ∷
+    (call.Fill 4 field.Was 3) ∷
     Makes 0 (call.DFlag 4 4 (record { state = state.Clean; card = 3 })) ∷ Makes 0 (call.Mark 4 12 3) ∷ Makes 0
-        (call.FrozenChild 4 12 true) ∷
+    (call.FrozenChild 4 12 true) ∷
     Makes 0 (call.KeyOf 14) ∷ Makes 0 (call.DChild 4 4 12 14 false) ∷ Makes 0 (call.DUnflag 4 4) ∷ Makes 0
-        (call.Answer Yes) ∷ []
+    (call.Answer Yes) ∷ []
 
 -- seat 1 looks for key 7, and finds its value
 abbrev pub look : List Turn
 look =
     Makes 1 call.Look ∷ Makes 1 (call.LookDown (record { node = 4; low = 7; high = 8 }) infinity1 false) ∷ Makes 1
-        (call.KeyOf 14) ∷ Makes 1 (call.ValueOf 14) ∷ []
+    (call.KeyOf 14) ∷ Makes 1 (call.ValueOf 14) ∷ []
 
 -- it lays a find down, and both passes become one
 abbrev pub ending : List Turn
@@ -103,7 +103,7 @@ ending =
 abbrev pub small_run : List Turn
 small_run =
     parting ++ delete_flags ++ insert_claims ++ insert_flags ++ mark_is_lost ++ insert_ends ++ delete_begins_anew
-        ++ delete_ends ++ look ++ ending
+    ++ delete_ends ++ look ++ ending
 
 -- the small table has such a run: card 2 is that of the delete whose mark is lost, card 3 that of the insert, and card
 -- 4 that of the delete that is made; in the end the one pass has key 7 present with its value, and key 5 not

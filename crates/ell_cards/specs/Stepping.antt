@@ -28,7 +28,7 @@ MayStore plan v i value then =
 abbrev pub MayExchange : TablePlan → View → ℕ → ℕ → ℕ → (ℕ → View → Type 0) → Type 0
 MayExchange plan v i expected value then =
     (id : ℕ) → Allows (IsReached plan) 0 id (v, []) i (λ n. either (n == expected) value n)
-        (λ n me. then n me.0 × (me.1 ≡ []))
+    (λ n me. then n me.0 × (me.1 ≡ []))
 
 -- whatever the table is, the view of a seat may be cut in these two
 abbrev pub MaySplit : TablePlan → View → View → View → Type 0
@@ -59,7 +59,7 @@ PartsShare old left right = (share : Share) → HasShare share old
 abbrev pub KeepsPass : ℕ → View → (ℕ → View → Type 0) → Type 0
 KeepsPass last v then =
     (n : ℕ) (w : View) → then n w → (ledger_keys w.worker.ledger ≡ ledger_keys v.worker.ledger) × SameShare v w
-        × IsNamed last w
+    × IsNamed last w
 
 -- a pass made one step that it has not counted yet: its table and its label are as they were
 pub record SeesBy (old new : PassModel) : Type 0 where

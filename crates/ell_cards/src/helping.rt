@@ -142,7 +142,13 @@ impl<A: Allocator + Copy> CardTable<A> {
     {
         self.names(pass);
         let call = Call::DChild(card, grandparent, parent, sibling, right);
-        let found = self.exchange(pass, call, child_address(grandparent, right), parent, sibling);
+        let found = self.exchange(
+            pass,
+            call,
+            child_address(grandparent, right),
+            parent,
+            sibling,
+        );
         child_outcome(parent, found)
     }
 

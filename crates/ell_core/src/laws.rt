@@ -19,7 +19,7 @@ pub use schedules::{
     stretches_are_of_one_state, wins_are_in_order, words_rise,
 };
 pub use steps::{
-    cards_wait, events_are_lawful, invariant_is_sound, handovers_are_lawful, owner_finds_clean,
+    cards_wait, events_are_lawful, handovers_are_lawful, invariant_is_sound, owner_finds_clean,
     steps_may_rely,
 };
 pub use unsound::{

@@ -2,7 +2,7 @@ use Rattle.std.specs.Prelude.{ℕ, ◌+◌, ◌==◌, if◌then◌else◌, zero,
 use Rattle.std.specs.Map.{keys_of, values_of}
 use Rattle.ell_word.specs.Node.{infinity1, infinity2, right_leaf}
 use Rattle.ell_layout.specs.declared.field.Field.{Field}
-use Rattle.ell_layout.specs.declared.field.Field.TheVariants.{Gp, P, L, Was, Key, Left, Right, Update, LeftLeafKey, RightLeafKey, LeftValue, RightValue}
+use Rattle.ell_layout.specs.declared.field.Field.TheVariants.{Key, Left, Right, Update, LeftLeafKey, RightLeafKey, LeftValue, RightValue}
 use Rattle.ell_layout.specs.declared.branch.Branch.{Branch}
 use Rattle.ell_layout.specs.Words.{Words, words_from}
 use Rattle.ell_layout.specs.Cards.{clean}

@@ -97,7 +97,11 @@ child_field false = Left
 -- the words by the cards' fields: an internal node has no value, a leaf no child and no update word, a non-node nothing
 abbrev pub words_from : ℕ → (ℕ → Field → ℕ) → Words
 words_from next at = record {
-  next = next; gp = λ c. at c Gp; p = λ c. at c P; l = λ c. at c L; was = λ c. at c Was;
+  next = next;
+  gp = λ c. at c Gp;
+  p = λ c. at c P;
+  l = λ c. at c L;
+  was = λ c. at c Was;
   key = λ x. if x % 4 == 3 then 0 else at (card x) (key_field (x % 4));
   value = λ x. if x % 4 == 0 || x % 4 == 3 then 0 else at (card x) (value_field (x % 4));
   child = λ x right. if x % 4 == 0 then at (card x) (child_field right) else 0;

@@ -42,7 +42,7 @@ pub record IsLateOf (settings : Settings) (start : Contents) (ops : List Op) (co
 abbrev pub IsReported : Settings → Option (List ℕ) → ℕ → Type 0
 IsReported settings input count =
     IfSome input (λ bytes. (given : BulkValue) × (bulk bytes ≡ Ok given)
-        × IsLateOf settings (contents_of given.start) given.ops count)
+    × IsLateOf settings (contents_of given.start) given.ops count)
 
 -- the run ended before it wrote anything
 abbrev pub IsBeforeWriting : RunFault → Type 0

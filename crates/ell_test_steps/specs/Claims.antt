@@ -43,7 +43,7 @@ pub record IsFresh (v : View) (c : ℕ) (filling : List (Field × ℕ)) : Type 0
 abbrev pub insert_stores : ℕ → ℕ → ℕ → LeafFound → List (Field × ℕ)
 insert_stores c k value place =
     (RightValue, if nat_lt k place.key then place.value else value) ∷
-        (LeftValue, if nat_lt k place.key then value else place.value)
+    (LeftValue, if nat_lt k place.key then value else place.value)
     ∷ (RightLeafKey, max k place.key) ∷ (LeftLeafKey, min k place.key) ∷ (Update, clean 0) ∷ (Right, right_leaf c) ∷
     (Left, left_leaf c)
     ∷ (Key, max k place.key) ∷ (L, place.leaf) ∷ (P, place.parent.node) ∷ []

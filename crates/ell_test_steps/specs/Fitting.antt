@@ -81,5 +81,15 @@ IsIdle v = v.worker ≡ idle v.worker.ledger v.worker.shared v.worker.knows
 
 -- nothing is remembered
 abbrev pub IsNothing : Remembered → Type 0
-IsNothing m = m ≡ record { op = None; node = None; read = None; parent = None; grandparent = None; card =
-    None; flagged = false; known = replicate FACTS None; turn = 0 }
+IsNothing m = m ≡ record {
+  op = None;
+  node = None;
+  read = None;
+  parent = None;
+  grandparent = None;
+  card =
+      None;
+  flagged = false;
+  known = replicate FACTS None;
+  turn = 0;
+}

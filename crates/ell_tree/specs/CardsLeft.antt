@@ -22,4 +22,4 @@ pub record ReadsCardsLeft (last : ℕ) (old new : PassModel) (left : ℕ) : Type
 abbrev pub AreLeftAtMost : TreeModel → View → ℕ → Type 0
 AreLeftAtMost t v left =
     (s : TableState) → IsReached t.plan s → (seat : ℕ) → get_elem? s.views seat ≡ some v
-        → t.plan.last_card + 1 ≤ slice_index s.words 0 + left
+    → t.plan.last_card + 1 ≤ slice_index s.words 0 + left

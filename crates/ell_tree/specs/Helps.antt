@@ -77,19 +77,19 @@ DeleteEnds last c p old new Done = KeepsAllButMet old new 8 × Meets old.view ne
 DeleteEnds last c p old new Backed = KeepsAllButMet old new 10 × Meets old.view new.view × IsBacked c old.view new.view
 DeleteEnds last c p old new (Behind flag) =
     KeepsAllButMet old new 2 × MeetsUpTo flag.card old.view new.view × IsBacked c old.view new.view
-        × IsFlag last new.view flag × (flag.grandparent ≡ p)
+    × IsFlag last new.view flag × (flag.grandparent ≡ p)
 
 -- one delete is helped to its end, which leads to another's flag that is deeper, or there is no more to do
 abbrev pub HelpEnds : ℕ → DeleteFlag → PassModel → PassModel → Ending → Type 0
 HelpEnds last flag old new Done =
     KeepsAllButMet old new 12 × Meets old.view new.view × (card flag.grandparent + 1 ≤ last)
-        × Knows new.view (fact.DOver flag.card)
+    × Knows new.view (fact.DOver flag.card)
 HelpEnds last flag old new Backed =
     KeepsAllButMet old new 12 × Meets old.view new.view × (card flag.grandparent + 1 ≤ last)
-        × Knows new.view (fact.Backed flag.card)
+    × Knows new.view (fact.Backed flag.card)
 HelpEnds last flag old new (Behind next) =
     KeepsAllButMet old new 4 × MeetsUpTo next.card old.view new.view × IsFlag last new.view next
-        × (flag.grandparent < next.grandparent)
+    × (flag.grandparent < next.grandparent)
     × Knows new.view (fact.Backed flag.card)
 
 -- the most steps of a chain of helps that begins with a delete's flag at this node

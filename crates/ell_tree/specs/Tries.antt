@@ -160,12 +160,12 @@ pub record HasNone (old new : PassModel) : Type 0 where
 abbrev pub Claims : ℕ → Op → LeafFound → PassModel → PassModel → Claimed → Type 0
 Claims last op place old new (claimed.Card c) =
     HasCard op place (filling_of c old.view) new.view c × (c ≤ last) × (new.view.hindrances ≡ old.view.hindrances)
-        × GivesOut last old.view new.view
+    × GivesOut last old.view new.view
 Claims last op place old new claimed.NoneLeft =
     HasNone old new × (new.view.next ≡ Some (last + 1)) × (new.view.hindrances ≡ old.view.hindrances)
 Claims last op place old new claimed.Lost =
     HasNone old new × Meets old.view new.view × (length old.view.hindrances + 1 ≤ length new.view.hindrances)
-        × GivesOut last old.view new.view
+    × GivesOut last old.view new.view
 
 -- the card in hand was filled in so many steps, and nothing else was done
 pub record Fills (old new : PassModel) (n : ℕ) : Type 0 where

@@ -38,7 +38,7 @@ root_of_lesser_infinity = with_one (with_key opening_words 0 infinity1) (owner 5
 abbrev pub root_with_other_leaf : Machine
 root_with_other_leaf = with_one
     (record (with_child (with_key opening_words (right_leaf 1) infinity2) 0 true (right_leaf 1)) { next = 2 })
-        (owner 5 Absent)
+    (owner 5 Absent)
 
 -- the right leaf's key: one above the greater infinity
 abbrev pub leaf_past_infinity : Machine

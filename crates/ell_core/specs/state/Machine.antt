@@ -1,6 +1,5 @@
 use Rattle.std.specs.Prelude.{ℕ, ◌==◌, Bool, false, Option, Some, None, List, nat_le, ◌&&◌, not}
 use Rattle.std.specs.Map.{lookup}
-use Rattle.ell_ops.specs.declared.op.Op.{Op}
 use Rattle.ell_core.specs.declared.view.Search.{Search}
 use Rattle.ell_core.specs.declared.view.WorkerOf.{WorkerOf}
 use Rattle.ell_core.specs.declared.fact.Fact.{Fact}
@@ -54,7 +53,13 @@ no_search = record { node = None; read = None; parent = None; grandparent = None
 -- a worker that has nothing in hand
 abbrev pub idle : {L S K : Type 0} → L → S → K → WorkerOf L S K
 idle ledger shared known = record {
-  ledger = ledger; shared = shared; operation = None; search = no_search; card = None; flagged = false; knows = known;
+  ledger = ledger;
+  shared = shared;
+  operation = None;
+  search = no_search;
+  card = None;
+  flagged = false;
+  knows = known;
 }
 
 -- the worker at a number where there is none: no key, nothing in hand, no knowledge
@@ -73,8 +78,13 @@ shared_of (Some keys) key = nat_le key greatest_key && not (set_of keys key)
 -- the worker that a view is
 abbrev pub worker_of : WorkerView → Worker
 worker_of v = record {
-  ledger = ledger_of v.ledger; shared = shared_of v.shared; operation = v.operation; search = v.search;
-  card = v.card; flagged = v.flagged; knows = known_of v.knows;
+  ledger = ledger_of v.ledger;
+  shared = shared_of v.shared;
+  operation = v.operation;
+  search = v.search;
+  card = v.card;
+  flagged = v.flagged;
+  knows = known_of v.knows;
 }
 
 abbrev pub worker_or_nobody : Option WorkerView → Worker

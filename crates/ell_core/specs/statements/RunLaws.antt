@@ -80,7 +80,7 @@ shown_wins m e (shown.Refused fault) c = []
 -- the wins of a card in a run, in their order
 abbrev pub wins_in :
     (m : Machine) (events : List Event) (answers : List Shown) (m' : Machine) → Run m events answers m' → ℕ
-        → List Exchange
+    → List Exchange
 wins_in m [] [] m' run c = []
 wins_in m (e ∷ es) (x ∷ xs) m' run c = shown_wins m e x c ++ wins_in run.0 es xs m' run.2 c
 wins_in m [] (x ∷ xs) m' run c = absurd run
@@ -127,7 +127,7 @@ KnowledgeIsNeverLost = (m m' : Machine) → Follow m m' → KnowledgeLasts m m' 
 abbrev pub ClaimedCardsAreFixed : Type 0
 ClaimedCardsAreFixed = (m m' : Machine) → Follow m m' → (c : ℕ) → c < m.words.next →
     SameInfo m.words m'.words c
-        × ((x : ℕ) → card x ≡ c → (m'.words.key x ≡ m.words.key x) × (m'.words.value x ≡ m.words.value x))
+    × ((x : ℕ) → card x ≡ c → (m'.words.key x ≡ m.words.key x) × (m'.words.value x ≡ m.words.value x))
 
 -- the stages of two states of a run, in their order: a node that came into the tree stays one that did, no card changes
 -- its kind, and what may be known of it still may

@@ -115,7 +115,7 @@ script_from None cards owned events = None
 abbrev pub script_of : List (List ℕ) → Option ScriptValue
 script_of (head ∷ second ∷ more) =
     script_from (workers_said (replay_line_at at.Workers head)) (cards_said (replay_line_at at.Cards second))
-        (entries more) (events_in more)
+    (entries more) (events_in more)
 script_of other = None
 
 -- the fault, or else the script, where the text did not end before it

@@ -7,8 +7,8 @@ use Rattle.std.proofs.lemmas.List.Elements.{All-nil, All-cons, All-contains}
 use Rattle.std.proofs.lemmas.List.Kept.{AllPairs-from_increasing}
 use Rattle.std.proofs.lemmas.Map.Made.{IsDistinct-from_AllPairs, length-le_from_is_member}
 use Rattle.std.proofs.lemmas.Map.Views.{list_any-from_Contains}
-use Rattle.ell_layout.specs.Words.{words_of, Words, IsLeaf}
-use Rattle.ell_core.specs.tree.Tree.{IsTreeKey, IsTreePair, ListsTreePairs}
+use Rattle.ell_layout.specs.Words.{words_of, IsLeaf}
+use Rattle.ell_core.specs.tree.Tree.{IsTreeKey, ListsTreePairs}
 use Rattle.ell_core.specs.tree.Room.{HoldsKeys}
 use Rattle.ell_core.proofs.lemmas.tree.Pairs.{Contains-from_list_any}
 use Rattle.ell_cards.specs.Models.{PassModel}
