@@ -24,7 +24,7 @@ use Rattle.ell_cards.specs.declared.call.Call.TheVariants as call
 use Rattle.ell_cards.specs.declared.view.Told.TheVariants.{Met, Key, Value, Info, Frozen}
 use Rattle.ell_cards.specs.declared.view.View.{View}
 use Rattle.ell_cards.specs.Models.{IsTold, IsFree, Does, StandsAt, InTable, KnowsDelete, EndWasUnknown}
-use Rattle.ell_cards.specs.Changes.{with_fact, if_won, exchanged, after_begin, after_again, after_leave, after_answer, after_upd, after_claim, after_flag, after_mark, glance_down, is_this, told_info, after_fill}
+use Rattle.ell_cards.specs.Changes.{counted, with_fact, if_won, exchanged, after_begin, after_again, after_leave, after_answer, after_upd, after_claim, after_flag, after_mark, glance_down, is_this, told_info, after_fill}
 use Rattle.ell_cards.specs.Guards.{MayBegin, MayAnswer, MayRead, MayGoDown, MayAsk, KnowsPlace, MayLookDown, MayClaim, MayFill, MayIFlag, MayDFlag, MayIChild, MayMark, MayDChild}
 
 -- the address of the update word of a node
@@ -113,11 +113,8 @@ after (call.Down x right) n v = record v {
   made = v.made + 1;
 }
 after call.Next n v = record v { next = Some n; made = v.made + 1 }
-after (call.KeyOf x) n v = record v {
-  told = Key x n ∷ v.told;
-  here = if is_this v.worker.search.node x then Some n else v.here;
-  made = v.made + 1;
-}
+after (call.KeyOf x) n v =
+    counted (record v { told = Key x n ∷ v.told; here = if is_this v.worker.search.node x then Some n else v.here })
 after (call.ValueOf x) n v = record v { told = Value x n ∷ v.told; made = v.made + 1 }
 after (call.Info c f) n v = record v { told = told_info c f n v.told; made = v.made + 1 }
 after (call.FrozenChild c p right) n v = record v { told = Frozen c right n ∷ Met n ∷ v.told; made = v.made + 1 }
@@ -127,11 +124,8 @@ after call.Look n v = record v {
   looks = v.looks + 1;
   made = v.made + 1;
 }
-after (call.LookDown from key right) n v = record v {
-  told = Met n ∷ v.told;
-  glances = glance_down from key right n ∷ v.glances;
-  made = v.made + 1;
-}
+after (call.LookDown from key right) n v =
+    counted (record v { told = Met n ∷ v.told; glances = glance_down from key right n ∷ v.glances })
 after (call.Claim c) n v = after_claim (n == c) c v
 after (call.Fill c f value) n v = after_fill f value v
 after (call.IFlag c p from) n v =

@@ -93,12 +93,22 @@ was_hindered facts (h ∷ hs) = list_all (is_over facts) (h ∷ hs)
 abbrev pub tries_hindered : View → ℕ
 tries_hindered v = v.hindered + (if was_hindered v.worker.knows (way_now v ++ v.met) then 1 else 0)
 
+-- the pass has made one step call more
+abbrev pub counted : View → View
+counted v = record v { made = v.made + 1 }
+
+-- this came to be in the way of a try
+abbrev pub hindered_by : Hindrance → View → View
+hindered_by h v = record v { hindrances = h ∷ v.hindrances; met = h ∷ v.met }
+
+-- a try is given up: what its search read in the way was a hindrance, and the try counts if what was in its way is over
+abbrev pub given_up : View → View
+given_up v = record v { hindrances = way_now v ++ v.hindrances; hindered = tries_hindered v }
+
 -- the pass has found an update at a node
 abbrev pub with_found : ℕ → Update → View → View
-with_found x u v = record v {
-  worker = knowing v.worker (facts_by u.state u.card v.worker.knows);
-  told = places_by x u.state u.card v.told;
-}
+with_found x u v =
+    record v { worker = knowing v.worker (facts_by u.state u.card v.worker.knows); told = places_by x u.state u.card v.told }
 
 -- the pass has learnt a fact
 abbrev pub with_fact : Fact → View → View
@@ -138,13 +148,8 @@ child_found expected (Err found) = found
 
 -- nothing is in hand, and the ledger is this one
 abbrev pub at_rest : List (ℕ × Entry) → View → View
-at_rest ledger v = record v {
-  worker = record (ended v.worker) { ledger = ledger };
-  here = None;
-  planned = [];
-  stores = [];
-  met = [];
-}
+at_rest ledger v =
+    record v { worker = record (ended v.worker) { ledger = ledger }; here = None; planned = []; stores = []; met = [] }
 
 -- nothing is left of the last operation, answered or laid down, nor of the last look
 abbrev pub afresh : List (ℕ × Entry) → View → View
@@ -159,21 +164,13 @@ after_begin op v = record (afresh v.worker.ledger v) {
   made = v.made + 1;
 }
 
--- again: the operation begins anew; what its search read in the way was a hindrance, and the try counts if that is over
+-- again: the try is given up, and the operation begins anew
 abbrev pub after_again : View → View
-after_again v = record (after_begin v.worker.operation v) {
-  hindrances = way_now v ++ v.hindrances;
-  hindered = tries_hindered v;
-}
+after_again v = after_begin v.worker.operation (given_up v)
 
--- leave: nothing is in hand any more, the operation was laid down, and the last try is given up as by again
+-- leave: the last try is given up, nothing is in hand any more, and the operation was laid down
 abbrev pub after_leave : View → View
-after_leave v = record (at_rest v.worker.ledger v) {
-  hindrances = way_now v ++ v.hindrances;
-  hindered = tries_hindered v;
-  laid_down = v.worker.operation;
-  made = v.made + 1;
-}
+after_leave v = counted (record (at_rest v.worker.ledger (given_up v)) { laid_down = v.worker.operation })
 
 -- the ledger where a key's entry is this one now
 abbrev pub with_entry : ℕ → Entry → List (ℕ × Entry) → List (ℕ × Entry)
@@ -201,10 +198,9 @@ after_answer said v = record (at_rest (answered_ledger v.worker.operation said v
 
 -- upd: this update was read at the node where the pass stands
 abbrev pub after_upd : ℕ → Update → View → View
-after_upd x u v = record (with_found x u v) {
+after_upd x u v = counted (record (with_found x u v) {
   worker = record ((with_found x u v).worker) { search = with_read v.worker.search (packed u) };
-  made = v.made + 1;
-}
+})
 
 -- whether there is one, and it is this
 abbrev pub is_this : Option ℕ → ℕ → Bool
@@ -267,12 +263,7 @@ after_claim true c v = record v {
   next_at_least = c + 1;
   made = v.made + 1;
 }
-after_claim false c v = record v {
-  next_at_least = c + 1;
-  hindrances = Claim c ∷ v.hindrances;
-  met = Claim c ∷ v.met;
-  made = v.made + 1;
-}
+after_claim false c v = counted (hindered_by (Claim c) (record v { next_at_least = c + 1 }))
 
 -- fill: a word of the card in hand was stored
 abbrev pub after_fill : Field → ℕ → View → View
@@ -289,15 +280,11 @@ with_stores stores v = record v { stores = stores; made = steps_with stores v.ma
 
 -- iflag and dflag: the card in hand is flagged; or another update was found at the node, and the card is laid aside
 abbrev pub after_flag : Bool → Fact → ℕ → Update → View → View
-after_flag true new x u v = record v {
-  worker = off_the_tree v.worker.card true (with_fact new v).worker;
-  here = None;
-}
-after_flag false new x u v = record (with_found x u v) {
+after_flag true new x u v =
+    record v { worker = off_the_tree v.worker.card true (with_fact new v).worker; here = None }
+after_flag false new x u v = record (hindered_by (Found u) (with_found x u v)) {
   worker = off_the_tree None false (with_found x u v).worker;
   here = None;
-  hindrances = Found u ∷ v.hindrances;
-  met = Found u ∷ v.met;
 }
 
 -- whether an update is the mark of a card

@@ -17,9 +17,5 @@ seat_worker (some v) = worker_of v.worker
 
 -- the machine of these words and views
 abbrev pub seated : Words → List View → ℕ → Machine
-seated w views last = record {
-  words = w;
-  worker = λ i. seat_worker (get_elem? views i);
-  count = length views;
-  last_card = last;
-}
+seated w views last =
+    record { words = w; worker = λ i. seat_worker (get_elem? views i); count = length views; last_card = last }

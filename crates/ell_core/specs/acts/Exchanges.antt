@@ -38,11 +38,8 @@ knowing v known = record v { knows = known }
 
 -- the search stands nowhere any more, and this card is in hand, flagged or not
 abbrev pub off_the_tree : {L S K : Type 0} → Option ℕ → Bool → WorkerOf L S K → WorkerOf L S K
-off_the_tree card flagged v = record v {
-  search = record (v.search) { node = None; read = None };
-  card = card;
-  flagged = flagged;
-}
+off_the_tree card flagged v =
+    record v { search = record (v.search) { node = None; read = None }; card = card; flagged = flagged }
 
 -- a worker after its own flag exchange: it stands nowhere, with its card flagged, or with none and what it found
 abbrev pub flagged_worker : Worker → Bool → Fact → ℕ → Worker

@@ -50,17 +50,10 @@ with_scene m i s = record m { words = s.words; worker = put m.worker i s.worker 
 abbrev pub no_search : Search
 no_search = record { node = None; read = None; parent = None; grandparent = None }
 
--- a worker that has nothing in hand
+-- a worker that has nothing in hand, of this ledger, these shared keys and this knowledge
 abbrev pub idle : {L S K : Type 0} → L → S → K → WorkerOf L S K
-idle ledger shared known = record {
-  ledger = ledger;
-  shared = shared;
-  operation = None;
-  search = no_search;
-  card = None;
-  flagged = false;
-  knows = known;
-}
+idle l s k =
+    record { ledger = l; shared = s; operation = None; search = no_search; card = None; flagged = false; knows = k }
 
 -- the worker at a number where there is none: no key, nothing in hand, no knowledge
 abbrev pub nobody : Worker
