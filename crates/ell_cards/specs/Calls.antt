@@ -104,26 +104,24 @@ after call.Again n v = after_again v
 after call.Leave n v = after_leave v
 after (call.Answer said) n v = after_answer said v
 after (call.Upd x) n v = after_upd x (unpacked n) v
-after (call.Down x right) n v = record v {
+after (call.Down x right) n v = counted (record v {
   worker = record (v.worker) {
     search = gone_down v.worker.search (record { node = x; word = unwrap_or v.worker.search.read 0 }) n;
   };
   told = Met n ∷ v.told;
   here = None;
-  made = v.made + 1;
-}
+})
 after call.Next n v = record v { next = Some n; made = v.made + 1 }
 after (call.KeyOf x) n v =
     counted (record v { told = Key x n ∷ v.told; here = if is_this v.worker.search.node x then Some n else v.here })
 after (call.ValueOf x) n v = record v { told = Value x n ∷ v.told; made = v.made + 1 }
 after (call.Info c f) n v = record v { told = told_info c f n v.told; made = v.made + 1 }
 after (call.FrozenChild c p right) n v = record v { told = Frozen c right n ∷ Met n ∷ v.told; made = v.made + 1 }
-after call.Look n v = record v {
+after call.Look n v = counted (record v {
   told = Met n ∷ v.told;
   glances = record { node = n; low = 0; high = greatest_key + 1 } ∷ [];
   looks = v.looks + 1;
-  made = v.made + 1;
-}
+})
 after (call.LookDown from key right) n v =
     counted (record v { told = Met n ∷ v.told; glances = glance_down from key right n ∷ v.glances })
 after (call.Claim c) n v = after_claim (n == c) c v

@@ -21,6 +21,7 @@ use Rattle.ell_core.specs.acts.Searching.{with_read, begun, ended, with_card}
 use Rattle.ell_core.specs.acts.Exchanges.{knowing, off_the_tree}
 use Rattle.ell_core.specs.state.Opening.{keys_at_start}
 use Rattle.ell_core.specs.statements.Readers.{from_of, upto_of}
+use Rattle.ell_core.specs.statements.Told.{is_fixed}
 use Rattle.ell_cards.specs.declared.view.Told.{Told}
 use Rattle.ell_cards.specs.declared.view.Told.TheVariants.{Met, Value, Info}
 use Rattle.ell_cards.specs.declared.view.Hindrance.{Hindrance}
@@ -157,12 +158,11 @@ afresh ledger v = record (at_rest ledger v) { next = None; glances = []; answere
 
 -- begin: nothing is left of what was before, this operation is in hand, and the search stands at the root, which is met
 abbrev pub after_begin : Option Op → View → View
-after_begin op v = record (afresh v.worker.ledger v) {
+after_begin op v = counted (record (afresh v.worker.ledger v) {
   worker = begun op v.worker;
   told = Met 0 ∷ v.told;
   knew_before = v.worker.knows;
-  made = v.made + 1;
-}
+})
 
 -- again: the try is given up, and the operation begins anew
 abbrev pub after_again : View → View
@@ -190,11 +190,10 @@ answered_so op card said = option_map (λ o. record { op = o; said = said; card 
 
 -- answer: nothing is in hand any more, the ledger goes by the answer, and the pass has it for its last
 abbrev pub after_answer : Reply → View → View
-after_answer said v = record (at_rest (answered_ledger v.worker.operation said v.worker.ledger) v) {
+after_answer said v = counted (record (at_rest (answered_ledger v.worker.operation said v.worker.ledger) v) {
   answered = answered_so v.worker.operation v.worker.card said;
   answers = v.answers + 1;
-  made = v.made + 1;
-}
+})
 
 -- upd: this update was read at the node where the pass stands
 abbrev pub after_upd : ℕ → Update → View → View
@@ -242,10 +241,7 @@ filling_of c v =
 
 -- what was told with a word of a card that never changes: children and update word do
 abbrev pub told_fixed : ℕ → Field → ℕ → List Told → List Told
-told_fixed c Left x told = told
-told_fixed c Right x told = told
-told_fixed c UpdateField x told = told
-told_fixed c f x told = Info c f x ∷ told
+told_fixed c f x told = if is_fixed f then Info c f x ∷ told else told
 
 -- what was told with what fills a card, as far as it never changes
 abbrev pub told_filling : ℕ → List (Field × ℕ) → List Told → List Told
@@ -254,15 +250,14 @@ told_filling c (e ∷ es) told = told_fixed c e.0 e.1 (told_filling c es told)
 
 -- claim: the card is in hand, and its words are told; or it was lost, a hindrance
 abbrev pub after_claim : Bool → ℕ → View → View
-after_claim true c v = record v {
+after_claim true c v = counted (record v {
   worker = with_card c v.worker;
   told = told_filling c (filling_of c v) v.told;
   planned = filling_of c v;
   stores = [];
   won = (exchange.Claim, c) ∷ v.won;
   next_at_least = c + 1;
-  made = v.made + 1;
-}
+})
 after_claim false c v = counted (hindered_by (Claim c) (record v { next_at_least = c + 1 }))
 
 -- fill: a word of the card in hand was stored
@@ -349,11 +344,10 @@ spent_view = idle_view 0 (idle [] None [])
 
 -- split, the left part: it gets these keys, and keeps all that the pass knew, won and counted; the split is its step
 abbrev pub left_view : List ℕ → View → View
-left_view keys v = record (afresh (filter (λ e. set_of keys e.0) v.worker.ledger) v) {
+left_view keys v = counted (record (afresh (filter (λ e. set_of keys e.0) v.worker.ledger) v) {
   found = None;
   share = v.share - given_share v.share;
-  made = v.made + 1;
-}
+})
 
 -- split, the right part: it gets the other keys and a part of the share, and facts and what was told too
 abbrev pub right_view : List ℕ → View → View

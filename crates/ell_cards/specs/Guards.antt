@@ -15,6 +15,7 @@ use Rattle.ell_core.specs.state.Machine.{worker_of}
 use Rattle.ell_layout.specs.Cards.{stored, brought_by}
 use Rattle.ell_core.specs.acts.Searching.{put_of, IsClean, leaf_answer}
 use Rattle.ell_layout.specs.Words.{IsLeaf}
+use Rattle.ell_core.specs.statements.Told.{is_fixed}
 use Rattle.ell_cards.specs.declared.view.Told.TheVariants.{Met, Key, Value, Info, Frozen}
 use Rattle.ell_cards.specs.declared.glance.Glance.{Glance}
 use Rattle.ell_cards.specs.declared.view.View.{View}
@@ -24,9 +25,8 @@ use Rattle.ell_core.specs.soundness.Sound.{MayChange}
 use Rattle.ell_core.specs.statements.Effects.{reply_of_change}
 
 -- begin: nothing is in hand, and the key is owned, or shared
-pub record MayBegin (v : View) (op : Op) : Type 0 where
-  pub free : IsFree v
-  pub owned : MayChange (worker_of v.worker) (key_of op)
+abbrev pub MayBegin : View → Op → Type 0
+MayBegin v op = IsFree v × MayChange (worker_of v.worker) (key_of op)
 
 -- what a leaf has of key k, by what the pass was told of the leaf: its key and, if that is k, its value
 abbrev pub TellsOf : View → ℕ → ℕ → ℕ → Option ℕ → Type 0
@@ -83,16 +83,6 @@ pub record MayGoDown (v : View) (x : ℕ) (right : Bool) : Type 0 where
   pub told : v.here ≡ Some key
   pub side : right ≡ nat_le key (key_of op)
 
--- the words of a card that a pass may ask for
-abbrev pub IsAsked : Field → Type 0
-IsAsked field.Gp = Unit {0}
-IsAsked field.P = Unit {0}
-IsAsked field.L = Unit {0}
-IsAsked field.Was = Unit {0}
-IsAsked field.Key = Unit {0}
-IsAsked field.LeftLeafKey = Unit {0}
-IsAsked _ = ⊥
-
 -- the words of a card that are nodes
 abbrev pub NamesNode : Field → Type 0
 NamesNode field.Gp = Unit {0}
@@ -100,9 +90,9 @@ NamesNode field.P = Unit {0}
 NamesNode field.L = Unit {0}
 NamesNode _ = ⊥
 
--- info: the card is known flagged or marked
+-- info: the card is known flagged or marked, and this word of it never changes
 abbrev pub MayAsk : View → ℕ → Field → Type 0
-MayAsk v c f = KnowsCard v c × IsAsked f
+MayAsk v c f = KnowsCard v c × (is_fixed f ≡ true)
 
 -- look_down: a look has come to this internal node by these keys, and the pass has met it and was told its key
 pub record MayLookDown (v : View) (from : Glance) (key : ℕ) : Type 0 where

@@ -32,8 +32,7 @@ pub record HasFlagged (v : View) (c : ℕ) : Type 0 where
   pub holds : v.worker.card ≡ Some c
   pub flagged : v.worker.flagged ≡ true
 
--- what a call does to the pairs of the tree, by whether it is a won exchange: an ichild adds its card's pair, or puts
--- the card's value in place of the leaf's; a dchild takes its card's pair away; and nothing else changes them
+-- what a call does to the tree: a won ichild adds its card's pair or replaces a value, a won dchild takes its pair away
 abbrev pub PairsChangeBy : Call → Bool → Words → Words → Type 0
 PairsChangeBy (call.IChild c p l q right) true old new = MakesChange (op_of_card old c) old new
 PairsChangeBy (call.DChild c gp p s right) true old new = TakesPair old new (card_key old c) (card_value old c)
@@ -50,7 +49,8 @@ pub record IsAtWork (s : TableState) (c : ℕ) (op : Op) : Type 0 where
   pub view : View
   pub there : get_elem? s.views seat ≡ some view
   pub does : Does view op
-  pub held : HasFlagged view c
+  pub holds : view.worker.card ≡ Some c
+  pub flagged : view.worker.flagged ≡ true
 
 -- whose a won child exchange is: some pass has the card in hand, for that insert or swap, or for that delete
 abbrev pub ChangeIsOf : Call → Bool → TableState → Type 0

@@ -8,8 +8,7 @@ use Rattle.ell_layout.specs.declared.field.Field.TheVariants.{Gp, P, L, Was, Key
 abbrev pub IsLeaf : ℕ → Type 0
 IsLeaf node = ¬ IsInternal node
 
--- the claim word; of a card grandparent, parent, leaf and the word that was read; of a node its key, of a leaf its
--- value, and of an internal node its children (true is the right one) and its update word
+-- the claim word; what each card says of its search; and of nodes the keys, values, children (true: right) and updates
 pub record Words : Type 0 where
   pub next : ℕ
   pub gp : ℕ → ℕ

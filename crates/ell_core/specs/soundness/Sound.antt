@@ -30,8 +30,7 @@ pub record IsOwned (m : Machine) (key : ℕ) : Type 0 where
   pub worker : ℕ
   pub owns : WorkerOwns (m.worker worker) key
 
--- no key has two owners, a shared key has none, each other key of the tree has one, and of a worker's keys the tree has
--- those with their values that are present in its effective ledger
+-- no key has two owners, a shared key none, each other tree key one; own keys are there as the effective ledger says
 pub record LedgersAreSound (m : Machine) : Type 0 where
   pub one_owner : (i j key : ℕ) → WorkerOwns (m.worker i) key → WorkerOwns (m.worker j) key → i ≡ j
   pub apart : (i j key : ℕ) → (m.worker i).shared key ≡ true → ¬ WorkerOwns (m.worker j) key
@@ -39,8 +38,7 @@ pub record LedgersAreSound (m : Machine) : Type 0 where
   pub present : (i key value : ℕ) → WorkerOwns (m.worker i) key
       → IsTreePair m.words key value ↔ (effective m.words (m.worker i) key ≡ Some (Present value))
 
--- where a worker stands, the walk for a key of its own finds it with a value exactly when its ledger has it present
--- with that value, and what is reached of that walk lies on the walk from the root
+-- where a worker stands, the walk for an own key finds what the ledger has, and what is reached of it is on the root's
 pub record WalkIsSound (w : Words) (v : Worker) (key x : ℕ) : Type 0 where
   pub finds : WorkerOwns v key → (value : ℕ) → Finds w key value x ↔ (v.ledger key ≡ Some (Present value))
   pub joins : (y : ℕ) → OnWalk w key x y → Reached w y → OnWalk w key 0 y

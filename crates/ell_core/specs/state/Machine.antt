@@ -70,14 +70,11 @@ shared_of (Some keys) key = nat_le key greatest_key && not (set_of keys key)
 
 -- the worker that a view is
 abbrev pub worker_of : WorkerView → Worker
-worker_of v = record {
-  ledger = ledger_of v.ledger;
-  shared = shared_of v.shared;
+worker_of v = record (idle (ledger_of v.ledger) (shared_of v.shared) (known_of v.knows)) {
   operation = v.operation;
   search = v.search;
   card = v.card;
   flagged = v.flagged;
-  knows = known_of v.knows;
 }
 
 abbrev pub worker_or_nobody : Option WorkerView → Worker

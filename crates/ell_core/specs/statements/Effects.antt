@@ -76,8 +76,7 @@ value_in _ = None
 abbrev pub contents_in : Ledger → Contents
 contents_in ledger = λ key. value_in (ledger key)
 
--- a worker answers the operation in hand: on a key of its own as a map does, and its ledger becomes the map after it;
--- on a shared key its ledger stays
+-- a worker answers the operation in hand: on an own key as a map, which its ledger becomes; on a shared one that stays
 pub record AnswersAsMap (v : Worker) (new : Ledger) (reply : Reply) : Type 0 where
   pub op : Op
   pub busy : v.operation ≡ Some op

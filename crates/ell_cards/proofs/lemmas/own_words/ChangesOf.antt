@@ -91,7 +91,7 @@ module _ (keys : List ℕ) (cards : ℕ) (s : TableState) (r : HasMachine keys c
           let busy = busy_with r.words r.stages (worker_of v.worker) c sound has in (
             busy.0,
             which (worker_of v.worker) busy.0 (sound.flagged busy.0 c busy.1 has flagged).0,
-            record { seat = i; view = v; there = e; does = busy.1; held = record { holds = has; flagged = flagged } },
+            record { seat = i; view = v; there = e; does = busy.1; holds = has; flagged = flagged },
           )
 
   -- a card that wins has this win after those before

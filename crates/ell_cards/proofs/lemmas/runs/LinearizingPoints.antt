@@ -205,7 +205,7 @@ module _ (plan : TablePlan) (opened : TableState) (starts : Starts plan opened) 
         there = subst (λ (s : TableState). get_elem? s.views g.work.seat ≡ some g.work.view) is g.work.there;
         does = g.work.does;
         card = g.card;
-        held = g.work.held;
+        held = record { holds = g.work.holds; flagged = g.work.flagged };
         turn = g.turn;
         at = g.is.at;
         effect = effect;

@@ -320,7 +320,7 @@ module _ (keys : List ℕ) (cards : ℕ) where
       → turn_wins s t c ≡ exchange.DChild ∷ [] → delete_won (r.stages c) ≡ true
   dchild_flagged s r t s' now c wins =
       let work = (deletes_turn s r t s' now c (subst (InList exchange.DChild) (sym wins) (first exchange.DChild []))).work in
-      (flagged_in s r work.seat work.view work.there r.stages r.invariant (Delete (card_key (own_words s) c)) c work.does work.held.holds work.held.flagged).0
+      (flagged_in s r work.seat work.view work.there r.stages r.invariant (Delete (card_key (own_words s) c)) c work.does work.holds work.flagged).0
 
   pub dchild_claimed : (s : TableState) (r : HasMachine keys cards s) (c : ℕ) → delete_won (r.stages c) ≡ true → c < r.words.next
   dchild_claimed s r c won = (r.invariant.words.cards c).claimed.0 (delete-claimed (r.stages c) (delete_won-delete (r.stages c) won))
@@ -354,7 +354,7 @@ module _ (keys : List ℕ) (cards : ℕ) where
         let its = card_puts (own_words f.state) c in
         let theirs = flag_putting f.kept.words f.kept.stages (worker_of work.view.worker) its.0 c (op_of_card (own_words f.state) c) its.1
         (flagged_in f.state f.kept work.seat work.view work.there f.kept.stages f.kept.invariant (op_of_card (own_words f.state) c) c work.does
-        work.held.holds work.held.flagged) in
+        work.holds work.flagged) in
         let ours = flag_putting rest.0.words rest.1.stages (worker_of v.worker) what c op puts
         (flagged_in s' rest.0 seat v there rest.1.stages rest.1.invariant op c does has flagged) in
         let inserts = insert_won-insert (f.kept.stages c) theirs.0 in
@@ -389,7 +389,7 @@ module _ (keys : List ℕ) (cards : ℕ) where
         let rest = run_goes keys cards f.state f.kept f.kept.stages f.kept.invariant (f.turn ∷ drop (suc f.n) turns) s' (f.next, f.now, f.after) in
         let work = does_it.work in
         let theirs = flagged_in f.state f.kept work.seat work.view work.there f.kept.stages f.kept.invariant
-        (Delete (card_key (own_words f.state) c)) c work.does work.held.holds work.held.flagged in
+        (Delete (card_key (own_words f.state) c)) c work.does work.holds work.flagged in
         let ours = flagged_in s' rest.0 seat v there rest.1.stages rest.1.invariant (Delete k) c does has flagged in
         let is_delete = delete_won-delete (f.kept.stages c) theirs.0 in
         let key : card_key (own_words f.state) c ≡ k =
@@ -425,7 +425,7 @@ pub point_of : (keys : List ℕ) (cards : ℕ) (s : TableState) → HasMachine k
     → (KnowsAnswerAtLeaf called.answers.view op said × SaysWhatWas cards op begun turns s' said)
     ⊎ ((said ≡ reply_of_change op) × ((c : ℕ) × HoldsAtEnd s' seat c × TakesEffect cards op c begun turns s'))
 point_of keys cards s r seat op begun turns s' said called =
-    let real = (mine_sound keys cards s r seat called.begins.view called.begins.there).real (key_of op) called.begins.may.owned in
+    let real = (mine_sound keys cards s r seat called.begins.view called.begins.there).real (key_of op) called.begins.may.1 in
     let v = called.answers.view in
     let there = called.answers.there in
     let may = called.answers.may in

@@ -180,7 +180,7 @@ at_1 = run_leads at_0 parting
 -- seat 0 begins to delete key 5: it searches, takes card 2, fills it, and flags the root
 delete_flags_asks : RunAsks 4 at_1 delete_flags
 delete_flags_asks =
-    (refl, record { free = refl; owned = inl (some_not_none refl) })
+    (refl, (refl, inl (some_not_none refl)))
     ▸ (refl, record { stands = refl; inner = refl; unread = refl })
     ▸ (refl, told_at 0 _ _ refl)
     ▸ (refl, record { op = Delete 5; word = 3; key = infinity2; busy = refl; stands = refl; inner = refl; read = refl; told = refl; side = refl })
@@ -203,7 +203,7 @@ at_2 = run_leads at_1 delete_flags
 -- seat 1 begins to insert key 7: it goes past the flag, and takes card 3
 insert_claims_asks : RunAsks 4 at_2 insert_claims
 insert_claims_asks =
-    (refl, record { free = refl; owned = inl (some_not_none refl) })
+    (refl, (refl, inl (some_not_none refl)))
     ▸ (refl, record { stands = refl; inner = refl; unread = refl })
     ▸ (refl, told_at 1 _ _ refl)
     ▸ (refl, record { op = Insert 7 70; word = 9; key = infinity2; busy = refl; stands = refl; inner = refl; read = refl; told = refl; side = refl })
@@ -242,9 +242,9 @@ at_4 = run_leads at_3 insert_flags
 mark_is_lost_asks : RunAsks 4 at_4 mark_is_lost
 mark_is_lost_asks =
     (refl, (record { knows = refl; place = told_at 1 _ _ refl }, told_at 3 _ _ refl))
-    ▸ (refl, (inl refl, tt))
-    ▸ (refl, (inl refl, tt))
-    ▸ (refl, (inl refl, tt))
+    ▸ (refl, (inl refl, refl))
+    ▸ (refl, (inl refl, refl))
+    ▸ (refl, (inl refl, refl))
     ▸ (refl, record { parent_key = infinity1; card_key = 7; left_key = 5; knows = refl; parent = told_at 4 _ _ refl; leaf = told_at 2 _ _ refl; told_parent = told_at 11 _ _ refl; told_card = told_at 1 _ _ refl; told_left = told_at 0 _ _ refl; brings = refl; side = refl })
     ▸ (refl, record { knows = refl; place = told_at 4 _ _ refl })
     ▸ (refl, record { knows = refl; place = told_at 5 _ _ refl })
@@ -319,7 +319,7 @@ at_9 = run_leads at_8 look
 -- it lays a find down, and both passes become one
 ending_asks : RunAsks 4 at_9 ending
 ending_asks =
-    (refl, record { free = refl; owned = inl (some_not_none refl) })
+    (refl, (refl, inl (some_not_none refl)))
     ▸ (refl, record { op = Find 7; busy = refl; backed = λ c is flagged. absurd (some_not_none is refl) })
     ▸ (refl, refl, (λ e. let h : ◌≡◌ {A = ℕ} 0 1 = e in omega arith), refl, refl)
     ▸ tt

@@ -50,15 +50,15 @@ first_pass_may_begin plan s starts op has =
       turn = record {
         view = first_of plan;
         there = refl;
-        may = record {
-          free = refl;
-          owned = elim has [
+        may = (
+          refl,
+          elim has [
             | inl own ↦ inl (among_owned (keys_at_start plan.keys plan.start) (key_of op)
                 (contains_among (ledger_keys (keys_at_start plan.keys plan.start)) (key_of op)
                 (subst (λ ks. Contains ks (key_of op)) (sym (keys_start plan.keys plan.start)) own)))
             | inr shared ↦ inr (shared_there plan (key_of op) shared)
-          ];
-        };
+          ],
+        );
         gives = refl;
       };
     })

@@ -16,7 +16,7 @@ use Rattle.ell_cards.specs.declared.view.View.{View}
 use Rattle.ell_cards.specs.Models.{Has, earlier, InTable, KnowsCard}
 use Rattle.ell_cards.specs.Changes.{told_info}
 use Rattle.ell_cards.proofs.lemmas.views.Afters.{after_info, after_frozen_child}
-use Rattle.ell_cards.specs.Guards.{IsAsked, MayAsk, KnowsPlace}
+use Rattle.ell_cards.specs.Guards.{MayAsk, KnowsPlace}
 use Rattle.ell_cards.specs.Calls.{child_address, TellsNode, TellsDepth}
 use Rattle.ell_cards.specs.States.{TableState}
 use Rattle.ell_cards.specs.Machines.{EntryHolds, HasMachine}
@@ -29,13 +29,6 @@ use Rattle.ell_cards.proofs.lemmas.seats.Frames.{kept_told, is_no_event}
 use Rattle.ell_cards.proofs.lemmas.stepping.Looks.{born_in_table}
 use Rattle.ell_cards.proofs.lemmas.stepping.Exchanges.{told_is}
 use Rattle.ell_cards.proofs.lemmas.stepping.Known.{known_delete, known_card, known_claimed, known_settled, child_found}
-
--- a field that may be asked for never changes
-asked_fixed : (f : Field) → IsAsked f → is_fixed f ≡ true
-asked_fixed field.Left a = absurd a
-asked_fixed field.Right a = absurd a
-asked_fixed field.Update a = absurd a
-asked_fixed _ a = refl
 
 module _ (keys : List ℕ) (cards : ℕ) (s : TableState) (r : HasMachine keys cards s) (id : ℕ) (v : View) (here : get_elem? s.views id ≡ some v) where
   -- where a known card goes came into the tree; an insert's has no grandparent, which is node 0
@@ -56,9 +49,9 @@ module _ (keys : List ℕ) (cards : ℕ) (s : TableState) (r : HasMachine keys c
   deeper c k = elim (known_card keys cards s r id v here c k) [ inl i ↦ i.above | inr d ↦ d.above ]
 
   -- what is told of a card's word
-  info_entries : (c : ℕ) (f : Field) (n : ℕ) → KnowsCard v c → IsAsked f → word r.words c f ≡ n
+  info_entries : (c : ℕ) (f : Field) (n : ℕ) → KnowsCard v c → is_fixed f ≡ true → word r.words c f ≡ n
       → (e : Told) → Has (told_info c f n v.told) e → EntryHolds r.words r.stages e
-  info_entries c f n k asked is = by f (asked_fixed f asked) is
+  info_entries c f n k asked is = by f asked is
     where
       old : (e : Told) → Has v.told e → EntryHolds r.words r.stages e
       old = (r.views id v here).entries

@@ -82,8 +82,8 @@ module _ (keys : List ℕ) (cards : ℕ) (s : TableState) (r : HasMachine keys c
   keeps_begin op may =
       let after = after_begin (Some op) v in
       let happens : Happens cards (act.Begin op) (mine keys cards s r id v here) Moved (becomes keys cards s r id v here r.words after) = record {
-        owned = λ lacks. elim may.owned [ inl owns ↦ owns lacks.0 | inr shared ↦ false≢true (sym lacks.1 ∙ shared) ];
-        row = record { free = may.free; says = refl; gives = refl };
+        owned = λ lacks. elim may.1 [ inl owns ↦ owns lacks.0 | inr shared ↦ false≢true (sym lacks.1 ∙ shared) ];
+        row = record { free = may.0; says = refl; gives = refl };
         room = λ h. h;
       } in
       is_event keys cards s r id v here (call.Begin op) (act.Begin op) Moved r.words
