@@ -36,17 +36,17 @@ impl<A: Allocator + Copy> Model for Closed<A> {
 }
 
 impl<A: Allocator + Copy> CardTable<A> {
-    /// Ends the table, by a pass with nothing in hand that owns each of the keys that may have owners, and, if the other keys are shared, has
-    /// the whole share.
+    /// Ends the table with a pass that has nothing in hand, owns each of the keys that may have owners, and, if the
+    /// other keys are shared, has the whole share.
     pub fn close(self, pass: Pass<A>) -> Closed<A>
         requires own { pass.table ≡ self.id }
         requires free { IsFree pass.view }
         requires whole { self.plan.shared ≡ true → pass.view.share ≡ whole_share }
         requires all { All (λ k. ledger_of pass.view.worker.ledger k ≢ None) self.plan.keys }
-        // A run from the table's start led to the words. Of the keys that have owners their tree has those that the
+        // A run from the table's start led to the words. Of the keys that have owners, their tree has those that the
         // pass has present, with their values; its other keys are shared.
         ensures ends { TableEnds self.plan pass.view result }
-        // The number of the last card stays.
+        // The number of the last card stays the same.
         ensures cards { result.last_card ≡ self.plan.last_card }
     {
         let CardTable {
@@ -70,7 +70,7 @@ impl<A: Allocator + Copy> CardTable<A> {
 }
 
 impl<A: Allocator + Copy> Closed<A> {
-    /// The number of the last card, at most `CARD_MAX`.
+    /// Returns the number of the last card, at most `CARD_MAX`.
     pub fn last_card(&self) -> u64
         // Returns the number of the last card.
         ensures cards { result ≡ self.now.last_card }

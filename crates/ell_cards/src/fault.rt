@@ -11,7 +11,7 @@ pub enum CardFault {
     /// The cards are not 1 to `CARDS_MAX`.
     #[error("cards are not 1 to {max}", max = CARDS_MAX)]
     BadCards,
-    /// There was no memory.
+    /// An allocation failed.
     #[error("out of memory")]
     NoMemory,
 }
@@ -32,7 +32,7 @@ pub enum SplitFault {
     /// Some keys are shared, and the pass has no more than the least share of its table: it was parted too often.
     #[error("too many passes")]
     TooManyPasses,
-    /// There was no memory.
+    /// An allocation failed.
     #[error("out of memory")]
     NoMemory,
 }

@@ -11,8 +11,8 @@ pub struct Glance {
 }
 
 impl Glance {
-    /// The child of its node, which has this key, on a side, with those of its keys that go there: below the node's key
-    /// to the left child, else to the right one.
+    /// Returns the child of its node, which has this key, on a side, with those of its keys that go there: below the
+    /// node's key to the left child, else to the right one.
     #[inline(always)]
     pub fn down(self, key: u64, right: bool, child: u64) -> Glance
         ensures { result ≡ glance_down self key right child }

@@ -54,8 +54,8 @@ impl<A: Allocator + Copy> CardTable<A> {
         self.load(pass, call, child_address(parent, right))
     }
 
-    /// Exchanges the child of an insert's parent, from the leaf to the node that the card brings. Else the error is the
-    /// child that was found. Either way the pass knows the card changed.
+    /// Exchanges the child of an insert's parent, from the leaf to the node that the card brings. If that fails, the
+    /// error is the child that was found. Either way, the pass then knows that the card is changed.
     #[inline(always)]
     pub fn ichild(
         &self,
@@ -71,7 +71,7 @@ impl<A: Allocator + Copy> CardTable<A> {
         // It makes one step and counts it. The pass then knows exactly what this call tells.
         ensures step { Steps pass.old pass.new (exchanged (if_won (is_ok result) exchange.IChild card)
             (child_found leaf result) (with_fact (IChanged card) pass.old.view)) }
-        // If the exchange is lost, it has found another word than the expected one.
+        // If the exchange is lost, it found a word other than the expected one.
         ensures lost { IfErr result (λ found. found ≢ leaf) }
     {
         self.names(pass);
@@ -80,7 +80,8 @@ impl<A: Allocator + Copy> CardTable<A> {
         child_outcome(leaf, found)
     }
 
-    /// Takes an insert's flag away. Else the error is the update that was found. Either way the pass knows the card over.
+    /// Takes an insert's flag away. If that fails, the error is the update that was found. Either way, the pass then
+    /// knows that the card is over.
     #[inline(always)]
     pub fn iunflag(&self, pass: &mut Pass<A>, card: u64, parent: u64) -> Result<(), Update>
         requires own { pass.old.table ≡ self.now.id }
@@ -88,7 +89,7 @@ impl<A: Allocator + Copy> CardTable<A> {
         // It makes one step and counts it. The pass then knows exactly what this call tells.
         ensures step { Steps pass.old pass.new (exchanged (if_won (is_ok result) exchange.IUnflag card)
             (found_word (iflag card) result) (with_fact (IOver card) pass.old.view)) }
-        // If the exchange is lost, it has found another word than the expected one.
+        // If the exchange is lost, it found a word other than the expected one.
         ensures lost { IfErr result (λ found. packed found ≢ iflag card) }
     {
         self.names(pass);
@@ -99,8 +100,9 @@ impl<A: Allocator + Copy> CardTable<A> {
         update_outcome(flag, found)
     }
 
-    /// Marks the parent of a delete: exchanges the word that its search read there for the card's mark. Else the error is the
-    /// update that was found: the card's own mark, or another one, and then the card can't be marked any more.
+    /// Marks the parent of a delete: exchanges the word that its search read there for the card's mark. If that fails,
+    /// the error is the update that was found: the card's own mark, or another one, and then the card can no longer be
+    /// marked.
     #[inline(always)]
     pub fn mark(&self, pass: &mut Pass<A>, card: u64, parent: u64, was: u64) -> Result<(), Update>
         requires own { pass.old.table ≡ self.now.id }
@@ -109,7 +111,7 @@ impl<A: Allocator + Copy> CardTable<A> {
         ensures step { Steps pass.old pass.new (exchanged (if_won (is_ok result) exchange.Mark card)
             (found_word was result) (after_mark (is_ok result) card parent (found_update (unpacked was) result)
             pass.old.view)) }
-        // If the exchange is lost, it has found another word than the expected one, of a card of the table.
+        // If the exchange is lost, it found a word other than the expected one, of a card of the table.
         ensures lost { IfErr result (λ found. packed found ≢ was) }
         ensures card { IfErr result (λ found. found.card ≤ self.now.plan.last_card) }
     {
@@ -120,8 +122,8 @@ impl<A: Allocator + Copy> CardTable<A> {
         update_outcome(was, found)
     }
 
-    /// Exchanges the child of a delete's grandparent, from the parent to the sibling of the leaf. Else the error is the child
-    /// that was found. Either way the pass knows the card cut.
+    /// Exchanges the child of a delete's grandparent, from the parent to the sibling of the leaf. If that fails, the
+    /// error is the child that was found. Either way, the pass then knows that the card is cut.
     #[inline(always)]
     pub fn dchild(
         &self,
@@ -137,7 +139,7 @@ impl<A: Allocator + Copy> CardTable<A> {
         // It makes one step and counts it. The pass then knows exactly what this call tells.
         ensures step { Steps pass.old pass.new (exchanged (if_won (is_ok result) exchange.DChild card)
             (child_found parent result) (with_fact (Cut card) pass.old.view)) }
-        // If the exchange is lost, it has found another word than the expected one.
+        // If the exchange is lost, it found a word other than the expected one.
         ensures lost { IfErr result (λ found. found ≢ parent) }
     {
         self.names(pass);
@@ -152,8 +154,8 @@ impl<A: Allocator + Copy> CardTable<A> {
         child_outcome(parent, found)
     }
 
-    /// Takes a delete's flag away after its child exchange. Else the error is the update that was found. Either way the pass
-    /// knows the card over.
+    /// Takes a delete's flag away after its child exchange. If that fails, the error is the update that was found.
+    /// Either way, the pass then knows that the card is over.
     #[inline(always)]
     pub fn dunflag(&self, pass: &mut Pass<A>, card: u64, grandparent: u64) -> Result<(), Update>
         requires own { pass.old.table ≡ self.now.id }
@@ -161,7 +163,7 @@ impl<A: Allocator + Copy> CardTable<A> {
         // It makes one step and counts it. The pass then knows exactly what this call tells.
         ensures step { Steps pass.old pass.new (exchanged (if_won (is_ok result) exchange.DUnflag card)
             (found_word (dflag card) result) (with_fact (DOver card) pass.old.view)) }
-        // If the exchange is lost, it has found another word than the expected one.
+        // If the exchange is lost, it found a word other than the expected one.
         ensures lost { IfErr result (λ found. packed found ≢ dflag card) }
     {
         self.names(pass);
@@ -172,8 +174,8 @@ impl<A: Allocator + Copy> CardTable<A> {
         update_outcome(flag, found)
     }
 
-    /// Takes a delete's flag away after its lost mark. Else the error is the update that was found. Either way the pass knows the
-    /// card backed.
+    /// Takes a delete's flag away after its lost mark. If that fails, the error is the update that was found. Either
+    /// way, the pass then knows that the card is backed.
     #[inline(always)]
     pub fn backtrack(&self, pass: &mut Pass<A>, card: u64, grandparent: u64) -> Result<(), Update>
         requires own { pass.old.table ≡ self.now.id }
@@ -181,7 +183,7 @@ impl<A: Allocator + Copy> CardTable<A> {
         // It makes one step and counts it. The pass then knows exactly what this call tells.
         ensures step { Steps pass.old pass.new (exchanged (if_won (is_ok result) exchange.Backtrack card)
             (found_word (dflag card) result) (with_fact (Backed card) pass.old.view)) }
-        // If the exchange is lost, it has found another word than the expected one.
+        // If the exchange is lost, it found a word other than the expected one.
         ensures lost { IfErr result (λ found. packed found ≢ dflag card) }
     {
         self.names(pass);

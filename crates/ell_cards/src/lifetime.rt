@@ -28,9 +28,10 @@ use std::alloc::{AllocError, Allocator};
 use std::marker::Brand;
 
 impl<A: Allocator + Copy> CardTable<A> {
-    /// A table of an empty tree with so many cards to be claimed, 1 to `CARDS_MAX`, and one pass that owns all these keys, each
-    /// absent. `BadCards` comes exactly where the cards asked for are not 1 to `CARDS_MAX`, and `NoMemory` where memory is refused.
-    /// Conditions: the keys are strictly ascending, and at most `KEY_MAX`.
+    /// Creates a table of an empty tree with this many cards to be claimed, 1 to `CARDS_MAX`, and one pass that owns
+    /// all these keys, each absent. `BadCards` is returned exactly if the number of cards asked for is not 1 to
+    /// `CARDS_MAX`, and `NoMemory` if an allocation fails. Conditions: the keys are strictly ascending, and at most
+    /// `KEY_MAX`.
     pub fn reserve(alloc: A, keys: &[u64], cards: u64) -> Result<(CardTable<A>, Pass<A>), CardFault>
         requires ascending { IsStrictlyIncreasing keys.now }
         requires real { All (λ k. k ≤ greatest_key) keys.now }
@@ -40,17 +41,18 @@ impl<A: Allocator + Copy> CardTable<A> {
         // are present, and has made no step.
         ensures opened { IfOk result (OpensBy
             (record { keys = keys.now; start = []; last_card = cards; shared = false })) }
-        // `BadCards` comes exactly if the cards are not 1 to 1,000,000, and else `NoMemory` alone.
+        // `BadCards` is returned exactly if the number of cards is not 1 to 1,000,000; the only other error is
+        // `NoMemory`.
         ensures refused { IfErr result (RefusesCards cards) }
     {
         CardTable::reserve_from(alloc, &[], keys, cards)
     }
 
-    /// A table of a tree that has these start keys with their values, balanced, with so many cards to be claimed, and one
-    /// pass that owns all these keys: the start keys are present, the others absent. The tree of the start keys has a card
-    /// for each of them, so the number of the last card is the number of cards asked for plus that of the start keys. Errors
-    /// are as of `reserve`. Conditions: those of `reserve`; the start keys are strictly ascending, among the keys, and at
-    /// most `START_MAX`.
+    /// Creates a table of a tree that has these start keys with their values, balanced, with this many cards to be
+    /// claimed, and one pass that owns all these keys: the start keys are present, the others absent. The tree of the
+    /// start keys has a card for each of them, so the number of the last card is the number of cards asked for plus
+    /// that of the start keys. Errors are those of `reserve`. Conditions: those of `reserve`; the start keys are
+    /// strictly ascending, among the keys, and at most `START_MAX`.
     pub fn reserve_from(
         alloc: A,
         start: &[(u64, u64)],
@@ -68,7 +70,8 @@ impl<A: Allocator + Copy> CardTable<A> {
         // are present, and has made no step.
         ensures opened { IfOk result (OpensBy
             (record { keys = keys.now; start = start.now; last_card = last_card start.now cards; shared = false })) }
-        // `BadCards` comes exactly if the cards are not 1 to 1,000,000, and else `NoMemory` alone.
+        // `BadCards` is returned exactly if the number of cards is not 1 to 1,000,000; the only other error is
+        // `NoMemory`.
         ensures refused { IfErr result (RefusesCards cards) }
     {
         if !is_card_count(cards) {
@@ -79,9 +82,10 @@ impl<A: Allocator + Copy> CardTable<A> {
         CardTable::reserve_with_zeros(alloc, Vec::new(alloc), present, copy, cards)
     }
 
-    /// The same, of lists that the caller gives up: the start keys with their values, the keys, and zero words, which may have been
-    /// made beforehand, as in another thread. They are cut to the words of the table, which is a copy of them, or more are put
-    /// behind them; nothing else is asked of the allocator. Errors and conditions are as of `reserve_from`.
+    /// Does the same with lists that the caller gives up: the start keys with their values, the keys, and zero words,
+    /// which may have been made beforehand, for example in another thread. The zeros are cut to the words of the table,
+    /// which is a copy of them, or more are put behind them; nothing else is asked of the allocator. Errors and
+    /// conditions are those of `reserve_from`.
     pub fn reserve_with_zeros(
         alloc: A,
         zeros: Vec<u64, A>,
@@ -105,7 +109,8 @@ impl<A: Allocator + Copy> CardTable<A> {
           last_card = last_card start.items cards;
           shared = false;
         })) }
-        // `BadCards` comes exactly if the cards are not 1 to 1,000,000, and else `NoMemory` alone.
+        // `BadCards` is returned exactly if the number of cards is not 1 to 1,000,000; the only other error is
+        // `NoMemory`.
         ensures refused { IfErr result (RefusesCards cards) }
     {
         if !is_card_count(cards) {
@@ -120,11 +125,12 @@ impl<A: Allocator + Copy> CardTable<A> {
         Ok(CardTable::open(alloc, zeros, plan)?)
     }
 
-    /// A table of a tree that has these start keys with their values, balanced, with so many cards to be claimed, in which every key up to
-    /// `KEY_MAX` that is not among these keys is shared, and one pass, which owns these keys: of them the start keys are present, the others
-    /// absent. Any pass may change a shared key. Errors are as of `reserve`, and the number of the last card is as of `reserve_from`.
-    /// Conditions: the keys are strictly ascending, and at most `KEY_MAX`; so are the start keys, which need not be among the keys; there are
-    /// at most `START_MAX` of these.
+    /// Creates a table of a tree that has these start keys with their values, balanced, with this many cards to be
+    /// claimed, in which every key up to `KEY_MAX` that is not among these keys is shared, and one pass, which owns
+    /// these keys: of them the start keys are present, the others absent. Any pass may change a shared key. Errors are
+    /// those of `reserve`, and the number of the last card is that of `reserve_from`. Conditions: the keys are strictly
+    /// ascending, and at most `KEY_MAX`; so are the start keys, which need not be among the keys; there are at most
+    /// `START_MAX` start keys.
     pub fn reserve_shared(
         alloc: A,
         start: &[(u64, u64)],
@@ -142,7 +148,8 @@ impl<A: Allocator + Copy> CardTable<A> {
         // are present, and has made no step.
         ensures opened { IfOk result (OpensBy
             (record { keys = keys.now; start = start.now; last_card = last_card start.now cards; shared = true })) }
-        // `BadCards` comes exactly if the cards are not 1 to 1,000,000, and else `NoMemory` alone.
+        // `BadCards` is returned exactly if the number of cards is not 1 to 1,000,000; the only other error is
+        // `NoMemory`.
         ensures refused { IfErr result (RefusesCards cards) }
     {
         if !is_card_count(cards) {
@@ -195,7 +202,8 @@ impl<A: Allocator + Copy> CardTable<A> {
         Ok((table, pass))
     }
 
-    /// The number of the last card, at most `CARD_MAX`: how many cards there are beside card 0, those of the start keys included.
+    /// Returns the number of the last card, at most `CARD_MAX`: how many cards there are besides card 0, including
+    /// those of the start keys.
     pub fn last_card(&self) -> u64
         // Returns the number of the last card.
         ensures cards { result ≡ self.now.plan.last_card }
@@ -204,10 +212,10 @@ impl<A: Allocator + Copy> CardTable<A> {
         self.last_card
     }
 
-    /// Room for the pairs of the tree, of which a pass owns so many keys: these are enough where no key is shared, and two of each card,
-    /// card 0 too, always.
+    /// Returns how many pairs of the tree to have room for if a pass owns this many keys: this many are enough if no
+    /// key is shared, and two for each card, including card 0, are always enough.
     pub fn most_pairs(&self, owned: usize) -> usize
-        // Returns how many pairs the tree can have if the pass owns so many keys, and nobody else any.
+        // Returns how many pairs the tree can have if the pass owns this many keys, and no other pass owns any.
         ensures { result ≡ (if self.now.plan.shared then 2 * self.now.plan.last_card + 2 else owned) }
     {
         if self.shared {
@@ -217,9 +225,9 @@ impl<A: Allocator + Copy> CardTable<A> {
         }
     }
 
-    /// Parts a pass with nothing in hand: the left part gets these keys of its own, ascending, and the right part the rest, and a part of the
-    /// share. `TooManyPasses` comes exactly where the pass may not be parted, `NoMemory` where memory is refused; either way the pass is as it
-    /// was.
+    /// Parts a pass with nothing in hand: the left part gets these keys of its own, ascending, and the right part gets
+    /// the rest and a part of the share. `TooManyPasses` is returned exactly if the pass may not be parted, and
+    /// `NoMemory` if an allocation fails; either way the pass is as it was.
     pub fn split(
         &self,
         pass: Pass<A>,
@@ -233,8 +241,8 @@ impl<A: Allocator + Copy> CardTable<A> {
         ensures left { IfOk result (λ parts. Steps pass parts.0 (left_view left_keys.now pass.view)) }
         // The right part gets the other keys, and a piece of the share.
         ensures right { IfOk result (λ parts. Steps pass parts.1 (right_view left_keys.now pass.view)) }
-        // `TooManyPasses` comes exactly if the tree shares keys and the share is the least one, and else `NoMemory`
-        // alone. The pass then comes back as it was.
+        // `TooManyPasses` is returned exactly if the tree shares keys and the share is the least one; the only other
+        // error is `NoMemory`. The pass is then returned as it was.
         ensures may { OnOk result (MayPart pass.view) }
         ensures refused { IfErr result (λ refused. refused.0 ≡ pass) }
         ensures why { IfErr result (λ refused. SplitRefuses pass.view refused.1) }
@@ -290,8 +298,8 @@ impl<A: Allocator + Copy> CardTable<A> {
         (left, right)
     }
 
-    /// One pass of two with nothing in hand: it gets the keys of both, and the left one's label. Where memory is refused, both
-    /// are as they were.
+    /// Joins two passes with nothing in hand into one, which gets the keys of both, and the left one's label. If an
+    /// allocation fails, both are as they were.
     pub fn join(
         &self,
         left: Pass<A>,
@@ -301,15 +309,15 @@ impl<A: Allocator + Copy> CardTable<A> {
         requires right { right.table ≡ self.now.id }
         requires left_free { IsFree left.view }
         requires right_free { IsFree right.view }
-        // The pass has the keys and the shares of both. In a row it counts one step more than the greater of the two
-        // counts.
+        // The pass has the keys and the shares of both. Its count of steps in a row is one more than the greater of the
+        // two counts.
         ensures joined { IfOk result (λ both. both ≡ record {
           table = left.table;
           view = joined_view left.view right.view;
           steps = one_more (max left.steps right.steps);
           label = left.label;
         }) }
-        // If memory is refused, both come back as they were.
+        // If an allocation fails, both passes are returned as they were.
         ensures refused { IfErr result (λ refused. (refused.0 ≡ left) × (refused.1 ≡ right)) }
     {
         let Ok(keys) = united_keys(self.alloc, left.keys.as_slice(), right.keys.as_slice()) else {
@@ -341,9 +349,9 @@ impl<A: Allocator + Copy> CardTable<A> {
     }
 }
 
-/// Whether a table may have so many cards to be claimed.
+/// Returns `true` if a table may have this many cards to be claimed.
 pub fn is_card_count(cards: u64) -> bool
-    // Returns `true` exactly if the cards are 1 to 1,000,000.
+    // Returns `true` exactly if the number of cards is 1 to 1,000,000.
     ensures { IsTrue result ↔ IsCardCount cards }
 {
     1 <= cards && cards <= CARDS_MAX
@@ -367,7 +375,7 @@ fn opened<A: Allocator + Copy>(
     Table::of_words(alloc, words.as_slice(), plan)
 }
 
-// Zeros, cut to so many, or filled up.
+// Zeros, cut or filled up to this many.
 fn so_many<A: Allocator>(mut zeros: Vec<u64, A>, count: usize) -> Result<Vec<u64, A>, AllocError>
     requires { All (λ word. word ≡ 0) zeros.items }
     ensures zeros { IfOk result (λ words. words.items ≡ replicate count 0) }

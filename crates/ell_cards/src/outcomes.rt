@@ -4,7 +4,8 @@ ghost use Rattle.ell_cards.specs.Changes.{update_outcome, child_outcome};
 
 use ell_word::{Update, unpack};
 
-/// What the exchange of an update word answers: the update that was found where it was not the expected one.
+/// Returns what the exchange of an update word answers: the error is the update that was found, if it was not the
+/// expected one.
 #[inline(always)]
 pub(crate) fn update_outcome(expected: u64, found: u64) -> Result<(), Update>
     ensures { result ≡ update_outcome expected found }
@@ -16,7 +17,7 @@ pub(crate) fn update_outcome(expected: u64, found: u64) -> Result<(), Update>
     }
 }
 
-/// What the exchange of a child answers: the node that was found where it was not the expected one.
+/// Returns what the exchange of a child answers: the error is the node that was found, if it was not the expected one.
 #[inline(always)]
 pub(crate) fn child_outcome(expected: u64, found: u64) -> Result<(), u64>
     ensures { result ≡ child_outcome expected found }

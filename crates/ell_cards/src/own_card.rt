@@ -17,7 +17,7 @@ use ell_word::{State, Update, pack};
 use std::alloc::Allocator;
 
 impl<A: Allocator + Copy> CardTable<A> {
-    /// Takes the card that `next` read in this try, where it is still the next one: whether it did.
+    /// Takes the card that `next` read in this try, if it is still the next one. Returns `true` if it did.
     #[inline(always)]
     pub fn claim(&self, pass: &mut Pass<A>, card: u64) -> bool
         requires own { pass.old.table ≡ self.now.id }
@@ -42,8 +42,8 @@ impl<A: Allocator + Copy> CardTable<A> {
         self.store(pass, card, field, field.address(card), value);
     }
 
-    /// Flags the parent for the insert whose card is in hand, filled: exchanges the update that was read there for the card's
-    /// flag. Else the error is the update that was found, and the card is laid aside.
+    /// Flags the parent for the insert whose card is in hand, filled: exchanges the update that was read there for the
+    /// card's flag. If that fails, the error is the update that was found, and the card is laid aside.
     #[inline(always)]
     pub fn iflag(
         &self,
@@ -58,7 +58,7 @@ impl<A: Allocator + Copy> CardTable<A> {
         ensures step { Steps pass.old pass.new (exchanged (if_won (is_ok result) exchange.IFlag card)
             (found_word (packed from) result) (after_flag (is_ok result) (IFlagged card) parent
             (found_update from result) pass.old.view)) }
-        // If the exchange is lost, it has found another word than the expected one, of a card of the table.
+        // If the exchange is lost, it found a word other than the expected one, of a card of the table.
         ensures lost { IfErr result (λ found. found ≢ from) }
         ensures card { IfErr result (λ found. found.card ≤ self.now.plan.last_card) }
     {
@@ -70,8 +70,8 @@ impl<A: Allocator + Copy> CardTable<A> {
         update_outcome(expected, found)
     }
 
-    /// Flags the grandparent for the delete whose card is in hand, filled: exchanges the update that was read there for the
-    /// card's flag. Else the error is the update that was found, and the card is laid aside.
+    /// Flags the grandparent for the delete whose card is in hand, filled: exchanges the update that was read there for
+    /// the card's flag. If that fails, the error is the update that was found, and the card is laid aside.
     #[inline(always)]
     pub fn dflag(
         &self,
@@ -86,7 +86,7 @@ impl<A: Allocator + Copy> CardTable<A> {
         ensures step { Steps pass.old pass.new (exchanged (if_won (is_ok result) exchange.DFlag card)
             (found_word (packed from) result) (after_flag (is_ok result) (DFlagged card) grandparent
             (found_update from result) pass.old.view)) }
-        // If the exchange is lost, it has found another word than the expected one, of a card of the table.
+        // If the exchange is lost, it found a word other than the expected one, of a card of the table.
         ensures lost { IfErr result (λ found. found ≢ from) }
         ensures card { IfErr result (λ found. found.card ≤ self.now.plan.last_card) }
     {

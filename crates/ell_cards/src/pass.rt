@@ -12,8 +12,8 @@ use atomic_table::Seat;
 use std::alloc::Allocator;
 use std::marker::Model;
 
-/// What a thread steps with on a table: keys of its own, a label, and a count of its steps. Where a pass is dropped, its keys are lost:
-/// no other pass gets them, and the tree can't be closed any more.
+/// What a thread steps with on a table: keys of its own, a label, and a count of its steps. If a pass is dropped, its
+/// keys are lost: no other pass gets them, and the tree can no longer be closed.
 #[derive(Drop)]
 pub struct Pass<A: Allocator + Copy> {
     pub(crate) keys: Vec<u64, A>,
@@ -23,7 +23,7 @@ pub struct Pass<A: Allocator + Copy> {
     pub(crate) seat: Seat<(), View>,
 }
 
-/// The count of steps after one more: it stays at the greatest number once there.
+/// Returns the count of steps after one more. Once it is the greatest number, it stays there.
 #[inline(always)]
 pub(crate) fn one_more(steps: u64) -> u64
     ensures { result ≡ one_more steps }
@@ -43,7 +43,7 @@ impl<A: Allocator + Copy> Model for Pass<A> {
 }
 
 impl<A: Allocator + Copy> Pass<A> {
-    /// Whether the pass owns a key.
+    /// Returns `true` if the pass owns a key.
     pub fn owns(&self, key: u64) -> bool
         // Returns `true` exactly if the pass owns the key.
         ensures { IsTrue result ↔ Owns self.now key }
@@ -51,7 +51,7 @@ impl<A: Allocator + Copy> Pass<A> {
         self.keys.binary_search(&key).is_ok()
     }
 
-    /// The keys that the pass owns, strictly ascending.
+    /// Returns the keys that the pass owns, strictly ascending.
     pub fn keys(&self) -> &[u64]
         // Returns the keys of the pass, strictly ascending.
         ensures keys { result.now ≡ ledger_keys self.now.view.worker.ledger }
@@ -60,7 +60,8 @@ impl<A: Allocator + Copy> Pass<A> {
         self.keys.as_slice()
     }
 
-    /// Whether it is the only pass of its table that has a share: all passes of a table together have the whole.
+    /// Returns `true` if it is the only pass of its table that has a share: together, all passes of a table have the
+    /// whole.
     pub fn has_whole_share(&self) -> bool
         // Returns `true` exactly if the pass has the whole share.
         ensures { IsTrue result ↔ (self.now.view.share ≡ whole_share) }
@@ -68,7 +69,8 @@ impl<A: Allocator + Copy> Pass<A> {
         self.share.units == WHOLE_SHARE
     }
 
-    /// Whether the pass may be parted: where some keys of its table are shared, each part gets a share, so a pass that has no more than the
+    /// Returns `true` if the pass may be parted. If some keys of its table are shared, each part gets a share, so a
+    /// pass that has no more than the least one may not be parted.
     /// least one may not.
     pub fn may_part(&self) -> bool
         // Returns `true` exactly if the pass may be split.
@@ -77,7 +79,7 @@ impl<A: Allocator + Copy> Pass<A> {
         self.share.may_part()
     }
 
-    /// The label, which a gate is told: 0 until another is set.
+    /// Returns the label, which a gate is told. It is 0 until another is set.
     pub fn label(&self) -> u32
         // Returns the label.
         ensures { result ≡ self.now.label }
@@ -87,23 +89,24 @@ impl<A: Allocator + Copy> Pass<A> {
 
     /// Sets the label.
     pub fn relabel(&mut self, label: u32)
-        // The pass has this label, and stays otherwise.
+        // The pass has this label, and is otherwise unchanged.
         ensures { self.new ≡ record (self.old) { label = label } }
     {
         self.label = label;
     }
 
-    /// Counts steps that were made and not counted: those of a search, which counts them once it has ended. The count
-    /// stays at the greatest `u64` once there.
+    /// Counts steps that were made and not counted: those of a search, which counts them once it has ended. Once the
+    /// count is the greatest `u64`, it stays there.
     #[inline(always)]
     pub fn count(&mut self, steps: u64)
-        // The pass counts so many steps more, and stays otherwise.
+        // The pass counts this many more steps, and is otherwise unchanged.
         ensures { Counts self.old self.new steps }
     {
         self.steps = self.steps.saturating_add(steps);
     }
 
-    /// The atomic steps that were made through the pass and counted. The count stays at the greatest `u64` once there.
+    /// Returns how many atomic steps were made through the pass and counted. Once the count is the greatest `u64`, it
+    /// stays there.
     pub fn steps(&self) -> u64
         // Returns how many steps the pass counts in a row.
         ensures { result ≡ self.now.steps }

@@ -7,7 +7,7 @@ ghost use Rattle.ell_cards.specs.Calls.{update_address, child_address, key_addre
 use ell_layout::{Field, child_field, key_field, value_field};
 use ell_word::card_of;
 
-/// The address of the update word of a node.
+/// Returns the address of the update word of a node.
 #[inline(always)]
 pub(crate) fn update_address(node: u64) -> usize
     requires { card node ≤ greatest_card }
@@ -16,7 +16,7 @@ pub(crate) fn update_address(node: u64) -> usize
     Field::Update.address(card_of(node))
 }
 
-/// The address of a child of a node.
+/// Returns the address of a child of a node.
 #[inline(always)]
 pub(crate) fn child_address(node: u64, right: bool) -> usize
     requires { card node ≤ greatest_card }
@@ -25,7 +25,7 @@ pub(crate) fn child_address(node: u64, right: bool) -> usize
     child_field(right).address(card_of(node))
 }
 
-/// The address of the key of a node.
+/// Returns the address of the key of a node.
 #[inline(always)]
 pub(crate) fn key_address(node: u64) -> usize
     requires { card node ≤ greatest_card }
@@ -34,7 +34,7 @@ pub(crate) fn key_address(node: u64) -> usize
     key_field(node).address(card_of(node))
 }
 
-/// The address of the value of a leaf.
+/// Returns the address of the value of a leaf.
 #[inline(always)]
 pub(crate) fn value_address(leaf: u64) -> usize
     requires card { card leaf ≤ greatest_card }
@@ -44,7 +44,7 @@ pub(crate) fn value_address(leaf: u64) -> usize
     value_field(leaf).address(card_of(leaf))
 }
 
-/// The address of the key of the root: a word that never changes, in a line that each search reads.
+/// Returns the address of the key of the root: a word that never changes, in a line that each search reads.
 #[inline(always)]
 pub(crate) fn root_key() -> usize
     ensures { result ≡ key_address 0 }

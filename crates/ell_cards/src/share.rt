@@ -5,7 +5,7 @@ ghost use Rattle.ell_cards.specs.Models.{whole_share, given_share};
 /// The whole share of a table, 2 ^ 62, which its first pass has.
 pub const WHOLE_SHARE: u64 = 4611686018427387904;
 
-/// A share of a table, and whether it counts: where some keys are shared, a pass without a share is none.
+/// A share of a table, and whether it counts: if some keys are shared, there is no pass without a share.
 #[derive(Clone, Copy)]
 pub(crate) struct Share {
     pub units: u64,
@@ -13,14 +13,14 @@ pub(crate) struct Share {
 }
 
 impl Share {
-    /// Whether a pass with this share may be parted.
+    /// Returns `true` if a pass with this share may be parted.
     pub(crate) fn may_part(self) -> bool
         ensures { IsTrue result ↔ ((self.counts ≡ true) → 2 ≤ self.units) }
     {
         !self.counts || self.units >= 2
     }
 
-    /// What a split leaves, and what it gives away.
+    /// Returns what a split leaves, and what it gives away.
     pub(crate) fn parted(self) -> (Share, Share)
         ensures left { result.0 ≡ record { units = self.units - given_share self.units; counts = self.counts } }
         ensures right { result.1 ≡ record { units = given_share self.units; counts = self.counts } }
@@ -37,7 +37,7 @@ impl Share {
         (left, right)
     }
 
-    /// Two shares as one.
+    /// Returns two shares as one.
     pub(crate) fn joined(self, other: Share) -> Share
         ensures { result ≡ record {
           units = (self.units + other.units) % 2 ^ 64;

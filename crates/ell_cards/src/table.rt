@@ -56,7 +56,7 @@ impl<A: Allocator + Copy> CardTable<A> {
         self.names(pass);
     }
 
-    /// A law, as the one before: each card of which a pass knows something is one of the table.
+    /// A law, as the one before: each card that a pass knows something of is one of the table.
     #[inline(always)]
     pub fn facts_stay_inside(&self, pass: &Pass<A>)
         requires own { pass.now.table ≡ self.now.id }
@@ -176,7 +176,7 @@ impl<A: Allocator + Copy> CardTable<A> {
         found
     }
 
-    /// A step call that exchanges its word, where it has the expected value: what it found.
+    /// A step call that exchanges its word, if it has the expected value, and returns what it found.
     #[inline(always)]
     pub(crate) fn exchange(
         &self,

@@ -57,7 +57,7 @@ pub struct View {
     pub planned: LinkedList<(Field, u64)>,
     /// What was stored of the card in hand, the last first.
     pub stores: LinkedList<(Field, u64)>,
-    /// The word that the last exchange found, that of the claim word apart.
+    /// The word that the last exchange found, except that of the claim word.
     pub found: Option<u64>,
     /// The exchanges that it won, each by its kind and its card, the last first. When a pass is split, the left part keeps them.
     pub won: LinkedList<(Exchange, u64)>,
@@ -78,7 +78,7 @@ pub struct View {
     pub hindrances: LinkedList<Hindrance>,
     /// What was in the way of the try in hand, the last first.
     pub met: LinkedList<Hindrance>,
-    /// How many tries it gave up that something hindered which was over by then.
+    /// How many tries it gave up that were hindered by something that was over by then.
     pub hindered: u64,
     /// Where the look that it began last has come to, the last first: nowhere once an operation begins, or the pass is
     /// split or joined.
@@ -98,7 +98,7 @@ pub struct Plan<A: Allocator + Copy> {
     pub keys: Vec<u64, A>,
     /// The start keys, those of them that are present before the first operation, strictly ascending, with their values.
     pub start: Vec<(u64, u64), A>,
-    /// The number of the last card: how many there are beside card 0.
+    /// The number of the last card: how many cards there are besides card 0.
     pub last_card: u64,
     /// Whether every other key up to `KEY_MAX` is shared: any pass may change it.
     pub shared: bool,

@@ -46,7 +46,7 @@ impl<A: Allocator + Copy> CardTable<A> {
         self.load(pass, Call::Again, root_key());
     }
 
-    /// Gives a try up and lays the operation down without an answer. Hindrances and condition: as of `again`.
+    /// Gives a try up and lays the operation down without an answer. Hindrances and the condition are those of `again`.
     #[inline(always)]
     pub fn leave(&self, pass: &mut Pass<A>)
         requires own { pass.old.table ≡ self.now.id }
@@ -68,8 +68,8 @@ impl<A: Allocator + Copy> CardTable<A> {
         ensures step { Steps pass.old pass.new (after_answer said pass.old.view) }
         // The claims that the pass has tried were of cards of the table.
         ensures least { pass.old.view.next_at_least ≤ self.now.plan.last_card + 1 }
-        // The answer on an own key is that of the ledger, which becomes what the operation makes of it. An answer on a
-        // shared key leaves the ledger.
+        // The answer on a key that the pass owns is that of the ledger, which becomes what the operation makes of it.
+        // An answer on a shared key leaves the ledger unchanged.
         ensures reply { AnswersAsMap (worker_of pass.old.view.worker) (ledger_of pass.new.view.worker.ledger) said }
     {
         self.load(pass, Call::Answer(said), root_key());
@@ -106,7 +106,7 @@ impl<A: Allocator + Copy> CardTable<A> {
         self.see(pass, Call::Down(node, right), child_address(node, right))
     }
 
-    /// Reads the claim word: the number of the next card, one more than the number of the last card where all are claimed.
+    /// Reads the claim word: the number of the next card, one more than the number of the last card if all are claimed.
     #[inline(always)]
     pub fn next(&self, pass: &mut Pass<A>) -> u64
         requires own { pass.old.table ≡ self.now.id }
@@ -121,7 +121,7 @@ impl<A: Allocator + Copy> CardTable<A> {
     }
 
     /// Begins a look at the root's left child, a node of the table: the root's key is above every real one, so that all
-    /// of these come there.
+    /// real keys go there.
     #[inline(always)]
     pub fn look(&self, pass: &mut Pass<A>) -> u64
         requires own { pass.old.table ≡ self.now.id }
@@ -153,30 +153,31 @@ impl<A: Allocator + Copy> CardTable<A> {
         self.see(pass, Call::LookDown(from, key, right), word)
     }
 
-    /// Reads the key of a node that the pass has met. Of the leaf where it stands it is the operation's exactly where
-    /// the pass has that present, and then the leaf has a grandparent. If a look has come to its end by that, of a key
-    /// of the pass's own, it has found what the pass has there. The key of a node never changes, so the pass was told
-    /// no two of one node (`fixed`).
+    /// Reads the key of a node that the pass has met. For the leaf where the pass stands, it is the operation's key
+    /// exactly if the pass has that key present, and then the leaf has a grandparent. If a look for a key of the pass's
+    /// own has come to its end by that, it has found what the pass has there. The key of a node never changes, so the
+    /// pass was told no two different keys of one node (`fixed`).
     #[inline(always)]
     pub fn key_of(&self, pass: &mut Pass<A>, node: u64) -> u64
         requires own { pass.old.table ≡ self.now.id }
         requires met { IsTold pass.old.view (Met node) }
         // It makes one step, which the caller has to count. The pass then knows exactly what this call tells.
         ensures step { Sees pass.old pass.new (after (call.KeyOf node) result pass.old.view) }
-        // The key of a leaf is the operation's own key exactly if the ledger has that present. The leaf then has a
+        // The key of a leaf is the operation's own key exactly if the ledger has that key present. The leaf then has a
         // grandparent.
         ensures leaf { TellsLeaf pass.old.view node result }
-        // What a look has found of an own key is what the ledger has.
+        // What a look has found of a key that the pass owns is what the ledger has.
         ensures looked { ReadsItsOwn pass.new.view }
-        // The pass was told no two keys of one node.
+        // The pass was told no two different keys of one node.
         ensures fixed { KeysAreFixed pass.new.view }
     {
         self.names(pass);
         self.see(pass, Call::KeyOf(node), key_address(node))
     }
 
-    /// Reads the value of a leaf that the pass has met. Of the leaf where it stands, whose key is known to be the operation's, it is
-    /// the value that the pass has there; so it is of the leaf to which a look for a key of the pass's own has come.
+    /// Reads the value of a leaf that the pass has met. For the leaf where the pass stands, whose key is known to be
+    /// the operation's, it is the value that the pass has there; so it is for the leaf to which a look for a key of the
+    /// pass's own has come.
     #[inline(always)]
     pub fn value_of(&self, pass: &mut Pass<A>, leaf: u64) -> u64
         requires own { pass.old.table ≡ self.now.id }
@@ -186,9 +187,9 @@ impl<A: Allocator + Copy> CardTable<A> {
         ensures step { Sees pass.old pass.new (after (call.ValueOf leaf) result pass.old.view) }
         // The value of the operation's own key is that of the ledger.
         ensures value { TellsLedgerValue pass.old.view leaf result }
-        // What a look has found of an own key is what the ledger has.
+        // What a look has found of a key that the pass owns is what the ledger has.
         ensures looked { ReadsItsOwn pass.new.view }
-        // The pass was told no two keys of one node.
+        // The pass was told no two different keys of one node.
         ensures fixed { KeysAreFixed pass.new.view }
     {
         self.names(pass);

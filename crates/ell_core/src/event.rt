@@ -1,4 +1,4 @@
-//! The events of the machine, and what comes of them.
+//! The events of the machine, and their outcomes.
 ghost use Rattle.std.specs.Prelude.{◌≡◌};
 
 use ell_ops::{NoMemory, Op, Reply};
@@ -69,9 +69,9 @@ pub enum CoreFault {
     NotNow,
     /// All cards are claimed.
     NoCards,
-    /// A key is owned already. Of an opening alone.
+    /// A key is already owned. Only an opening is refused for this reason.
     OwnedTwice,
-    /// There was no memory.
+    /// An allocation failed.
     NoMemory,
 }
 

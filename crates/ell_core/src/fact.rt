@@ -4,7 +4,7 @@ ghost use Rattle.ell_core.specs.state.Facts.{told_by};
 
 use ell_word::{State, unpack};
 
-/// A fact of a card, which the fact names. It stays true once it is true.
+/// A fact about a card, which the fact names. Once it is true, it stays true.
 #[derive(Clone, Copy, PartialEq, Eq, PartialOrd, Ord)]
 pub enum Fact {
     /// The insert's flag was set.
@@ -17,7 +17,7 @@ pub enum Fact {
     DFlagged(u64),
     /// The delete's parent was marked.
     Marked(u64),
-    /// The delete's parent can't be marked any more.
+    /// The delete's parent can no longer be marked.
     Unmarkable(u64),
     /// The delete's child exchange was made.
     Cut(u64),
@@ -27,7 +27,8 @@ pub enum Fact {
     Backed(u64),
 }
 
-/// The fact that an update word tells whoever reads it: a flag or a mark that of its card, a clean word none.
+/// Returns the fact that an update word tells its reader: a flag or a mark tells that of its card, and a clean word
+/// tells none.
 pub fn told_by(word: u64) -> Option<Fact>
     // Returns the fact that the update word tells, if it tells one.
     ensures { result ≡ told_by word }

@@ -16,26 +16,27 @@ pub trait TreeWords {
     // the nodes that may be read
     ghost can_read: { Self → ℕ → Type 0 };
 
-    /// The key of a node.
+    /// Returns the key of a node.
     fn key(&self, node: u64) -> u64
         requires { can_read self.now node }
         ensures { result ≡ (words self.now).key node };
 
-    /// The value of a leaf.
+    /// Returns the value of a leaf.
     fn value(&self, leaf: u64) -> u64
         requires read { can_read self.now leaf }
         requires outer { IsLeaf leaf }
         ensures { result ≡ (words self.now).value leaf };
 
-    /// The child of an internal node on a side.
+    /// Returns the child of an internal node on a side.
     fn child(&self, node: u64, right: bool) -> u64
         requires read { can_read self.now node }
         requires inner { IsInternal node }
         ensures { result ≡ (words self.now).child node right };
 }
 
-/// The keys of a lawful tree with their values, each key once, ascending. Nothing is allocated: the two lists, empty as they come,
-/// have room for the nodes that wait and for the pairs. The walk goes left first, and comes to each node once.
+/// Returns the keys of a lawful tree with their values, each key once, ascending. It allocates nothing: the two lists,
+/// which are passed empty, have room for the nodes that wait and for the pairs. The walk goes left first, and visits
+/// each node once.
 pub fn pairs_of_tree<T: TreeWords, A: Allocator>(
     tree: &T,
     mut waiting: Vec<u64, A>,

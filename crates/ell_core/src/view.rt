@@ -16,7 +16,7 @@ pub struct Seen {
 /// Where a worker's search stands.
 #[derive(Clone, Copy)]
 pub struct Search {
-    /// The node where it stands, or nowhere.
+    /// The node where it stands, or `None` if it stands nowhere.
     pub node: Option<u64>,
     /// The update word that it has read there.
     pub read: Option<u64>,
@@ -36,7 +36,7 @@ pub enum Entry {
 }
 
 impl Entry {
-    /// Present with a value, if there is one.
+    /// Returns `Present` with the value, if there is one, else `Absent`.
     pub fn of(value: Option<u64>) -> Entry
         ensures { result ≡ entry_of value }
     {

@@ -17,7 +17,8 @@ pub struct Branch {
 }
 
 impl Branch {
-    /// The left child: the card's own left leaf, if there is one leaf on that side, or else the node of the next card.
+    /// Returns the left child: the card's own left leaf, if there is one leaf on that side, or else the node of the
+    /// next card.
     pub fn left_child(self) -> u64
         requires { self.card < greatest_card }
         // Returns the left child: the card's own left leaf if that side has one leaf, else the node of the next card.
@@ -30,8 +31,8 @@ impl Branch {
         }
     }
 
-    /// The right child: the card's own right leaf, if there is one leaf on that side, or else the node of the card after those on
-    /// the left.
+    /// Returns the right child: the card's own right leaf, if there is one leaf on that side, or else the node of the
+    /// card after those on the left.
     pub fn right_child(self) -> u64
         requires { self.card + self.left ≤ greatest_card }
         // Returns the right child: the card's own right leaf if that side has one leaf, else the node of the first card
@@ -46,9 +47,10 @@ impl Branch {
     }
 }
 
-/// The branch of a card of the balanced tree whose root, card 0, has so many leaves on its left and one on its right: each other branch
-/// has half of its leaves on its left, and one more on its right where they are odd, and the cards go down the left before they
-/// go down the right. Conditions: the card is less than the number of leaves, and that is at most `CARD_MAX`.
+/// Returns the branch of a card of the balanced tree whose root, card 0, has this many leaves on its left and one on
+/// its right. Each other branch has half of its leaves on its left, and one more on its right if their number is odd,
+/// and the cards go down the left before they go down the right. Conditions: the card is less than the number of
+/// leaves, and that number is at most `CARD_MAX`.
 pub fn branch_of(leaves: u64, card: u64) -> Branch
     requires card { card < leaves }
     requires most { leaves ≤ greatest_card }
@@ -75,7 +77,7 @@ pub fn branch_of(leaves: u64, card: u64) -> Branch
     branch
 }
 
-// The branch of a card over so many leaves from the first on, half of them on its left.
+// The branch of a card over this many leaves from the first on, half of them on its left.
 fn halved(card: u64, first: u64, size: u64) -> Branch
     ensures { result ≡ halved card first size }
 {

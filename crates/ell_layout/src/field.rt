@@ -7,8 +7,8 @@ ghost use Rattle.ell_layout.specs.Words.{Words, word, key_field, value_field, ch
 
 use ell_word::{State, Update, pack};
 
-/// A word of a card: the first eight are of its internal node and its two leaves, the others the record of the operation that took it (Info,
-/// figure 7 of the paper).
+/// A word of a card: the first eight belong to its internal node and its two leaves, the others to the record of the
+/// operation that took it (Info, figure 7 of the paper).
 #[derive(Clone, Copy, Debug, PartialEq, Eq)]
 pub enum Field {
     /// The key of the internal node.
@@ -88,9 +88,9 @@ impl Field {
         }
     }
 
-    /// The address of a card's field in the list of all words: the claim word comes first, then groups of 64 cards, in each of which the
-    /// internal nodes come first, then the leaves, then the records. So a search reads no line of records. Condition: the card
-    /// is at most `CARD_MAX`.
+    /// Returns the address of a card's field in the list of all words: the claim word comes first, then groups of 64
+    /// cards, in each of which the internal nodes come first, then the leaves, then the records. So a search reads no
+    /// line of records. Condition: the card is at most `CARD_MAX`.
     #[inline(always)]
     pub fn address(self, card: u64) -> usize
         requires { card ≤ greatest_card }
@@ -103,7 +103,7 @@ impl Field {
     }
 }
 
-/// The field that has the key of a node, on the node's card.
+/// Returns the field that has the key of a node, on the node's card.
 #[inline(always)]
 pub fn key_field(node: u64) -> Field
     // Returns the field that has the node's key.
@@ -117,7 +117,7 @@ pub fn key_field(node: u64) -> Field
     }
 }
 
-/// The field that has the value of a leaf, on the leaf's card.
+/// Returns the field that has the value of a leaf, on the leaf's card.
 #[inline(always)]
 pub fn value_field(leaf: u64) -> Field
     // Returns the field that has the leaf's value.
@@ -131,7 +131,7 @@ pub fn value_field(leaf: u64) -> Field
     }
 }
 
-/// The field that has the child of an internal node on a side, on the node's card.
+/// Returns the field that has the child of an internal node on a side, on the node's card.
 #[inline(always)]
 pub fn child_field(right: bool) -> Field
     // Returns the field that has the child of an internal node on this side.
@@ -141,7 +141,7 @@ pub fn child_field(right: bool) -> Field
     if right { Field::Right } else { Field::Left }
 }
 
-/// The update word that a card sets, in a state. Condition: the card is at most `CARD_MAX`.
+/// Returns the update word that a card sets, in a state. Condition: the card is at most `CARD_MAX`.
 pub fn update_word(state: State, card: u64) -> u64
     requires { card ≤ greatest_card }
     // Returns the update word of the state and the card.
@@ -150,7 +150,7 @@ pub fn update_word(state: State, card: u64) -> u64
     pack(Update { state, card })
 }
 
-/// How many words a table has whose cards are 0 and so many more. Condition: at most `CARD_MAX` more.
+/// Returns how many words a table has whose cards are card 0 and this many more. Condition: at most `CARD_MAX` more.
 pub fn table_size(cards: u64) -> usize
     requires { cards ≤ greatest_card }
     // Returns how many words a table with this last card has.

@@ -6,8 +6,8 @@ ghost use Rattle.ell_layout.specs.Cards.{brought_by, insert_filling, delete_fill
 use crate::field::{Field, update_word};
 use ell_word::{State, internal_of, left_leaf_of, right_leaf_of};
 
-/// The fields of an insert's card, for a key with its value at a leaf: an internal node with the greater key, over two new
-/// leaves, the lesser key on the left, each with its value. Condition: the card is at most `CARD_MAX`.
+/// Returns the fields of an insert's card, for a key with its value at a leaf: an internal node with the greater key,
+/// over two new leaves, the lesser key on the left, each with its value. Condition: the card is at most `CARD_MAX`.
 pub fn insert_filling(
     card: u64,
     key: u64,
@@ -40,8 +40,9 @@ pub fn insert_filling(
     ]
 }
 
-/// The node that an insert's card brings to the parent, by the keys of its two leaves: where they are one, it replaces
-/// a leaf of that key, by its right leaf; else it brings its internal node. Condition: the card is at most `CARD_MAX`.
+/// Returns the node that an insert's card brings to the parent, by the keys of its two leaves. If they are the same,
+/// the card replaces a leaf of that key by its right leaf; else it brings its internal node. Condition: the card is at
+/// most `CARD_MAX`.
 pub fn brought_node(card: u64, left_leaf_key: u64, right_leaf_key: u64) -> u64
     requires { card ≤ greatest_card }
     // Returns the node that the card brings into the tree: its right leaf if both leaf keys are the same, as a swap's
@@ -55,7 +56,7 @@ pub fn brought_node(card: u64, left_leaf_key: u64, right_leaf_key: u64) -> u64
     }
 }
 
-/// The fields of a delete's card: what its search saw.
+/// Returns the fields of a delete's card: what its search saw.
 pub fn delete_filling(grandparent: u64, parent: u64, leaf: u64, was: u64) -> [(Field, u64); 4]
     // Returns what fills the card of a delete.
     ensures { result ≡ delete_filling grandparent parent leaf was }

@@ -2,27 +2,28 @@
 ghost use Rattle.ell_layout.specs.Balanced.{BranchesAreHalves, TreeIsShallow};
 ghost use Rattle.ell_layout.specs.Laws.{SameAfterSameWrite, WordsAreListed, AddressesAreInside, AddressesAreApart, FilledListsAreFilled, FilledCardsSay, ListsAreWritten, WordsAreWritten, NodesAreOnCards};
 
-/// Each field of each card of a table has an address there, after that of the claim word, and no two have one address.
+/// Each field of each card of a table has an address there, after that of the claim word, and no two share an address.
 pub fn each_word_has_its_address()
     // Each field has an address in the table, and no two fields share one.
     ensures inside { AddressesAreInside }
     ensures apart { AddressesAreApart }
 {}
 
-/// Where a list of words has what the machine has at a field of a card, it has it after the same write in both, at every
-/// address, and so after the same fields of a card were written in both; the machine that is made of a list has the list's
-/// words; and a field of a filled card has what was written to it last, or what it had.
+/// If a list of words has at a field of a card what the machine has there, it still does after the same write to both,
+/// at every address, and so after the same fields of a card were written in both. The machine that is made from a list
+/// has the list's words. A field of a filled card has what was written to it last, or what it had.
 pub fn same_words()
-    // A list of words that is like the machine's words stays so if both are written alike.
+    // A list of words that matches the machine's words still matches them after the same write to both.
     ensures writes { SameAfterSameWrite }
     ensures listed { WordsAreListed }
-    // It stays so if a card is filled in both; each field of the card has then what was written to it last.
+    // It still matches them after a card is filled in both; each field of the card then has what was written to it
+    // last.
     ensures filled { FilledListsAreFilled }
     ensures cards { FilledCardsSay }
 {}
 
-/// A write to a list of words, or to the machine's, is read at its own address and leaves all other words and the claim word; and
-/// the key, the value, the children and the update word of a node are words of its card.
+/// A write to a list of words, or to the machine's, is read at its own address and leaves all other words and the claim
+/// word unchanged. The key, the value, the children and the update word of a node are words of its card.
 pub fn writes_are_seen()
     // A write is read at its own address, and changes no other word.
     ensures lists { ListsAreWritten }

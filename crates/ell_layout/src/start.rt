@@ -11,7 +11,8 @@ use crate::field::{Field, update_word};
 use ell_word::{INF1, INF2, State, right_leaf_of};
 
 /// Writes the words of the opening tree over these start keys, ascending, with their values, into a table of zeros.
-/// Condition: the cards have room for as many, and are at most `CARD_MAX`; there are fewer start keys than that.
+/// Conditions: the number of the last card is at least the number of start keys and at most `CARD_MAX`; there are fewer
+/// start keys than `CARD_MAX`.
 pub fn write_opening(words: &mut [u64], start: &[(u64, u64)], last: u64)
     requires zeros { words.old ≡ replicate (table_size last) 0 }
     requires room { length start.now ≤ last }

@@ -6,7 +6,7 @@ ghost use Rattle.ell_ops.specs.KeySet.{set_of, union, Lists};
 use crate::keyed::united;
 use std::alloc::{AllocError, Allocator};
 
-/// The keys of a list, each once, ascending. Allocates nothing.
+/// Returns the keys of a list, each once, ascending. It allocates nothing.
 pub fn distinct_keys<A: Allocator>(mut keys: Vec<u64, A>) -> Vec<u64, A>
     // The result has each key of the list once, strictly ascending.
     ensures { Lists (set_of keys.items) result.items }
@@ -16,7 +16,7 @@ pub fn distinct_keys<A: Allocator>(mut keys: Vec<u64, A>) -> Vec<u64, A>
     keys
 }
 
-/// The keys of two ascending lists, each once, ascending. Conditions: each list is strictly ascending.
+/// Returns the keys of two ascending lists, each once, ascending. Conditions: each list is strictly ascending.
 pub fn united_keys<A: Allocator>(
     alloc: A,
     left: &[u64],

@@ -4,11 +4,11 @@ ghost use Rattle.ell_ops.specs.KeySet.{KeySet, Lists};
 ghost use Rattle.ell_ops.specs.Contents.{Contents, ListsPairs};
 ghost use Rattle.ell_ops.specs.LastWriter.{FoldHasPresentKeys, RepliesGoByPresence};
 
-/// The last writer decides. Before each position of a list, and at its end, the map that applying the operations gives
-/// has a key exactly when the last insert or delete of the key before there is an insert, or the list began with the
-/// key and deletes it nowhere before. The value is that of its last writer: the insert which found the key absent, or a
-/// swap since then which found the value that it replaces. With no writer it is the one that the list began with. Each
-/// reply follows from that. It holds of every map and every list.
+/// The last writer decides. Before each position of a list, and at its end, the map that results from applying the
+/// operations has a key exactly if the last insert or delete of the key before that point is an insert, or if the list
+/// began with the key and does not delete it before that point. The value is that of its last writer: the insert that
+/// found the key absent, or a swap since then that found the value that it replaces. Without a writer it is the value
+/// that the list began with. Each reply follows from that. The law holds for every map and every list.
 pub fn last_writer()
     // In the map of a list's operations a key has the value of its last writer: the insert that found it absent, or a
     // swap since then that found its first value. It is absent after a delete, or if it was never there.

@@ -4,7 +4,7 @@ ghost use Rattle.ell_ops.specs.Meaning.{greatest_key, most_workers};
 
 use crate::op::KEY_MAX;
 
-/// The most workers that there may be.
+/// The greatest number of workers.
 pub const WORKERS_MAX: u32 = 64;
 
 /// The limits are the numbers that the definitions have: `WORKERS_MAX` is 64, and `KEY_MAX` is 2^64 - 3.

@@ -1,11 +1,11 @@
-//! The one way in which a call fails that only memory can fail.
+//! The only error of a call that can fail only because an allocation fails.
 ghost use Rattle.std.specs.Prelude.{Some, codes};
 
 use std::alloc::{AllocError, AllocFailed};
 use std::error::Error;
 use std::fmt;
 
-/// A growth was refused: there was no memory for it.
+/// An allocation failed, since there was no memory for it.
 #[derive(Clone, Copy, Debug, PartialEq, Eq)]
 pub struct NoMemory;
 

@@ -12,10 +12,10 @@ use crate::reply::Reply;
 use std::alloc::Allocator;
 use std::collections::BTreeMap;
 
-/// Applies one operation to an ordered map. Find and swap answer the key's value if the key is present, insert whether
-/// it was absent, delete whether it was present. An insert of a present key leaves its value, and a swap changes the
-/// value only if it is the one that the swap names. Only an insert of an absent key can meet `NoMemory`, and then the
-/// map is as it was.
+/// Applies one operation to an ordered map. Find and swap return the key's value if the key is present, insert returns
+/// whether it was absent, and delete returns whether it was present. An insert of a present key leaves its value, and a
+/// swap changes the value only if it is the one that the swap names. Only an insert of an absent key can return
+/// `NoMemory`, and then the map is as it was.
 pub fn apply<A: Allocator + Copy>(
     map: &mut BTreeMap<u64, u64, A>,
     op: Op,
@@ -54,7 +54,7 @@ fn insert<A: Allocator + Copy>(
     Ok(Reply::Yes)
 }
 
-// Changes a key's value from one to another, if the key has the first one. Answers the value that was found.
+// Changes a key's value from one to another, if the key has the first one. Returns the value that was found.
 fn swap<A: Allocator + Copy>(
     map: &mut BTreeMap<u64, u64, A>,
     key: u64,
@@ -74,8 +74,8 @@ fn swap<A: Allocator + Copy>(
     Reply::Found(found)
 }
 
-/// Applies a list of operations to the empty map, one after the other. Answers the reply of each operation, in their order, and
-/// the keys of the last map, ascending, with their values.
+/// Applies a list of operations to the empty map, one after the other. Returns the reply to each operation, in their
+/// order, and the keys of the last map, ascending, with their values.
 pub fn apply_all<A: Allocator + Copy>(
     alloc: A,
     ops: &[Op],
@@ -88,7 +88,7 @@ pub fn apply_all<A: Allocator + Copy>(
     apply_from(alloc, &[], ops)
 }
 
-/// The same from the map of `start`, whose keys are strictly ascending.
+/// Does the same from the map of `start`, whose keys are strictly ascending.
 pub fn apply_from<A: Allocator + Copy>(
     alloc: A,
     start: &[(u64, u64)],

@@ -2,8 +2,8 @@
 ghost use Rattle.std.specs.Prelude.{◌≡◌};
 ghost use Rattle.ell_ops.specs.Meaning.{found, yes_if};
 
-/// What an operation answers: a find and a swap the value of their key, if it is present, an insert whether it was
-/// absent, a delete whether it was present.
+/// What an operation answers: a find and a swap answer the value of their key, if it is present, an insert answers
+/// whether it was absent, and a delete answers whether it was present.
 #[derive(Clone, Copy, Debug, PartialEq, Eq)]
 pub enum Reply {
     /// Nothing was found, and nothing was changed.
@@ -15,7 +15,7 @@ pub enum Reply {
 }
 
 impl Reply {
-    /// Yes exactly where this holds.
+    /// Returns `Yes` if this holds, else `No`.
     pub fn yes_if(holds: bool) -> Reply
         // Returns `Yes` if this holds, else `No`.
         ensures { result ≡ yes_if holds }
@@ -23,7 +23,7 @@ impl Reply {
         if holds { Reply::Yes } else { Reply::No }
     }
 
-    /// A value that was found, or no.
+    /// Returns `Found` with the value, or `No` if there is none.
     pub fn found(value: Option<u64>) -> Reply
         // Returns `Found` with the value, or `No` if there is none.
         ensures { result ≡ found value }

@@ -5,16 +5,17 @@ ghost use Rattle.ell_order.specs.Orders.{OrdersServe, fewest_reordered};
 
 use crate::order::REORDERED_MIN;
 
-/// An order of a list that keeps each key's operations in theirs changes no answer: from every map, the replies, put back to the
-/// positions of their operations, and the last map are those of the list.
+/// An order of a list that keeps each key's operations in their order changes no answer: from every map, the replies,
+/// put back to the positions of their operations, and the last map are those of the list.
 pub fn orders_serve()
-    // An order that keeps each key's operations in theirs has the replies of the list, once they are put back, and its
-    // last map.
+    // An order that keeps each key's operations in their order has the replies of the list, once they are put back, and
+    // its last map.
     ensures { OrdersServe }
 {}
 
-/// Mixing can be undone, both ways, so it is one to one on the numbers of 64 bits: of all numbers, half are of the last round, and so
-/// on. Orders do not lean on this: where the numbers of two keys were mixed to one, they would be of one round.
+/// Mixing can be undone, both ways, so it is one to one on the numbers of 64 bits: of all numbers, half are of the last
+/// round, and so on. Orders do not rely on this: if the numbers of two keys were mixed to one, they would be of one
+/// round.
 pub fn mixing_can_be_undone()
     // Mixing is one to one on the numbers below 2^64.
     ensures back { (key : ℕ) → key < 2 ^ 64 → unmixed (mixed key) ≡ key }

@@ -1,7 +1,8 @@
-//! The order in which the operations of a list are run. A reply depends on the operations on its own key alone, so any order that
-//! keeps each key's gives the same answers. A long list is run in four hands, each in rounds, as the keys of a zip tree enter it: few
-//! keys first, then about as many again, and so on, in each round ascending. So a list of any order makes a tree as flat as a shuffled
-//! one makes, and the path to a key is mostly that to the one before.
+//! The order in which the operations of a list are run. A reply depends only on the operations on its own key, so any
+//! order that keeps each key's operations in theirs gives the same answers. A long list is run in four hands, each in
+//! rounds, as the keys of a zip tree enter it: few keys first, then about the same number again, and so on, in each
+//! round ascending. So a list in any order makes a tree as flat as a shuffled one makes, and the path to a key is
+//! mostly that to the one before.
 #![tactic(auto)]
 
 mod hands;

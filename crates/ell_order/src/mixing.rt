@@ -7,10 +7,10 @@ const FIRST_FACTOR: u64 = 0xff51_afd7_ed55_8ccd;
 
 const SECOND_FACTOR: u64 = 0xc4ce_b9fe_1a85_ec53;
 
-/// A number scrambled, by the finalizer of MurmurHash3 (Austin Appleby's `fmix64`): numbers that rise by a step are mixed to such that
-/// look random, and different ones to different ones.
+/// Returns a number scrambled by the finalizer of MurmurHash3 (Austin Appleby's `fmix64`): numbers that rise by a fixed
+/// step are mixed to numbers that look random, and different numbers to different ones.
 pub fn mixed(number: u64) -> u64
-    // Returns the number scrambled, by the finalizer of MurmurHash3.
+    // Returns the number scrambled by the finalizer of MurmurHash3.
     ensures { result ≡ mixed number }
 {
     let once = folded(number).wrapping_mul(FIRST_FACTOR);

@@ -5,8 +5,8 @@ use ell_ops::WORKERS_MAX;
 use std::alloc::{AllocError, AllocFailed};
 use thiserror::Error;
 
-/// Why a list of operations was not parted. The faults are tested in this order, but want of memory comes after the
-/// first three and may stand in place of `KeySplit`.
+/// Why a list of operations was not parted. The faults are tested in this order, but `NoMemory` comes after the first
+/// three and may be returned in place of `KeySplit`.
 #[derive(Clone, Copy, Debug, PartialEq, Eq, Error)]
 pub enum PartFault {
     /// The number of workers is not 1 to `WORKERS_MAX`.
@@ -15,14 +15,14 @@ pub enum PartFault {
     /// The list of owners is not as long as that of the operations.
     #[error("not one owner for each operation")]
     OwnerCount,
-    /// The first owner that is none of the workers stands at this position.
+    /// The first owner that is not one of the workers stands at this position.
     #[error("position {at}: no such worker")]
     StrangerOwner { at: usize },
-    /// The least position whose key has another owner at an earlier one is `second`, and the key stands first at
+    /// The least position whose key has another owner at an earlier position is `second`, and the key stands first at
     /// `first`.
     #[error("positions {first} and {second}: one key with two workers")]
     KeySplit { first: usize, second: usize },
-    /// There was no memory for the parts.
+    /// An allocation for the parts failed.
     #[error("out of memory")]
     NoMemory,
 }

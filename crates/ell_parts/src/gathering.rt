@@ -8,8 +8,8 @@ use ell_ops::Reply;
 use std::alloc::{AllocError, Allocator};
 use thiserror::Error;
 
-/// Why replies were not gathered. `NoMemory` comes before the others; the first faulty item, in the order of the
-/// pieces, comes before a missing reply.
+/// Why replies were not gathered. `NoMemory` takes precedence over the others; the first faulty item, in the order of
+/// the pieces, takes precedence over a missing reply.
 #[derive(Clone, Copy, Debug, PartialEq, Eq, Error)]
 pub enum GatherFault {
     /// An item is for this position, which is not below the number of positions.
@@ -21,7 +21,7 @@ pub enum GatherFault {
     /// No item is for this position, the least of those without one.
     #[error("position {at}: no reply")]
     Missing { at: usize },
-    /// There was no memory for the replies.
+    /// An allocation for the replies failed.
     #[error("out of memory")]
     NoMemory,
 }
@@ -36,17 +36,17 @@ impl From<AllocError> for GatherFault {
     }
 }
 
-/// The reply of each position below `n`, in their order, from pieces whose items are a position and its reply, in any
-/// order. There must be one item for each of the positions, and no other.
+/// Returns the reply for each position below `n`, in their order, from pieces whose items are a position and its reply,
+/// in any order. There must be one item for each of the positions, and no other.
 pub fn gather<A: Allocator + Copy, P: Allocator>(
     alloc: A,
     n: usize,
     pieces: &[Vec<(usize, Reply), P>],
 ) -> Result<Vec<Reply, A>, GatherFault>
-    // The replies are one for each position, each that of the one item for its position.
+    // There is one reply for each position: that of the one item for the position.
     ensures ok { IfOk result (λ replies. IsGathered n (flat_map (λ piece. piece.items) pieces.now) replies.items) }
-    // A fault tells the first item for a strange position or one that has an item already; or else the least position
-    // without an item.
+    // A fault tells the first item for a position that does not exist or that already has an item, or else the least
+    // position without an item.
     ensures fault { IfErr result (IsFault n (flat_map (λ piece. piece.items) pieces.now)) }
 {
     let mut answered = vec![in alloc; false; n]?;

@@ -12,7 +12,7 @@ use ell_ops::{Op, WORKERS_MAX};
 use std::alloc::{AllocError, Allocator};
 use std::collections::BTreeMap;
 
-// Whether there may be so many workers.
+// Returns `true` if there may be this many workers.
 pub(crate) fn is_worker_count(workers: u32) -> bool
     ensures { IsTrue result ↔ IsWorkerCount workers }
 {

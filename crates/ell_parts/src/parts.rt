@@ -34,7 +34,7 @@ impl<'a, A: Allocator> Model for Parts<'a, A> {
 }
 
 impl<A: Allocator> Parts<'_, A> {
-    /// How many workers there are.
+    /// Returns the number of workers.
     pub fn workers(&self) -> u32
         // Returns the number of workers, 1 to 64. Each position has one of them, and each key is with one.
         ensures value { result ≡ self.now.workers }
@@ -43,7 +43,7 @@ impl<A: Allocator> Parts<'_, A> {
         self.parts.len() as u32
     }
 
-    /// How many operations there are.
+    /// Returns the number of operations.
     pub fn len(&self) -> usize
         // Returns the number of operations. Each has one of the workers, and each key is with one.
         ensures value { result ≡ length self.now.ops }
@@ -52,7 +52,7 @@ impl<A: Allocator> Parts<'_, A> {
         self.ops.len()
     }
 
-    /// Whether there is no operation.
+    /// Returns `true` if there are no operations.
     pub fn is_empty(&self) -> bool
         // Returns `true` exactly if there are no operations.
         ensures { IsTrue result ↔ (length self.now.ops ≡ 0) }
@@ -60,7 +60,7 @@ impl<A: Allocator> Parts<'_, A> {
         self.len() == 0
     }
 
-    /// The operations of a worker, with their positions in the list, ascending.
+    /// Returns the operations of a worker, with their positions in the list, ascending.
     pub fn part(&self, worker: u32) -> &[(usize, Op)]
         requires { worker < self.now.workers }
         // Returns the worker's operations with their positions, in the order of the list.
@@ -69,7 +69,7 @@ impl<A: Allocator> Parts<'_, A> {
         &self.parts[worker as usize]
     }
 
-    /// The keys of a worker's operations, strictly ascending.
+    /// Returns the keys of a worker's operations, strictly ascending.
     pub fn keys(&self, worker: u32) -> &[u64]
         requires { worker < self.now.workers }
         // Returns the keys of the worker's part, each once, strictly ascending.
@@ -80,7 +80,7 @@ impl<A: Allocator> Parts<'_, A> {
 }
 
 impl<'a, A: Allocator + Copy> Parts<'a, A> {
-    /// Gives each position the worker that `owners` has there. The fault is the first of [`PartFault`] that is met.
+    /// Gives each position the worker that `owners` has there. The fault is the first of [`PartFault`] that applies.
     pub fn by_owner(
         alloc: A,
         ops: &'a [Op],
@@ -89,8 +89,8 @@ impl<'a, A: Allocator + Copy> Parts<'a, A> {
     ) -> Result<Parts<'a, A>, PartFault>
         // Each position has the worker that was given for it, and each key is with one worker.
         ensures ok { IfOk result (IsPartedBy ops.now owners.now workers) }
-        // A fault is the first one: of the workers' number, of the owners' number, of an owner who is no worker, or of
-        // a key with two workers.
+        // A fault is the first one: of the number of workers, of the number of owners, of an owner that is not a
+        // worker, or of a key with two workers.
         ensures fault { IfErr result (IsFault ops.now owners.now workers) }
     {
         if !is_worker_count(workers) {
@@ -108,11 +108,11 @@ impl<'a, A: Allocator + Copy> Parts<'a, A> {
     }
 
     /// Gives each key to the worker whose number is the key's remainder by the number of workers. The faults are
-    /// `BadWorkers` and want of memory.
+    /// `BadWorkers` and `NoMemory`.
     pub fn striped(alloc: A, ops: &'a [Op], workers: u32) -> Result<Parts<'a, A>, PartFault>
         // Each operation has the worker whose number is the remainder of its key by the number of workers.
         ensures ok { IfOk result (IsPartedBy ops.now (striped ops.now workers) workers) }
-        // `BadWorkers` comes exactly if the workers are not 1 to 64, and else `NoMemory` alone.
+        // `BadWorkers` is returned exactly if the number of workers is not 1 to 64; the only other fault is `NoMemory`.
         ensures refused { IsRefusedByCount workers result }
     {
         if !is_worker_count(workers) {
@@ -122,16 +122,15 @@ impl<'a, A: Allocator + Copy> Parts<'a, A> {
         Ok(Parts::of(alloc, ops, owners, workers)?)
     }
 
-    /// Gives the workers the distinct keys in ascending order, each the next run of them: of n keys a run has
-    /// n / workers, rounded up, so the last runs may be short or empty. The faults are `BadWorkers` and want of
-    /// memory.
+    /// Gives the workers the distinct keys in ascending order, each the next run of them: of `n` keys a run has
+    /// `n / workers`, rounded up, so the last runs may be short or empty. The faults are `BadWorkers` and `NoMemory`.
     pub fn ranged(alloc: A, ops: &'a [Op], workers: u32) -> Result<Parts<'a, A>, PartFault>
         // Each position has one of the workers, and each key is with one.
         ensures ok { IfOk result (λ parts. (parts.ops ≡ ops.now) × (parts.workers ≡ workers) × IsLawful parts) }
-        // Of the distinct keys in ascending order each worker has the next ones, as many as their number by that of
+        // Of the distinct keys in ascending order, each worker has the next ones: their number divided by the number of
         // workers, rounded up.
         ensures ranged { IfOk result IsRanged }
-        // `BadWorkers` comes exactly if the workers are not 1 to 64, and else `NoMemory` alone.
+        // `BadWorkers` is returned exactly if the number of workers is not 1 to 64; the only other fault is `NoMemory`.
         ensures refused { IsRefusedByCount workers result }
     {
         if !is_worker_count(workers) {
@@ -201,7 +200,7 @@ fn part_sizes<A: Allocator>(
     Ok(sizes)
 }
 
-// Empty parts, with room for so many operations each.
+// Empty parts, with room for this many operations each.
 fn empty_parts<A: Allocator + Copy>(
     alloc: A,
     sizes: &[usize],

@@ -18,8 +18,8 @@ use std::io::Write;
 /// Each line ends with a line feed, and numbers are in decimal digits without leading zeros.
 /// Nothing is allocated, and the writer is called for many lines at a time.
 ///
-/// `Err` at the first failure of the writer. It also comes where the count of the bytes could pass
-/// `u64::MAX`, before a byte goes out that is not counted.
+/// Returns `Err` at the first failure of the writer, and also if the count of the bytes could exceed `u64::MAX`, before
+/// a byte goes out that is not counted.
 pub fn write_answer<W: Write>(
     out: &mut W,
     version: u8,
@@ -27,8 +27,8 @@ pub fn write_answer<W: Write>(
     pairs: &[(u64, u64)],
 ) -> Result<(), WriteFault>
     requires { IsVersion version }
-    // The whole answer is appended to what the writer had. After a fault exactly its first `written` bytes are, which
-    // are not all.
+    // The whole answer is appended to what the writer had. After a fault exactly its first `written` bytes are
+    // appended, which are not all of them.
     ensures { IsWritten (W.contents out.old) (W.contents out.new)
         (answer version replies.now pairs.now) result }
 {
@@ -54,7 +54,7 @@ impl Listed for Reply {
     }
 }
 
-/// The line of a reply, without a value.
+/// Returns the line of a reply, without a value.
 pub(crate) fn line_of(reply: Reply) -> &'static [u8]
     ensures { result.now ≡ reply_line One reply }
 {

@@ -27,22 +27,22 @@ pub struct Bulk<A: Allocator = Global> {
     pub ops: Vec<Op, A>,
 }
 
-/// Why a text was not read. Lines are counted from 1, the skipped ones too. Of several faults in one
-/// line the first of this list counts.
+/// Why a text was not read. Lines are counted from 1, including the skipped ones. If a line has several faults, the
+/// first in this list counts.
 #[derive(Debug, Clone, Copy, PartialEq, Eq, Error)]
 pub enum TextFault {
     /// The line's name is not `find`, `insert` or `delete`, nor, before the first operation, `start`, and the line is not
     /// `version 2` before all others.
     #[error("line {line}: not an operation")]
     BadOperation { line: usize },
-    /// The line's key is not a number in decimal digits with no needless 0 in front.
+    /// The line's key is not a number in decimal digits without leading zeros.
     #[error("line {line}: not a key")]
     BadKey { line: usize },
     /// The line's key is above `KEY_MAX`.
     #[error("line {line}: key too large")]
     KeyTooLarge { line: usize },
-    /// The line, an insert or a start line of version 2, has no value behind its key: no number in decimal digits with no
-    /// needless 0 in front, or one above `u64::MAX`.
+    /// The line, an insert or a start line of version 2, has no value after its key: what stands there is not a number
+    /// in decimal digits without leading zeros, or is above `u64::MAX`.
     #[error("line {line}: not a value")]
     BadValue { line: usize },
     /// The line's start key is not greater than the start key before it.
@@ -51,7 +51,7 @@ pub enum TextFault {
     /// The line comes after `OPERATIONS_MAX` start lines and operations.
     #[error("line {line}: more than {max} operations", max = OPERATIONS_MAX)]
     TooManyOperations { line: usize },
-    /// A growth was refused.
+    /// An allocation failed.
     #[error("out of memory")]
     NoMemory,
 }
@@ -62,9 +62,9 @@ const HALVINGS: u32 = 2;
 // The fewest bytes of a long text, which take much longer to read than threads take to begin.
 const LONG: usize = 131_072;
 
-/// Reads the version, the start keys with their values, and the operations of a bulk text. The operations of a long text are read by
-/// four threads, where they can be made. A fault is that of the first line that has one. `NoMemory` comes only at a line that says a
-/// start key or an operation, where no line so far has a fault.
+/// Reads the version, the start keys with their values, and the operations of a bulk text. The operations of a long
+/// text are read by four threads, if they can be created. A fault is that of the first line that has one. `NoMemory` is
+/// returned only at a line that says a start key or an operation, if no line so far has a fault.
 pub fn read_bulk<R: Threads + Sync, A: Allocator + Copy + Send + Sync>(
     rt: &R,
     alloc: A,
@@ -74,7 +74,7 @@ pub fn read_bulk<R: Threads + Sync, A: Allocator + Copy + Send + Sync>(
     ensures ok { IfOk result (λ found. bulk bytes.now ≡ Ok (bulk_value found)) }
     // A fault is the first one of the text, with the number of its line.
     ensures fault { IfErr result (λ fault. fault ≢ TextFault.NoMemory → bulk bytes.now ≡ Err fault) }
-    // `NoMemory` comes only if the text has an operation or a start key without a fault up to its line.
+    // `NoMemory` is returned only if the text has an operation or a start key without a fault up to its line.
     ensures no_memory { IfErr result (λ fault. fault ≡ TextFault.NoMemory → HasSoundLine (lines bytes.now)) }
     // The version is 1 or 2, the start keys ascend strictly, all keys are at most 2^64 - 3, and start keys and
     // operations together are at most 200,000.
@@ -155,9 +155,9 @@ impl<A: Allocator + Copy + Send + Sync> Bulk<A> {
         self.append(said).map_err(|_| TextFault::NoMemory)
     }
 
-    // Appends all operations that the rest of a text says, if it is long and begins behind the first operation; `before` is the section of
-    // the line before it. Answers whether it did. If not, as where a line of the rest is at fault, or memory is refused, each line
-    // is to be read in its turn.
+    // Appends all operations that the rest of a text says, if it is long and begins behind the first operation;
+    // `before` is the section of the line before it. Returns `true` if it did. If not, as when a line of the rest is at
+    // fault or an allocation fails, each line is to be read in its turn.
     fn read_on<R: Threads + Sync>(&mut self, rt: &R, alloc: A, before: Section, rest: &[u8]) -> bool
         requires fits { BulkFits (bulk_value self.old) }
         ensures behind { IsTrue result → next_section (bulk_value self.old) ≡ Operations }

@@ -18,10 +18,10 @@ use std::alloc::Allocator;
 use std::io::{Read, Write};
 use thiserror::Error;
 
-/// Why a replay of a text ended early. Before each of these but `Write` nothing was written.
+/// Why a replay of a text ended early. Before each of these except `Write`, nothing was written.
 #[derive(Debug, Clone, Copy, PartialEq, Eq, Error)]
 pub enum ScriptFault {
-    /// The reader answered an error.
+    /// The reader returned an error.
     #[error("read failed")]
     Read,
     /// The input is longer than `INPUT_MAX` bytes.
@@ -30,10 +30,10 @@ pub enum ScriptFault {
     /// The text is at fault.
     #[error("{0}")]
     Text(ReplayFault),
-    /// An entry of the script names a worker that is not there, or a key that an earlier one names.
+    /// An entry of the script names a worker that does not exist, or a key that an earlier entry names.
     #[error("{}", start_text(.0))]
     Start(CoreFault),
-    /// A growth was refused.
+    /// An allocation failed.
     #[error("out of memory")]
     NoMemory,
     /// The writer failed, or took no byte, after it had taken this many.
@@ -112,12 +112,12 @@ pub fn replay_bytes<A: Allocator + Copy, I: Read, O: Write>(
 ) -> Result<(), ScriptFault>
     // If it succeeds, the trace of the script's replay, with the last keys, is appended, and nothing else.
     ensures ok { OnOk result (IsReplayed (I.remaining reader.old) (O.contents writer.old) (O.contents writer.new)) }
-    // `Text` tells the script's first fault, `TooLong` comes only for more than 16,777,216 bytes, and `Start` tells an
-    // entry that refuses the opening. Only a `Write` fault has written anything: its first `written` bytes of the
-    // trace.
+    // `Text` tells the script's first fault, `TooLong` is returned only for more than 16,777,216 bytes, and `Start`
+    // tells an entry that refuses the opening. Only a `Write` fault has written anything: its first `written` bytes of
+    // the trace.
     ensures fault { IfErr result (λ fault.
         ScriptFaultTells fault (I.remaining reader.old) (O.contents writer.old) (O.contents writer.new)) }
-    // If it succeeds, the reader is at its end. In any case it has given a front of its bytes.
+    // If it succeeds, the reader is at its end. In any case it has given a prefix of its bytes.
     ensures end { OnOk result (IsAtEnd (I.remaining reader.new)) }
     ensures given { GivesFront (I.remaining reader.old) (I.remaining reader.new) }
 {

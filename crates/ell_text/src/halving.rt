@@ -14,9 +14,9 @@ use ell_ops::Op;
 use std::alloc::Allocator;
 use std::thread::{Threads, join};
 
-/// Reads a text that stands behind operations, and answers those before it and then its own. The text is halved as many times as
-/// `halvings` says, and its parts are read by threads of their own, where they can be made. `None` if a line is at fault, a part has
-/// more than `OPERATIONS_MAX` operations, or memory is refused: then no fault is told.
+/// Reads a text that stands behind operations, and returns those before it and then its own. The text is halved as many
+/// times as `halvings` says, and its parts are read by threads of their own, if they can be created. Returns `None` if
+/// a line is at fault, a part has more than `OPERATIONS_MAX` operations, or an allocation fails: then no fault is told.
 #[cycle(halving)]
 pub(crate) fn read_operations<R: Threads + Sync, A: Allocator + Copy + Send + Sync>(
     rt: &R,
@@ -72,8 +72,8 @@ fn read_in_turn<A: Allocator + Copy>(
     Some(ops)
 }
 
-// Appends the operation that a line says, if it says one. `None` if the line is at fault, or says something else, there are
-// `OPERATIONS_MAX` operations before it, or memory is refused.
+// Appends the operation that a line says, if it says one. `None` if the line is at fault, or says something else, there
+// are `OPERATIONS_MAX` operations before it, or an allocation fails.
 fn append<A: Allocator + Copy>(
     ops: &mut Vec<Op, A>,
     read: Result<Option<Line>, LineFault>,

@@ -15,29 +15,29 @@ const READ_ROOM: usize = 65_536;
 /// Why an input was not read.
 #[derive(Debug, Clone, Copy, PartialEq, Eq, Error)]
 pub enum InputFault {
-    /// The reader answered an error: any, an interrupted call too.
+    /// The reader returned an error of any kind, including that of an interrupted call.
     #[error("read failed")]
     Read,
     /// The reader gave more than `INPUT_MAX` bytes.
     #[error("input over {max} bytes", max = INPUT_MAX)]
     TooLong,
-    /// A growth was refused.
+    /// An allocation failed.
     #[error("out of memory")]
     NoMemory,
 }
 
-/// Reads all of a reader's bytes, up to its first answer of no byte. The first fault that is met is
-/// answered, and the reader has then given some of its bytes.
+/// Reads all of a reader's bytes, until it first returns no byte. The first fault that is met is returned, and the
+/// reader has then given some of its bytes.
 pub fn read_all<A: Allocator, R: Read>(alloc: A, reader: &mut R) -> Result<Vec<u8, A>, InputFault>
     // If it succeeds, the bytes are all those of the reader, which is then at its end.
     ensures bytes { IfOk result (λ v. IfSome (R.remaining reader.old) (λ bytes. v.items ≡ bytes)) }
     ensures end { OnOk result (IsAtEnd (R.remaining reader.new)) }
     // They are at most 16,777,216.
     ensures within { IfOk result (λ v. vec_len v ≤ most_bytes) }
-    // `TooLong` comes only if the reader has more bytes than that.
+    // `TooLong` is returned only if the reader has more bytes than that.
     ensures too_long { IsErrOf result InputFault.TooLong
         → IfSome (R.remaining reader.old) (λ bytes. most_bytes < length bytes) }
-    // However it ends, the reader has given a front of its bytes.
+    // However the call ends, the reader has given a prefix of its bytes.
     ensures given { GivesFront (R.remaining reader.old) (R.remaining reader.new) }
 {
     let mut bytes = Vec::new(alloc);

@@ -2,11 +2,11 @@
 //! them, the script of a replay text and the trace of its replay.
 //!
 //! A line of a bulk text is the name of an operation, `find`, `insert` or `delete`, one space, and a key in decimal
-//! digits. Before all operations lines `start K` may stand, which say the keys that are there before. Where the first
-//! line is `version 2`, an insert and a start line have one space more, and a value. A replay text has
-//! the line `workers N`, the line `cards N`, lines `own W K`, and a line for each event, as `0 begin find 5` and
-//! `0 mark 3`. Empty lines, lines of spaces and tabs, and lines whose first byte is `#` are skipped. `docs/REFERENCE.md`
-//! has these texts in full.
+//! digits. Before all operations, lines `start K` may stand, which say the keys that are there before. If the first
+//! line is `version 2`, an insert and a start line have one more space, and a value. A replay text has the line
+//! `workers N`, the line `cards N`, lines `own W K`, and a line for each event, such as `0 begin find 5` and
+//! `0 mark 3`. Empty lines, lines of spaces and tabs, and lines whose first byte is `#` are skipped.
+//! `docs/REFERENCE.md` has these texts in full.
 #![tactic(auto)]
 
 mod answer;

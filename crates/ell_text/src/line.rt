@@ -10,16 +10,16 @@ use crate::plain::read_plain_line;
 use crate::version::Version;
 use ell_ops::Op;
 
-/// Why a line of a bulk text is at fault by itself. The first of this list that holds counts.
+/// Why a line of a bulk text is at fault by itself. The first in this list that holds counts.
 #[derive(Clone, Copy)]
 pub(crate) enum LineFault {
-    /// Before the first space stands no name of a line that may stand there.
+    /// What stands before the first space is not the name of a line that may stand there.
     BadOperation,
-    /// After the first space stands no number.
+    /// What stands after the first space is not a number.
     BadKey,
     /// The key is above `KEY_MAX`.
     KeyTooLarge,
-    /// The line is to have a value, and after the key stands none.
+    /// The line must have a value, and there is none after the key.
     BadValue,
 }
 
@@ -34,7 +34,7 @@ pub(crate) enum OpKind {
 impl OpKind {
     ghost use Rattle.ell_text.specs.Line.{kind_of, operation_on};
 
-    /// The kind that a name names.
+    /// Returns the kind that a name names.
     pub(crate) fn named(name: &[u8]) -> Option<OpKind>
         ensures { result ≡ kind_of name.now }
     {
@@ -46,7 +46,7 @@ impl OpKind {
         }
     }
 
-    /// The operation of this kind on a key. An insert has the value.
+    /// Returns the operation of this kind on a key. An insert has the value.
     pub(crate) fn on(self, key: u64, value: u64) -> Op
         ensures value { result ≡ operation_on self key value }
         ensures key { key_of result ≡ key }
@@ -101,7 +101,7 @@ impl LineKind {
         OpKind::named(name).map(LineKind::Operation)
     }
 
-    /// Whether a line of this kind has a value.
+    /// Returns `true` if a line of this kind has a value.
     pub(crate) fn has_value(self, version: Version) -> bool
         ensures { result ≡ has_value version self }
     {
@@ -144,7 +144,7 @@ pub(crate) fn read_first_line(
     (read_line(version, section, line), rest)
 }
 
-/// Reads what a line of a section says in a version, or `None` where the line is skipped.
+/// Reads what a line of a section says in a version, or returns `None` if the line is skipped.
 pub(crate) fn read_line(
     version: Version,
     section: Section,

@@ -6,8 +6,8 @@ ghost use Rattle.ell_text.specs.Lines.{is_blank, is_skipped, is_space, lines};
 
 use bstr::{ByteSlice, Lines};
 
-/// The lines of a text, in order. A line ends at a line feed, which may have one carriage return before
-/// it. The last line may lack its end, and nothing after the last line feed is no line.
+/// Returns the lines of a text, in order. A line ends at a line feed, which may have one carriage return before it. The
+/// last line may lack its end. What follows the last line feed is not a line if it is empty.
 pub(crate) fn lines(text: &[u8]) -> Lines<'_>
     ensures value { result ≡ lines text.now }
     ensures len { length result ≤ length text.now }
@@ -15,7 +15,7 @@ pub(crate) fn lines(text: &[u8]) -> Lines<'_>
     text.lines()
 }
 
-/// The first line of a text that is not empty, and the text behind it.
+/// Returns the first line of a text that is not empty, and the text behind it.
 pub(crate) fn cut_first_line(text: &[u8]) -> (&[u8], &[u8])
     requires { 0 < length text.now }
     ensures cut { lines text.now ≡ result.0.now ∷ lines result.1.now }
@@ -48,7 +48,7 @@ fn without_carriage_return(line: &[u8]) -> &[u8]
     }
 }
 
-/// Whether a line says nothing: a comment, or nothing but spaces and tabs.
+/// Returns `true` if a line says nothing: a comment, or nothing but spaces and tabs.
 pub(crate) fn is_skipped(line: &[u8]) -> bool
     ensures { result ≡ is_skipped line.now }
 {
@@ -61,7 +61,7 @@ fn is_blank(line: &[u8]) -> bool
     line.iter().all(|byte| *byte == b' ' || *byte == b'\t')
 }
 
-/// What stands before the first space and what stands after it: all and nothing where there is none.
+/// Returns what stands before the first space and what stands after it: all and nothing if there is no space.
 pub(crate) fn split_at_space(line: &[u8]) -> (&[u8], &[u8])
     ensures before { result.0.now ≡ before_first is_space line.now }
     ensures after { result.1.now ≡ after_first is_space line.now }
@@ -72,7 +72,7 @@ pub(crate) fn split_at_space(line: &[u8]) -> (&[u8], &[u8])
     }
 }
 
-/// What stands before the first space and what stands after it, where there is one.
+/// Returns what stands before the first space and what stands after it, if there is a space.
 pub(crate) fn cut_at_space(line: &[u8]) -> Option<(&[u8], &[u8])>
     ensures { MatchOption result (slice_split is_space line.now ≡ line.now ∷ [])
         (λ parts. slice_split is_space line.now ≡ parts.0.now ∷ slice_split is_space parts.1.now) }

@@ -11,10 +11,10 @@ use std::str;
 // The most that is below 2^64 with any digit more.
 const MOST_BEFORE_A_DIGIT: u64 = u64::MAX / 10 - 1;
 
-/// Why some bytes are no number in range.
+/// Why some bytes are not a number in range.
 #[derive(Clone, Copy)]
 pub(crate) enum NumberFault {
-    /// There is no byte, a byte that is no digit, or a first 0 that other digits follow.
+    /// There is no byte, a byte is not a digit, or other digits follow a first 0.
     NotANumber,
     /// The number is above the greatest one, however many digits it has.
     TooLarge,
@@ -49,8 +49,9 @@ pub(crate) fn read_number(bytes: &[u8], max: u64) -> Result<u64, NumberFault>
     }
 }
 
-/// Reads the number that the digits at the front of some bytes spell, up to the first byte that is none, in one pass, and
-/// answers what stands behind it too. It answers `None` where they spell none of at most `max`, or one of the last few below 2^64.
+/// Reads the number that the digits at the front of some bytes spell, up to the first byte that is not a digit, in one
+/// pass, and returns what stands behind it too. Returns `None` if they spell no number of at most `max`, or one of the
+/// last few below 2^64.
 pub(crate) fn read_number_in_front(bytes: &[u8], max: u64) -> Option<(u64, &[u8])>
     ensures { IfSome result (λ read. IsNumberInFront max bytes.now read.0 read.1.now) }
 {

@@ -14,8 +14,7 @@ const CAPACITY: usize = 8 * 1024;
 
 /// The writer failed before the whole text was out.
 ///
-/// Each error of the writer counts, that of an interrupted write too, and so does a write that
-/// takes no byte.
+/// Each error of the writer counts, including that of an interrupted write, and so does a write that takes no byte.
 #[derive(Debug, Clone, Copy, PartialEq, Eq, Error)]
 #[error("write failed after {written} bytes")]
 pub struct WriteFault {
@@ -30,14 +29,14 @@ fn can_count(bytes: &[u8], written: u64) -> bool
     bytes.len() as u64 <= u64::MAX - written
 }
 
-// Gives all of the bytes to the writer. Adds one to the count `written` for each byte that the
-// writer takes, and returns the sum. `Err` at the first failure of the writer.
+// Gives all of the bytes to the writer. Adds one to the count `written` for each byte that the writer takes, and
+// returns the sum. Returns `Err` at the first failure of the writer.
 fn send<W: Write>(out: &mut W, bytes: &[u8], written: u64) -> Result<u64, WriteFault>
     ensures ok { IfOk result (λ count.
         Sends (W.contents out.old) (W.contents out.new) bytes.now [] written count) }
     ensures fault { IfErr result (λ fault.
         Stops (W.contents out.old) (W.contents out.new) bytes.now written fault.written) }
-    // None of the bytes goes out where the count could pass `u64::MAX`.
+    // None of the bytes goes out if the count could exceed `u64::MAX`.
     ensures uncountable { 2 ^ 64 ≤ written + length bytes.now → result ≡ Err (record { written = written }) }
 {
     if !can_count(bytes, written) {
@@ -58,8 +57,8 @@ fn send<W: Write>(out: &mut W, bytes: &[u8], written: u64) -> Result<u64, WriteF
 
 /// Text that waits to be written, and the count of the bytes that the writer took so far.
 ///
-/// It holds its whole buffer, so make it once and lend it. After an `Err` nothing is known of it:
-/// use it no more.
+/// It holds its whole buffer, so make it once and lend it. After an `Err` nothing is known about it: do not use it
+/// again.
 #[derive(Drop)]
 pub(crate) struct Output {
     bytes: [u8; CAPACITY],
@@ -71,7 +70,7 @@ pub(crate) struct Output {
 impl Output {
     ghost use Rattle.ell_text.specs.Output.{HasPut, waiting_bytes};
 
-    /// Nothing waits, and nothing has been written.
+    /// Returns output in which nothing waits, and of which nothing has been written.
     pub(crate) fn new() -> Self
         ensures waiting { waiting_bytes result ≡ [] }
         ensures written { result.written ≡ 0 }
@@ -124,7 +123,7 @@ impl Output {
         Ok(())
     }
 
-    /// Copies the text behind what waits, where there is room for it.
+    /// Copies the text behind what waits. Condition: there is room for it.
     fn keep(&mut self, text: &[u8])
         requires { self.old.filled + length text.now ≤ CAPACITY }
         ensures waiting { waiting_bytes self.new ≡ waiting_bytes self.old ++ text.now }

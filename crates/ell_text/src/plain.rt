@@ -1,4 +1,4 @@
-//! Lines of a bulk text that are spelt plainly, as most are, each read in one pass.
+//! Lines of a bulk text that are spelled plainly, as most are, each read in one pass.
 ghost use Rattle.std.specs.Prelude.{IfSome, Ok, Some};
 ghost use Rattle.ell_text.specs.Line.{HasKindInFront, IsFirstLine, IsValueInFront, LineFits};
 ghost use Rattle.ell_text.specs.Lines.{IsBehindLineEnd};
@@ -8,9 +8,9 @@ use crate::number::read_number_in_front;
 use crate::version::Version;
 use ell_ops::KEY_MAX;
 
-/// Reads the first line of a text, which stands in a section, in one pass where it is spelt plainly: its name, one space, its
-/// key, then one space and its value if it has one, and its end. Answers what it says in a version, and the text behind it.
-/// `None` is no fault: what the line says is then for `read_line` to tell.
+/// Reads the first line of a text, which stands in a section, in one pass if it is spelled plainly: its name, one
+/// space, its key, then one space and its value if it has one, and its end. Returns what it says in a version, and the
+/// text behind it. `None` is not a fault: `read_line` then has to tell what the line says.
 pub(crate) fn read_plain_line(
     version: Version,
     section: Section,

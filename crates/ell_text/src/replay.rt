@@ -22,14 +22,14 @@ pub struct Script<A: Allocator = Global> {
     pub events: Vec<Event, A>,
 }
 
-/// Why a replay text was not read. Lines are counted from 1, the skipped ones too. Of several faults in
-/// one line the first of this list counts.
+/// Why a replay text was not read. Lines are counted from 1, including the skipped ones. If a line has several faults,
+/// the first in this list counts.
 #[derive(Debug, Clone, Copy, PartialEq, Eq, Error)]
 pub enum ReplayFault {
-    /// The line has no form that may stand at its place.
+    /// The line has none of the forms that may stand at its place.
     #[error("line {line}: not a replay line")]
     BadLine { line: usize },
-    /// A number of the line is misspelt, or one that is no key is out of its range.
+    /// A number of the line is misspelled, or a number that is not a key is out of its range.
     #[error("line {line}: not a number in range")]
     BadNumber { line: usize },
     /// The line's key is above `KEY_MAX`.
@@ -41,19 +41,19 @@ pub enum ReplayFault {
     /// No line is bad, and the text ends before its line `cards N`.
     #[error("replay ends too early")]
     Ended,
-    /// A growth was refused.
+    /// An allocation failed.
     #[error("out of memory")]
     NoMemory,
 }
 
-/// Reads the script of a replay text. A fault is that of the first line that has one. `NoMemory` comes
-/// only at an own line or an event, where no line so far has a fault.
+/// Reads the script of a replay text. A fault is that of the first line that has one. `NoMemory` is returned only at an
+/// own line or an event, if no line so far has a fault.
 pub fn read_replay<A: Allocator + Copy>(alloc: A, bytes: &[u8]) -> Result<Script<A>, ReplayFault>
     // The script is what the text says.
     ensures ok { IfOk result (λ s. script bytes.now ≡ Ok (script_value s)) }
     // A fault is the first one of the text, with the number of its line.
     ensures fault { IfErr result (λ fault. fault ≢ ReplayFault.NoMemory → script bytes.now ≡ Err fault) }
-    // `NoMemory` comes only if the text has a line without a fault up to it that is not skipped.
+    // `NoMemory` is returned only if the text has a line without a fault up to it that is not skipped.
     ensures no_memory { IfErr result (λ fault. fault ≡ ReplayFault.NoMemory → HasSoundEntry (lines bytes.now)) }
     // The numbers of workers, cards, owners and keys are in their ranges.
     ensures fits { IfOk result (λ s. ScriptFits (script_value s)) }
@@ -158,7 +158,7 @@ impl<A: Allocator + Copy> Draft<A> {
         }
     }
 
-    // The script, where the text had both of its heads.
+    // The script, if the text had both of its heads.
     fn finish(self) -> Result<Script<A>, ReplayFault>
         requires fits { DraftFits (draft_value self) }
         ensures value { IfOk result (λ s. finished (draft_value self) ≡ Some (script_value s)) }

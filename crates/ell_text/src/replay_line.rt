@@ -11,12 +11,12 @@ use ell_core::{Act, Event};
 use ell_ops::WORKERS_MAX;
 use ell_word::CARDS_MAX;
 
-/// Why a line of a replay text says nothing at its place. The first of this list that holds counts.
+/// Why a line of a replay text says nothing at its place. The first in this list that holds counts.
 #[derive(Clone, Copy)]
 pub(crate) enum ReplayLineFault {
-    /// The line has no form that may stand there.
+    /// The line has none of the forms that may stand there.
     BadLine,
-    /// A number is misspelt, or one that is no key is out of its range.
+    /// A number is misspelled, or a number that is not a key is out of its range.
     BadNumber,
     /// The key is above `KEY_MAX`.
     KeyTooLarge,
@@ -54,11 +54,11 @@ enum Pieces<'a> {
     Two(&'a [u8], &'a [u8]),
     Three(&'a [u8], &'a [u8], &'a [u8]),
     Four(&'a [u8], &'a [u8], &'a [u8], &'a [u8]),
-    // One piece, or more than four: no form has so many.
+    // One piece, or more than four: no form has this many.
     Other,
 }
 
-/// Reads what a line says at a place, or `None` where the line is skipped.
+/// Reads what a line says at a place, or returns `None` if the line is skipped.
 pub(crate) fn read_replay_line(place: Place, line: &[u8]) -> Result<Option<Said>, ReplayLineFault>
     ensures value { result ≡ replay_line_at place line.now }
     ensures within { IfOk result (λ found. IfSome found SaidFits) }
@@ -201,7 +201,7 @@ fn plain_act(word: &[u8]) -> Option<Act>
     }
 }
 
-// The act that a word names on a card. A word that names none is the fault even where the card is misspelt.
+// The act that a word names on a card. A word that names none is the fault even if the card is misspelled.
 fn act_on(word: &[u8], card: Result<u64, ReplayLineFault>) -> Result<Act, ReplayLineFault>
     ensures { result ≡ act_on word.now card }
 {

@@ -17,11 +17,11 @@ use std::io::Write;
 /// `refused` and the fault's name. Each line ends with a line feed, and numbers are in decimal digits
 /// without leading zeros. Nothing is allocated, and the writer is called for many lines at a time.
 ///
-/// `Err` at the first failure of the writer. It also comes where the count of the bytes could pass
-/// `u64::MAX`, before a byte goes out that is not counted.
+/// Returns `Err` at the first failure of the writer, and also if the count of the bytes could exceed `u64::MAX`, before
+/// a byte goes out that is not counted.
 pub fn write_trace<W: Write>(out: &mut W, shown: &[Shown], keys: &[u64]) -> Result<(), WriteFault>
-    // The whole trace is appended to what the writer had. After a fault exactly its first `written` bytes are, which
-    // are not all.
+    // The whole trace is appended to what the writer had. After a fault exactly its first `written` bytes are appended,
+    // which are not all of them.
     ensures { IsWritten (W.contents out.old) (W.contents out.new)
         (trace shown.now keys.now) result }
 {

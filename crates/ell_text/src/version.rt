@@ -12,7 +12,7 @@ pub(crate) enum Version {
 }
 
 impl Version {
-    /// The version that has a number.
+    /// Returns the version that has a number.
     pub(crate) fn numbered(number: u8) -> Version
         ensures { result ≡ version_numbered number }
     {

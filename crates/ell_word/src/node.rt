@@ -1,4 +1,4 @@
-//! Node numbers: each card has an internal node and two leaves, and leaves one number of four out.
+//! Node numbers: each card has an internal node and two leaves, and leaves one of its four numbers unused.
 ghost use Rattle.std.specs.Prelude.{◌≡◌, ◌≤◌, ◌↔◌, IsTrue};
 ghost use Rattle.ell_word.specs.Node.{greatest_card, most_cards, most_start, infinity1, infinity2, internal, left_leaf, right_leaf, IsInternal, card};
 
@@ -6,13 +6,13 @@ ghost use Rattle.ell_word.specs.Node.{greatest_card, most_cards, most_start, inf
 // which is asked at each node of a search.
 const NUMBERS_PER_CARD: u64 = 4;
 
-/// The greatest number of a card.
+/// The greatest card number.
 pub const CARD_MAX: u64 = 2_000_000;
 
-/// The most cards that a table gives out.
+/// The greatest number of cards that a table gives out.
 pub const CARDS_MAX: u64 = 1_000_000;
 
-/// The most start keys.
+/// The greatest number of start keys.
 pub const START_MAX: usize = 1_000_000;
 
 /// The lesser of the two keys above all real keys: the greatest leaf of the root's left subtree has it.
@@ -33,7 +33,7 @@ pub fn constants_are_as_defined()
     ensures greater { INF2 ≡ infinity2 }
 {}
 
-/// The internal node of a card.
+/// Returns the internal node of a card.
 pub fn internal_of(card: u64) -> u64
     requires { card ≤ greatest_card }
     // Returns the number of the card's internal node.
@@ -42,7 +42,7 @@ pub fn internal_of(card: u64) -> u64
     NUMBERS_PER_CARD * card
 }
 
-/// The left leaf of a card.
+/// Returns the left leaf of a card.
 pub fn left_leaf_of(card: u64) -> u64
     requires { card ≤ greatest_card }
     // Returns the number of the card's left leaf.
@@ -51,7 +51,7 @@ pub fn left_leaf_of(card: u64) -> u64
     internal_of(card) + 1
 }
 
-/// The right leaf of a card.
+/// Returns the right leaf of a card.
 pub fn right_leaf_of(card: u64) -> u64
     requires { card ≤ greatest_card }
     // Returns the number of the card's right leaf.
@@ -60,7 +60,7 @@ pub fn right_leaf_of(card: u64) -> u64
     internal_of(card) + 2
 }
 
-/// Whether a node is internal, and no leaf.
+/// Returns `true` if a node is internal, not a leaf.
 pub fn is_internal(node: u64) -> bool
     // Returns `true` exactly if the number is that of an internal node.
     ensures { IsTrue result ↔ IsInternal node }
@@ -68,7 +68,7 @@ pub fn is_internal(node: u64) -> bool
     node % NUMBERS_PER_CARD == 0
 }
 
-/// The card that a node stands on.
+/// Returns the card that a node stands on.
 pub fn card_of(node: u64) -> u64
     // Returns the number of the node's card.
     ensures { result ≡ card node }

@@ -11,7 +11,7 @@ pub enum State {
     IFlag,
     /// A delete is about to change a child.
     DFlag,
-    /// The node is being cut out, and changes no more.
+    /// The node is being cut out, and no longer changes.
     Mark,
     /// Nothing is going on.
     Clean,
@@ -21,11 +21,12 @@ pub enum State {
 #[derive(Clone, Copy, Debug, PartialEq, Eq)]
 pub struct Update {
     pub state: State,
-    /// The card of the operation that set the state last; 0 where none did.
+    /// The card of the operation that set the state last; 0 if none did.
     pub card: u64,
 }
 
-/// The word of an update: four times the card, and the state's number. Condition: the card is at most `CARD_MAX`.
+/// Returns the word of an update: four times the card plus the state's number. Condition: the card is at most
+/// `CARD_MAX`.
 pub fn pack(update: Update) -> u64
     requires { update.card ≤ greatest_card }
     // Returns the word of the card and the state.
@@ -40,7 +41,7 @@ pub fn pack(update: Update) -> u64
     4 * update.card + number
 }
 
-/// What a word says, whichever it is: packing that gives the word again.
+/// Returns what a word says, whichever word it is: packing the result gives the word again.
 pub fn unpack(word: u64) -> Update
     // Returns the card and the state that the word says.
     ensures update { result ≡ unpacked word }

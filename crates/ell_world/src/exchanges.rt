@@ -1,4 +1,4 @@
-//! The events that exchange a word. Whoever knows that a card has come so far may make its next exchange.
+//! The events that exchange a word. Any worker that knows that a card has come this far may make its next exchange.
 ghost use Rattle.std.specs.Prelude.{◌≡◌, ◌≤◌, ◌==◌, false, is_ok, IfOk, IfErr, OnOk, OnErr};
 ghost use Rattle.ell_core.specs.declared.event.Act.TheVariants as act;
 ghost use Rattle.ell_core.specs.declared.event.CoreFault.TheVariants.{NoMemory};
@@ -108,8 +108,8 @@ fn flag<A: Allocator + Copy>(
     Ok(won_or_lost(outcome))
 }
 
-/// Exchanges the child of an insert's parent, from the leaf to the node that the card brings: its internal node, or,
-/// where it replaces a leaf of its key, its right leaf.
+/// Exchanges the child of an insert's parent, from the leaf to the node that the card brings: its internal node, or, if
+/// it replaces a leaf of its key, its right leaf.
 pub(crate) fn ichild<A: Allocator + Copy>(
     memory: &mut Memory<A>,
     worker: &mut Worker<A>,
@@ -148,7 +148,7 @@ pub(crate) fn iunflag<A: Allocator + Copy>(
     Ok(won_or_lost(memory.exchange_update(parent, flag, clean)))
 }
 
-/// Marks the parent of a delete. Where the mark is lost to another word, it can't be made any more.
+/// Marks the parent of a delete. If the mark is lost to another word, it can no longer be made.
 pub(crate) fn mark<A: Allocator + Copy>(
     memory: &mut Memory<A>,
     worker: &mut Worker<A>,

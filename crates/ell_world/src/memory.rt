@@ -22,7 +22,7 @@ pub(crate) struct Memory<A: Allocator + Copy> {
 }
 
 impl<A: Allocator + Copy> Memory<A> {
-    /// The opening tree over these start keys, and cards whose words are 0, up to the last one.
+    /// Returns the opening tree over these start keys, and cards whose words are 0, up to the last one.
     pub fn opening(alloc: A, start: &[(u64, u64)], last: u64) -> Result<Memory<A>, NoMemory>
         requires room { length start.now ≤ last }
         requires most { last ≤ greatest_card }
@@ -39,7 +39,7 @@ impl<A: Allocator + Copy> Memory<A> {
         })
     }
 
-    /// The claim word.
+    /// Returns the claim word.
     pub fn next(&self) -> u64
         requires { IsSized self.now }
         ensures { result ≡ (words_in self.now).next }
@@ -47,7 +47,7 @@ impl<A: Allocator + Copy> Memory<A> {
         self.words[0]
     }
 
-    /// The word of a field of a card.
+    /// Returns the word of a field of a card.
     pub fn read(&self, card: u64, field: Field) -> u64
         requires sized { IsSized self.now }
         requires card { card ≤ self.now.last_card }
@@ -56,7 +56,7 @@ impl<A: Allocator + Copy> Memory<A> {
         self.words[field.address(card)]
     }
 
-    /// The key of a node.
+    /// Returns the key of a node.
     pub fn key(&self, node: u64) -> u64
         requires sized { IsSized self.now }
         requires node { IsTableNode self.now.last_card node }
@@ -65,7 +65,7 @@ impl<A: Allocator + Copy> Memory<A> {
         self.read(card_of(node), key_field(node))
     }
 
-    /// The value of a leaf.
+    /// Returns the value of a leaf.
     pub fn value(&self, leaf: u64) -> u64
         requires sized { IsSized self.now }
         requires node { IsTableNode self.now.last_card leaf }
@@ -75,7 +75,7 @@ impl<A: Allocator + Copy> Memory<A> {
         self.read(card_of(leaf), value_field(leaf))
     }
 
-    /// The update word of an internal node.
+    /// Returns the update word of an internal node.
     pub fn update(&self, node: u64) -> u64
         requires sized { IsSized self.now }
         requires node { IsInner self.now.last_card node }
@@ -84,7 +84,7 @@ impl<A: Allocator + Copy> Memory<A> {
         self.read(card_of(node), Field::Update)
     }
 
-    /// The child of an internal node on a side.
+    /// Returns the child of an internal node on a side.
     pub fn child(&self, node: u64, right: bool) -> u64
         requires sized { IsSized self.now }
         requires node { IsInner self.now.last_card node }
@@ -93,7 +93,7 @@ impl<A: Allocator + Copy> Memory<A> {
         self.read(card_of(node), child_field(right))
     }
 
-    /// Whether a key is on the right side of a node.
+    /// Returns `true` if a key is on the right side of a node.
     pub fn is_right(&self, node: u64, key: u64) -> bool
         requires sized { IsSized self.now }
         requires node { IsTableNode self.now.last_card node }
@@ -102,8 +102,8 @@ impl<A: Allocator + Copy> Memory<A> {
         self.key(node) <= key
     }
 
-    /// Exchanges the update word of an internal node, if it is the expected one. Else the word that was found is the error,
-    /// and no word has changed.
+    /// Exchanges the update word of an internal node, if it is the expected one. Otherwise the error is the word that
+    /// was found, and no word has changed.
     pub fn exchange_update(&mut self, node: u64, expected: u64, new: u64) -> Result<(), u64>
         requires sized { IsSized self.old }
         requires node { IsInner self.old.last_card node }
@@ -121,8 +121,8 @@ impl<A: Allocator + Copy> Memory<A> {
         }
     }
 
-    /// Exchanges the child of an internal node on the side of the new child's key, if it is the expected one. Else the word
-    /// that was found is the error, and no word has changed.
+    /// Exchanges the child of an internal node on the side of the new child's key, if it is the expected one. Otherwise
+    /// the error is the word that was found, and no word has changed.
     pub fn exchange_child(&mut self, node: u64, expected: u64, new: u64) -> Result<(), u64>
         requires sized { IsSized self.old }
         requires node { IsInner self.old.last_card node }

@@ -9,9 +9,10 @@ use ell_core::{CoreFault, Event, Shown};
 use ell_ops::NoMemory;
 use std::alloc::Allocator;
 
-/// Tries each event in turn, and shows its answer or its refusal. A refused event changes nothing, and the replay goes on. The
-/// place of an answer is taken before its event; where there is no memory for it or in a step, the replay ends before that
-/// event, and the world stands after the events before. On a world as `World::new` gave it each card's wins come in their order.
+/// Tries each event in turn, and shows its answer or its refusal. A refused event changes nothing, and the replay goes
+/// on. The place of an answer is taken before its event; if there is no memory for it or in a step, the replay ends
+/// before that event, and the world is as the events before it left it. On a world as `World::new` returned it, each
+/// card's wins come in their order.
 pub fn replay<A: Allocator + Copy>(
     alloc: A,
     world: &mut World<A>,
@@ -23,9 +24,9 @@ pub fn replay<A: Allocator + Copy>(
     // From an opening, each card's exchanges are won in order.
     ensures order { IfOk result (λ shown. IsOpening (machine_of world.old) → WinsInOrder (machine_of world.old)
         events.now shown.items (machine_of world.new)) }
-    // If memory is refused, the world is where the run of some first events leads.
+    // If an allocation fails, the world is where the run of some first events leads.
     ensures passes { OnErr result (Passes (machine_of world.old) events.now (machine_of world.new)) }
-    // The number of the last card stays.
+    // The number of the last card stays the same.
     ensures cards { world.new.last_card ≡ world.old.last_card }
 {
     let mut shown = Vec::new(alloc);

@@ -262,8 +262,8 @@ pub(crate) fn leave<A: Allocator + Copy>(
     Ok(Stepped::Moved)
 }
 
-/// The answer of an operation at a leaf, which has the operation's key with this value, or has another key: none where there is
-/// something to do.
+/// Returns the answer of an operation at a leaf, which has the operation's key with this value, or has another key. It
+/// returns `None` if there is something to do.
 pub fn leaf_answer(op: Op, there: Option<u64>) -> Option<Reply>
     // Returns the answer that the operation has at a leaf, if it has one there.
     ensures { result ≡ leaf_answer op there }
@@ -276,7 +276,8 @@ pub fn leaf_answer(op: Op, there: Option<u64>) -> Option<Reply>
     }
 }
 
-/// What an operation answers that has changed the tree: yes, and a swap the value that it has replaced. A find changes nothing.
+/// Returns what an operation answers that has changed the tree: yes, or for a swap the value that it has replaced. A
+/// find changes nothing.
 pub fn reply_of_change(op: Op) -> Reply
     ensures { result ≡ reply_of_change op }
 {
@@ -351,8 +352,9 @@ fn settle<A: Allocator + Copy>(worker: &mut Worker<A>, op: Op, reply: Reply)
     }
 }
 
-/// Answers the operation, and has nothing in hand any more. An insert that answers yes makes its key present with its value, a
-/// delete absent, and a swap that found its first value present with its second one.
+/// Answers the operation, after which the worker has nothing in hand. An insert that answers yes makes its key present
+/// with its value, a delete that answers yes makes it absent, and a swap that found its first value makes it present
+/// with its second one.
 pub(crate) fn answer<A: Allocator + Copy>(
     memory: &Memory<A>,
     worker: &mut Worker<A>,

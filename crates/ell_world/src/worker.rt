@@ -31,7 +31,7 @@ pub(crate) const NO_SEARCH: Search = Search {
 };
 
 impl<A: Allocator + Copy> Worker<A> {
-    /// A worker without keys, with nothing in hand.
+    /// Creates a worker without keys, with nothing in hand.
     pub fn new(alloc: A) -> Worker<A>
         ensures { worker_in result ≡ nobody }
     {
@@ -54,7 +54,7 @@ impl<A: Allocator + Copy> Worker<A> {
         Ok(())
     }
 
-    /// Whether the worker owns a key.
+    /// Returns `true` if the worker owns a key.
     pub fn owns(&self, key: u64) -> bool
         ensures { IsTrue result ↔ ((worker_in self.now).ledger key ≢ None) }
     {
@@ -73,14 +73,14 @@ impl<A: Allocator + Copy> Worker<A> {
         }
     }
 
-    /// Whether the worker knows a fact.
+    /// Returns `true` if the worker knows a fact.
     pub fn knows(&self, fact: Fact) -> bool
         ensures { result ≡ (worker_in self.now).knows fact }
     {
         self.facts.contains(&fact)
     }
 
-    /// Learns a fact. It wants memory only for a fact that it lacks.
+    /// Learns a fact. It allocates only for a fact that the worker lacks.
     pub fn learn(&mut self, fact: Fact) -> Result<(), NoMemory>
         ensures learned { OnOk result (worker_in self.new ≡ knowing (worker_in self.old)
             (learned (worker_in self.old).knows fact)) }

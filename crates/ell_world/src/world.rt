@@ -47,9 +47,10 @@ impl<A: Allocator + Copy> Model for World<A> {
 }
 
 impl<A: Allocator + Copy> World<A> {
-    /// The opening tree, with workers from 0 on and the keys that the entries give them, each a worker and a key, all absent.
-    /// Conditions: 1 to `WORKERS_MAX` workers, 1 to `CARDS_MAX` cards, keys at most `KEY_MAX`. The fault of the first faulty entry is
-    /// answered: `NoSuchWorker`, or else `OwnedTwice`. `NoMemory` may stand in place of either.
+    /// Creates the opening tree, with workers from 0 on and the keys that the entries, each a worker and a key, give
+    /// them, all absent. Conditions: 1 to `WORKERS_MAX` workers, 1 to `CARDS_MAX` cards, keys at most `KEY_MAX`. The
+    /// fault of the first faulty entry is returned: `NoSuchWorker`, or else `OwnedTwice`. `NoMemory` may be returned in
+    /// place of either.
     pub fn new(
         alloc: A,
         workers: u32,
@@ -71,17 +72,18 @@ impl<A: Allocator + Copy> World<A> {
               shared = λ _. false;
             })) }
         ensures cards { IfOk result (λ world. world.last_card ≡ cards) }
-        // It succeeds only if no entry is faulty. A fault tells the first faulty entry, or want of memory.
+        // It succeeds only if no entry is faulty. A fault tells the first faulty entry, or that an allocation failed.
         ensures faultless { OnOk result (Faultless workers owned.now) }
         ensures refused { IfErr result (OpeningRefused workers owned.now) }
     {
         World::from_start(alloc, workers, owned, &[], cards)
     }
 
-    /// The opening tree over start keys, balanced, with workers and the keys that the entries give them: the start keys are
-    /// present with their values, the others absent. The start keys' tree has a card for each of them, so the cards to be
-    /// claimed are those after them, and the last card is as many more as there are start keys. Conditions: those of `new`;
-    /// the start keys are strictly ascending, among the keys of the entries, and at most `START_MAX`. Faults are as of `new`.
+    /// Creates the opening tree over start keys, balanced, with workers and the keys that the entries give them: the
+    /// start keys are present with their values, the others absent. The start keys' tree has a card for each of them,
+    /// so the cards to be claimed are those after them, and the number of the last card is the number of cards asked
+    /// for plus that of the start keys. Conditions: those of `new`; the start keys are strictly ascending, among the
+    /// keys of the entries, and at most `START_MAX`. Faults are those of `new`.
     pub fn from_start(
         alloc: A,
         workers: u32,
@@ -107,7 +109,7 @@ impl<A: Allocator + Copy> World<A> {
               shared = λ _. false;
             })) }
         ensures cards { IfOk result (λ world. world.last_card ≡ last_card start.now cards) }
-        // It succeeds only if no entry is faulty. A fault tells the first faulty entry, or want of memory.
+        // It succeeds only if no entry is faulty. A fault tells the first faulty entry, or that an allocation failed.
         ensures faultless { OnOk result (Faultless workers owned.now) }
         ensures refused { IfErr result (OpeningRefused workers owned.now) }
     {
@@ -120,16 +122,16 @@ impl<A: Allocator + Copy> World<A> {
         })
     }
 
-    /// Does an event, or refuses it and changes nothing. The refusals are tested in the order of `CoreFault`; `NoMemory` comes
-    /// only where the event would be answered, and its worker would learn a fact that it lacks.
+    /// Does an event, or refuses it and changes nothing. The refusals are tested in the order of `CoreFault`;
+    /// `NoMemory` is returned only if the event would be answered, and its worker would learn a fact that it lacks.
     pub fn step(&mut self, event: Event) -> Result<Stepped, CoreFault>
         // The outcome and the new state are what the event's row says.
         ensures done { IfOk result (λ said. Steps (machine_of self.old) event said (machine_of self.new)) }
-        // It is refused for the first reason that the event's row gives, and for want of memory only if a fact would be
-        // learnt. The world then stays as it was.
+        // It is refused for the first reason that the event's row gives, and for a failed allocation only if a fact
+        // would be learned. The world then stays as it was.
         ensures refused { IfErr result (StepRefused (machine_of self.old) event) }
         ensures unchanged { OnErr result (self.new ≡ self.old) }
-        // The number of the last card stays.
+        // The number of the last card stays the same.
         ensures cards { self.new.last_card ≡ self.old.last_card }
     {
         let Some(worker) = self.workers.get_mut(event.worker as usize) else {
@@ -138,8 +140,8 @@ impl<A: Allocator + Copy> World<A> {
         turn(&mut self.memory, worker, event.act)
     }
 
-    /// Does nothing, and says that the laws hold of every world, however it came about: its state is sound, and the invariant
-    /// holds of it, from which on each event is lawful.
+    /// Does nothing, and states that the laws hold for every world, however it came about: its state is sound, and the
+    /// invariant holds for it, so that from there on each event is lawful.
     pub fn laws_hold(&self)
         // Every world is sound, and has the invariant.
         ensures sound { IsSound (machine_of self.now) }
@@ -148,7 +150,7 @@ impl<A: Allocator + Copy> World<A> {
         let _ = &self.memory;
     }
 
-    /// The keys of the tree, each once, ascending.
+    /// Returns the keys of the tree, each once, ascending.
     pub fn keys(&self) -> Result<Vec<u64, A>, NoMemory>
         // The keys are those of the tree, strictly ascending.
         ensures { IfOk result (λ keys. ListsKeys (machine_of self.now).words keys.items) }
@@ -158,7 +160,7 @@ impl<A: Allocator + Copy> World<A> {
         Ok(keys)
     }
 
-    /// The keys of the tree with their values, each key once, ascending.
+    /// Returns the keys of the tree with their values, each key once, ascending.
     pub fn pairs(&self) -> Result<Vec<(u64, u64), A>, NoMemory>
         // The pairs are those of the tree, strictly ascending by their keys.
         ensures { IfOk result (λ pairs. ListsTreePairs (machine_of self.now).words pairs.items) }
@@ -169,7 +171,7 @@ impl<A: Allocator + Copy> World<A> {
         Ok(pairs_of_tree(&self.memory, waiting, pairs))
     }
 
-    /// The word of a field of a card. Condition: the card is at most the last card.
+    /// Returns the word of a field of a card. Condition: the card is at most the last card.
     pub fn word(&self, card: u64, field: Field) -> u64
         requires { card ≤ self.now.last_card }
         // Returns the word in the card's field.
@@ -178,7 +180,7 @@ impl<A: Allocator + Copy> World<A> {
         self.memory.read(card, field)
     }
 
-    /// The claim word: the number of the next card.
+    /// Returns the claim word: the number of the next card.
     pub fn next(&self) -> u64
         // Returns the claim word.
         ensures { result ≡ (machine_of self.now).words.next }

@@ -8,16 +8,16 @@ pub fn one_outcome()
     ensures { EachHasOneOutcome }
 {}
 
-/// As many places as are enough for the nodes that wait on a walk over a lawful tree are enough for its keys.
+/// Room that is enough for the nodes that wait on a walk over a lawful tree is enough for its keys.
 pub fn room_holds_keys()
     // Room for the nodes that wait on a walk over a lawful tree is room for its keys.
     ensures { RoomHoldsKeys }
 {}
 
-/// In later words, as an event and a run leave them, each word of a claimed card but its node's children and update word is the
-/// same; and where a card's mark stands at its parent, it stands there with the same children.
+/// In later words, as an event and a run leave them, each word of a claimed card except its node's children and update
+/// word is the same. If a card's mark stands at its parent, it still stands there, with the same children.
 pub fn told_words_stay()
-    // Of a claimed card all words but children and update word stay as they are.
+    // All words of a claimed card except its node's children and update word stay as they are.
     ensures fixed { FixedWordsStay }
     // The parent of a card keeps the card's mark, and its children below it.
     ensures frozen { FrozenParentsStay }

@@ -1,5 +1,5 @@
-//! What is not so: statements near to the laws, each of which a small run shows to be false. The laws say no more than they should.
-//! Each is the contract of a function that does nothing.
+//! What does not hold: statements close to the laws, each of which a small run shows to be false. The laws say no more
+//! than they should. Each law is the contract of a function that does nothing.
 ghost use Rattle.ell_core.specs.statements.Refuted.{WordsAlwaysRise, NextCardIsFixed, FlaggedNodesAreFrozen, NothingIsLearnt, ChildExchangesComeFirst, OneLedgerForAll, InsertsAddTheNextKey, AnswersAreOfTheMapAfter, BusyOwnersFindClean, SplitsMayTeach, LooksAreOfTheLastState, LooksAreOfTheFirstState};
 
 /// Of schedules: update words may stay, the next card is not filled yet, a flagged node's child is exchanged, workers learn, and
@@ -26,13 +26,13 @@ pub fn events_promise_no_more()
     ensures keys { ¬ InsertsAddTheNextKey }
     // It is false that an answer is of the map after the operation: it is of the map before it.
     ensures answers { ¬ AnswersAreOfTheMapAfter }
-    // It is false that an owner of all keys finds clean words also with an operation in hand: its own flag may stand.
+    // It is false that an owner of all keys finds clean words even with an operation in hand: its own flag may stand.
     ensures busy_owner { ¬ BusyOwnersFindClean }
-    // It is false that a part of a split may know what nobody knew.
+    // It is false that a part of a split may know what no worker knew.
     ensures split { ¬ SplitsMayTeach }
 {}
 
-/// Of looks: what a look finds need not be so when it ends, nor when it began.
+/// Of looks: what a look finds need not hold when it ends, nor when it began.
 pub fn looks_promise_no_more()
     // It is false that a look finds what the tree has when it ends, or what it had when it began.
     ensures last { ¬ LooksAreOfTheLastState }

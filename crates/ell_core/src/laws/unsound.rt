@@ -10,7 +10,7 @@ ghost use Rattle.ell_core.specs.soundness.UnsoundFlags.{BreaksNames, node_not_cl
 /// No tree breaks one of the rules of a lawful one: numbers rise, one path leads to each node, keys are in order, the two
 /// infinities stand in their places, and every leaf of a real key has a grandparent.
 pub fn no_tree_is_unlawful()
-    // For each clause on the shape of the tree a small state that breaks it is unsound.
+    // For each clause on the shape of the tree, a small state that breaks it is unsound.
     ensures rises { BreaksTree child_of_less_number }
     ensures one_path { BreaksTree leaf_linked_twice }
     ensures left_less { BreaksTree node_with_lesser_key }
@@ -24,10 +24,10 @@ pub fn no_tree_is_unlawful()
     ensures left_deep { BreaksTree leaf_below_the_root }
 {}
 
-/// No key has two owners, a key of the tree has one, and the owner has it present exactly when the tree has it, and with the same
-/// value: the map is in the tree, and not in the workers.
+/// No key has two owners, a key of the tree has one, and the owner has it present exactly if the tree has it, and with
+/// the same value: the map is in the tree, and not in the workers.
 pub fn no_ledger_is_wrong()
-    // For each clause on ledgers, but that a shared key has no owner, a small state that breaks it is unsound.
+    // For each clause on ledgers, except that a shared key has no owner, a small state that breaks it is unsound.
     ensures one_owner { BreaksLedgers key_owned_twice }
     ensures owned { BreaksLedgers key_without_owner }
     ensures present { BreaksLedgers key_missing_in_ledger }
@@ -35,18 +35,19 @@ pub fn no_ledger_is_wrong()
     ensures value { BreaksLedgers key_with_other_value }
 {}
 
-/// No search finds a key that is absent, misses one that is present, or stands where the walk for its key does not come by.
+/// No search finds a key that is absent, misses one that is present, or stands where the walk for its key does not
+/// pass.
 pub fn no_search_is_astray()
-    // For each clause on searches a small state that breaks it is unsound.
+    // For each clause on searches, a small state that breaks it is unsound.
     ensures found { BreaksSearches key_found_too_early }
     ensures missed { BreaksSearches key_not_found }
     ensures joins { BreaksSearches search_astray }
 {}
 
-/// No worker knows what is not so: each of the nine facts fails alone by each part of its meaning that can.
+/// No worker knows what does not hold: each of the nine facts fails alone by each part of its meaning that can.
 pub fn no_fact_is_made_up()
-    // For each kind of fact there are small states in which no worker may know it, as it is not so: they would be
-    // unsound.
+    // For each kind of fact there are small states in which no worker may know it, since it does not hold: they would
+    // be unsound.
     ensures insert_card { NoneHolds not_an_insert (IFlagged 1 ∷ IChanged 1 ∷ IOver 1 ∷ []) }
     ensures insert_flag { NoneHolds linked_unflagged (IFlagged 1 ∷ IChanged 1 ∷ []) }
     ensures insert_child { NoneHolds never_linked (IChanged 1 ∷ IOver 1 ∷ []) }
@@ -70,7 +71,7 @@ pub fn no_name_is_wrong()
     ensures updates { BreaksNames card_not_claimed }
 {}
 
-/// No flag or mark stands whose card nobody has in hand, flagged, or at a node that is not the card's.
+/// No flag or mark stands whose card no worker has in hand, flagged, or at a node that is not the card's.
 pub fn no_flag_is_left_standing()
     // A state is unsound if a flag or a mark is not at its card's node, or of a card that no worker has in hand,
     // flagged.
@@ -82,7 +83,7 @@ pub fn no_flag_is_left_standing()
     ensures mark_place { BreaksFlags mark_elsewhere }
 {}
 
-/// Nobody but the workers that are counted owns a key, has anything in hand or knows anything.
+/// Only the workers that are counted own a key, have anything in hand or know anything.
 pub fn no_stranger_is_somebody()
     // A state is unsound if a worker past the last one owns, holds or knows something.
     ensures owns { BreaksStrangers key_of_stranger }
