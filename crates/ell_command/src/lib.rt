@@ -1,5 +1,5 @@
-//! The command `elltree`, over the words of its command line, a reader and two writers: it runs a text of finds, inserts and
-//! deletes on a map, or replays a schedule of events on the machine of the tree.
+//! The command `elltree`, over the words of its command line, a reader and two writers. It runs a text of finds,
+//! inserts and deletes on a map, or replays a schedule of events on the machine of the tree.
 #![tactic(auto)]
 
 mod program;

@@ -21,7 +21,7 @@ use std::thread::Threads;
 // Success, or help or the version was asked for.
 const SUCCEEDED: u8 = 0;
 
-// A fault in the text, too long an input, or arguments that are refused.
+// A fault in the text, an input that is too long, or arguments that are refused.
 const REFUSED: u8 = 2;
 
 const OUT_OF_MEMORY: u8 = 3;
@@ -29,10 +29,10 @@ const OUT_OF_MEMORY: u8 = 3;
 // Reading or writing failed.
 const TRANSFER_FAILED: u8 = 4;
 
-/// The exit status where the arguments could not be taken.
+/// The exit status if the arguments could not be taken.
 pub const ARGUMENTS_NOT_TAKEN: u8 = OUT_OF_MEMORY;
 
-// The most bytes of a text that go to standard error together.
+// The greatest number of bytes of a text that go to standard error together.
 const TEXT_MAX: usize = 1024;
 
 /// Why the program ends with another status than 0.
@@ -40,7 +40,7 @@ const TEXT_MAX: usize = 1024;
 pub enum Failure {
     /// The words are refused, with the parser's text.
     Refused(clap::Error),
-    /// The arguments could not be parsed for want of memory.
+    /// The arguments could not be parsed because an allocation failed.
     NoMemory,
     /// A run ended early.
     Run(RunFault),
@@ -66,10 +66,10 @@ impl fmt::Display for Failure {
 impl Error for Failure {}
 
 impl Failure {
-    /// The exit status that tells of the failure.
+    /// Returns the exit status that tells of the failure.
     pub fn status(&self) -> u8
-        // Returns the exit status of the failure: 2 for words or a text that are refused, 3 for want of memory, 4 for a
-        // failed read or write.
+        // Returns the exit status of the failure: 2 for words or a text that are refused, 3 for a failed allocation, 4
+        // for a failed read or write.
         ensures { result ≡ status_of self.now }
     {
         match self {
@@ -87,10 +87,10 @@ impl Failure {
     }
 }
 
-/// The whole program over a reader and two writers: answers its exit status, which `run --help`
-/// explains. Answers, traces, help and the version go to `out`, which is flushed last. The text of a failure goes to
-/// `err`, and so does the report of a run that succeeded, before that flush, where the words ask for it:
-/// the line `late N`. Where `err` fails, the status is the same.
+/// The whole program over a reader and two writers. Returns its exit status, which `run --help` explains. Answers,
+/// traces, help and the version go to `out`, which is flushed last. The text of a failure goes to `err`, and so does
+/// the report of a run that succeeded, before that flush, if the words ask for it: the line `late N`. If `err` fails,
+/// the status is the same.
 pub fn elltree<R: Threads + Sync, S: AsStr, I: Read, O: Write, E: Write>(
     rt: &R,
     alloc: Global,
@@ -119,7 +119,7 @@ pub fn elltree<R: Threads + Sync, S: AsStr, I: Read, O: Write, E: Write>(
     ensures unreported { AreTakenToReplay (map S.text words.now) → Succeeded result → err.new ≡ err.old }
 
     // Any other status of a `run` or a `replay` is that of a failure that tells the truth of the bytes read and
-    // written: 2 only if the text or an entry of the script is refused; after a failed write a front of the answer or
+    // written: 2 only if the text or an entry of the script is refused; after a failed write a prefix of the answer or
     // the trace is written.
     ensures failed { AreTakenToRun (map S.text words.now) → ¬ Succeeded result
         → RunEndsBy result (I.remaining input.old) (O.contents out.old) (O.contents out.new) }
@@ -138,8 +138,8 @@ pub fn elltree<R: Threads + Sync, S: AsStr, I: Read, O: Write, E: Write>(
     }
 }
 
-/// Does what the words ask for, writes the report to `err`, and flushes `out` last. The gate sees each call of a run's tree, under the
-/// number of its worker. The text of a failure is left to the caller.
+/// Does what the words ask for, writes the report to `err`, and flushes `out` last. The gate sees each call of a run's
+/// tree, under the number of its worker. The text of a failure is left to the caller.
 pub fn carry_out<R: Threads + Sync, S: AsStr, I: Read, O: Write, E: Write, G: StepGate + Sync>(
     rt: &R,
     alloc: Global,
@@ -185,8 +185,8 @@ pub fn carry_out<R: Threads + Sync, S: AsStr, I: Read, O: Write, E: Write, G: St
     out.flush().map_err(|_| Failure::Write)
 }
 
-// Writes a text that is to go out in one write, as a fault's line is: so it does where it has at most `TEXT_MAX` bytes, and the
-// writer takes them all at once.
+// Writes a text that should go out in one write, as a fault's line should. It does if it has at most `TEXT_MAX` bytes
+// and the writer takes them all at once.
 fn tell<D: fmt::Display, E: Write>(text: &D, err: &mut E) -> io::Result<()> {
     let mut whole = Cursor::new([0; TEXT_MAX]);
     let written = write!(whole, "{text}");

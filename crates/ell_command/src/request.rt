@@ -26,14 +26,13 @@ use std::convert::AsStr;
 /// What a user asks the program to do.
 #[derive(Debug, Clone, Copy, PartialEq, Eq)]
 pub enum Request {
-    /// Run a bulk text by these settings, and tell of it on standard error where `report` is set
-    /// and the run succeeded.
+    /// Run a bulk text by these settings, and report on it on standard error if `report` is set and the run succeeded.
     Run { settings: Settings, report: bool },
     /// Replay the schedule of a replay text.
     Replay,
 }
 
-// The names of the partings of keys.
+// The names of the ways to divide keys.
 static PARTINGS: [&str; 2] = ["stripe", "range"];
 
 // The version of elltree, as the file VERSION at the top says it: `tests/copies` compares them.
@@ -43,7 +42,7 @@ const ABOUT: &str = "Finds, inserts and deletes on a map of keys and values, in 
 
 const RUN_ABOUT: &str = "Run a text of finds, inserts and deletes on a map";
 
-// Refusals show it too, as that of `elltree run FILE`.
+// Refusals show it too, for example that of `elltree run FILE`.
 const RUN_USAGE: &str = "elltree run [OPTIONS] < FILE";
 
 const RUN_LONG_ABOUT: &str = "Run a text of finds, inserts and deletes on a map
@@ -112,13 +111,12 @@ Writes a line for each event to standard output, in order, then `keys N` and the
 N keys of the tree at the end, ascending, one a line. The exit statuses are those
 of `elltree run`.";
 
-/// What the words after the program's name ask for. An `Err` has the text for the user. Its kind is
-/// `DisplayHelp` where the words ask for help, `DisplayVersion` where they ask for the version,
-/// `OutOfMemory` where memory ran out, and another where the words are refused, as
-/// `MissingSubcommand` where there are none.
+/// Returns what the words after the program's name ask for. An `Err` has the text for the user. Its kind is
+/// `DisplayHelp` if the words ask for help, `DisplayVersion` if they ask for the version, `OutOfMemory` if memory ran
+/// out, and another if the words are refused, such as `MissingSubcommand` if there are none.
 pub fn request_of<S: AsStr>(alloc: Global, words: &[S]) -> Result<Request, Error>
-    // It succeeds only if the words come to no error by the parser's model. An error is of a kind to which they come,
-    // or for want of memory.
+    // It succeeds only if the words lead to no error in the parser's model. An error is of a kind to which they lead,
+    // or is a failed allocation.
     ensures kinds { FailsBy (faults_of (map S.text words.now)) result }
 
     // The settings are those of the words, in their ranges, and a report is wanted exactly if they say so. The one word
@@ -132,7 +130,7 @@ pub fn request_of<S: AsStr>(alloc: Global, words: &[S]) -> Result<Request, Error
     ensures named { AreTaken (map S.text words.now)
         → AreTakenToRun (map S.text words.now) ⊎ AreTakenToReplay (map S.text words.now) }
 
-    // Words that are taken, as `run` and `replay` alone are, fail only for want of memory.
+    // Words that are taken, as `run` and `replay` alone are, fail only if an allocation fails.
     ensures taken { AreTaken (map S.text words.now)
         → IfErr result (λ e. kind_of e ≡ ErrorKind.OutOfMemory) }
     ensures run { AsksToRun (map S.text words.now)
@@ -147,7 +145,7 @@ pub fn request_of<S: AsStr>(alloc: Global, words: &[S]) -> Result<Request, Error
         → IsErrAnd result (HasKind (ErrorKind.DisplayVersion ∷ [])) }
     ensures shown { AreShownHelp (map S.text words.now)
         → IsErrAnd result (HasKind (ErrorKind.DisplayHelp ∷ [])) }
-    // Words that are refused end in an error that is a mistake or for want of memory; without words it is
+    // Words that are refused end in an error that is a mistake or a failed allocation; without words it is
     // `MissingSubcommand`.
     ensures refused { AreRefused (map S.text words.now)
         → IsErrAnd result (λ e. IsMistakeOrMemory (kind_of e)) }
@@ -203,7 +201,7 @@ fn number_in(options: &ArgMatches<'_>, name: &str) -> Option<u32>
     options.get_one(name)
 }
 
-// How the options of `run` part the keys.
+// How the options of `run` divide the keys.
 fn parting_in(options: &ArgMatches<'_>) -> Parting
     requires { AreOptions (rows_of (found_of options.now)) }
     ensures { first_of (codes "parting") (rows_of (found_of options.now)) ≡ Some (name_of result) }
@@ -216,7 +214,7 @@ fn parting_in(options: &ArgMatches<'_>) -> Parting
     }
 }
 
-// The help of the options that take a number, each with the most that it takes.
+// The help of the options that take a number, each with the greatest number that it takes.
 #[derive(Drop)]
 struct OptionTexts {
     workers: String,

@@ -1,4 +1,4 @@
-//! How handles of one tree of shared keys come to fresh cards together.
+//! How handles of one tree of shared keys get fresh cards together.
 ghost use Rattle.std.specs.Prelude.{◌≡◌, ◌<◌, ◌≤◌, ◌↔◌, ℕ, None, Some, IsTrue, IfErr, IfOk, IfSome, OnErr, OnOk, length, map, slice_get};
 ghost use Rattle.std.specs.List.{AllZip};
 ghost use Rattle.std.specs.Arc.{arc_value};
@@ -13,17 +13,20 @@ use crate::refusal::Refusal;
 use ell_tree::{KEY_MAX, Pair, START_MAX};
 use std::alloc::{AllocError, Global};
 
-// So many pairs are asked for at first, and then so many: few trees have more, and room for all that a tree may begin with costs some time.
+// Room for `FEW` pairs is asked for at first, and then room for `MANY`: few trees have more, and room for all that a
+// tree may begin with costs some time.
 const FEW: usize = 8_192;
 
 const MANY: usize = 131_072;
 
-/// Makes the cards of handles of one tree of shared keys fresh: all of them go to one new tree of so many cards, in which every key is shared
-/// too. It begins with what a scan of the old tree finds, which is all that is there, unless a handle of the old tree changes a key meanwhile.
-/// Handles that are not among them stay with the old tree. Trees that are open at once have different numbers. `OtherTree` if the numbers of
-/// their trees differ, or the keys of one's tree are not shared, `BadStart` if the scan finds more keys than `START_MAX`, `BadCards` if the
-/// cards are not 1 to 1,000,000, `TooManyHandles` if they are more than a tree gives shares to, and `NoMemory`: then each handle has its old
-/// tree. Without handles nothing happens.
+/// Gives handles of one tree of shared keys fresh cards: all of them move to one new tree with the given number of
+/// cards, in which every key is shared too. It begins with what a scan of the old tree finds, which is all that is
+/// there, unless a handle of the old tree changes a key in the meantime. Handles that are not among them stay with the
+/// old tree. Trees that are open at once have different numbers. Returns `OtherTree` if the numbers of their trees
+/// differ, or the keys of the tree of one of them are not shared, `BadStart` if the scan finds more keys than
+/// `START_MAX`, `BadCards` if the number of cards is not 1 to 1,000,000, `TooManyHandles` if there are more handles
+/// than a tree gives shares to, and `NoMemory` if an allocation fails. After any of these errors each handle has its
+/// old tree. Without handles nothing happens.
 pub fn renew_all_shared(
     handles: &mut [Handle],
     alloc: Global,
@@ -33,11 +36,11 @@ pub fn renew_all_shared(
     // The handles are of one new tree of shared keys, with the cards and the number asked for, which begins with what a
     // scan of the old tree finds. None knows of a card that is given out.
     ensures renewed { OnOk result ((first : Handle) → slice_get handles.old 0 ≡ Some first → AreRenewedShared first cards number handles.new) }
-    // As many handles come back.
+    // The same number of handles comes back.
     ensures count { length handles.new ≡ length handles.old }
     // It succeeds only for handles of one tree of shared keys. `OtherTree`, `BadStart` (more keys were found than a
-    // tree may begin with) and `BadCards` come only if it is so. A call that is refused moves no handle, and none is
-    // refused without handles.
+    // tree may begin with) and `BadCards` are returned only if they apply. A call that is refused moves no handle, and
+    // none is refused without handles.
     ensures one { OnOk result (AreOfOneShared handles.old) }
     ensures why { IfErr result (SharedGroupRefuses handles.old cards) }
     ensures refused { OnErr result (AllZip StaysPut handles.old handles.new) }
@@ -84,7 +87,7 @@ fn all_pairs(handle: &mut Handle, alloc: Global) -> Result<Vec<(u64, u64)>, Refu
     Ok(pairs)
 }
 
-// The same, if there is room for as many pairs, and `None` if there may be more.
+// The same, if there is room for this many pairs, and `None` if there may be more.
 fn pairs_within(
     handle: &mut Handle,
     alloc: Global,
@@ -113,7 +116,7 @@ fn each(alloc: Global, pairs: &[Pair]) -> Result<Vec<(u64, u64)>, AllocError>
         .collect(alloc)
 }
 
-// So many handles, at least one, of a new tree of shared keys with these start keys.
+// The given number of handles, at least one, of a new tree of shared keys with these start keys.
 fn open_shared_handles(
     alloc: Global,
     count: usize,
@@ -138,7 +141,7 @@ fn open_shared_handles(
     Ok(handles)
 }
 
-// A handle, and another of its tree.
+// The handle, and another of its tree.
 fn another_of(whole: Handle, alloc: Global) -> Result<(Handle, Handle), Refusal>
     ensures first { IfOk result (λ both. arc_value both.0.shared ≡ arc_value whole.shared) }
     ensures second { IfOk result (λ both. arc_value both.1.shared ≡ arc_value whole.shared) }

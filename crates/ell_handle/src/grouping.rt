@@ -1,4 +1,4 @@
-//! How handles of one tree come to fresh cards together.
+//! How handles of one tree get fresh cards together.
 ghost use Rattle.std.specs.Prelude.{◌≡◌, ◌<◌, ◌↔◌, ◌⊎◌, ℕ, length, IsTrue, IfOk, IfErr, OnOk, OnErr};
 ghost use Rattle.std.specs.Arc.{arc_value};
 ghost use Rattle.std.specs.List.{All, AllPairs, AllZip};
@@ -13,11 +13,12 @@ use crate::refusal::Refusal;
 use ell_ops::united_keys;
 use std::alloc::{AllocError, Global};
 
-/// Makes the cards of handles of one tree fresh: all of them go to one new tree of so many cards, each with the keys that it owns, which are
-/// present or absent as they were. Handles that are not among them stay with the old tree. Trees that are open at once have different
-/// numbers. `OtherTree` if the numbers of their trees differ, or two of them own one key, `SharedKeys` if the keys of one's tree are shared,
-/// `BadStart` if more keys than `START_MAX` are present in all, `BadCards` if the cards are not 1 to 1,000,000, and `NoMemory`: then each
-/// handle has its old tree. Without handles nothing happens.
+/// Gives handles of one tree fresh cards: all of them move to one new tree with the given number of cards, each with
+/// the keys that it owns, which are present or absent as they were. Handles that are not among them stay with the old
+/// tree. Trees that are open at once have different numbers. Returns `OtherTree` if the numbers of their trees differ,
+/// or two of them own the same key, `SharedKeys` if the keys of the tree of one of them are shared, `BadStart` if more
+/// keys than `START_MAX` are present in all, `BadCards` if the number of cards is not 1 to 1,000,000, and `NoMemory` if
+/// an allocation fails. After any of these errors each handle has its old tree. Without handles nothing happens.
 pub fn renew_all(
     handles: &mut [Handle],
     alloc: Global,
@@ -29,9 +30,9 @@ pub fn renew_all(
     // The handles are of one new tree, which has their keys and begins with their pairs, with the cards and the number
     // asked for. None knows of a card that is given out.
     ensures renewed { OnOk result (0 < length handles.old → AreRenewed handles.old cards number handles.new) }
-    // It succeeds only for handles of one tree without shared keys. `OtherTree`, `SharedKeys`, `BadStart` (their pairs
-    // are more than a tree may begin with) and `BadCards` come only if it is so. A call that is refused moves no
-    // handle, and none is refused without handles.
+    // It succeeds only for handles of one tree without shared keys. `OtherTree`, `SharedKeys`, `BadStart` (they have
+    // more pairs than a tree may begin with) and `BadCards` are returned only if they apply. A call that is refused
+    // moves no handle, and none is refused without handles.
     ensures one { OnOk result (AreOfOne handles.old) }
     ensures owned { OnOk result (All HasOwnedKeys handles.old) }
     ensures why { IfErr result (GroupRefuses handles.old cards) }
@@ -64,7 +65,7 @@ pub(crate) fn have_one_number(handles: &[Handle]) -> bool
     true
 }
 
-// Handles of a new tree for the places of these.
+// Handles of a new tree, to take the places of these.
 fn open_anew(
     handles: &mut [Handle],
     alloc: Global,

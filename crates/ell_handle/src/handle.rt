@@ -21,15 +21,16 @@ pub struct SharedTree {
     pub keys: Vec<u64>,
     /// Whether every key up to `KEY_MAX` is shared: then none has an owner.
     pub is_shared: bool,
-    /// By which handles of two trees are told apart.
+    /// The number that tells handles of two trees apart.
     pub number: u64,
     ghost whole: { tree.plan.keys ≡ keys.items },
     ghost mode: { tree.plan.shared ≡ is_shared },
     ghost alone: { is_shared ≡ true → tree.plan.keys ≡ [] },
 }
 
-/// A place for a handle, on which a handle can be put back without asking for memory. A handle writes to its words at each step, so words that
-/// nobody uses stand on both sides of it: no cache line, nor the one that a processor fetches with it, has words of two handles.
+/// A place for a handle, into which a handle can be put back without allocating memory. A handle writes to its words at
+/// each step, so unused words stand on both sides of it: no cache line, nor the one that a processor fetches with it,
+/// has words of two handles.
 #[derive(Drop)]
 pub struct HandlePlace {
     before: Unused,
@@ -37,7 +38,7 @@ pub struct HandlePlace {
     after: Unused,
 }
 
-// 128 bytes that nobody uses: no clause sees what is in them.
+// 128 unused bytes: no clause sees what is in them.
 #[derive(Drop)]
 struct Unused {
     words: [u64; 16],
@@ -74,7 +75,7 @@ impl HandlePlace {
 pub struct Handle {
     pub shared: Arc<SharedTree, Global>,
     pub pass: Pass<Global>,
-    /// Keys that the handle owns, by which most of them are known without a search of the list that the pass has.
+    /// Keys that the handle owns, so that most of them are recognized without a search of the pass's list.
     pub table: KeyTable,
     ghost own: { pass.table ≡ (arc_value shared).tree.id },
     ghost idle: { IsIdle pass },
@@ -85,7 +86,7 @@ pub struct Handle {
 }
 
 impl Handle {
-    /// Whether the handle owns a key.
+    /// Returns whether the handle owns a key.
     pub fn owns(&self, key: u64) -> bool
         // Returns `true` exactly if the handle owns the key.
         ensures { IsTrue result ↔ Owns self.now.pass key }
@@ -93,7 +94,7 @@ impl Handle {
         self.table.has(key) || self.pass.owns(key)
     }
 
-    /// Whether the handle owns each of these keys.
+    /// Returns whether the handle owns each of these keys.
     pub fn owns_all(&self, keys: &[u64]) -> bool
         // Returns `true` exactly if the handle owns all of the keys.
         ensures { IsTrue result ↔ All (λ k. Owns self.now.pass k) keys.now }
@@ -101,7 +102,7 @@ impl Handle {
         keys.iter().all(|key| self.owns(*key))
     }
 
-    /// The keys that the handle owns, strictly ascending.
+    /// Returns the keys that the handle owns, strictly ascending.
     pub fn keys(&self) -> &[u64]
         // Returns the keys that the handle owns, strictly ascending.
         ensures keys { result.now ≡ ledger_keys self.now.pass.view.worker.ledger }
@@ -110,7 +111,8 @@ impl Handle {
         self.pass.keys()
     }
 
-    /// The atomic steps made through the handle, and through those that it came from by a split or a join, in a row.
+    /// Returns how many atomic steps were made in a row through the handle, and through those that it came from by a
+    /// split or a join.
     pub fn steps(&self) -> u64
         // Returns how many steps the handle counts in a row.
         ensures { result ≡ self.now.pass.steps }

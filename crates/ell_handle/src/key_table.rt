@@ -1,4 +1,4 @@
-//! A table in which a key is found by one look at memory.
+//! A table in which a key is found by one memory access.
 ghost use Rattle.std.specs.Prelude.{◌≡◌, ◌≤◌, ◌⊎◌, ℕ, true, IsTrue, IfSome, length, slice_index, ◌<◌};
 ghost use Rattle.ell_ops.specs.KeySet.{set_of};
 ghost use Rattle.ell_tree.specs.Ledgers.{Owns};
@@ -8,7 +8,7 @@ use ell_tree::{KEY_MAX, Pass};
 use std::alloc::Global;
 use std::ops::Range;
 
-// What stands in an entry that is free: it is no key.
+// What a free entry contains. It is not a key.
 const FREE: u64 = u64::MAX;
 
 // How many entries in a row a key may stand in.
@@ -17,15 +17,15 @@ const REACH: usize = 16;
 // A multiplier that spreads neighbors apart: 2 ^ 64 divided by the golden ratio.
 const SPREAD: u64 = 0x9E37_79B9_7F4A_7C15;
 
-/// Keys of a list by a hash, with two entries of 8 bytes for each. A key of the list may be missing: if the entries that it may stand in were
-/// taken, or if memory was refused, as then all are missing.
+/// Keys of a list by a hash, with two entries of 8 bytes for each. A key of the list may be missing: if the entries
+/// that it may stand in were taken, or if an allocation failed, in which case all keys are missing.
 #[derive(Drop)]
 pub struct KeyTable {
     pub entries: Vec<u64>,
 }
 
 impl KeyTable {
-    /// A table of the keys of a list, none of them above `KEY_MAX`. If memory is refused, it has none.
+    /// A table of the keys of a list, none of them above `KEY_MAX`. If an allocation fails, it has none.
     pub fn of(alloc: Global, keys: &[u64]) -> KeyTable
         // The table has only keys of the list.
         ensures { (k : ℕ) → HasKey result k → set_of keys.now k ≡ true }
@@ -37,14 +37,14 @@ impl KeyTable {
         table
     }
 
-    /// A table of the keys that a pass owns. If memory is refused, it has none.
+    /// A table of the keys that a pass owns. If an allocation fails, it has none.
     pub(crate) fn of_pass(alloc: Global, pass: &Pass<Global>) -> KeyTable
         ensures { (k : ℕ) → HasKey result k → Owns pass.now k }
     {
         KeyTable::of(alloc, pass.keys())
     }
 
-    // A table with free entries for so many keys.
+    // A table with free entries for the given number of keys.
     fn with_room(alloc: Global, count: usize) -> KeyTable
         ensures { (k : ℕ) → ¬ HasKey result k }
     {
@@ -64,7 +64,7 @@ impl KeyTable {
         }
     }
 
-    /// Whether the table has a key, in an entry that the key may stand in. A key of the list may be missing.
+    /// Returns whether the table has a key, in an entry that the key may stand in. A key of the list may be missing.
     #[inline(always)]
     pub fn has(&self, key: u64) -> bool
         // Returns `true` only if the table has the key.
@@ -87,7 +87,8 @@ impl KeyTable {
         None
     }
 
-    // The entries that a key may stand in: from the one that its hash says, the same part of the table as the hash is of all hashes.
+    // The entries that a key may stand in: from the one that its hash says, the same part of the table as the hash is
+    // of all hashes.
     #[inline(always)]
     fn reach(&self, key: u64) -> Range<usize>
         ensures { result.end ≤ length self.now.entries.items }

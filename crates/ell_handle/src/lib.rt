@@ -1,5 +1,6 @@
-//! Handles of a shared tree. A handle is the tree with one pass of it, as one value that a thread can have: it tests each condition of the
-//! tree's calls, and answers a call that does not meet one with a named refusal, so that its callers owe nothing.
+//! Handles of a shared tree. A handle is the tree with one pass of it, as one value that a thread can have: it tests
+//! each condition of the tree's calls, and answers a call that does not meet one with a named refusal, so that its
+//! callers have nothing to prove.
 #![tactic(auto)]
 
 mod calls;

@@ -1,4 +1,4 @@
-//! Two lists of pairs in one.
+//! Two lists of pairs merged into one.
 ghost use Rattle.std.specs.Prelude.{IfOk};
 ghost use Rattle.std.specs.List.Sorted.{IsStrictlyIncreasing};
 ghost use Rattle.std.specs.Map.{keys_of};
@@ -8,7 +8,8 @@ ghost use Rattle.ell_handle.specs.Groups.{or_there};
 use ell_ops::united;
 use std::alloc::{AllocError, Global};
 
-/// The pairs of two lists, whose keys ascend strictly, ascending: of a key that both have, the pair of the first.
+/// The pairs of two lists, whose keys ascend strictly, ascending. For a key that both have, it is the pair of the first
+/// list.
 pub(crate) fn united_pairs(
     alloc: Global,
     left: &[(u64, u64)],

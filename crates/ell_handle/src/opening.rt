@@ -1,4 +1,4 @@
-//! How handles begin, part and come together.
+//! How handles are opened, split and joined.
 ghost use Rattle.std.specs.Prelude.{if◌then◌else◌, ◌≡◌, ◌≢◌, ℕ, [], None, IfOk, IfErr, OnOk};
 ghost use Rattle.std.specs.Arc.{arc_value};
 ghost use Rattle.std.specs.List.{All};
@@ -23,9 +23,11 @@ use std::alloc::Global;
 use std::sync::Arc;
 
 impl Handle {
-    /// A tree of so many cards that has the start keys with their values, and the handle that owns these keys and the start keys. Trees
-    /// that are open at once have different numbers. `BadStart` if the start keys do not ascend strictly or are more than `START_MAX`, then
-    /// `BadKey` if a key is above `KEY_MAX`, then `BadCards` if the cards are not 1 to 1,000,000, and only then `NoMemory`.
+    /// Opens a tree with the given number of cards that has the start keys with their values, and returns the handle
+    /// that owns these keys and the start keys. Trees that are open at once have different numbers. Returns `BadStart`
+    /// if the start keys do not strictly ascend or there are more than `START_MAX`, then `BadKey` if a key is above
+    /// `KEY_MAX`, then `BadCards` if the number of cards is not 1 to 1,000,000, and only then `NoMemory` if an
+    /// allocation fails.
     pub fn open(
         alloc: Global,
         keys: &[u64],
@@ -37,9 +39,9 @@ impl Handle {
         // which the start keys are present with their values.
         ensures opened { IfOk result (IsOpened keys.now start.now cards number) }
         ensures present { IfOk result (λ made. present_in made.pass ≡ contents_of start.now) }
-        // `BadStart` comes exactly if the start keys do not ascend strictly or are more than 1,000,000, then `BadKey`
-        // exactly for a key above the greatest one, then `BadCards` exactly if the cards are not 1 to 1,000,000, and
-        // else `NoMemory` alone.
+        // `BadStart` is returned exactly if the start keys do not strictly ascend or there are more than 1,000,000,
+        // then `BadKey` exactly for a key above the greatest one, then `BadCards` exactly if the number of cards is not
+        // 1 to 1,000,000, and otherwise only `NoMemory`.
         ensures may { OnOk result (MayOpen keys.now start.now cards) }
         ensures refused { IfErr result (RefusesTree keys.now start.now cards) }
     {
@@ -62,8 +64,9 @@ impl Handle {
         })
     }
 
-    /// A tree of so many cards in which every key up to `KEY_MAX` is shared, and which has the start keys with their values, and its first
-    /// handle: `another` makes more of it. Any of them finds, inserts and deletes any key, and no handle owns one. Refusals are as of `open`.
+    /// Opens a tree with the given number of cards in which every key up to `KEY_MAX` is shared, and which has the
+    /// start keys with their values. Returns its first handle; `another` makes more of them. Any of them finds, inserts
+    /// and deletes any key, and no handle owns one. Refusals are as for `open`.
     pub fn open_shared(
         alloc: Global,
         start: &[(u64, u64)],
@@ -73,9 +76,9 @@ impl Handle {
         // The handle is the first of a new tree with the start pairs, cards and number asked for. Every key is shared,
         // it owns none, and has the whole share.
         ensures opened { IfOk result (IsOpenedShared start.now cards number) }
-        // `BadStart` comes exactly if the start keys do not ascend strictly or are more than 1,000,000, then `BadKey`
-        // exactly for a key above the greatest one, then `BadCards` exactly if the cards are not 1 to 1,000,000, and
-        // else `NoMemory` alone.
+        // `BadStart` is returned exactly if the start keys do not strictly ascend or there are more than 1,000,000,
+        // then `BadKey` exactly for a key above the greatest one, then `BadCards` exactly if the number of cards is not
+        // 1 to 1,000,000, and otherwise only `NoMemory`.
         ensures may { OnOk result (MayOpen [] start.now cards) }
         ensures refused { IfErr result (RefusesTree [] start.now cards) }
     {
@@ -96,17 +99,18 @@ impl Handle {
         })
     }
 
-    /// This handle, with all its keys, and another of its tree, which has none: it changes shared keys, if the tree has them, and looks at any
-    /// key. `TooManyHandles` if the keys are shared and the handle has the least share of them: the first handle of a tree gives more than
-    /// a million others, and each of those fewer. Else `NoMemory` if memory is refused.
+    /// Returns this handle, with all its keys, and another of its tree, which has none: it changes shared keys, if the
+    /// tree has them, and looks at any key. Returns `TooManyHandles` if the keys are shared and the handle has the
+    /// least share of them: the first handle of a tree gives more than a million others, and each of those gives fewer.
+    /// Otherwise returns `NoMemory` if an allocation fails.
     pub fn another(self, alloc: Global) -> Result<(Handle, Handle), (Handle, Refusal)>
         // There is a handle with the keys and the map of the old one, and another of its tree, which owns no key and
         // has a piece of the share.
         ensures parts { IfOk result (λ both. AreParts (ledger_keys self.pass.view.worker.ledger) self both.0 both.1) }
         ensures kept { IfOk result (λ both. HasSame self both.0) }
         ensures bare { IfOk result (λ both. (k : ℕ) → ¬ Owns both.1.pass k) }
-        // `TooManyHandles` comes exactly if the share is the least one, and else `NoMemory` alone. The handle then
-        // comes back.
+        // `TooManyHandles` is returned exactly if the share is the least one, and otherwise only `NoMemory`. After
+        // either error the handle comes back.
         ensures may { OnOk result (¬ IsLeast self) }
         ensures why { IfErr result (λ refused. AnotherRefuses self refused.1) }
         ensures refused { IfErr result (λ refused. refused.0 ≡ self) }
@@ -120,8 +124,9 @@ impl Handle {
         self.split(alloc, &keys)
     }
 
-    /// Two handles of one: the first has these of its keys, and the second the others. `Foreign` if a key is not its own, then
-    /// `TooManyHandles` as of `another`, and else `NoMemory` if memory is refused. A handle without keys may look.
+    /// Splits a handle into two: the first has these of its keys, and the second the others. Returns `Foreign` if a key
+    /// is not its own, then `TooManyHandles` as for `another`, and otherwise `NoMemory` if an allocation fails. A
+    /// handle without keys may look.
     pub fn split(self, alloc: Global, wanted: &[u64]) -> Result<(Handle, Handle), (Handle, Refusal)>
         // Both handles are of the same tree: one has these keys, the other the remaining ones and a piece of the share,
         // as they were.
@@ -130,8 +135,8 @@ impl Handle {
             present_in parts.0.pass k ≡ (if set_of wanted.now k then present_in self.pass k else None)) }
         ensures rest { IfOk result (λ parts. (k : ℕ) →
             present_in parts.1.pass k ≡ (if set_of wanted.now k then None else present_in self.pass k)) }
-        // `Foreign` comes exactly if a key is not owned, then `TooManyHandles` exactly if the share is the least one,
-        // and else `NoMemory` alone. The handle then comes back.
+        // `Foreign` is returned exactly if a key is not owned, then `TooManyHandles` exactly if the share is the least
+        // one, and otherwise only `NoMemory`. After any of these errors the handle comes back.
         ensures owned { OnOk result (All (λ k. Owns self.pass k) wanted.now) }
         ensures may { OnOk result (¬ IsLeast self) }
         ensures why { IfErr result (λ refused. SplitRefuses wanted.now self refused.1) }
@@ -181,15 +186,16 @@ impl Handle {
         }
     }
 
-    /// One handle of two, with the keys of both. `OtherTree` if their numbers differ, or the keys of one's tree alone are shared, and else
-    /// `NoMemory` if memory is refused. Condition: equal numbers mean one tree.
+    /// Joins two handles into one, with the keys of both. Returns `OtherTree` if their numbers differ, or the keys of
+    /// only one of the trees are shared, and otherwise `NoMemory` if an allocation fails. Condition: equal numbers mean
+    /// one tree.
     pub fn join(self, other: Handle) -> Result<Handle, (Handle, Handle, Refusal)>
         requires numbers { HaveNumber self other → other.pass.table ≡ self.pass.table }
         // The handle has the keys and the shares of both, in the same tree.
         ensures union { IfOk result (λ both. IsUnion self.pass other.pass both.pass) }
         ensures tree { IfOk result (λ both. both.shared ≡ self.shared) }
-        // `OtherTree` comes exactly if the numbers of the trees differ, or one shares keys and the other does not, and
-        // else `NoMemory` alone. Both then come back.
+        // `OtherTree` is returned exactly if the numbers of the trees differ, or one shares keys and the other does
+        // not, and otherwise only `NoMemory`. After either error both handles come back.
         ensures one { OnOk result (AreJoinable self other) }
         ensures why { IfErr result (λ refused. JoinRefuses (AreJoinable self other) refused.2) }
         ensures refused { IfErr result (λ refused. (refused.0 ≡ self) × (refused.1 ≡ other)) }
@@ -235,7 +241,7 @@ impl Handle {
     }
 }
 
-// Whether a tree may be opened over these keys and start keys with so many cards, and else why not.
+// Whether a tree may be opened over these keys and start keys with the given number of cards, and if not, why.
 fn may_open(keys: &[u64], start: &[(u64, u64)], cards: u64) -> Result<(), Refusal>
     ensures may { OnOk result (MayOpen keys.now start.now cards) }
     ensures refused { IfErr result (λ why. RefusesTree keys.now start.now cards why × (why ≢ NoMemory)) }

@@ -19,28 +19,28 @@ pub enum Refusal {
     /// Something was in the way of each try.
     #[error("something was in the way of each try")]
     Busy,
-    /// All cards of the tree are given out, as `cards_left` tells.
+    /// All cards of the tree are given out; `cards_left` returns how many are left.
     #[error("all cards are given out")]
     Spent,
-    /// The cards are not 1 to 1,000,000.
+    /// The number of cards is not 1 to 1,000,000.
     #[error("cards are not 1 to 1,000,000")]
     BadCards,
     /// A key is above `KEY_MAX`.
     #[error("a key is above 18446744073709551613")]
     BadKey,
-    /// The start keys do not ascend strictly, or are more than `START_MAX`.
+    /// The start keys do not strictly ascend, or there are more than `START_MAX`.
     #[error("start keys do not ascend strictly, or are more than 1,000,000")]
     BadStart,
     /// The handles are of two trees.
     #[error("the handles are of two trees")]
     OtherTree,
-    /// The keys of the tree are shared, and the handle has the least share of it, which is not parted.
+    /// The keys of the tree are shared, and the handle has the least share of it, which cannot be split.
     #[error("the handle can make no more handles")]
     TooManyHandles,
     /// The call is not for a tree of shared keys.
     #[error("the keys of the tree are shared")]
     SharedKeys,
-    /// Memory was refused.
+    /// An allocation failed.
     #[error("out of memory")]
     NoMemory,
 }

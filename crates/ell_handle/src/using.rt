@@ -7,7 +7,7 @@ use crate::handle::Handle;
 use ell_tree::KEY_MAX;
 
 impl Handle {
-    /// Whether the keys of the handle's tree are shared: then no handle owns any.
+    /// Returns whether the keys of the handle's tree are shared: then no handle owns any.
     pub fn has_shared_keys(&self) -> bool
         // Returns `true` exactly if the tree shares keys.
         ensures { IsTrue result ↔ HasSharedKeys self.now }
@@ -15,7 +15,7 @@ impl Handle {
         self.shared.is_shared
     }
 
-    /// Whether the handle has the least share of a tree of shared keys, and so may not be parted any more.
+    /// Returns whether the handle has the least share of a tree of shared keys, and so can no longer be split.
     #[tactic(auto, using(crate::proofs::lemmas::May::too_many))]
     pub fn has_least_share(&self) -> bool
         // Returns `true` exactly if the tree shares keys and the handle's share is the least one.
@@ -24,7 +24,7 @@ impl Handle {
         !self.pass.may_part()
     }
 
-    /// Whether a find, an insert and a delete of a key may be asked of the handle: of its own keys, and of shared ones.
+    /// Returns whether the handle may find, insert and delete a key: its own keys, and shared ones.
     #[tactic(auto, using(crate::proofs::lemmas::May::is_shared))]
     pub(crate) fn may_use(&self, key: u64) -> bool
         ensures { IsTrue result ↔ MayUse self.now key }

@@ -17,10 +17,10 @@ use std::io::{Read, Write};
 use std::thread::Threads;
 use thiserror::Error;
 
-/// Why a run ended early. Before each of these but `Write` nothing was written.
+/// Why a run ended early. Nothing was written before any of these except `Write`.
 #[derive(Debug, Clone, Copy, PartialEq, Eq, Error)]
 pub enum RunFault {
-    /// The reader answered an error.
+    /// The reader returned an error.
     #[error("read failed")]
     Read,
     /// The input is longer than `INPUT_MAX` bytes.
@@ -29,10 +29,10 @@ pub enum RunFault {
     /// The text is at fault.
     #[error("{0}")]
     Text(TextFault),
-    /// A growth was refused.
+    /// An allocation failed.
     #[error("out of memory")]
     NoMemory,
-    /// The writer failed, or took no byte, after it had taken this many.
+    /// The writer failed, or took no bytes, after it had taken this many.
     #[error("write failed after {written} bytes")]
     Write { written: u64 },
 }
@@ -78,11 +78,12 @@ impl From<WriteFault> for RunFault {
     }
 }
 
-/// Runs a bulk text: reads all of it, runs its operations from the map of its start keys as the settings say, and writes the
-/// answer, as the text's version has it. 1,000 operations or more are run in rounds of ascending keys (`ell_order`), since a tree
-/// that keys enter in ascending order would become a list; replies are written in the order of the text. Nothing is written before
-/// the run has ended. The reader is then at its end; after an error it has given some of its bytes, from the first on. The gate sees
-/// each call of the tree, under the number of its worker; `NoGate` sees none.
+/// Runs a bulk text: reads all of it, runs its operations from the map of its start keys as the settings say, and
+/// writes the answer, as the text's version has it. 1,000 operations or more are run in rounds of ascending keys
+/// (`ell_order`), since a tree that keys enter in ascending order would become a list; replies are written in the order
+/// of the text. Nothing is written before the run has ended. The reader is then at its end; after an error it has given
+/// some of its bytes, from the first on. The gate sees each call of the tree, under the number of its worker; `NoGate`
+/// sees none.
 pub fn run_bytes<
     R: Threads + Sync,
     A: Allocator + Copy + Send + Sync,
@@ -100,13 +101,13 @@ pub fn run_bytes<
     requires { AreSettings settings }
     // If it succeeds, the answer of one thread to the text is appended, and nothing else.
     ensures ok { OnOk result (IsAnswered (I.remaining reader.old) (O.contents writer.old) (O.contents writer.new)) }
-    // `late` is how many operations no worker's piece answers, in a run that goes by the settings.
+    // `late` is how many operations no worker's piece answers, in a run that follows the settings.
     ensures late { IfOk result (λ report. IsReported settings (I.remaining reader.old) report.late) }
-    // `Text` tells the text's first fault, and `TooLong` comes only for more than 16,777,216 bytes. Only a `Write`
-    // fault has written anything: its first `written` bytes of the answer.
+    // `Text` tells the text's first fault, and `TooLong` is returned only for more than 16,777,216 bytes. Only a
+    // `Write` fault has written anything: its first `written` bytes of the answer.
     ensures fault { IfErr result (λ fault.
         FaultTells fault (I.remaining reader.old) (O.contents writer.old) (O.contents writer.new)) }
-    // If it succeeds, the reader is at its end. In any case it has given a front of its bytes.
+    // If it succeeds, the reader is at its end. In any case it has given a prefix of its bytes.
     ensures end { OnOk result (IsAtEnd (I.remaining reader.new)) }
     ensures given { GivesFront (I.remaining reader.old) (I.remaining reader.new) }
 {

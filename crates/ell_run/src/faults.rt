@@ -1,4 +1,4 @@
-//! Why workers do not come to their end, and faults of calls that can have no other than want of memory.
+//! Why workers do not finish, and faults of calls whose only possible fault is a failed allocation.
 ghost use Rattle.std.specs.Prelude.{◌≡◌};
 ghost use Rattle.ell_run.specs.WorkFault.{of_split};
 ghost use Rattle.ell_run.specs.declared.faults.WorkFault.TheVariants.{NoMemory as no_memory};
@@ -7,13 +7,13 @@ use ell_ops::NoMemory;
 use ell_tree::SplitFault;
 use thiserror::Error;
 
-/// Why workers do not come to their end.
+/// Why workers do not finish.
 #[derive(Debug, Clone, Copy, PartialEq, Eq, Error)]
 pub enum WorkFault {
-    /// Some keys of the tree are shared, and a pass may not be parted any more: its share is too small.
+    /// Some keys of the tree are shared, and a pass can no longer be split: its share is too small.
     #[error("too many passes")]
     TooManyPasses,
-    /// A growth was refused.
+    /// An allocation failed.
     #[error("out of memory")]
     NoMemory,
 }
@@ -37,7 +37,7 @@ impl From<NoMemory> for WorkFault {
     }
 }
 
-// Want of memory, where the fault of a call is `memory`, the one that it can have.
+// `NoMemory`, if the fault of a call is `memory`, the only one that it can have.
 pub(crate) fn only_memory<F: Copy>(fault: F, memory: F) -> NoMemory
     requires { fault ≡ memory }
 {

@@ -40,7 +40,7 @@ pub(crate) fn late_ops<A: Allocator + Copy>(
     Ok(late)
 }
 
-// Whether each piece is as long as the part that it is of.
+// Whether each piece is as long as the part that it belongs to.
 fn is_all_done<A: Allocator + Copy>(parts: &Parts<'_, A>, pieces: &[Piece<A>]) -> bool
     requires { length pieces.now ≡ parts.now.workers }
     ensures lawful { IsLawful parts.now }
@@ -83,7 +83,8 @@ fn mark(answered: &mut [bool], piece: &[(usize, Reply)])
     }
 }
 
-// Does operations that are left, from the map of some pairs: their replies, with their positions, and the pairs after them.
+// Does the operations that are left, from the map of some pairs. Returns their replies, with their positions, and the
+// pairs after them.
 pub(crate) fn do_late<A: Allocator + Copy>(
     alloc: A,
     pairs: Vec<(u64, u64), A>,

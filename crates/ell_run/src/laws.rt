@@ -5,11 +5,12 @@ ghost use Rattle.ell_run.specs.Settings.{most_tries};
 
 use crate::settings::TRIES_MAX;
 
-/// Parts serve: where each worker of a lawful parting has done a front of its part, whatever came in between, and the rest
-/// is applied afterwards, each worker's in its order, replies and final map are those of one thread over the whole list.
+/// Parts serve: if each worker of a lawful parting has done a prefix of its part, whatever came in between, and the
+/// rest is applied afterwards, each worker's in its order, then the replies and the final map are those of one thread
+/// over the whole list.
 pub fn by_parts()
-    // A front of each worker's part, done in any interleaving, and then the rest by one thread: all replies and the
-    // last map are as of one thread that does the whole list.
+    // If a prefix of each worker's part is done, in any interleaving, and then the rest by one thread, all replies and
+    // the last map are as of one thread that does the whole list.
     ensures { PartsServe }
 {}
 

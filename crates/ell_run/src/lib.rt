@@ -1,5 +1,5 @@
-//! A list of operations run by workers on one tree, each on its own part in a thread of its own, and the same for a text, from
-//! bytes to bytes.
+//! A list of operations run by workers on one tree, each on its own part in a thread of its own, and the same for a
+//! text, from bytes to bytes.
 #![tactic(auto)]
 
 mod bytes;

@@ -17,8 +17,8 @@ use ell_tree::StepGate;
 use std::alloc::Allocator;
 use std::thread::Threads;
 
-// Runs a list from the map of `start` as the settings say, in the order that `RunOrder` gives it: its replies, put back into the order
-// of the list, and the final keys with their values.
+// Runs a list from the map of `start` as the settings say, in the order that `RunOrder` gives it. Returns its replies,
+// put back into the order of the list, and the final keys with their values.
 pub(crate) fn run_in_order<
     R: Threads + Sync,
     A: Allocator + Copy + Send + Sync,

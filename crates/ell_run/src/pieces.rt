@@ -17,8 +17,8 @@ use std::alloc::{Allocator, Global};
 /// The replies of a worker, with their positions in the whole list.
 pub type Piece<A = Global> = Vec<(usize, Reply), A>;
 
-// Works a part off, operation by operation, and leaves the rest of it from the first operation on that is not done. The bound on the steps
-// rests on the law of the moves that a pass knows of, whose function does nothing.
+// Works a part off, operation by operation, and leaves the rest of it from the first operation on that is not done. The
+// bound on the steps rests on the law of the moves that a pass knows of, whose function does nothing.
 pub(crate) fn work_off<A: Allocator + Copy, G: StepGate>(
     alloc: A,
     tree: &Tree<A>,
@@ -30,8 +30,8 @@ pub(crate) fn work_off<A: Allocator + Copy, G: StepGate>(
     requires may { IsIdlePassOf tree.now pass.old }
     requires owned { OwnsKeysOf pass.old part.now }
     requires tries { 1 ≤ tries }
-    // The piece has the right replies to a front of the part, and the pass has the map after it. The next operation, if
-    // there is one, was not done.
+    // The piece has the right replies to a prefix of the part, and the pass has the map after it. The next operation,
+    // if there is one, was not done.
     ensures worked { IfOk result (λ piece.
         IsWorkedOff tree.now.plan.last_card tries part.now pass.old pass.new piece.items) }
     // It makes at most the steps of its part's operations, in a row and in all.

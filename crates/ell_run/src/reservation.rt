@@ -9,8 +9,8 @@ ghost use Rattle.ell_run.specs.Settings.{IsAllowed};
 use crate::runs::Limits;
 use ell_ops::Op;
 
-// The cards for a list of operations, where no number of them is given: one for each insert, delete and swap, an eighth of that for
-// tries that are lost, and 64.
+// The cards for a list of operations, if no number of cards is given: one for each insert, delete and swap, an eighth
+// of that for tries that are lost, and 64.
 pub(crate) fn cards_by_default(ops: &[Op]) -> u64
     requires few { length ops.now ≤ most_operations }
     ensures value { result ≡ cards_by_default ops.now }
@@ -20,9 +20,9 @@ pub(crate) fn cards_by_default(ops: &[Op]) -> u64
     changes + changes / 8 + 64
 }
 
-// The cards to reserve where so many workers are busy: those asked for, but no more than the operations can take, and
-// at least the one that a tree must have. An insert, a delete or a swap takes one at each try at most, and where one
-// worker alone is busy, nothing is in the way of its first try.
+// The cards to reserve if this many workers are busy: those asked for, but no more than the operations can take, and at
+// least the one that a tree must have. An insert, a delete or a swap takes at most one at each try, and if only one
+// worker is busy, nothing is in the way of its first try.
 pub(crate) fn cards_to_reserve(ops: &[Op], busy: usize, limits: Limits) -> u64
     requires { AreLimits limits }
     // Returns the cards asked for, but no more than the operations can take, and at least one.

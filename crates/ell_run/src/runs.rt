@@ -1,4 +1,4 @@
-//! A run: a list of operations, parted among workers.
+//! A run: a list of operations, divided among workers.
 ghost use Rattle.std.specs.Prelude.{◌≡◌, ◌≤◌, All, IfOk, length};
 ghost use Rattle.std.specs.List.{flat_map};
 ghost use Rattle.std.specs.List.Sorted.{IsStrictlyIncreasing};
@@ -29,14 +29,14 @@ use std::thread::Threads;
 /// How much a run may use.
 #[derive(Clone, Copy, Debug, PartialEq, Eq)]
 pub struct Limits {
-    /// The cards that the tree has to give out, 1 to `CARDS_MAX`. Start keys take none of them. No more of them are reserved
-    /// than the operations can take.
+    /// The cards that the tree has to give out, 1 to `CARDS_MAX`. Start keys take none of them. No more of them are
+    /// reserved than the operations can take.
     pub cards: u64,
     /// The tries that an insert or a delete has, 1 to `TRIES_MAX`.
     pub tries: u32,
 }
 
-/// What comes of a run.
+/// The outcome of a run.
 #[derive(Debug, Drop)]
 pub struct Outcome<A: Allocator = Global> {
     /// The reply of each operation, in the order of the list.
@@ -47,11 +47,11 @@ pub struct Outcome<A: Allocator = Global> {
     pub late: usize,
 }
 
-/// Runs a list of operations from the map of `start`: each worker of the parting works its own part off on one tree that all
-/// share, in a thread of its own where one can be made, and what they leave is done by one thread after they have ended.
-/// Replies and final keys with their values are those of one thread over the whole list. The gate sees each call of the tree,
-/// under the number of its worker. Conditions: the keys of `start` are strictly ascending, at most `KEY_MAX`, and at most
-/// `START_MAX` many.
+/// Runs a list of operations from the map of `start`: each worker of the parting works its own part off on one tree
+/// that all share, in a thread of its own if one can be made, and what they leave is done by one thread after they have
+/// ended. Replies and final keys with their values are those of one thread over the whole list. The gate sees each call
+/// of the tree, under the number of its worker. Conditions: the keys of `start` are strictly ascending and at most
+/// `KEY_MAX`, and there are at most `START_MAX` of them.
 pub fn run<R: Threads + Sync, A: Allocator + Copy + Send + Sync, G: StepGate + Sync>(
     rt: &R,
     alloc: A,

@@ -12,13 +12,13 @@ use ell_ops::{NoMemory, Op};
 use ell_parts::{PartFault, Parts};
 use std::alloc::Allocator;
 
-/// The most tries that an insert or a delete may have.
+/// The greatest number of tries that an insert or a delete may have.
 pub const TRIES_MAX: u32 = 1_000_000;
 
-/// How keys are parted among workers.
+/// How keys are divided among workers.
 #[derive(Clone, Copy, Debug, PartialEq, Eq)]
 pub enum Parting {
-    /// A key goes to the worker of its remainder by their number.
+    /// A key goes to the worker given by its remainder modulo the number of workers.
     Stripe,
     /// Each worker has the next keys in ascending order.
     Range,
@@ -30,13 +30,14 @@ pub struct Settings {
     /// How many workers there are, 1 to `WORKERS_MAX`.
     pub workers: u32,
     pub parting: Parting,
-    /// The cards of the tree, 1 to `CARDS_MAX`; if none are given, 9 for 8 inserts, deletes and swaps, rounded down, and 64.
+    /// The cards of the tree, 1 to `CARDS_MAX`; if no number is given, 9 for every 8 inserts, deletes and swaps,
+    /// rounded down, plus 64.
     pub cards: Option<u64>,
-    /// The tries of an insert or a delete, 1 to `TRIES_MAX`.
+    /// The tries that an insert or a delete has, 1 to `TRIES_MAX`.
     pub tries: u32,
 }
 
-/// What a run tells of itself.
+/// What a run reports of itself.
 #[derive(Clone, Copy, Debug, PartialEq, Eq)]
 pub struct Report {
     /// How many operations were done after the workers had ended.
@@ -67,7 +68,8 @@ pub fn parts_for<A: Allocator + Copy>(
 pub(crate) fn limits_for(ops: &[Op], settings: Settings) -> Limits
     requires settings { AreSettings settings }
     requires few { length ops.now ≤ most_operations }
-    // Cards and tries are those of the settings. If these give no cards, there are 9 for 8 changes, and 64.
+    // Cards and tries are those of the settings. If these give no number of cards, there are 9 for every 8 changes,
+    // plus 64.
     ensures limits { AreLimits result }
     ensures cards { result.cards ≡ unwrap_or settings.cards (cards_by_default ops.now) }
     ensures tries { result.tries ≡ settings.tries }

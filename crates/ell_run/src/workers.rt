@@ -1,4 +1,4 @@
-//! Workers that share one tree: each does its part with a pass of its own, in a thread of its own where one can be made.
+//! Workers that share one tree: each does its part with a pass of its own, in a thread of its own if one can be made.
 ghost use Rattle.std.specs.Prelude.{◌≡◌, ◌<◌, ◌≤◌, ◌++◌, ℕ, List, All, IfErr, IfOk, length};
 ghost use denote.Param.Send.{Frees, IsSend, IsSync};
 ghost use Rattle.ell_ops.specs.KeySet.{Lists};
@@ -17,15 +17,16 @@ use ell_tree::{Pass, StepGate, Tree};
 use std::alloc::Allocator;
 use std::thread::{Threads, join};
 
-/// Has each worker work its part off with a pass of the tree, in a thread of its own where one can be made. A worker leaves the rest
-/// of its part from the first operation on that is not done: something was in its way at each of its tries, or all cards are given out.
-/// Answers the pass, with all its keys, and a piece for each worker, in their order: its replies, with their positions. The pass then
-/// has the number of the first worker with operations as its label, or its own label if there is none. After a fault the pass is
-/// gone; `TooManyPasses` comes only in a tree that shares keys. However many tries there are, and however the workers' steps fall, a
-/// worker with n operations makes at most `n * (7 * cards + 28) + 2 * cards * (7 * cards + 27)` steps, where `cards` is the number
-/// of the last card; the pass that comes back has counted no more than the worker with the most operations may, and two for each
-/// busy worker beside the first. All workers together make at most the sum of what each may, and two for each busy worker beside
-/// the first: its split and its join (`total`).
+/// Has each worker work its part off with a pass of the tree, in a thread of its own if one can be made. A worker
+/// leaves the rest of its part from the first operation on that is not done: something was in its way at each of its
+/// tries, or all cards are given out. Returns the pass, with all its keys, and a piece for each worker, in their order:
+/// its replies, with their positions. The pass then has the number of the first worker with operations as its label, or
+/// its own label if there is none. After a fault the pass is gone; `TooManyPasses` is returned only for a tree that
+/// shares keys. However many tries there are, and however the workers' steps fall, a worker with n operations makes at
+/// most `n * (7 * cards + 28) + 2 * cards * (7 * cards + 27)` steps, where `cards` is the number of the last card; the
+/// pass that comes back has counted no more than the worker with the most operations may, and two for each busy worker
+/// other than the first. All workers together make at most the sum of what each may, and two for each busy worker other
+/// than the first: its split and its join (`total`).
 pub fn work<R: Threads + Sync, A: Allocator + Copy + Send + Sync, G: StepGate + Sync>(
     rt: &R,
     alloc: A,
@@ -38,14 +39,14 @@ pub fn work<R: Threads + Sync, A: Allocator + Copy + Send + Sync, G: StepGate + 
     requires idle { IsIdlePassOf tree.now pass }
     requires owned { All (λ op. Owns pass (key_of op)) parts.now.ops }
     requires tries { 1 ≤ tries }
-    // The pass that comes back has the same tree and keys, is idle, and has the map after a front of each worker's
-    // part, to which the worker's piece has the replies. The next operation of each part was not done. In a row they make
-    // at most the steps of the longest part, and two for each other busy worker; in all at most the sum of all parts',
-    // and as many.
+    // The pass that comes back has the same tree and keys, is idle, and has the map after a prefix of each worker's
+    // part, to which the worker's piece has the replies. The next operation of each part was not done. In a row they
+    // make at most the steps of the longest part, and two for each other busy worker; in all at most the sum of all
+    // parts', and again two for each other busy worker.
     ensures worked { IfOk result (AllHaveWorked tree.now tries 0 parts.now pass) }
     // The label is the number of the first worker that has something to do, or as it was if none has.
     ensures label { IfOk result (λ done. done.0.label ≡ label_after pass (busy parts.now)) }
-    // `TooManyPasses` comes only if the tree shares keys.
+    // `TooManyPasses` is returned only if the tree shares keys.
     ensures why { IfErr result (StopsWork pass) }
 {
     let workers = busy_workers(alloc, parts)?;
@@ -53,8 +54,8 @@ pub fn work<R: Threads + Sync, A: Allocator + Copy + Send + Sync, G: StepGate + 
     Ok((pass, with_empty_pieces(alloc, parts, pieces)?))
 }
 
-// The same with a pass that may have other keys beside those of the operations, which are `keys`: the others stay in a pass that no
-// worker uses, for a split and a join more.
+// The same with a pass that may have other keys besides those of the operations, which are `keys`: the others stay in a
+// pass that no worker uses, at the cost of one more split and join.
 pub(crate) fn work_apart<R: Threads + Sync, A: Allocator + Copy + Send + Sync, G: StepGate + Sync>(
     rt: &R,
     alloc: A,
@@ -72,7 +73,7 @@ pub(crate) fn work_apart<R: Threads + Sync, A: Allocator + Copy + Send + Sync, G
     requires tries { 1 ≤ tries }
     // The pass and the pieces are as after `work`; each bound of steps is two more.
     ensures worked { IfOk result (AllHaveWorked tree.now tries 2 parts.now pass) }
-    // `TooManyPasses` comes only if the tree shares keys.
+    // `TooManyPasses` is returned only if the tree shares keys.
     ensures why { IfErr result (StopsWork pass) }
 {
     if pass.keys().len() == keys.len() {
@@ -106,7 +107,8 @@ pub(crate) fn busy_workers<A: Allocator + Copy>(
     Ok(workers)
 }
 
-// Has these workers do their parts: halves of them in two threads, each with a half of the pass, down to one worker a thread.
+// Has these workers do their parts: halves of them in two threads, each with a half of the pass, down to one worker per
+// thread.
 #[cycle(halves)]
 fn do_workers<R: Threads + Sync, A: Allocator + Copy + Send + Sync, G: StepGate + Sync>(
     rt: &R,
@@ -169,7 +171,8 @@ fn do_one<A: Allocator + Copy, G: StepGate>(
     Ok((pass, pieces))
 }
 
-// Splits a pass between two rows of workers: the left part gets the keys of the first row, `low`, and the right part the rest.
+// Splits a pass between two rows of workers: the left part gets the keys of the first row, `low`, and the right part
+// the rest.
 fn halves<A: Allocator + Copy>(
     alloc: A,
     tree: &Tree<A>,
@@ -212,7 +215,8 @@ pub(crate) fn keys_for<A: Allocator + Copy>(
     }
 }
 
-// One pass of two that have come back from two rows of workers, and the pieces of both rows.
+// Joins the two passes that have come back from two rows of workers into one, and returns it with the pieces of both
+// rows.
 fn both<A: Allocator + Copy>(
     tree: &Tree<A>,
     first: (Pass<A>, Vec<Piece<A>, A>),

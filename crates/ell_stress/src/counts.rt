@@ -9,10 +9,12 @@ pub struct Counts {
     /// Operations that were done after the workers had ended, in runs without the gate, and in those with it.
     pub late: AtomicU64,
     pub late_at_gate: AtomicU64,
-    /// Changes of the map in runs with the gate. For each that a worker made it made one exchange of a child for its own card, so the
-    /// other exchanges are helps; where operations were late, whose changes take none, there were more helps than that.
+    /// Changes of the map in runs with the gate. For each that a worker made it made one exchange of a child for its
+    /// own card, so the other exchanges are helps; if operations were late, whose changes take none, there were more
+    /// helps than that.
     pub changes: AtomicU64,
-    // Exchanges of children, by owners and helpers, won or lost; and flags of deletes that were taken back, or found to be.
+    // Exchanges of children, by owners and helpers, won or lost; and flags of deletes that were taken back, or found to
+    // be.
     children: AtomicU64,
     backtracks: AtomicU64,
 }

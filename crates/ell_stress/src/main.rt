@@ -1,6 +1,6 @@
-//! Has 64 workers do pseudo-random operations on 64, 8 and 2 keys, from the empty map and from one with some of the keys, again and
-//! again, and compares replies, keys and values with those of one thread. Standard output says on how many keys they agreed, and
-//! standard error what was counted, which is by the schedule.
+//! Has 64 workers do pseudo-random operations on 64, 8 and 2 keys, from the empty map and from one with some of the
+//! keys, again and again, and compares replies, keys and values with those of one thread. Standard output says on how
+//! many keys they agreed, and standard error what was counted, which depends on the schedule.
 #![tactic(auto)]
 
 ghost use Rattle.std.specs.Prelude.{◌≤◌};
@@ -58,7 +58,8 @@ fn asked_in(words: &[String]) -> Option<Asked> {
     })
 }
 
-// Does all rounds on keys below a number: what was counted. An error says in which one workers did not agree with one thread.
+// Does all rounds on keys below a number. Returns what was counted. An error says in which round the workers did not
+// agree with one thread.
 fn all_rounds<R: Threads + Sync>(rt: &R, alloc: Global, asked: Asked, keys: u32) -> Result<Counts>
     requires some { 1 ≤ keys }
     requires few { keys ≤ most_start }

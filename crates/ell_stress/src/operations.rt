@@ -7,7 +7,7 @@ ghost use Rattle.ell_ops.specs.Meaning.{Fits, greatest_key};
 use ell_ops::Op;
 use std::alloc::{AllocError, Global};
 
-/// So many finds, inserts and deletes of keys below a number, the same for the same seed.
+/// The given number of finds, inserts and deletes of keys below a number, the same for the same seed.
 pub fn operations(alloc: Global, seed: u64, count: u32, keys: u32) -> Result<Vec<Op>, AllocError>
     requires { 1 ≤ keys }
     ensures { IfOk result (λ ops. All Fits ops.items) }
@@ -46,7 +46,8 @@ fn after(number: u64) -> u64 {
         .wrapping_add(1_442_695_040_888_963_407)
 }
 
-// The operation that a number stands for, of which the upper bits are the better ones. An insert has the number as its value.
+// The operation that a number stands for, of which the upper bits are the better ones. An insert has the number as its
+// value.
 fn operation_of(number: u64, keys: u32) -> Op
     requires { 1 ≤ keys }
     ensures { Fits result }

@@ -1,4 +1,4 @@
-//! Runs by 64 workers beside one thread.
+//! Runs by 64 workers, compared with one thread.
 ghost use Rattle.std.specs.Prelude.{◌≤◌, All};
 ghost use Rattle.ell_ops.specs.Meaning.{Fits};
 ghost use Rattle.ell_run.specs.Limits.{IsStart};
@@ -11,8 +11,8 @@ use ell_run::{Limits, NoGate, Parting, Settings, StepGate, parts_for, run};
 use std::alloc::Global;
 use std::thread::Threads;
 
-/// Has the workers do a list of operations on keys below a number, from the empty map and from one that has some of the keys: whether
-/// replies and pairs were those of one thread.
+/// Has the workers do a list of operations on keys below a number, from the empty map and from one that has some of the
+/// keys. Returns whether replies and pairs were those of one thread.
 pub fn round<R: Threads + Sync>(
     rt: &R,
     alloc: Global,
@@ -29,8 +29,8 @@ pub fn round<R: Threads + Sync>(
     Ok(agree(rt, alloc, &[], &ops, counts)? && agree(rt, alloc, &start, &ops, counts)?)
 }
 
-// Has the workers do the operations from the map of `start`, without a gate and with the one that counts: whether replies and pairs were
-// those of one thread.
+// Has the workers do the operations from the map of `start`, without a gate and with the one that counts. Returns
+// whether replies and pairs were those of one thread.
 fn agree<R: Threads + Sync>(
     rt: &R,
     alloc: Global,
@@ -49,7 +49,7 @@ fn agree<R: Threads + Sync>(
     };
     add(&counts.late, late);
     add(&counts.late_at_gate, late_at_gate);
-    // A find answers its value or no, so each yes is of a change.
+    // A find answers its value or no, so each yes belongs to a change.
     let changes = wanted.0.iter().filter(|it| **it == Reply::Yes);
     add(&counts.changes, changes.count() as u64);
     Ok(true)

@@ -1,4 +1,4 @@
-//! Calls that compute what becomes of a key from what is there of it, and do that in one atomic step.
+//! Calls that compute what becomes of a key from what the tree has for it, and make that change in one atomic step.
 ghost use Rattle.std.specs.Prelude.{◌≡◌, ◌≢◌, ◌<◌, ◌≤◌, ◌*◌, None, Err, IfOk, IfErr};
 ghost use Rattle.ell_tree.specs.Computing.{AreTried, Computes, IsNotDone, Replaces, round_steps, update_steps, whether_done, whether_made};
 ghost use Rattle.ell_tree.specs.Counts.{Took};
@@ -13,25 +13,25 @@ use ell_cards::{CardTable, Pass};
 use ell_ops::Op;
 use std::alloc::Allocator;
 
-/// What a call found of its key, and the value that it has put there in the place of that, if it has put any.
+/// What a call found at its key, and the value that it has put in place of that, if it has put any.
 #[derive(Clone, Copy)]
 pub(crate) struct Computed {
     pub was: Option<u64>,
     pub made: Option<u64>,
 }
 
-/// What came of a try to put a value in the place of what was found.
+/// The outcome of a try to put a value in place of what was found.
 #[derive(Clone, Copy)]
 pub(crate) enum Replaced {
-    /// It is there.
+    /// The value is there.
     Done,
-    /// Another pass had changed the key, which has this now.
+    /// Another pass had changed the key. This is what the key has now.
     Lost(Option<u64>),
 }
 
-/// Reads a key, makes of what it finds what is to become of it, and puts that there, if it is anything, unless another
-/// pass has changed the key meanwhile: then it makes that anew of what is there now. At most so many tries; each begins
-/// with what is there.
+/// Reads a key, computes its new value from what it finds, and puts that value there, if there is one, unless another
+/// pass has changed the key in the meantime: then it computes the new value again from what is there now. It makes at
+/// most the given number of tries; each begins with what is there.
 pub(crate) fn compute<A: Allocator + Copy, G: StepGate, F: Fn(Option<u64>) -> Option<u64>>(
     table: &CardTable<A>,
     pass: &mut Pass<A>,
@@ -76,7 +76,7 @@ pub(crate) fn compute<A: Allocator + Copy, G: StepGate, F: Fn(Option<u64>) -> Op
     Ok(Computed { was, made })
 }
 
-// One try to put a value in the place of what was found of a key.
+// One try to put a value in place of what was found at a key.
 fn replace<A: Allocator + Copy, G: StepGate>(
     table: &CardTable<A>,
     pass: &mut Pass<A>,
@@ -103,7 +103,7 @@ fn replace<A: Allocator + Copy, G: StepGate>(
     }
 }
 
-// The same, where the key was absent.
+// The same, if the key was absent.
 fn add<A: Allocator + Copy, G: StepGate>(
     table: &CardTable<A>,
     pass: &mut Pass<A>,

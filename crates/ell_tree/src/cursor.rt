@@ -1,5 +1,5 @@
-//! A look that goes on from stretch to stretch of keys. It keeps the nodes at which it last went left, so that a
-//! stretch begins where the one before it turned, and a whole range takes the time of a walk in order.
+//! A look that continues from one stretch of keys to the next. It keeps the nodes at which it last went left, so that a
+//! stretch begins where the one before it turned, and a whole range takes the time of an in-order walk.
 ghost use Rattle.std.specs.Prelude.{◌≡◌, ◌<◌, ◌≤◌, ◌+◌, ◌%◌, slice_set};
 ghost use Rattle.ell_ops.specs.Meaning.{greatest_key};
 ghost use Rattle.ell_layout.specs.Words.{IsLeaf};
@@ -18,8 +18,8 @@ use std::alloc::Allocator;
 // How many nodes a cursor keeps. In a balanced tree of 4,000,000 keys no search goes left more often.
 const KEPT: usize = 32;
 
-/// What a look has found about a key, in one state of the tree: of all keys from `low` on and below `high`, between
-/// which the key lies, this one is present, with this value, and no other; or none is.
+/// What a look has found around a key, in one state of the tree: of all keys of a stretch that contains the key, those
+/// that are at least `low` and below `high`, the one in `found` is present, with this value, and no other; or none is.
 #[derive(Clone, Copy)]
 pub struct About {
     pub low: u64,
@@ -27,7 +27,7 @@ pub struct About {
     pub found: Option<(u64, u64)>,
 }
 
-/// A look that goes on: where it began, and the last of the nodes at which it went left.
+/// A look that continues: where it began, and the last of the nodes at which it went left.
 #[derive(Drop)]
 pub(crate) struct Cursor {
     first: Glance,
@@ -61,7 +61,8 @@ impl Cursor {
         }
     }
 
-    /// Looks for a key, from the last kept node to which it comes too: what is about it. The steps are counted at its end.
+    /// Looks for a key, from the last kept node that its path passes too. Returns what is around it. The steps are
+    /// counted at its end.
     pub(crate) fn about<A: Allocator + Copy, G: StepGate>(
         &mut self,
         table: &CardTable<A>,
@@ -100,8 +101,8 @@ impl Cursor {
         about
     }
 
-    // The last kept node to which a key comes, which is kept no longer, nor are those after it; or where the look
-    // began.
+    // The last kept node that a key's path passes, or where the look began. That node and those after it are no longer
+    // kept.
     fn start(&mut self, key: u64) -> Glance
         requires least { self.old.first.low ≡ 0 }
         requires most { key < self.old.first.high }
@@ -121,7 +122,7 @@ impl Cursor {
         self.first
     }
 
-    // Keeps a node, in the place of the one that was kept longest.
+    // Keeps a node, in place of the one that was kept longest.
     fn keep(&mut self, glance: Glance)
         ensures first { self.new.first ≡ self.old.first }
         ensures kept { self.new.kept ≡ slice_set self.old.kept (self.old.count % 32) glance }
@@ -131,7 +132,8 @@ impl Cursor {
     }
 }
 
-// What is about a key at a leaf to which a look has come by it and others, and in how many steps, which are not counted.
+// Returns what is around a key, at a leaf to which this key and others lead, and in how many steps. The steps are not
+// counted.
 fn found_at<A: Allocator + Copy, G: StepGate>(
     table: &CardTable<A>,
     pass: &mut Pass<A>,

@@ -127,7 +127,7 @@ fn fill_delete<A: Allocator + Copy, G: StepGate>(
     fill(table, pass, card, Field::Was, was, gate);
 }
 
-// HelpDelete of the own card, whose flag was won: whether its parent was cut out.
+// HelpDelete of the call's own card, whose flag was won. Returns whether its parent was cut out.
 #[tactic(auto, using(crate::proofs::lemmas::Keeping::keeps_all_told, crate::proofs::lemmas::Keeping::keeps_all_knows))]
 fn finish_own<A: Allocator + Copy, G: StepGate>(
     table: &CardTable<A>,

@@ -1,4 +1,4 @@
-//! What a worker tells of its steps.
+//! What a worker reports of its steps.
 use ell_core::Exchange;
 
 /// The kinds of step that a worker makes. All but `Begin` are one atomic step each.
@@ -21,7 +21,7 @@ pub trait StepGate {
     /// Called at the start of a find, insert or delete, and just before each of its atomic steps.
     fn before(&self, worker: u32, kind: Kind);
 
-    /// Called just before such a call returns: `answered` says whether with an answer.
+    /// Called just before such a call returns. `answered` says whether it returns an answer.
     fn after(&self, worker: u32, answered: bool);
 }
 

@@ -1,5 +1,5 @@
-//! Helping whoever stands in the way, by the words of its card (paper of 2010, figures 8 and 9: Help, HelpInsert, HelpDelete and
-//! HelpMarked).
+//! Helping the operation that stands in the way, by the words of its card (paper of 2010, figures 8 and 9: Help,
+//! HelpInsert, HelpDelete and HelpMarked).
 #![tactic(auto, using(crate::proofs::lemmas::Keeping::keeps_all_told, crate::proofs::lemmas::Keeping::keeps_all_knows))]
 
 ghost use Rattle.std.specs.Prelude.{◌≡◌};
@@ -89,7 +89,7 @@ pub(crate) fn help_insert<A: Allocator + Copy, G: StepGate>(
     finish_insert(table, pass, card, parent, leaf, card_key, left_key, gate);
 }
 
-/// As `help_insert`, where leaf and keys of the card are known.
+/// Like `help_insert`, for a card whose leaf and keys are known.
 pub(crate) fn finish_insert<A: Allocator + Copy, G: StepGate>(
     table: &CardTable<A>,
     pass: &mut Pass<A>,
@@ -128,7 +128,7 @@ pub(crate) fn help_marked<A: Allocator + Copy, G: StepGate>(
     finish_marked(table, pass, card, grandparent, parent, gate);
 }
 
-// As `help_marked`, where the grandparent is known.
+// Like `help_marked`, for a known grandparent.
 fn finish_marked<A: Allocator + Copy, G: StepGate>(
     table: &CardTable<A>,
     pass: &mut Pass<A>,
@@ -172,8 +172,8 @@ fn find_sibling<A: Allocator + Copy, G: StepGate>(
     read_key(table, pass, sibling, gate)
 }
 
-/// HelpDelete of a flag that was met: marks the parent and cuts it out, or takes the flag back. Where another delete's flag is in
-/// the way, it goes on with that one, deeper in the tree.
+/// HelpDelete of a flag that was met: marks the parent and cuts it out, or takes the flag back. If another delete's
+/// flag is in the way, it goes on with that one, deeper in the tree.
 pub(crate) fn help_delete<A: Allocator + Copy, G: StepGate>(
     table: &CardTable<A>,
     pass: &mut Pass<A>,
@@ -208,7 +208,7 @@ fn help_one_delete<A: Allocator + Copy, G: StepGate>(
     finish_delete(table, pass, flag, parent, was, gate)
 }
 
-/// HelpDelete, where the parent and the update that the delete's search read there are known, up to another delete's flag that is
+/// HelpDelete, given the parent and the update that the delete's search read there, up to another delete's flag that is
 /// in the way.
 pub(crate) fn finish_delete<A: Allocator + Copy, G: StepGate>(
     table: &CardTable<A>,

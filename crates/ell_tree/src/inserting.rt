@@ -1,4 +1,4 @@
-//! Inserts (paper of 2010, figure 8: Insert), and swaps, which go the same way.
+//! Inserts (paper of 2010, figure 8: Insert), and swaps, which work the same way.
 ghost use Rattle.std.specs.Prelude.{◌≡◌, ◌≤◌, ◌+◌, Some};
 ghost use Rattle.ell_word.specs.Node.{greatest_card};
 ghost use Rattle.ell_core.specs.acts.Searching.{put_of};
@@ -21,7 +21,7 @@ use ell_ops::{Op, Reply};
 use ell_word::{State, Update, left_leaf_of, right_leaf_of};
 use std::alloc::Allocator;
 
-/// One try of an insert or a swap, that puts this.
+/// One try of an insert or a swap that puts this.
 pub(crate) fn try_put<A: Allocator + Copy, G: StepGate>(
     table: &CardTable<A>,
     pass: &mut Pass<A>,
@@ -74,7 +74,7 @@ pub(crate) fn try_put<A: Allocator + Copy, G: StepGate>(
     }
 }
 
-// What a swap finds of its key where its search ended; an insert is told nothing.
+// What a swap finds for its key at the leaf where its search ended; an insert is told nothing.
 fn told_of_put(what: Put, place: LeafFound) -> Option<u64>
     ensures { result ≡ told_of_put what place }
 {
@@ -84,7 +84,7 @@ fn told_of_put(what: Put, place: LeafFound) -> Option<u64>
     }
 }
 
-// What an insert or a swap answers that has changed the map.
+// What an insert or a swap that has changed the map answers.
 fn reply_once_done(what: Put) -> Reply
     ensures { result ≡ put_reply what.was }
 {

@@ -1,5 +1,5 @@
-//! A map from keys to values that many threads share: the non-blocking binary search tree of Ellen, Fatourou, Ruppert and van Breugel
-//! (PODC 2010). No writer waits for another; a writer that stalls is finished by its neighbours.
+//! A map from keys to values that many threads share: the non-blocking binary search tree of Ellen, Fatourou, Ruppert
+//! and van Breugel (PODC 2010). No writer waits for another; if a writer stalls, its neighbors finish its change.
 #![tactic(auto)]
 
 mod computing;

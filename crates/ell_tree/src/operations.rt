@@ -39,7 +39,7 @@ pub enum NotDone {
     Spent,
 }
 
-/// The value of a key, if the key is present. It never helps.
+/// Returns the value of a key, if the key is present. It never helps another operation.
 pub(crate) fn find<A: Allocator + Copy, G: StepGate>(
     table: &CardTable<A>,
     pass: &mut Pass<A>,
@@ -63,9 +63,9 @@ pub(crate) fn find<A: Allocator + Copy, G: StepGate>(
     there
 }
 
-/// Takes an insert, a delete or a swap in hand, and tries it until a try is answered or finds no card, at most so many
-/// times: the value that an insert adds or a delete takes away, if it changes the map, or that a swap finds. The gate
-/// is told of its start and its end.
+/// Takes an insert, a delete or a swap in hand, and tries it, at most the given number of times, until a try is
+/// answered or finds no card. Returns the value that an insert adds or a delete takes away, if it changes the map, or
+/// that a swap finds. The gate is told of its start and its end.
 pub(crate) fn change<A: Allocator + Copy, G: StepGate>(
     table: &CardTable<A>,
     pass: &mut Pass<A>,
@@ -137,8 +137,8 @@ fn try_once<A: Allocator + Copy, G: StepGate>(
     // It makes at most `7 * cards + 26` steps.
     ensures steps { pass.new.steps + 1 ≤ pass.old.steps + try_steps table.now.plan.last_card }
     ensures made { pass.new.view.made + 1 ≤ pass.old.view.made + try_steps table.now.plan.last_card }
-    // It is answered as the operation, or has met something in its way and learned of a milestone, or finds no card left. It
-    // takes one card at most.
+    // It is answered as the operation, or has met something in its way and learned of a milestone, or finds no card
+    // left. It takes one card at most.
     ensures ends { TryEnds table.now op pass.old pass.new result }
     ensures takes { TryTakesValue table.now op pass.old pass.new result }
     ensures taken { TryTakes op pass.old pass.new result }

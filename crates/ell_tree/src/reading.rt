@@ -1,5 +1,5 @@
-//! Calls that only read: the look for any key, whoever owns it, what is about a key, and how many cards are left. They
-//! change nothing and help nobody.
+//! Calls that only read: the look for any key, whichever pass owns it, what is around a key, and how many cards are
+//! left. They change nothing and help no other call.
 ghost use Rattle.std.specs.Prelude.{◌≡◌, ◌≤◌, ◌+◌};
 ghost use Rattle.ell_ops.specs.Meaning.{greatest_key};
 ghost use Rattle.ell_cards.specs.Looking.{HasFound, HasFoundBetween};
@@ -15,8 +15,8 @@ use ell_cards::{CardTable, Glance, Pass};
 use ell_word::is_internal;
 use std::alloc::Allocator;
 
-/// The value of any key, if it is there: that of the leaf at which its way from the root ends. It reads no update word, so a flag or a mark
-/// is nothing to it, and a node that was cut out while it stood there leads on as it did.
+/// Returns the value of any key, if it is present: that of the leaf at which its path from the root ends. It reads no
+/// update word, so it ignores flags and marks, and a node that was cut out while it stood there leads on as it did.
 pub(crate) fn look<A: Allocator + Copy, G: StepGate>(
     table: &CardTable<A>,
     pass: &mut Pass<A>,
@@ -36,7 +36,7 @@ pub(crate) fn look<A: Allocator + Copy, G: StepGate>(
     found
 }
 
-// The same, but the steps are not counted: what is found, and how many steps there were.
+// The same, but the steps are not counted. Returns what is found, and how many steps there were.
 #[inline(always)]
 fn walk<A: Allocator + Copy, G: StepGate>(
     table: &CardTable<A>,
@@ -78,7 +78,7 @@ fn walk<A: Allocator + Copy, G: StepGate>(
     (Some(table.value_of(pass, node)), steps + 2)
 }
 
-/// What is about a key, in one state: the look goes down once.
+/// Returns what is around a key, in one state. The look goes down once.
 pub(crate) fn look_about<A: Allocator + Copy, G: StepGate>(
     table: &CardTable<A>,
     pass: &mut Pass<A>,
@@ -97,7 +97,7 @@ pub(crate) fn look_about<A: Allocator + Copy, G: StepGate>(
     cursor.about(table, pass, key, gate)
 }
 
-/// How many cards are not given out yet: those from the claim word on.
+/// Returns how many cards are not given out yet: those from the claim word on.
 pub(crate) fn cards_left<A: Allocator + Copy, G: StepGate>(
     table: &CardTable<A>,
     pass: &mut Pass<A>,

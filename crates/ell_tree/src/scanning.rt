@@ -12,7 +12,7 @@ use ell_cards::{CardTable, Pass};
 use ell_ops::{KEY_MAX, Keyed};
 use std::alloc::Allocator;
 
-/// A key with its value, as they lie in memory for programs in C too.
+/// A key with its value, in a memory layout that programs in C share.
 #[repr(C)]
 #[derive(Clone, Copy)]
 pub struct Pair {
@@ -28,14 +28,14 @@ impl Keyed for Pair {
     }
 }
 
-/// How far a scan has come: how many pairs it has written, and where to go on if there was no room for more.
+/// How far a scan has come: how many pairs it has written, and where to continue if there was no room for more.
 #[derive(Clone, Copy)]
 pub struct Scanned {
     pub count: usize,
     pub next: Option<u64>,
 }
 
-/// The pairs of a range of keys, from one on and below another, ascending, as far as there is room.
+/// Writes the pairs of a range of keys, at least one key and below another, ascending, as far as there is room.
 pub(crate) fn scan<A: Allocator + Copy, G: StepGate>(
     table: &CardTable<A>,
     pass: &mut Pass<A>,
@@ -75,7 +75,7 @@ pub(crate) fn scan<A: Allocator + Copy, G: StepGate>(
     }
 }
 
-/// The least present key from one on, with its value.
+/// Returns the least present key that is at least the given one, with its value.
 pub(crate) fn next_from<A: Allocator + Copy, G: StepGate>(
     table: &CardTable<A>,
     pass: &mut Pass<A>,
@@ -96,7 +96,7 @@ pub(crate) fn next_from<A: Allocator + Copy, G: StepGate>(
     Some((key, value))
 }
 
-/// The greatest present key below one, with its value.
+/// Returns the greatest present key below the given one, with its value.
 pub(crate) fn last_below<A: Allocator + Copy, G: StepGate>(
     table: &CardTable<A>,
     pass: &mut Pass<A>,

@@ -51,7 +51,7 @@ pub(crate) fn search<A: Allocator + Copy, G: StepGate>(
     place
 }
 
-// The same, but the steps are not counted: where it ended, and how many there were.
+// The same, but the steps are not counted. Returns where it ended, and how many steps there were.
 #[inline(always)]
 fn walk<A: Allocator + Copy, G: StepGate>(
     table: &CardTable<A>,
@@ -91,7 +91,8 @@ fn walk<A: Allocator + Copy, G: StepGate>(
     (place, steps + 2)
 }
 
-// The same value, made from its parts. A move would copy the unused bytes beside the state too, for which the processor waits.
+// The same value, made from its parts. A move would also copy the unused bytes next to the state, and the processor
+// waits for that.
 #[inline(always)]
 fn rebuild(passed: Passed) -> Passed
     ensures { result ≡ passed }
@@ -103,8 +104,8 @@ fn rebuild(passed: Passed) -> Passed
     }
 }
 
-// Goes down from an internal node, whose update it reads before the child: what it read there, and the child. The steps
-// are not counted.
+// Goes down from an internal node, whose update it reads before the child. Returns what it read there, and the child.
+// The steps are not counted.
 fn descend<A: Allocator + Copy, G: StepGate>(
     table: &CardTable<A>,
     pass: &mut Pass<A>,

@@ -1,4 +1,4 @@
-//! The atomic steps beside the search and the card, each told to the gate just before it is made.
+//! The atomic steps other than those of the search and the card, each reported to the gate just before it is made.
 ghost use Rattle.std.specs.Prelude.{◌≡◌, ◌≢◌, ◌≤◌, ◌+◌, IfSome, None, []};
 ghost use Rattle.ell_ops.specs.declared.op.Op.{Op};
 ghost use Rattle.ell_ops.specs.Meaning.{key_of};
@@ -209,7 +209,8 @@ pub(crate) fn clear_insert<A: Allocator + Copy, G: StepGate>(
     let _ = table.iunflag(pass, card, parent);
 }
 
-/// Marks the parent of a delete: none where its mark stands now, else the update that was found in its place.
+/// Marks the parent of a delete. Returns `None` if its mark stands now, and otherwise the update that was found in its
+/// place.
 pub(crate) fn set_mark<A: Allocator + Copy, G: StepGate>(
     table: &CardTable<A>,
     pass: &mut Pass<A>,

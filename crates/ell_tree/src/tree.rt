@@ -36,8 +36,8 @@ use ell_ops::{KEY_MAX, NoMemory, Op};
 use std::alloc::{AllocError, Allocator};
 use std::marker::Model;
 
-/// A map from keys to values that many threads share, each through a pass of its own. A pass finds, inserts and deletes the keys that it
-/// owns, which no other pass does, and the shared ones, if the tree has any, as every pass does.
+/// A map from keys to values that many threads share, each through a pass of its own. A pass finds, inserts and deletes
+/// the keys that it owns, which no other pass does, and the shared ones, if the tree has any, as every pass does.
 #[derive(Drop)]
 pub struct Tree<A: Allocator + Copy> {
     table: CardTable<A>,
@@ -51,10 +51,10 @@ impl<A: Allocator + Copy> Model for Tree<A> {
 }
 
 impl<A: Allocator + Copy> Tree<A> {
-    /// An empty tree of so many cards, and one pass that owns all these keys, each absent. Each try of an insert or a delete that
-    /// finds its way free takes a card, and no card is given back; `cards_left` tells how many there are. `BadCards` comes exactly
-    /// where the cards are not 1 to 1,000,000, and `NoMemory` where memory is refused. Conditions: the keys are strictly
-    /// ascending, and at most `KEY_MAX`.
+    /// Returns an empty tree with the given number of cards, and one pass that owns all these keys, each absent. Each
+    /// try of an insert or a delete that finds its way free takes a card, and no card is given back; `cards_left`
+    /// returns how many there are. `BadCards` is returned exactly if the number of cards is not 1 to 1,000,000, and
+    /// `NoMemory` if an allocation fails. Conditions: the keys are strictly ascending, and at most `KEY_MAX`.
     pub fn reserve(alloc: A, keys: &[u64], cards: u64) -> Result<(Tree<A>, Pass<A>), CardFault>
         requires ascending { IsStrictlyIncreasing keys.now }
         requires real { All (λ k. k ≤ greatest_key) keys.now }
@@ -65,18 +65,18 @@ impl<A: Allocator + Copy> Tree<A> {
             made.0.plan ≡ record { keys = keys.now; start = []; last_card = cards; shared = false }) }
         // The pass owns these keys, of which the start keys are present, has the whole share, and has made no step.
         ensures pass { IfOk result (λ made. IsFirst made.0 made.1) }
-        // `BadCards` comes exactly if the cards are not 1 to 1,000,000, and else `NoMemory` alone.
+        // `BadCards` is returned exactly if the number of cards is not 1 to 1,000,000, and otherwise only `NoMemory`.
         ensures refused { IfErr result (RefusesCards cards) }
     {
         Tree::reserve_from(alloc, &[], keys, cards)
     }
 
-    /// A tree that has these start keys with their values from the first on, balanced, and one pass that owns all these keys:
-    /// the start keys are present, the others absent. It saves inserting them: no operation is made for them, and none of the
-    /// cards asked for is taken. Their tree has a card for each of them, so the number of the last card, by which the steps
-    /// of calls are bounded, is the number of cards asked for plus that of the start keys. Errors are as of `reserve`.
-    /// Conditions: those of `reserve`; the start keys are strictly ascending, among the keys, and at most `START_MAX`,
-    /// 1,000,000.
+    /// Returns a tree that has these start keys with their values from the beginning, balanced, and one pass that owns
+    /// all these keys: the start keys are present, the others absent. This saves inserting them: no operation is made
+    /// for them, and they take none of the cards asked for. Their tree has a card for each of them, so the number of
+    /// the last card, which bounds the steps of calls, is the number of cards asked for plus that of the start keys.
+    /// Errors are as for `reserve`. Conditions: those of `reserve`; the start keys are strictly ascending and among the
+    /// keys, and there are at most `START_MAX`, 1,000,000, of them.
     pub fn reserve_from(
         alloc: A,
         start: &[(u64, u64)],
@@ -90,8 +90,8 @@ impl<A: Allocator + Copy> Tree<A> {
         requires few { length start.now ≤ most_start }
         // It succeeds only with 1 to 1,000,000 cards.
         ensures cards { OnOk result (IsCardCount cards) }
-        // The tree has the start pairs and shares no key. The number of its last card is that of the start keys more
-        // than `cards`.
+        // The tree has the start pairs and shares no key. The number of its last card is `cards` plus the number of
+        // start keys.
         ensures tree { IfOk result (λ made. made.0.plan ≡ record {
           keys = keys.now;
           start = start.now;
@@ -100,17 +100,18 @@ impl<A: Allocator + Copy> Tree<A> {
         }) }
         // The pass owns these keys, of which the start keys are present, has the whole share, and has made no step.
         ensures pass { IfOk result (λ made. IsFirst made.0 made.1) }
-        // `BadCards` comes exactly if the cards are not 1 to 1,000,000, and else `NoMemory` alone.
+        // `BadCards` is returned exactly if the number of cards is not 1 to 1,000,000, and otherwise only `NoMemory`.
         ensures refused { IfErr result (RefusesCards cards) }
     {
         let (table, pass) = CardTable::reserve_from(alloc, start, keys, cards)?;
         Ok((Tree { table, alloc }, pass))
     }
 
-    /// The same, of lists that the caller gives up: the start keys with their values, the keys, and zero words, which may have been made
-    /// beforehand, as in another thread. Most of the time that `reserve_from` takes is that of making these, `table_size` of the number
-    /// of the last card; if there are more here, they are cut to that, and if there are fewer, more are made. Nothing else than those
-    /// and the tree's own words is asked of the allocator. Errors and conditions are as of `reserve_from`.
+    /// The same, from lists that the caller gives up: the start keys with their values, the keys, and zero words, which
+    /// may have been made beforehand, for example in another thread. Most of the time that `reserve_from` takes is
+    /// spent making these words, `table_size` of the number of the last card; if there are more here, they are cut to
+    /// that, and if there are fewer, more are made. Nothing but those and the tree's own words is requested from the
+    /// allocator. Errors and conditions are as for `reserve_from`.
     pub fn reserve_with_zeros(
         alloc: A,
         zeros: Vec<u64, A>,
@@ -126,8 +127,8 @@ impl<A: Allocator + Copy> Tree<A> {
         requires few { length start.items ≤ most_start }
         // It succeeds only with 1 to 1,000,000 cards.
         ensures cards { OnOk result (IsCardCount cards) }
-        // The tree has the start pairs and shares no key. The number of its last card is that of the start keys more
-        // than `cards`.
+        // The tree has the start pairs and shares no key. The number of its last card is `cards` plus the number of
+        // start keys.
         ensures tree { IfOk result (λ made. made.0.plan ≡ record {
           keys = keys.items;
           start = start.items;
@@ -136,18 +137,19 @@ impl<A: Allocator + Copy> Tree<A> {
         }) }
         // The pass owns these keys, of which the start keys are present, has the whole share, and has made no step.
         ensures pass { IfOk result (λ made. IsFirst made.0 made.1) }
-        // `BadCards` comes exactly if the cards are not 1 to 1,000,000, and else `NoMemory` alone.
+        // `BadCards` is returned exactly if the number of cards is not 1 to 1,000,000, and otherwise only `NoMemory`.
         ensures refused { IfErr result (RefusesCards cards) }
     {
         let (table, pass) = CardTable::reserve_with_zeros(alloc, zeros, start, keys, cards)?;
         Ok((Tree { table, alloc }, pass))
     }
 
-    /// A tree of shared keys: every key up to `KEY_MAX` that is not among these keys, which may be none, is shared, and any pass may change
-    /// it. The tree has these start keys with their values from the first on, balanced, and one pass, which owns these keys: of them the start
-    /// keys are present, the others absent. Errors, and the number of the last card, are as of `reserve_from`. Conditions: the keys are
-    /// strictly ascending, and at most `KEY_MAX`; so are the start keys, which need not be among the keys; there are at most `START_MAX` of
-    /// these.
+    /// Returns a tree of shared keys: every key up to `KEY_MAX` that is not among these keys, which may be none, is
+    /// shared, and any pass may change it. The tree has these start keys with their values from the beginning,
+    /// balanced, and one pass, which owns these keys: those among them that are start keys are present, the others
+    /// absent. Errors, and the number of the last card, are as for `reserve_from`. Conditions: the keys are strictly
+    /// ascending, and at most `KEY_MAX`; so are the start keys, which need not be among the keys; there are at most
+    /// `START_MAX` start keys.
     pub fn reserve_shared(
         alloc: A,
         start: &[(u64, u64)],
@@ -161,8 +163,8 @@ impl<A: Allocator + Copy> Tree<A> {
         requires few { length start.now ≤ most_start }
         // It succeeds only with 1 to 1,000,000 cards.
         ensures cards { OnOk result (IsCardCount cards) }
-        // The tree has the start pairs and shares each other key. The number of its last card is that of the start keys
-        // more than `cards`.
+        // The tree has the start pairs and shares each other key. The number of its last card is `cards` plus the
+        // number of start keys.
         ensures tree { IfOk result (λ made. made.0.plan ≡ record {
           keys = keys.now;
           start = start.now;
@@ -171,16 +173,17 @@ impl<A: Allocator + Copy> Tree<A> {
         }) }
         // The pass owns these keys, of which the start keys are present, has the whole share, and has made no step.
         ensures pass { IfOk result (λ made. IsFirst made.0 made.1) }
-        // `BadCards` comes exactly if the cards are not 1 to 1,000,000, and else `NoMemory` alone.
+        // `BadCards` is returned exactly if the number of cards is not 1 to 1,000,000, and otherwise only `NoMemory`.
         ensures refused { IfErr result (RefusesCards cards) }
     {
         let (table, pass) = CardTable::reserve_shared(alloc, start, keys, cards)?;
         Ok((Tree { table, alloc }, pass))
     }
 
-    /// Parts a pass, so that two threads can work: the left part gets these keys of its own, strictly ascending, and the right part
-    /// the rest, and a part of the share. Both keep its label. `TooManyPasses` comes exactly if some keys are shared and its share may not be
-    /// parted, and else `NoMemory` if memory is refused. Either way the pass comes back as it was.
+    /// Splits a pass, so that two threads can work: the left part gets these of its keys, strictly ascending, and the
+    /// right part gets the rest, and a part of the share. Both keep its label. `TooManyPasses` is returned exactly if
+    /// some keys are shared and its share may not be split, and otherwise `NoMemory` if an allocation fails. Either way
+    /// the pass comes back as it was.
     pub fn split(
         &self,
         pass: Pass<A>,
@@ -193,8 +196,8 @@ impl<A: Allocator + Copy> Tree<A> {
         ensures left { IfOk result (λ parts. IsLeftPart left_keys.now pass parts.0) }
         // The right part has the other keys and a piece of the share, knows the same milestones, and counts anew.
         ensures right { IfOk result (λ parts. IsRightPart left_keys.now pass parts.1) }
-        // `TooManyPasses` comes exactly if the tree shares keys and the share is the least one, and else `NoMemory`
-        // alone. The pass then comes back as it was.
+        // `TooManyPasses` is returned exactly if the tree shares keys and the share is the least one, and otherwise
+        // only `NoMemory`. After either error the pass comes back as it was.
         ensures may { OnOk result (MayPart pass.view) }
         ensures refused { IfErr result (λ refused. refused.0 ≡ pass) }
         ensures why { IfErr result (λ refused. SplitRefuses pass.view refused.1) }
@@ -202,7 +205,8 @@ impl<A: Allocator + Copy> Tree<A> {
         self.table.split(pass, left_keys)
     }
 
-    /// One pass of two, with the keys of both and the label of the left one. Where memory is refused, both come back as they were.
+    /// Joins two passes into one, with the keys of both and the label of the left one. If an allocation fails, both
+    /// come back as they were.
     pub fn join(
         &self,
         left: Pass<A>,
@@ -210,29 +214,30 @@ impl<A: Allocator + Copy> Tree<A> {
     ) -> Result<Pass<A>, (Pass<A>, Pass<A>, NoMemory)>
         requires left { IsIdlePassOf self.now left }
         requires right { IsIdlePassOf self.now right }
-        // The pass has the keys and the shares of both, and knows no fewer milestones. In a row it counts one step more than
-        // the greater of the two counts, and in all one more than their sum.
+        // The pass has the keys and the shares of both, and knows no fewer milestones. In a row it counts one step more
+        // than the greater of the two counts, and in all one more than their sum.
         ensures joined { IfOk result (IsUnion left right) }
-        // If memory is refused, both come back as they were.
+        // If an allocation fails, both come back as they were.
         ensures refused { IfErr result (λ refused. (refused.0 ≡ left) × (refused.1 ≡ right)) }
     {
         self.table.join(left, right)
     }
 
-    /// The value of any key up to `KEY_MAX`, whoever owns it, if it is present: as it was in one state of the tree between the first step of
-    /// the look and its last, whatever other passes did meanwhile (`so`). A pass without keys may look too. It writes nothing, helps
-    /// nobody, waits for nobody, and takes at most `2 * cards + 3` steps, where `cards` is the number of the last card. A key of the pass's
-    /// own is answered as `find` answers it. Two looks at two keys are of two states. It takes no card. The gate is told each step, as `Look`,
-    /// and neither a begin nor an end.
+    /// Returns the value of any key up to `KEY_MAX`, whichever pass owns it, if the key is present: the value that it
+    /// had in one state of the tree between the first step of the look and its last, whatever other passes did in the
+    /// meantime (`so`). A pass without keys may look too. The call writes nothing, helps no other call, waits for none,
+    /// and takes at most `2 * cards + 3` steps, where `cards` is the number of the last card. A key of the pass's own
+    /// is answered as `find` answers it. Two looks at two keys are of two states. It takes no card. The gate is told of
+    /// each step, as `Look`, and of neither a begin nor an end.
     pub fn look<G: StepGate>(&self, pass: &mut Pass<A>, key: u64, gate: &G) -> Option<u64>
         requires may { IsIdlePassOf self.now pass.old }
         requires real { key ≤ greatest_key }
-        // The answer is what the tree had of the key in one state since the look began, in every run.
+        // The answer is what the tree had for the key in one state since the look began, in every run.
         ensures so { IsFoundIn self.now pass.new.view key result }
         ensures one { pass.new.view.looks ≡ pass.old.view.looks + 1 }
-        // Of a key of the pass it is what the pass has.
+        // For a key of the pass, it is what the pass has.
         ensures mine { Owns pass.old key → result ≡ present_in pass.old key }
-        // It only loads, and makes at most `2 * cards + 3` steps. The pass stays otherwise.
+        // It only loads, and makes at most `2 * cards + 3` steps. Otherwise the pass is unchanged.
         ensures only { OnlyLooks pass.old pass.new (look_steps self.now.plan.last_card) }
         // It takes no card.
         ensures cards { TakesNoCard pass.old pass.new }
@@ -240,21 +245,22 @@ impl<A: Allocator + Copy> Tree<A> {
         look(&self.table, pass, key, gate)
     }
 
-    /// What is about a key, whoever owns the keys: of ONE state of the tree between the first step of the look and its
-    /// last it tells all keys of a stretch, from `low` on and below `high`, between which the key lies. Of these the
-    /// key in `found` was present, with this value, and no other; or none was. So who asks again about `high` comes by
-    /// every key in order, and about `low - 1` downwards. Steps, cards and gate are as of `look`.
+    /// Returns what is around a key, whichever passes own the keys there: for ONE state of the tree between the first
+    /// step of the look and its last, it tells of all keys of a stretch that contains the key, those that are at least
+    /// `low` and below `high`. Of these, the one in `found` was present, with this value, and no other; or none was. So
+    /// a caller that asks again about `high` reaches every key in ascending order, and one that asks again about
+    /// `low - 1`, in descending order. Steps, cards and gate are as for `look`.
     pub fn look_about<G: StepGate>(&self, pass: &mut Pass<A>, key: u64, gate: &G) -> About
         requires may { IsIdlePassOf self.now pass.old }
         requires real { key ≤ greatest_key }
-        // The answer is what the tree had of all keys of the stretch in one state since the look began, in every run:
-        // one of them, with its value, or none. The stretch has the key.
+        // The answer is what the tree had for all keys of the stretch in one state since the look began, in every run:
+        // one of them, with its value, or none. The stretch contains the key.
         ensures so { IsFoundAboutIn self.now pass.new.view result }
         ensures about { IsAbout key result }
         ensures one { pass.new.view.looks ≡ pass.old.view.looks + 1 }
-        // Of the keys of the pass it is what the pass has.
+        // For the keys of the pass, it is what the pass has.
         ensures mine { TellsItsOwn pass.old result.low result.high (value_there result.found) }
-        // It only loads, and makes at most `2 * cards + 3` steps. The pass stays otherwise.
+        // It only loads, and makes at most `2 * cards + 3` steps. Otherwise the pass is unchanged.
         ensures only { OnlyLooks pass.old pass.new (look_steps self.now.plan.last_card) }
         // It takes no card.
         ensures cards { TakesNoCard pass.old pass.new }
@@ -262,14 +268,15 @@ impl<A: Allocator + Copy> Tree<A> {
         look_about(&self.table, pass, key, gate)
     }
 
-    /// Writes the pairs of the keys from `from` on and below `upto`, whoever owns them, strictly ascending, into
-    /// `room`, as far as there is room: how many they are, and, if there may be more, the key where to go on. The rest
-    /// of `room` is left as it is. Each key of the range, as far as the scan came, is answered as by a look at it in
-    /// one state of the tree between the first step of the scan and its last (`so`): what was present all along is
-    /// written, what was absent all along is not, and each pair was there. Two keys may be of two states: a scan is no
-    /// snapshot. It writes nothing to the tree, helps nobody and waits for nobody. It takes about the steps of a walk
-    /// over the part of the tree that has these keys, and in every schedule at most `(cards + 1) * (2 * cards + 2) +
-    /// 1`. It takes no card. The gate is told each step, as `Look`.
+    /// Writes the pairs of the keys that are at least `from` and below `upto`, whichever pass owns them, in strictly
+    /// ascending order, into `room`, as far as there is room. Returns how many pairs it has written, and, if there may
+    /// be more, the key at which to continue. The rest of `room` is left as it is. Each key of the range, as far as the
+    /// scan got, is answered as by a look at it in one state of the tree between the first step of the scan and its
+    /// last (`so`): what was present all along is written, what was absent all along is not, and each pair was there.
+    /// Two keys may be of two states: a scan is not a snapshot. It writes nothing to the tree, helps no other call and
+    /// waits for none. It takes about the steps of a walk over the part of the tree that has these keys, and in every
+    /// schedule at most `(cards + 1) * (2 * cards + 2) + 1`. It takes no card. The gate is told of each step, as
+    /// `Look`.
     pub fn scan<G: StepGate>(
         &self,
         pass: &mut Pass<A>,
@@ -280,20 +287,20 @@ impl<A: Allocator + Copy> Tree<A> {
     ) -> Scanned
         requires may { IsIdlePassOf self.now pass.old }
         requires real { upto ≤ greatest_key + 1 }
-        // Each key of the range, as far as the scan came, is answered as by a look at it, of some state since the scan
+        // Each key of the range, as far as the scan got, is answered as by a look at it, in some state since the scan
         // began: two keys may be of two states.
         ensures so { AreFoundIn self.now pass.new.view from (end_of upto result) (contents_of (written room.new result)) }
-        // The pairs are of keys of the range, and strictly ascend.
+        // The pairs are of keys of the range, in strictly ascending order.
         ensures ordered { AreInOrder from (end_of upto result) (written room.new result) }
-        // The scan came to the end of the range, or the room is full and `next` is the key where to go on. The rest of
-        // the room stays.
+        // The scan reached the end of the range, or the room is full and `next` is the key at which to continue. The
+        // rest of the room is unchanged.
         ensures count { result.count ≤ length room.old }
         ensures next { IfSome result.next (λ next. (from ≤ next) × (next < upto) × (result.count ≡ length room.old)) }
         ensures rest { drop result.count room.new ≡ drop result.count room.old }
         ensures one { pass.new.view.looks ≡ pass.old.view.looks + 1 }
-        // Of the keys of the pass it tells what the pass has.
+        // For the keys of the pass, it tells what the pass has.
         ensures mine { TellsItsOwn pass.old from (end_of upto result) (contents_of (written room.new result)) }
-        // It only loads, and makes at most `(cards + 1) * (2 * cards + 2) + 1` steps. The pass stays otherwise.
+        // It only loads, and makes at most `(cards + 1) * (2 * cards + 2) + 1` steps. Otherwise the pass is unchanged.
         ensures only { OnlyLooks pass.old pass.new (scan_steps self.now.plan.last_card) }
         // It takes no card.
         ensures cards { TakesNoCard pass.old pass.new }
@@ -301,8 +308,8 @@ impl<A: Allocator + Copy> Tree<A> {
         scan(&self.table, pass, from, upto, room, gate)
     }
 
-    /// The least key from `key` on that is present, with its value: it was present in one state of the tree during the
-    /// call, and each key before it was absent in one. Steps, cards and gate are as of `scan`.
+    /// Returns the least present key that is at least `key`, with its value: it was present in one state of the tree
+    /// during the call, and each key before it was absent in one. Steps, cards and gate are as for `scan`.
     pub fn next_at_least<G: StepGate>(
         &self,
         pass: &mut Pass<A>,
@@ -311,11 +318,11 @@ impl<A: Allocator + Copy> Tree<A> {
     ) -> Option<(u64, u64)>
         requires may { IsIdlePassOf self.now pass.old }
         requires real { key ≤ greatest_key }
-        // The answer is the least present key from this one on, with its value: it was present in one state since the
-        // call began, and each key before it was absent in one.
+        // The answer is the least present key that is at least this one, with its value: it was present in one state
+        // since the call began, and each key before it was absent in one.
         ensures so { IsNextIn self.now pass.new.view key result }
         ensures one { pass.new.view.looks ≡ pass.old.view.looks + 1 }
-        // It only loads, and makes at most `(cards + 1) * (2 * cards + 2) + 1` steps. The pass stays otherwise.
+        // It only loads, and makes at most `(cards + 1) * (2 * cards + 2) + 1` steps. Otherwise the pass is unchanged.
         ensures only { OnlyLooks pass.old pass.new (scan_steps self.now.plan.last_card) }
         // It takes no card.
         ensures cards { TakesNoCard pass.old pass.new }
@@ -323,7 +330,7 @@ impl<A: Allocator + Copy> Tree<A> {
         next_from(&self.table, pass, key, gate)
     }
 
-    /// The least key above `key` that is present, with its value, as of `next_at_least`.
+    /// Returns the least present key above `key`, with its value, as `next_at_least` does.
     pub fn next_after<G: StepGate>(
         &self,
         pass: &mut Pass<A>,
@@ -336,7 +343,7 @@ impl<A: Allocator + Copy> Tree<A> {
         // call began, and each key before it was absent in one.
         ensures so { IsNextIn self.now pass.new.view (key + 1) result }
         ensures one { pass.new.view.looks ≡ pass.old.view.looks + 1 }
-        // It only loads, and makes at most `(cards + 1) * (2 * cards + 2) + 1` steps. The pass stays otherwise.
+        // It only loads, and makes at most `(cards + 1) * (2 * cards + 2) + 1` steps. Otherwise the pass is unchanged.
         ensures only { OnlyLooks pass.old pass.new (scan_steps self.now.plan.last_card) }
         // It takes no card.
         ensures cards { TakesNoCard pass.old pass.new }
@@ -344,14 +351,14 @@ impl<A: Allocator + Copy> Tree<A> {
         next_from(&self.table, pass, key + 1, gate)
     }
 
-    /// The least key that is present, with its value, as of `next_at_least`.
+    /// Returns the least present key, with its value, as `next_at_least` does.
     pub fn first<G: StepGate>(&self, pass: &mut Pass<A>, gate: &G) -> Option<(u64, u64)>
         requires may { IsIdlePassOf self.now pass.old }
         // The answer is the least present key, with its value: it was present in one state since the call began, and
         // each key before it was absent in one.
         ensures so { IsNextIn self.now pass.new.view 0 result }
         ensures one { pass.new.view.looks ≡ pass.old.view.looks + 1 }
-        // It only loads, and makes at most `(cards + 1) * (2 * cards + 2) + 1` steps. The pass stays otherwise.
+        // It only loads, and makes at most `(cards + 1) * (2 * cards + 2) + 1` steps. Otherwise the pass is unchanged.
         ensures only { OnlyLooks pass.old pass.new (scan_steps self.now.plan.last_card) }
         // It takes no card.
         ensures cards { TakesNoCard pass.old pass.new }
@@ -359,8 +366,8 @@ impl<A: Allocator + Copy> Tree<A> {
         next_from(&self.table, pass, 0, gate)
     }
 
-    /// The greatest key up to `key` that is present, with its value: it was present in one state of the tree during the
-    /// call, and each key after it was absent in one. Steps, cards and gate are as of `scan`.
+    /// Returns the greatest present key that is at most `key`, with its value: it was present in one state of the tree
+    /// during the call, and each key after it was absent in one. Steps, cards and gate are as for `scan`.
     pub fn last_at_most<G: StepGate>(
         &self,
         pass: &mut Pass<A>,
@@ -369,11 +376,11 @@ impl<A: Allocator + Copy> Tree<A> {
     ) -> Option<(u64, u64)>
         requires may { IsIdlePassOf self.now pass.old }
         requires real { key ≤ greatest_key }
-        // The answer is the greatest present key up to this one, with its value: it was present in one state since the
-        // call began, and each key after it was absent in one.
+        // The answer is the greatest present key that is at most this one, with its value: it was present in one state
+        // since the call began, and each key after it was absent in one.
         ensures so { IsLastIn self.now pass.new.view (key + 1) result }
         ensures one { pass.new.view.looks ≡ pass.old.view.looks + 1 }
-        // It only loads, and makes at most `(cards + 1) * (2 * cards + 2) + 1` steps. The pass stays otherwise.
+        // It only loads, and makes at most `(cards + 1) * (2 * cards + 2) + 1` steps. Otherwise the pass is unchanged.
         ensures only { OnlyLooks pass.old pass.new (scan_steps self.now.plan.last_card) }
         // It takes no card.
         ensures cards { TakesNoCard pass.old pass.new }
@@ -381,7 +388,7 @@ impl<A: Allocator + Copy> Tree<A> {
         last_below(&self.table, pass, key + 1, gate)
     }
 
-    /// The greatest key below `key` that is present, with its value, as of `last_at_most`.
+    /// Returns the greatest present key below `key`, with its value, as `last_at_most` does.
     pub fn last_before<G: StepGate>(
         &self,
         pass: &mut Pass<A>,
@@ -394,7 +401,7 @@ impl<A: Allocator + Copy> Tree<A> {
         // call began, and each key after it was absent in one.
         ensures so { IsLastIn self.now pass.new.view key result }
         ensures one { pass.new.view.looks ≡ pass.old.view.looks + 1 }
-        // It only loads, and makes at most `(cards + 1) * (2 * cards + 2) + 1` steps. The pass stays otherwise.
+        // It only loads, and makes at most `(cards + 1) * (2 * cards + 2) + 1` steps. Otherwise the pass is unchanged.
         ensures only { OnlyLooks pass.old pass.new (scan_steps self.now.plan.last_card) }
         // It takes no card.
         ensures cards { TakesNoCard pass.old pass.new }
@@ -402,14 +409,14 @@ impl<A: Allocator + Copy> Tree<A> {
         last_below(&self.table, pass, key, gate)
     }
 
-    /// The greatest key that is present, with its value, as of `last_at_most`.
+    /// Returns the greatest present key, with its value, as `last_at_most` does.
     pub fn last<G: StepGate>(&self, pass: &mut Pass<A>, gate: &G) -> Option<(u64, u64)>
         requires may { IsIdlePassOf self.now pass.old }
         // The answer is the greatest present key, with its value: it was present in one state since the call began, and
         // each key after it was absent in one.
         ensures so { IsLastIn self.now pass.new.view (greatest_key + 1) result }
         ensures one { pass.new.view.looks ≡ pass.old.view.looks + 1 }
-        // It only loads, and makes at most `(cards + 1) * (2 * cards + 2) + 1` steps. The pass stays otherwise.
+        // It only loads, and makes at most `(cards + 1) * (2 * cards + 2) + 1` steps. Otherwise the pass is unchanged.
         ensures only { OnlyLooks pass.old pass.new (scan_steps self.now.plan.last_card) }
         // It takes no card.
         ensures cards { TakesNoCard pass.old pass.new }
@@ -417,12 +424,13 @@ impl<A: Allocator + Copy> Tree<A> {
         last_below(&self.table, pass, KEY_MAX + 1, gate)
     }
 
-    /// How many cards are not given out yet, 0 if all are, in one step: as it was at that step, while other passes went on. No more are left
-    /// ever after. An insert or a delete that changes the map takes one, and one more at most for each try that something hinders; with none
-    /// left it is `Spent`. The gate is told the step, as `Look`.
+    /// Returns how many cards are not given out yet, 0 if all are, in one step: the number at that step, while other
+    /// passes went on. No more than that are ever left afterwards. An insert or a delete that changes the map takes
+    /// one, and at most one more for each try that something hinders; with none left it returns `Spent`. The gate is
+    /// told of the step, as `Look`.
     pub fn cards_left<G: StepGate>(&self, pass: &mut Pass<A>, gate: &G) -> u64
         requires own { pass.old.table ≡ self.now.id }
-        // Returns how many cards its one load of the claim word found not given out. No more are left later.
+        // Returns how many cards its one load of the claim word found not given out. No more than that are left later.
         ensures reads { ReadsCardsLeft self.now.plan.last_card pass.old pass.new result }
         ensures most { AreLeftAtMost self.now pass.new.view result }
         ensures limit { result ≤ self.now.plan.last_card }
@@ -434,12 +442,12 @@ impl<A: Allocator + Copy> Tree<A> {
         cards_left(&self.table, pass, gate)
     }
 
-    /// The value of a key of the pass, or of a shared one, if the key is present. It helps nobody, nothing is in its way, it takes no card,
-    /// and at most `3 * cards + 7` steps, where `cards` is the number of the last card: how many cards the tree was asked for, and one more
-    /// for each of its start keys.
+    /// Returns the value of a key of the pass, or of a shared one, if the key is present. The call helps no other call,
+    /// nothing is in its way, and it takes no card and at most `3 * cards + 7` steps, where `cards` is the number of
+    /// the last card: the number of cards that the tree was asked for, plus one for each of its start keys.
     pub fn find<G: StepGate>(&self, pass: &mut Pass<A>, key: u64, gate: &G) -> Option<u64>
         requires may { MayDo self.now key pass.old }
-        // On a key of the pass the answer is the value that the pass has. On any key it is that of one thread at one
+        // On a key of the pass, the answer is the value that the pass has. On any key, it is that of one thread at one
         // point of the call, in every run. The pass is idle, and keeps its keys and its share.
         ensures answers { Answers self.now (Find key) (found result) pass.old pass.new }
         // Nothing is in its way, and no try is counted as hindered.
@@ -452,20 +460,22 @@ impl<A: Allocator + Copy> Tree<A> {
         find(&self.table, pass, key, gate)
     }
 
-    /// Adds a key of the pass, or a shared one, with its value: whether the key was absent. A key that is present keeps its value. It makes
-    /// at least one try and at most `tries`. `Busy` comes if something was in the way of every try, and `Spent` if a try that would add the
-    /// key finds all cards given out: after either the call has changed nothing, and nothing of it is under way. However it ends, whatever
-    /// was in the way of a try is over by then: a card that another pass took first, or a change of a neighbor, which was helped to its end
-    /// if nobody else had ended it.
+    /// Adds a key of the pass, or a shared one, with its value. Returns whether the key was absent. A key that is
+    /// present keeps its value. The call makes at least one try and at most `tries`. It returns `Busy` if something was
+    /// in the way of every try, and `Spent` if a try that would add the key finds all cards given out: after either,
+    /// the call has changed nothing, and nothing of it is under way. However it ends, whatever was in the way of a try
+    /// is over by then: a card that another pass took first, or a change of a neighbor, which was helped to its end if
+    /// no other call had ended it.
     ///
-    /// The bounds, where `cards` is the number of the last card: how many cards the tree was asked for, and one more for each of its start
-    /// keys. A call takes at most `tries * (7 * cards + 27) + 1` steps. Each try that ends without an answer shows the pass a card given out,
-    /// or come to its end, that it did not know of, and no card does either twice: so with more than `2 * cards` tries it is never `Busy`,
-    /// and all calls of a pass together take at most `7 * cards + 28` steps each, and `2 * cards * (7 * cards + 27)` more, in every schedule.
-    /// A call that is `Busy` counts all its tries as hindered, and in every run of the tree they are at most two for each card that was given
-    /// out to another pass while it went on, and one for each card that some pass had in hand when it began. A call that changes the map
-    /// takes one card, and at most one more for each try that something hindered; any other takes at most one for each of those, and none if
-    /// it answers on a key of the pass.
+    /// The bounds are as follows, where `cards` is the number of the last card: the number of cards that the tree was
+    /// asked for, plus one for each of its start keys. A call takes at most `tries * (7 * cards + 27) + 1` steps. Each
+    /// try that ends without an answer shows the pass a card given out, or come to its end, that it did not know of,
+    /// and no card does either twice: so with more than `2 * cards` tries it is never `Busy`, and all calls of a pass
+    /// together take at most `7 * cards + 28` steps each, and `2 * cards * (7 * cards + 27)` more, in every schedule. A
+    /// call that is `Busy` counts all its tries as hindered, and in every run of the tree they are at most two for each
+    /// card that was given out to another pass while it went on, and one for each card that some pass had in hand when
+    /// it began. A call that changes the map takes one card, and at most one more for each try that something hindered;
+    /// any other takes at most one for each of those, and none if it answers on a key of the pass.
     pub fn insert<G: StepGate>(
         &self,
         pass: &mut Pass<A>,
@@ -476,13 +486,13 @@ impl<A: Allocator + Copy> Tree<A> {
     ) -> Result<bool, NotDone>
         requires may { MayDo self.now key pass.old }
         requires tries { 1 ≤ tries }
-        // On a key of the pass it answers as a map that has the pass's keys, which becomes the map after it. On any key
-        // the answer is that of one thread at one point of the call, in every run. A call without an answer changes
-        // nothing in any run: `Busy` comes only after as many hindrances as tries, `Spent` only if no card is left.
-        // What was in its way is over.
+        // On a key of the pass, it answers as a map that has the pass's keys, which becomes the map after the call. On
+        // any key, the answer is that of one thread at one point of the call, in every run. A call without an answer
+        // changes nothing in any run: `Busy` is returned only after as many hindrances as tries, and `Spent` only if no
+        // card is left. What was in its way is over.
         ensures ends { Ends self.now tries (Insert key value) pass.old pass.new (replied result) }
-        // A `Busy` call counts each of its tries as hindered. Each shows the pass a milestone that it did not know, and in
-        // every run they are no more than others' acts allow.
+        // A `Busy` call counts each of its tries as hindered. Each shows the pass a milestone that it did not know, and
+        // in every run they are no more than others' acts allow.
         ensures others { result ≡ Err Busy → IsOthersDoing self.now tries pass.old pass.new }
         // It makes at most `tries * (7 * cards + 27) + 1` steps, and also at most `7 * cards + 28`, and `7 * cards +
         // 27` for each milestone that the pass comes to know. It counts at most `tries` tries.
@@ -496,9 +506,9 @@ impl<A: Allocator + Copy> Tree<A> {
         Ok(change(&self.table, pass, Op::Insert(key, value), tries, gate)?.is_some())
     }
 
-    /// Gives a key of the pass, or a shared one, another value, if it has the value `was`, in one atomic step: the
-    /// value that it had, if it was present. So it was swapped exactly if that is `was`. A key that is absent, or has
-    /// another value, is left as it is. Tries, steps, cards and errors are as of `insert`.
+    /// Gives a key of the pass, or a shared one, another value, if it has the value `was`, in one atomic step. Returns
+    /// the value that it had, if it was present, so it was swapped exactly if that is `was`. A key that is absent, or
+    /// has another value, is left unchanged. Tries, steps, cards and errors are as for `insert`.
     pub fn swap<G: StepGate>(
         &self,
         pass: &mut Pass<A>,
@@ -511,12 +521,12 @@ impl<A: Allocator + Copy> Tree<A> {
         requires may { MayDo self.now key pass.old }
         requires tries { 1 ≤ tries }
         // The answer is the value that the key has, which becomes the new one exactly if it is `was`: on a key of the
-        // pass in the pass's map, on any key as of one thread at one point of the call, in every run. A call without an
-        // answer changes nothing in any run: `Busy` comes only after as many hindrances as tries, `Spent` only if no
-        // card is left. What was in its way is over.
+        // pass in the pass's map, and on any key as of one thread at one point of the call, in every run. A call
+        // without an answer changes nothing in any run: `Busy` is returned only after as many hindrances as tries, and
+        // `Spent` only if no card is left. What was in its way is over.
         ensures ends { Ends self.now tries (Swap key was value) pass.old pass.new (found_or_not_done result) }
-        // A `Busy` call counts each of its tries as hindered. Each shows the pass a milestone that it did not know, and in
-        // every run they are no more than others' acts allow.
+        // A `Busy` call counts each of its tries as hindered. Each shows the pass a milestone that it did not know, and
+        // in every run they are no more than others' acts allow.
         ensures others { result ≡ Err Busy → IsOthersDoing self.now tries pass.old pass.new }
         // It makes at most `tries * (7 * cards + 27) + 1` steps, and also at most `7 * cards + 28`, and `7 * cards +
         // 27` for each milestone that the pass comes to know. It counts at most `tries` tries.
@@ -530,15 +540,16 @@ impl<A: Allocator + Copy> Tree<A> {
         Ok(change(&self.table, pass, Op::Swap(key, was, value), tries, gate)?)
     }
 
-    /// Gives a key of the pass, or a shared one, this value, whether it was present or not, in one atomic step: the
-    /// value that it had, if it was present. It reads the key, and then makes at least one try and at most `tries`. A
-    /// try ends without success if something was in its way, as for `insert`, or if another pass has changed the key
-    /// since it was read, which is then read anew. `Busy` comes if all tries end so, and `Spent` if a try finds all
-    /// cards given out: after either the call has changed nothing, and nothing of it is under way.
+    /// Gives a key of the pass, or a shared one, this value, whether it was present or not, in one atomic step. Returns
+    /// the value that it had, if it was present. The call reads the key, and then makes at least one try and at most
+    /// `tries`. A try ends without success if something was in its way, as for `insert`, or if another pass has changed
+    /// the key since it was read; the key is then read again. The call returns `Busy` if all tries end this way, and
+    /// `Spent` if a try finds all cards given out: after either, the call has changed nothing, and nothing of it is
+    /// under way.
     ///
     /// A call takes at most `3 * cards + 7` steps, and `10 * cards + 35` more for each try, where `cards` is the number
-    /// of the last card. Of a key of the pass no other pass changes anything, so that with more than `2 * cards` tries
-    /// it is never `Busy`; of a shared key each try that finds it changed is the success of another call. A call that
+    /// of the last card. No other pass changes anything about a key of the pass, so with more than `2 * cards` tries it
+    /// is never `Busy`; on a shared key, each try that finds it changed is the success of another call. A call that
     /// ends takes one card, and at most one more for each try that something hindered.
     pub fn put<G: StepGate>(
         &self,
@@ -550,32 +561,33 @@ impl<A: Allocator + Copy> Tree<A> {
     ) -> Result<Option<u64>, NotDone>
         requires may { MayDo self.now key pass.old }
         requires tries { 1 ≤ tries }
-        // The key had the value that is returned, or none, and has this one instead, by one step. On a key of the pass
-        // that is so in the pass's map, on any key as of one thread at the point of the last operation, in every run.
+        // The key had the value that is returned, or none, and has this one instead, by one step. On a key of the pass,
+        // this holds in the pass's map, and on any key as of one thread at the point of the last operation, in every
+        // run.
         ensures puts { IfOk result (PutsValue self.now key value pass.old pass.new) }
         // A call without an answer changes nothing of what the pass has, and has nothing in hand. Its last operation
-        // changes nothing in any run. `Spent` comes only if no card is left.
+        // changes nothing in any run. `Spent` is returned only if no card is left.
         ensures not_done { IfErr result (IsNotDone self.now key pass.old pass.new) }
-        // `Busy` comes only after all tries: each was hindered, or answered by what another pass had changed.
+        // `Busy` is returned only after all tries: each was hindered, or answered by what another pass had changed.
         ensures tried { result ≡ Err Busy → AreTried tries pass.old pass.new }
-        // On a key of the pass a `Busy` call counts each of its tries as hindered, which is others' doing.
+        // On a key of the pass, a `Busy` call counts each of its tries as hindered, because of what others did.
         ensures others { Owns pass.old key → result ≡ Err Busy → IsOthersDoing self.now tries pass.old pass.new }
         // It makes at most `3 * cards + 7` steps, and `10 * cards + 35` for each try. It counts at most `tries` tries.
         ensures steps { Took pass.old pass.new (update_steps self.now.plan.last_card tries) }
         ensures counted { CountsTries tries pass.old pass.new }
         // It takes one card if it puts a value, at most one more for each hindered try, and never more than `tries`.
         ensures cards { SpendsCards key tries pass.old pass.new (whether_put result) }
-        // On a key of the pass it is never `Busy` with more than `2 * cards` tries.
+        // On a key of the pass, it is never `Busy` with more than `2 * cards` tries.
         ensures enough { Owns pass.old key → 2 * self.now.plan.last_card < tries → result ≢ Err Busy }
     {
         let done = compute(&self.table, pass, key, |_| Some(value), tries, gate)?;
         Ok(done.was)
     }
 
-    /// Gives a key of the pass, or a shared one, the value that `f` makes of the one that it has, in one atomic step:
-    /// the value that it had. A key that is absent is left so. `f` is called anew for each value that is found; no
-    /// other value has been there between the one that it was called with last and what it made of that. Tries, steps,
-    /// cards and errors are as of `put`.
+    /// Gives a key of the pass, or a shared one, the value that `f` makes of the one that it has, in one atomic step.
+    /// Returns the value that it had. A key that is absent stays absent. `f` is called again for each value that is
+    /// found; no other value has been there between the one that it was last called with and what it made of that.
+    /// Tries, steps, cards and errors are as for `put`.
     pub fn update<G: StepGate, F: Fn(u64) -> u64>(
         &self,
         pass: &mut Pass<A>,
@@ -588,22 +600,22 @@ impl<A: Allocator + Copy> Tree<A> {
         requires tries { 1 ≤ tries }
         requires f { F.IsAlwaysCallable f }
         // The key had the value that is returned, and has what the closure made of it instead, by one step; an absent
-        // key is left so. On a key of the pass that is so in the pass's map, on any key as of one thread at the point
-        // of the last operation, in every run.
+        // key stays absent. On a key of the pass, this holds in the pass's map, and on any key as of one thread at the
+        // point of the last operation, in every run.
         ensures updates { IfOk result (UpdatesValue self.now key (F.post f) pass.old pass.new) }
         // A call without an answer changes nothing of what the pass has, and has nothing in hand. Its last operation
-        // changes nothing in any run. `Spent` comes only if no card is left.
+        // changes nothing in any run. `Spent` is returned only if no card is left.
         ensures not_done { IfErr result (IsNotDone self.now key pass.old pass.new) }
-        // `Busy` comes only after all tries: each was hindered, or answered by what another pass had changed.
+        // `Busy` is returned only after all tries: each was hindered, or answered by what another pass had changed.
         ensures tried { result ≡ Err Busy → AreTried tries pass.old pass.new }
-        // On a key of the pass a `Busy` call counts each of its tries as hindered, which is others' doing.
+        // On a key of the pass, a `Busy` call counts each of its tries as hindered, because of what others did.
         ensures others { Owns pass.old key → result ≡ Err Busy → IsOthersDoing self.now tries pass.old pass.new }
         // It makes at most `3 * cards + 7` steps, and `10 * cards + 35` for each try. It counts at most `tries` tries.
         ensures steps { Took pass.old pass.new (update_steps self.now.plan.last_card tries) }
         ensures counted { CountsTries tries pass.old pass.new }
         // It takes one card if it puts a value, at most one more for each hindered try, and never more than `tries`.
         ensures cards { SpendsCards key tries pass.old pass.new (whether result) }
-        // On a key of the pass it is never `Busy` with more than `2 * cards` tries.
+        // On a key of the pass, it is never `Busy` with more than `2 * cards` tries.
         ensures enough { Owns pass.old key → 2 * self.now.plan.last_card < tries → result ≢ Err Busy }
     {
         let made = |there: Option<u64>| match there {
@@ -614,9 +626,9 @@ impl<A: Allocator + Copy> Tree<A> {
         Ok(done.was)
     }
 
-    /// Adds to the value of a key of the pass, or of a shared one, in one atomic step: the value that it had. A sum
-    /// past the greatest number of 64 bits starts again at 0. A key that is absent is left so. Tries, steps, cards and
-    /// errors are as of `put`.
+    /// Adds to the value of a key of the pass, or of a shared one, in one atomic step. Returns the value that it had. A
+    /// sum above `u64::MAX` wraps around. A key that is absent stays absent. Tries, steps, cards and errors are as for
+    /// `put`.
     pub fn fetch_add<G: StepGate>(
         &self,
         pass: &mut Pass<A>,
@@ -627,23 +639,23 @@ impl<A: Allocator + Copy> Tree<A> {
     ) -> Result<Option<u64>, NotDone>
         requires may { MayDo self.now key pass.old }
         requires tries { 1 ≤ tries }
-        // The key had the value that is returned, and has the sum modulo 2^64 instead, by one step; an absent key is
-        // left so. On a key of the pass that is so in the pass's map, on any key as of one thread at the point of the
-        // last operation, in every run.
+        // The key had the value that is returned, and has the sum modulo 2^64 instead, by one step; an absent key stays
+        // absent. On a key of the pass, this holds in the pass's map, and on any key as of one thread at the point of
+        // the last operation, in every run.
         ensures adds { IfOk result (UpdatesValue self.now key (IsSum addend) pass.old pass.new) }
         // A call without an answer changes nothing of what the pass has, and has nothing in hand. Its last operation
-        // changes nothing in any run. `Spent` comes only if no card is left.
+        // changes nothing in any run. `Spent` is returned only if no card is left.
         ensures not_done { IfErr result (IsNotDone self.now key pass.old pass.new) }
-        // `Busy` comes only after all tries: each was hindered, or answered by what another pass had changed.
+        // `Busy` is returned only after all tries: each was hindered, or answered by what another pass had changed.
         ensures tried { result ≡ Err Busy → AreTried tries pass.old pass.new }
-        // On a key of the pass a `Busy` call counts each of its tries as hindered, which is others' doing.
+        // On a key of the pass, a `Busy` call counts each of its tries as hindered, because of what others did.
         ensures others { Owns pass.old key → result ≡ Err Busy → IsOthersDoing self.now tries pass.old pass.new }
         // It makes at most `3 * cards + 7` steps, and `10 * cards + 35` for each try. It counts at most `tries` tries.
         ensures steps { Took pass.old pass.new (update_steps self.now.plan.last_card tries) }
         ensures counted { CountsTries tries pass.old pass.new }
         // It takes one card if it puts a value, at most one more for each hindered try, and never more than `tries`.
         ensures cards { SpendsCards key tries pass.old pass.new (whether result) }
-        // On a key of the pass it is never `Busy` with more than `2 * cards` tries.
+        // On a key of the pass, it is never `Busy` with more than `2 * cards` tries.
         ensures enough { Owns pass.old key → 2 * self.now.plan.last_card < tries → result ≢ Err Busy }
     {
         self.update(
@@ -655,7 +667,8 @@ impl<A: Allocator + Copy> Tree<A> {
         )
     }
 
-    /// Takes a key of the pass, or a shared one, away, with its value: whether it was present. Tries, steps, cards and errors are as of `insert`.
+    /// Deletes a key of the pass, or a shared one, with its value. Returns whether the key was present. Tries, steps,
+    /// cards and errors are as for `insert`.
     pub fn delete<G: StepGate>(
         &self,
         pass: &mut Pass<A>,
@@ -665,13 +678,13 @@ impl<A: Allocator + Copy> Tree<A> {
     ) -> Result<bool, NotDone>
         requires may { MayDo self.now key pass.old }
         requires tries { 1 ≤ tries }
-        // On a key of the pass it answers as a map that has the pass's keys, which becomes the map after it. On any key
-        // the answer is that of one thread at one point of the call, in every run. A call without an answer changes
-        // nothing in any run: `Busy` comes only after as many hindrances as tries, `Spent` only if no card is left.
-        // What was in its way is over.
+        // On a key of the pass, it answers as a map that has the pass's keys, which becomes the map after the call. On
+        // any key, the answer is that of one thread at one point of the call, in every run. A call without an answer
+        // changes nothing in any run: `Busy` is returned only after as many hindrances as tries, and `Spent` only if no
+        // card is left. What was in its way is over.
         ensures ends { Ends self.now tries (Delete key) pass.old pass.new (replied result) }
-        // A `Busy` call counts each of its tries as hindered. Each shows the pass a milestone that it did not know, and in
-        // every run they are no more than others' acts allow.
+        // A `Busy` call counts each of its tries as hindered. Each shows the pass a milestone that it did not know, and
+        // in every run they are no more than others' acts allow.
         ensures others { result ≡ Err Busy → IsOthersDoing self.now tries pass.old pass.new }
         // It makes at most `tries * (7 * cards + 27) + 1` steps, and also at most `7 * cards + 28`, and `7 * cards +
         // 27` for each milestone that the pass comes to know. It counts at most `tries` tries.
@@ -685,8 +698,9 @@ impl<A: Allocator + Copy> Tree<A> {
         Ok(self.take(pass, key, tries, gate)?.is_some())
     }
 
-    /// Takes a key of the pass, or a shared one, away, and answers the value that it took, if the key was present. Nobody else took that
-    /// value: at the point of the call the key had just this value, and has none after it. Tries, steps, cards and errors are as of `delete`.
+    /// Deletes a key of the pass, or a shared one, and returns the value that it took, if the key was present. No other
+    /// call took that value: at the point of the call the key had exactly this value, and it has none afterwards.
+    /// Tries, steps, cards and errors are as for `delete`.
     pub fn take<G: StepGate>(
         &self,
         pass: &mut Pass<A>,
@@ -696,16 +710,16 @@ impl<A: Allocator + Copy> Tree<A> {
     ) -> Result<Option<u64>, NotDone>
         requires may { MayDo self.now key pass.old }
         requires tries { 1 ≤ tries }
-        // On a key of the pass it answers as a map that has the pass's keys, which becomes the map after it. On any key
-        // the answer is that of one thread at one point of the call, in every run. A call without an answer changes
-        // nothing in any run: `Busy` comes only after as many hindrances as tries, `Spent` only if no card is left.
-        // What was in its way is over.
+        // On a key of the pass, it answers as a map that has the pass's keys, which becomes the map after the call. On
+        // any key, the answer is that of one thread at one point of the call, in every run. A call without an answer
+        // changes nothing in any run: `Busy` is returned only after as many hindrances as tries, and `Spent` only if no
+        // card is left. What was in its way is over.
         ensures ends { Ends self.now tries (Delete key) pass.old pass.new (replied (whether result)) }
-        // The value is the one that it took: of a key of the pass the value that the pass had, of any key the one that
-        // it had at the call's point, in every run.
+        // The value is the one that it took: for a key of the pass, the value that the pass had; for any key, the one
+        // that it had at the call's point, in every run.
         ensures took { IfOk result (TakesValue self.now key pass.old pass.new) }
-        // A `Busy` call counts each of its tries as hindered. Each shows the pass a milestone that it did not know, and in
-        // every run they are no more than others' acts allow.
+        // A `Busy` call counts each of its tries as hindered. Each shows the pass a milestone that it did not know, and
+        // in every run they are no more than others' acts allow.
         ensures others { result ≡ Err Busy → IsOthersDoing self.now tries pass.old pass.new }
         // It makes at most `tries * (7 * cards + 27) + 1` steps, and also at most `7 * cards + 28`, and `7 * cards +
         // 27` for each milestone that the pass comes to know. It counts at most `tries` tries.
@@ -719,7 +733,8 @@ impl<A: Allocator + Copy> Tree<A> {
         Ok(change(&self.table, pass, Op::Delete(key), tries, gate)?)
     }
 
-    /// A law, the contract of a function that does nothing: a pass of the tree knows of two milestones of each card at most, whatever it did.
+    /// A law, the contract of a function that does nothing: a pass of the tree knows of at most two milestones of each
+    /// card, whatever it did.
     pub fn known_milestones_are_few(&self, pass: &Pass<A>)
         requires own { pass.now.table ≡ self.now.id }
         // A pass knows of at most `2 * cards` milestones.
@@ -728,16 +743,17 @@ impl<A: Allocator + Copy> Tree<A> {
         self.table.claims_stay_inside(pass);
     }
 
-    /// Ends the tree, by a pass that owns each key that may have an owner, and, if the other keys are shared, has the whole share: the keys
-    /// that are present with their values, the keys strictly ascending. Where memory is refused, tree and pass come back as they were.
+    /// Ends the tree, given a pass that owns each key that may have an owner, and, if the other keys are shared, has
+    /// the whole share. Returns the keys that are present with their values, the keys strictly ascending. If an
+    /// allocation fails, tree and pass come back as they were.
     pub fn close(self, pass: Pass<A>) -> Result<Vec<(u64, u64), A>, (Tree<A>, Pass<A>, NoMemory)>
         requires may { IsIdlePassOf self pass }
         requires all { All (λ k. Owns pass k) self.plan.keys }
         requires whole { self.plan.shared ≡ true → pass.view.share ≡ whole_share }
         // The pairs are those of the tree to which a run led, strictly ascending by their keys: of the keys that may
-        // have an owner those that the pass has present, and beside these shared ones alone.
+        // have an owner, those that the pass has present, and besides these only shared ones.
         ensures pairs { IfOk result (λ pairs. ClosesTo self pass pairs.items) }
-        // If memory is refused, tree and pass come back as they were.
+        // If an allocation fails, tree and pass come back as they were.
         ensures refused { IfErr result (λ refused. (refused.0 ≡ self) × (refused.1 ≡ pass)) }
     {
         let places = self.table.last_card() as usize + 2;
@@ -751,7 +767,7 @@ impl<A: Allocator + Copy> Tree<A> {
     }
 }
 
-// Two empty lists, with room for so many nodes and so many keys with their values.
+// Two empty lists, with room for the given numbers of nodes and of keys with their values.
 fn empty_lists<A: Allocator + Copy>(
     alloc: A,
     nodes: usize,

@@ -29,7 +29,7 @@ pub(crate) enum Tried {
     Hindered,
 }
 
-/// What came of asking for a card.
+/// The outcome of asking for a card.
 #[derive(Clone, Copy)]
 pub(crate) enum Claimed {
     Card(u64),

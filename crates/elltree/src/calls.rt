@@ -12,7 +12,7 @@ use crate::slot::Slot;
 use ell_handle::{Handle, Refusal};
 use std::alloc::Global;
 
-/// Whether a key of the slot's is present, and its value.
+/// Returns whether a key of the slot's is present, and writes its value.
 #[unsafe(no_mangle)]
 pub extern "C" fn elltree_slot_find(
     alloc: Global,
@@ -20,11 +20,11 @@ pub extern "C" fn elltree_slot_find(
     key: u64,
     value: &mut u64,
 ) -> i32
-    // `CLOSED` comes exactly if the slot has no handle.
+    // `CLOSED` is returned exactly if the slot has no handle.
     ensures closed { (result ≡ said_closed) ↔ (handle_of slot.old.raw.inside ≡ None) }
-    // The answer is that of the handle's `find`: yes, and the value is written, or no; on an owned key as its map has
-    // it. `FOREIGN` comes exactly for a key neither owned nor shared, and no other code does. Keys, map and tree stay,
-    // and it keeps to the handle's bound on steps.
+    // The answer is that of the handle's `find`: yes, and the value is written, or no; on an owned key, as its map has
+    // it. `FOREIGN` is returned exactly for a key that is neither owned nor shared, and no other code is returned.
+    // Keys, map and tree stay the same, and it keeps to the handle's bound on steps.
     ensures tells { OfHandlesIfAny (TellsFind key result value.new) (handle_of slot.old.raw.inside)
         (handle_of slot.new.raw.inside) }
     // The value is written only with yes.
@@ -36,7 +36,8 @@ pub extern "C" fn elltree_slot_find(
     tell_value(answer, value)
 }
 
-/// Whether any key of the slot's tree is present, whoever owns it, and its value: as it was in one state of the tree during the call.
+/// Returns whether any key of the slot's tree is present, whichever slot owns it, and writes its value: as they were in
+/// one state of the tree during the call.
 #[unsafe(no_mangle)]
 pub extern "C" fn elltree_slot_look(
     alloc: Global,
@@ -44,11 +45,11 @@ pub extern "C" fn elltree_slot_look(
     key: u64,
     value: &mut u64,
 ) -> i32
-    // `CLOSED` comes exactly if the slot has no handle.
+    // `CLOSED` is returned exactly if the slot has no handle.
     ensures closed { (result ≡ said_closed) ↔ (handle_of slot.old.raw.inside ≡ None) }
-    // The answer is that of the handle's `look`: yes, and the value is written, or no; on an owned key as its map has
-    // it. `BAD_KEY` comes exactly for a key above the greatest one, and no other code does. Keys, map and tree stay,
-    // and it keeps to the handle's bound on steps.
+    // The answer is that of the handle's `look`: yes, and the value is written, or no; on an owned key, as its map has
+    // it. `BAD_KEY` is returned exactly for a key above the greatest one, and no other code is returned. Keys, map and
+    // tree stay the same, and it keeps to the handle's bound on steps.
     ensures tells { OfHandlesIfAny (TellsLook key result value.new) (handle_of slot.old.raw.inside)
         (handle_of slot.new.raw.inside) }
     // The value is written only with yes.
@@ -60,7 +61,7 @@ pub extern "C" fn elltree_slot_look(
     tell_value(answer, value)
 }
 
-// What a find, a look or a take has answered, as a code: a value that was found is written.
+// What a find, a look or a take has answered, as a code. A value that was found is written.
 fn tell_value(answer: Result<Option<u64>, Refusal>, value: &mut u64) -> i32
     ensures yes { result ≡ said_yes → answer ≡ Ok (Some value.new) }
     ensures no { result ≡ said_no → answer ≡ Ok None }
@@ -80,7 +81,7 @@ fn tell_value(answer: Result<Option<u64>, Refusal>, value: &mut u64) -> i32
     }
 }
 
-/// Adds a key of the slot's with its value: whether the key was absent. A key that is present keeps its value.
+/// Adds a key of the slot's with its value. Returns whether the key was absent. A key that is present keeps its value.
 #[unsafe(no_mangle)]
 pub extern "C" fn elltree_slot_insert(
     alloc: Global,
@@ -89,12 +90,12 @@ pub extern "C" fn elltree_slot_insert(
     value: u64,
     tries: u32,
 ) -> i32
-    // `CLOSED` comes exactly if the slot has no handle.
+    // `CLOSED` is returned exactly if the slot has no handle.
     ensures closed { (result ≡ said_closed) ↔ (handle_of slot.old.raw.inside ≡ None) }
-    // The answer is that of the handle's call, yes or no, on an owned key as of its map. `NO_TRIES` comes exactly
-    // without tries, then `FOREIGN` exactly for a key neither owned nor shared, then `BUSY` and `SPENT` as the
-    // handle's; no other code does. Keys and tree stay, and after refusals the map. It keeps to the handle's bounds on
-    // steps, tries and cards.
+    // The answer is that of the handle's call, yes or no; on an owned key, it is that of its map. `NO_TRIES` is
+    // returned exactly if no try is allowed, then `FOREIGN` exactly for a key that is neither owned nor shared, then
+    // `BUSY` and `SPENT` as the handle's; no other code is returned. Keys and tree stay the same, and after refusals so
+    // does the map. It keeps to the handle's bounds on steps, tries and cards.
     ensures tells { OfHandlesIfAny (TellsChange (Insert key value) tries result) (handle_of slot.old.raw.inside)
         (handle_of slot.new.raw.inside) }
 {
@@ -102,15 +103,15 @@ pub extern "C" fn elltree_slot_insert(
         .unwrap_or(CLOSED)
 }
 
-/// Takes a key of the slot's away, with its value: whether it was present.
+/// Deletes a key of the slot's, with its value. Returns whether the key was present.
 #[unsafe(no_mangle)]
 pub extern "C" fn elltree_slot_delete(alloc: Global, slot: &mut Slot, key: u64, tries: u32) -> i32
-    // `CLOSED` comes exactly if the slot has no handle.
+    // `CLOSED` is returned exactly if the slot has no handle.
     ensures closed { (result ≡ said_closed) ↔ (handle_of slot.old.raw.inside ≡ None) }
-    // The answer is that of the handle's call, yes or no, on an owned key as of its map. `NO_TRIES` comes exactly
-    // without tries, then `FOREIGN` exactly for a key neither owned nor shared, then `BUSY` and `SPENT` as the
-    // handle's; no other code does. Keys and tree stay, and after refusals the map. It keeps to the handle's bounds on
-    // steps, tries and cards.
+    // The answer is that of the handle's call, yes or no; on an owned key, it is that of its map. `NO_TRIES` is
+    // returned exactly if no try is allowed, then `FOREIGN` exactly for a key that is neither owned nor shared, then
+    // `BUSY` and `SPENT` as the handle's; no other code is returned. Keys and tree stay the same, and after refusals so
+    // does the map. It keeps to the handle's bounds on steps, tries and cards.
     ensures tells { OfHandlesIfAny (TellsChange (Delete key) tries result) (handle_of slot.old.raw.inside)
         (handle_of slot.new.raw.inside) }
 {
@@ -118,7 +119,8 @@ pub extern "C" fn elltree_slot_delete(alloc: Global, slot: &mut Slot, key: u64, 
         .unwrap_or(CLOSED)
 }
 
-/// Takes a key of the slot's away: whether it was present, and then the value that was taken is written. Nobody else took that value.
+/// Deletes a key of the slot's. Returns whether the key was present; if it was, the value that was taken is written. No
+/// other call took that value.
 #[unsafe(no_mangle)]
 pub extern "C" fn elltree_slot_take(
     alloc: Global,
@@ -127,7 +129,7 @@ pub extern "C" fn elltree_slot_take(
     tries: u32,
     taken: &mut u64,
 ) -> i32
-    // `CLOSED` comes exactly if the slot has no handle.
+    // `CLOSED` is returned exactly if the slot has no handle.
     ensures closed { (result ≡ said_closed) ↔ (handle_of slot.old.raw.inside ≡ None) }
     // The code is that of a delete. With yes the value that is written was taken.
     ensures tells { OfHandlesIfAny (TellsTake key tries result taken.new) (handle_of slot.old.raw.inside)

@@ -1,4 +1,4 @@
-//! What the exported functions answer.
+//! What the exported functions return.
 ghost use Rattle.std.specs.Prelude.{◌≡◌, ◌≢◌};
 ghost use Rattle.ell_handle.specs.declared.refusal.Refusal.TheVariants.{Foreign, NoTries, Busy, Spent, BadCards, BadKey, BadStart, NoMemory, OtherTree, SharedKeys, TooManyHandles};
 ghost use Rattle.elltree.specs.Codes.{code_of, said_bad_cards, said_bad_key, said_bad_start, said_busy, said_closed, said_foreign, said_no, said_no_memory, said_no_room, said_no_tries, said_open, said_other_tree, said_other_value, said_shared_keys, said_spent, said_too_many, said_yes};
@@ -35,7 +35,7 @@ pub const OPEN: i32 = -11;
 
 pub const OTHER_TREE: i32 = -12;
 
-// What header and bindings answer before a call: no exported function gives one of these three.
+// What the header and the bindings return before a call. No exported function returns one of these three.
 pub const NULL: i32 = -13;
 
 pub const SAME: i32 = -14;

@@ -1,4 +1,4 @@
-//! How slots of one tree of shared keys come to fresh cards together.
+//! How slots of one tree of shared keys get fresh cards together.
 ghost use Rattle.std.specs.Prelude.{◌≡◌, ◌≢◌, ◌<◌, ◌∷◌, Some, length, slice_get};
 ghost use Rattle.std.specs.List.{All, AllZip};
 ghost use Rattle.ell_handle.specs.Fresh.{AreRenewedShared};
@@ -14,9 +14,9 @@ use crate::slot::Slot;
 use ell_handle::{Handle, renew_all_shared};
 use std::alloc::Global;
 
-/// Gives slots of one tree of shared keys a new one of so many cards. It begins with what a scan of the old one finds, which is all that is
-/// there, unless a slot of the old tree changes a key meanwhile. The old tree stays with its other slots. Trees that are open at once have
-/// different numbers.
+/// Gives slots of one tree of shared keys a new tree with the given number of cards. It begins with what a scan of the
+/// old one finds, which is all that is there, unless a slot of the old tree changes a key in the meantime. The old tree
+/// stays with its other slots. Trees that are open at once have different numbers.
 #[unsafe(no_mangle)]
 pub extern "C" fn elltree_slots_renew_shared(
     alloc: Global,
@@ -27,8 +27,9 @@ pub extern "C" fn elltree_slots_renew_shared(
     // The slots move to one new tree, as by the handles' `renew_all_shared`.
     ensures renewed { result ≡ said_yes → (first : Handle) → slice_get (handles_in slots.old) 0 ≡ Some first →
         AreRenewedShared first cards number (handles_in slots.new) }
-    // `OTHER_TREE`, `BAD_START` and `BAD_CARDS` come only if it is so, and `CLOSED` only if a slot has no handle;
-    // `NO_MEMORY` may come before all else. A call that is refused moves no slot, and none is refused without slots.
+    // `OTHER_TREE`, `BAD_START` and `BAD_CARDS` are returned only if they apply, and `CLOSED` only if a slot has no
+    // handle; `NO_MEMORY` may be returned before all else. A call that is refused moves no slot, and none is refused
+    // without slots.
     ensures says { SaysOfShared cards result (handles_in slots.old) }
     ensures closed { result ≡ said_closed → ¬ All HasHandle slots.old }
     ensures held { result ≢ said_closed → result ≢ said_no_memory → All HasHandle slots.old }

@@ -1,4 +1,4 @@
-//! How slots of one tree come to fresh cards together.
+//! How slots of one tree get fresh cards together.
 ghost use Rattle.std.specs.Prelude.{◌≡◌, ◌≢◌, ◌<◌, ◌≤◌, [], ◌∷◌, None, true, false, length, vec_capacity, IfSome, OnSome};
 ghost use Rattle.std.specs.List.{All, AllZip};
 ghost use Rattle.ell_handle.specs.Groups.{AreRenewed, HasSame, StaysPut};
@@ -11,8 +11,9 @@ use crate::slot::Slot;
 use ell_handle::{Handle, renew_all};
 use std::alloc::Global;
 
-/// Gives slots of one tree a new tree of so many cards, each with the keys that it owns, which are present or absent as they were. The old
-/// tree stays with its other slots. Trees that are open at once have different numbers.
+/// Gives slots of one tree a new tree with the given number of cards, each with the keys that it owns, which are
+/// present or absent as they were. The old tree stays with its other slots. Trees that are open at once have different
+/// numbers.
 #[unsafe(no_mangle)]
 pub extern "C" fn elltree_slots_renew(
     alloc: Global,
@@ -25,9 +26,9 @@ pub extern "C" fn elltree_slots_renew(
     // The slots move to one new tree, as by the handles' `renew_all`.
     ensures renewed { result ≡ said_yes → 0 < length slots.old →
         AreRenewed (handles_in slots.old) cards number (handles_in slots.new) }
-    // `OTHER_TREE`, `SHARED_KEYS`, `BAD_START` and `BAD_CARDS` come only if it is so, and `CLOSED` only if a slot has
-    // no handle; `NO_MEMORY` may come before all else. A call that is refused moves no slot, and none is refused
-    // without slots.
+    // `OTHER_TREE`, `SHARED_KEYS`, `BAD_START` and `BAD_CARDS` are returned only if they apply, and `CLOSED` only if a
+    // slot has no handle; `NO_MEMORY` may be returned before all else. A call that is refused moves no slot, and none
+    // is refused without slots.
     ensures says { SaysOfAll cards result (handles_in slots.old) }
     ensures closed { result ≡ said_closed → ¬ All HasHandle slots.old }
     ensures held { result ≢ said_closed → result ≢ said_no_memory → All HasHandle slots.old }
@@ -50,7 +51,7 @@ pub extern "C" fn elltree_slots_renew(
     code
 }
 
-// Takes the handles out of slots, up to the first slot that has none: whether all have one.
+// Takes the handles out of slots, up to the first slot that has none. Returns whether all have one.
 pub(crate) fn take_all(alloc: Global, slots: &mut [Slot], handles: &mut Vec<Handle>) -> bool
     requires none { handles.old.items ≡ [] }
     requires room { length slots.old ≤ vec_capacity handles.old }

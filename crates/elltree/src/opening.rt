@@ -1,4 +1,4 @@
-//! How slots open, part, come together and close.
+//! How slots are opened, split, joined and closed.
 ghost use Rattle.std.specs.Prelude.{◌≡◌, ◌≢◌, ◌↔◌, true, None, IfOk, IfErr, OnErr, [], ◌∷◌};
 ghost use Rattle.ell_handle.specs.Opens.{RefusesTree};
 ghost use Rattle.elltree.specs.Codes.{IsOneOf, said_closed, said_open, said_yes};
@@ -13,8 +13,8 @@ use crate::starting::why_refused;
 use ell_handle::{Handle, HandlePlace, Refusal};
 use std::alloc::{AllocError, Global};
 
-/// Opens a tree of so many cards over these keys and the start keys, which are present with their values. The slot then owns all keys.
-/// Trees that are open at once have different numbers.
+/// Opens a tree with the given number of cards over these keys and the start keys, which are present with their values.
+/// The slot then owns all keys. Trees that are open at once have different numbers.
 #[unsafe(no_mangle)]
 pub extern "C" fn elltree_slot_open(
     alloc: Global,
@@ -27,10 +27,10 @@ pub extern "C" fn elltree_slot_open(
     // With yes the slot has a handle as `Handle::open` makes it, with the cards and the number asked for.
     ensures opened { result ≡ said_yes →
         OfHandle (BeginsWith keys.now (as_pairs start.now) cards number) (handle_of slot.new.raw.inside) }
-    // `BAD_START`, `BAD_KEY` and `BAD_CARDS` come only as the refusals of `Handle::open`, and `NO_MEMORY` only if none
-    // of these is so.
+    // `BAD_START`, `BAD_KEY` and `BAD_CARDS` are returned only as the refusals of `Handle::open`, and `NO_MEMORY` only
+    // if none of these applies.
     ensures why { SaysWhyShut keys.now (as_pairs start.now) cards result }
-    // `OPEN` comes exactly if the slot is open. A call that is refused leaves it as it was.
+    // `OPEN` is returned exactly if the slot is open. A call that is refused leaves it as it was.
     ensures busy { (result ≡ said_open) ↔ (slot.old.is_open ≡ true) }
     ensures refused { result ≢ said_yes → slot.new.raw.inside ≡ slot.old.raw.inside }
 {
@@ -84,11 +84,11 @@ pub extern "C" fn elltree_slot_split(
     into: &mut Slot,
     keys: &[u64],
 ) -> i32
-    // `OPEN` comes exactly if the other slot is open.
+    // `OPEN` is returned exactly if the other slot is open.
     ensures busy { (result ≡ said_open) ↔ (into.old.is_open ≡ true) }
-    // With yes the slots have the parts that the handle's `split` makes, which are of one tree and may join. `CLOSED`
-    // comes exactly if the slot has no handle, then `FOREIGN` exactly if a key is not owned, then `TOO_MANY_HANDLES`
-    // exactly if the share is the least one, and else `NO_MEMORY` alone.
+    // With yes the slots have the parts that the handle's `split` makes, which are of one tree and may be joined.
+    // `CLOSED` is returned exactly if the slot has no handle, then `FOREIGN` exactly if a key is not owned, then
+    // `TOO_MANY_HANDLES` exactly if the share is the least one, and otherwise only `NO_MEMORY`.
     ensures tells { result ≢ said_open → TellsSplit keys.now result (handle_of from.old.raw.inside)
         (handle_of into.new.raw.inside) (handle_of from.new.raw.inside) }
     // A call that is refused leaves both slots as they were.
@@ -112,7 +112,7 @@ pub extern "C" fn elltree_slot_split(
     code
 }
 
-// Parts the handle of a place: the part with these keys, in a box of its own, or a code.
+// Splits the handle of a place. Returns the part with these keys, in a box of its own, or a code.
 fn split(
     alloc: Global,
     place: &mut HandlePlace,
@@ -151,14 +151,14 @@ fn split(
     }
 }
 
-/// Gives all keys of a slot, which is closed by it, to another slot of the same tree. Trees are told apart by the numbers that they
-/// were opened with.
+/// Gives all keys of a slot to another slot of the same tree, and closes the first. Trees are told apart by the numbers
+/// that they were opened with.
 #[unsafe(no_mangle)]
 pub extern "C" fn elltree_slot_join(alloc: Global, into: &mut Slot, from: &mut Slot) -> i32
     requires numbers { NumbersTell (handle_of into.old.raw.inside) (handle_of from.old.raw.inside) }
-    // With yes the slot has the keys and the shares of both. `CLOSED` comes exactly if a slot has no handle, then
-    // `OTHER_TREE` exactly if the numbers of the trees differ, or one alone shares keys, and else `NO_MEMORY` alone.
-    // The slot keeps its tree.
+    // With yes the slot has the keys and the shares of both. `CLOSED` is returned exactly if a slot has no handle, then
+    // `OTHER_TREE` exactly if the numbers of the trees differ, or only one of them shares keys, and otherwise only
+    // `NO_MEMORY`. The slot keeps its tree.
     ensures tells { TellsJoin result (handle_of into.old.raw.inside) (handle_of from.old.raw.inside)
         (handle_of into.new.raw.inside) }
     // With yes the other slot is empty.
@@ -182,7 +182,7 @@ pub extern "C" fn elltree_slot_join(alloc: Global, into: &mut Slot, from: &mut S
     code
 }
 
-// Joins the handles of two places in the first.
+// Joins the handles of two places into the first.
 fn join(place: &mut HandlePlace, added: &mut HandlePlace) -> i32
     requires numbers { NumbersTell place.old.handle added.old.handle }
     ensures tells { TellsJoin result place.old.handle added.old.handle place.new.handle }
@@ -209,10 +209,11 @@ fn join(place: &mut HandlePlace, added: &mut HandlePlace) -> i32
     }
 }
 
-/// Closes a slot. The tree goes with its last slot; keys of a slot that is closed are no other's, and are read by looks alone.
+/// Closes a slot. The tree goes with its last slot; the keys of a closed slot belong to no other slot, and only looks
+/// read them.
 #[unsafe(no_mangle)]
 pub extern "C" fn elltree_slot_free(alloc: Global, slot: &mut Slot) -> i32
-    // It leaves the slot empty. `CLOSED` comes exactly if the slot was empty before, and else yes.
+    // It leaves the slot empty. It returns `CLOSED` exactly if the slot was empty before, and otherwise yes.
     ensures closed { slot.new.raw.inside ≡ None }
     ensures none { (result ≡ said_closed) ↔ (slot.old.raw.inside ≡ None) }
     ensures codes { IsOneOf (said_yes ∷ said_closed ∷ []) result }

@@ -11,9 +11,9 @@ use crate::slot::Slot;
 use ell_handle::Handle;
 use std::alloc::Global;
 
-/// Writes the pairs of the keys from `from` on and below `upto`, whoever owns them, ascending, as far as there is room,
-/// how many they are, and the key where to go on: `upto`, if the range is told to its end. Each key is told as it was
-/// in one state of the tree during the call: two keys may be of two states.
+/// Writes the pairs of the keys that are at least `from` and below `upto`, whichever slot owns them, ascending, as far
+/// as there is room, the number of pairs written, and the key at which to continue: `upto`, if the range is written to
+/// its end. Each key is reported as it was in one state of the tree during the call: two keys may be of two states.
 #[unsafe(no_mangle)]
 pub extern "C" fn elltree_slot_range(
     alloc: Global,
@@ -24,14 +24,14 @@ pub extern "C" fn elltree_slot_range(
     count: &mut usize,
     next: &mut u64,
 ) -> i32
-    // `CLOSED` comes exactly if the slot has no handle.
+    // `CLOSED` is returned exactly if the slot has no handle.
     ensures closed { (result ≡ said_closed) ↔ (handle_of slot.old.raw.inside ≡ None) }
-    // The answer is that of the handle's `scan`, always with yes: the pairs, how many they are, and where to go on,
-    // which is the end of the range, or the array is full. The rest of the array stays. Keys, map and tree stay, and it
-    // keeps to the handle's bound on steps.
+    // The answer is that of the handle's `scan`, always with yes: the pairs, their number, and where to continue, which
+    // is the end of the range, or the array is full. The rest of the array is unchanged. Keys, map and tree stay the
+    // same, and it keeps to the handle's bound on steps.
     ensures tells { OfHandlesIfAny (TellsRange from upto result count.new next.new out.old out.new)
         (handle_of slot.old.raw.inside) (handle_of slot.new.raw.inside) }
-    // Nothing is written but with yes.
+    // Nothing is written except with yes.
     ensures kept { result ≢ said_yes → (out.new ≡ out.old) × ((count.new ≡ count.old) × (next.new ≡ next.old)) }
 {
     let Some(mut place) = slot.take(alloc) else {
@@ -62,8 +62,8 @@ fn range(
     YES
 }
 
-/// Whether a key from `key` on is present, whoever owns it, and the least of them with its value: it was present in one
-/// state of the tree during the call, and each key before it was absent in one.
+/// Returns whether a key that is at least `key` is present, whichever slot owns it, and writes the least of them with
+/// its value: it was present in one state of the tree during the call, and each key before it was absent in one.
 #[unsafe(no_mangle)]
 pub extern "C" fn elltree_slot_next_at_least(
     alloc: Global,
@@ -72,10 +72,10 @@ pub extern "C" fn elltree_slot_next_at_least(
     found: &mut u64,
     value: &mut u64,
 ) -> i32
-    // `CLOSED` comes exactly if the slot has no handle.
+    // `CLOSED` is returned exactly if the slot has no handle.
     ensures closed { (result ≡ said_closed) ↔ (handle_of slot.old.raw.inside ≡ None) }
     // The answer is that of the handle's call: yes, and the key and its value are written, or no. Keys, map and tree
-    // stay, and it keeps to the handle's bound on steps.
+    // stay the same, and it keeps to the handle's bound on steps.
     ensures tells { OfHandlesIfAny (TellsNext key result found.new value.new) (handle_of slot.old.raw.inside)
         (handle_of slot.new.raw.inside) }
     // Key and value are written only with yes.
@@ -87,8 +87,8 @@ pub extern "C" fn elltree_slot_next_at_least(
     tell_pair(there, found, value)
 }
 
-/// Whether a key up to `key` is present, whoever owns it, and the greatest of them with its value: it was present in
-/// one state of the tree during the call, and each key after it was absent in one.
+/// Returns whether a key that is at most `key` is present, whichever slot owns it, and writes the greatest of them with
+/// its value: it was present in one state of the tree during the call, and each key after it was absent in one.
 #[unsafe(no_mangle)]
 pub extern "C" fn elltree_slot_last_at_most(
     alloc: Global,
@@ -97,10 +97,10 @@ pub extern "C" fn elltree_slot_last_at_most(
     found: &mut u64,
     value: &mut u64,
 ) -> i32
-    // `CLOSED` comes exactly if the slot has no handle.
+    // `CLOSED` is returned exactly if the slot has no handle.
     ensures closed { (result ≡ said_closed) ↔ (handle_of slot.old.raw.inside ≡ None) }
     // The answer is that of the handle's call: yes, and the key and its value are written, or no. Keys, map and tree
-    // stay, and it keeps to the handle's bound on steps.
+    // stay the same, and it keeps to the handle's bound on steps.
     ensures tells { OfHandlesIfAny (TellsLast key result found.new value.new) (handle_of slot.old.raw.inside)
         (handle_of slot.new.raw.inside) }
     // Key and value are written only with yes.
@@ -112,7 +112,7 @@ pub extern "C" fn elltree_slot_last_at_most(
     tell_pair(there, found, value)
 }
 
-// What was found, as a code: it is written.
+// What was found, as a code. It is written.
 fn tell_pair(there: Option<(u64, u64)>, found: &mut u64, value: &mut u64) -> i32
     ensures codes { IsOneOf (said_yes ∷ said_no ∷ []) result }
     ensures yes { result ≡ said_yes → there ≡ Some (found.new, value.new) }

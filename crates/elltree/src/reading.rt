@@ -12,8 +12,8 @@ use crate::slot::Slot;
 use ell_handle::Handle;
 use std::alloc::Global;
 
-/// Writes the pairs of the slot's keys that are present, ascending, and how many they are. Where there is no room for all, `count` is as it
-/// was, and the first of them are written.
+/// Writes the pairs of the slot's keys that are present, ascending, and how many there are. If there is no room for
+/// all, `count` is as it was, and the first of them are written.
 #[unsafe(no_mangle)]
 pub extern "C" fn elltree_slot_pairs(
     alloc: Global,
@@ -21,13 +21,14 @@ pub extern "C" fn elltree_slot_pairs(
     out: &mut [Pair],
     count: &mut usize,
 ) -> i32
-    // `CLOSED` comes exactly if the slot has no handle.
+    // `CLOSED` is returned exactly if the slot has no handle.
     ensures closed { (result ≡ said_closed) ↔ (handle_of slot.old.raw.inside ≡ None) }
-    // With yes the pairs of the slot's map are written, strictly ascending, and how many they are; the rest of the
-    // array stays. `NO_ROOM` comes exactly if they are more than there is room for. Keys, map and tree stay.
+    // With yes, the pairs of the slot's map are written, strictly ascending, and how many there are; the rest of the
+    // array is unchanged. `NO_ROOM` is returned exactly if there are more than there is room for. Keys, map and tree
+    // stay the same.
     ensures tells { OfHandlesIfAny (TellsPairs result count.new out.old out.new) (handle_of slot.old.raw.inside)
         (handle_of slot.new.raw.inside) }
-    // How many they are is written only with yes.
+    // The number of pairs is written only with yes.
     ensures count { result ≢ said_yes → count.new ≡ count.old }
 {
     let Some(mut place) = slot.take(alloc) else {
@@ -60,7 +61,8 @@ fn pairs(handle: &mut Handle, out: &mut [Pair], count: &mut usize) -> i32
     YES
 }
 
-/// Writes the keys that the slot owns, ascending, and how many they are. Where there is no room for all, nothing is written.
+/// Writes the keys that the slot owns, ascending, and how many there are. If there is no room for all, nothing is
+/// written.
 #[unsafe(no_mangle)]
 pub extern "C" fn elltree_slot_keys(
     alloc: Global,
@@ -68,12 +70,12 @@ pub extern "C" fn elltree_slot_keys(
     out: &mut [u64],
     count: &mut usize,
 ) -> i32
-    // `CLOSED` comes exactly if the slot has no handle.
+    // `CLOSED` is returned exactly if the slot has no handle.
     ensures closed { (result ≡ said_closed) ↔ (handle_of slot.old.raw.inside ≡ None) }
-    // With yes the keys of the slot are written, strictly ascending, and how many they are; the rest of the array
-    // stays. `NO_ROOM` comes only if they are more than there is room for.
+    // With yes, the keys of the slot are written, strictly ascending, and how many there are; the rest of the array is
+    // unchanged. `NO_ROOM` is returned only if there are more than there is room for.
     ensures tells { OfHandleIfAny (TellsKeys result count.new out.old out.new) (handle_of slot.old.raw.inside) }
-    // Nothing is written but with yes. The slot stays as it was.
+    // Nothing is written except with yes. The slot stays as it was.
     ensures kept { result ≢ said_yes → (out.new ≡ out.old) × (count.new ≡ count.old) }
     ensures same { slot.new.raw.inside ≡ slot.old.raw.inside }
 {
@@ -112,7 +114,7 @@ fn write_keys(keys: &[u64], out: &mut [u64])
     }
 }
 
-/// How many keys the slot owns.
+/// Writes how many keys the slot owns.
 #[unsafe(no_mangle)]
 pub extern "C" fn elltree_slot_owned(alloc: Global, slot: &mut Slot, count: &mut usize) -> i32
     // With yes it writes how many keys the slot owns.
@@ -129,7 +131,7 @@ pub extern "C" fn elltree_slot_owned(alloc: Global, slot: &mut Slot, count: &mut
     YES
 }
 
-/// The atomic steps that were made through the slot's handle, and through those that it came from, in a row.
+/// Writes how many atomic steps were made in a row through the slot's handle, and through those that it came from.
 #[unsafe(no_mangle)]
 pub extern "C" fn elltree_slot_steps(alloc: Global, slot: &mut Slot, steps: &mut u64) -> i32
     // With yes it writes how many steps the slot counts in a row.
@@ -146,14 +148,15 @@ pub extern "C" fn elltree_slot_steps(alloc: Global, slot: &mut Slot, steps: &mut
     YES
 }
 
-/// How many cards of the slot's tree are not given out yet, 0 if all are: as it was at one step of the call. No more are left in this tree ever
-/// after.
+/// Writes how many cards of the slot's tree are not given out yet, 0 if all are: the number at one step of the call. No
+/// more than that are ever left in this tree afterwards.
 #[unsafe(no_mangle)]
 pub extern "C" fn elltree_slot_cards_left(alloc: Global, slot: &mut Slot, left: &mut u64) -> i32
     // With yes it writes how many cards are left, as the handle tells it.
     ensures left { result ≡ said_yes →
         OfHandles (TellsCardsLeft left.new) (handle_of slot.old.raw.inside) (handle_of slot.new.raw.inside) }
-    // It answers yes, or `CLOSED` if the slot has no handle, and then nothing is written. Keys, map and tree stay.
+    // It answers yes, or `CLOSED` if the slot has no handle, and then nothing is written. Keys, map and tree stay the
+    // same.
     ensures says { SaysIfAny (handle_of slot.old.raw.inside) result }
     ensures kept { result ≢ said_yes → left.new ≡ left.old }
     ensures reads { OfHandlesIfAny OnlyAsks (handle_of slot.old.raw.inside) (handle_of slot.new.raw.inside) }

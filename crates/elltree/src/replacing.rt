@@ -10,8 +10,8 @@ use crate::slot::Slot;
 use ell_handle::{Handle, Refusal};
 use std::alloc::Global;
 
-/// Stores `new` as the value of a key of the slot's if its value is `current`: whether it was exchanged, and else
-/// whether the key is absent or has another value. The value that was found is written, if there was one.
+/// Stores `new` as the value of a key of the slot's if its value is `current`. Returns whether it was exchanged, and if
+/// not, whether the key is absent or has another value. The value that was found is written, if there was one.
 #[unsafe(no_mangle)]
 pub extern "C" fn elltree_slot_compare_exchange(
     alloc: Global,
@@ -22,12 +22,12 @@ pub extern "C" fn elltree_slot_compare_exchange(
     tries: u32,
     found: &mut u64,
 ) -> i32
-    // `CLOSED` comes exactly if the slot has no handle.
+    // `CLOSED` is returned exactly if the slot has no handle.
     ensures closed { (result ≡ said_closed) ↔ (handle_of slot.old.raw.inside ≡ None) }
     // The answer is that of the handle's `compare_exchange`: yes if the key had the expected value, no if it is absent,
-    // or `OTHER_VALUE`, and the value is written. `NO_TRIES` comes exactly without tries, then `FOREIGN` exactly for a
-    // key neither owned nor shared, then `BUSY` and `SPENT` as the handle's. Keys and tree stay, and after refusals the
-    // map. It keeps to the handle's bounds on steps, tries and cards.
+    // or `OTHER_VALUE`, and the value is written. `NO_TRIES` is returned exactly if no try is allowed, then `FOREIGN`
+    // exactly for a key that is neither owned nor shared, then `BUSY` and `SPENT` as the handle's. Keys and tree stay
+    // the same, and after refusals so does the map. It keeps to the handle's bounds on steps, tries and cards.
     ensures tells { OfHandlesIfAny (TellsExchange key current new tries result found.new) (handle_of slot.old.raw.inside)
         (handle_of slot.new.raw.inside) }
     // The value is written only with yes and `OTHER_VALUE`.
@@ -60,7 +60,7 @@ fn compare_exchange(
     tell_exchange(handle.compare_exchange(key, current, new, tries), found)
 }
 
-// What a compare-exchange has answered, as a code: a value that was found is written.
+// What a compare-exchange has answered, as a code. A value that was found is written.
 fn tell_exchange(answer: Result<Result<u64, Option<u64>>, Refusal>, found: &mut u64) -> i32
     ensures yes { result ≡ said_yes → answer ≡ Ok (Ok found.new) }
     ensures no { result ≡ said_no → answer ≡ Ok (Err None) }
@@ -83,8 +83,8 @@ fn tell_exchange(answer: Result<Result<u64, Option<u64>>, Refusal>, found: &mut 
     }
 }
 
-/// Stores a value of a key of the slot's, whether the key was present or not: whether it was, and then the value that
-/// it had is written.
+/// Stores a value of a key of the slot's, whether the key was present or not. Returns whether it was; if it was, the
+/// value that it had is written.
 #[unsafe(no_mangle)]
 pub extern "C" fn elltree_slot_put(
     alloc: Global,
@@ -94,12 +94,12 @@ pub extern "C" fn elltree_slot_put(
     tries: u32,
     was: &mut u64,
 ) -> i32
-    // `CLOSED` comes exactly if the slot has no handle.
+    // `CLOSED` is returned exactly if the slot has no handle.
     ensures closed { (result ≡ said_closed) ↔ (handle_of slot.old.raw.inside ≡ None) }
-    // The answer is that of the handle's `put`: yes, and the old value is written, if the key was present, else no.
-    // `NO_TRIES` comes exactly without tries, then `FOREIGN` exactly for a key neither owned nor shared, then `BUSY`
-    // and `SPENT` as the handle's. Keys and tree stay, and after refusals the map. It keeps to the handle's bounds on
-    // steps, tries and cards.
+    // The answer is that of the handle's `put`: yes, and the old value is written, if the key was present, and
+    // otherwise no. `NO_TRIES` is returned exactly if no try is allowed, then `FOREIGN` exactly for a key that is
+    // neither owned nor shared, then `BUSY` and `SPENT` as the handle's. Keys and tree stay the same, and after
+    // refusals so does the map. It keeps to the handle's bounds on steps, tries and cards.
     ensures tells { OfHandlesIfAny (TellsPut key value tries result was.new) (handle_of slot.old.raw.inside)
         (handle_of slot.new.raw.inside) }
     // The value is written only with yes.
@@ -125,8 +125,8 @@ fn put(handle: &mut Handle, key: u64, value: u64, tries: u32, was: &mut u64) -> 
     tell_old_value(handle.put(key, value, tries), was)
 }
 
-/// Adds to the value of a key of the slot's, modulo 2^64: whether the key is present, and then the value that it had is
-/// written. A key that is absent is left so.
+/// Adds to the value of a key of the slot's, modulo 2^64. Returns whether the key is present; if it is, the value that
+/// it had is written. A key that is absent stays absent.
 #[unsafe(no_mangle)]
 pub extern "C" fn elltree_slot_fetch_add(
     alloc: Global,
@@ -136,12 +136,12 @@ pub extern "C" fn elltree_slot_fetch_add(
     tries: u32,
     was: &mut u64,
 ) -> i32
-    // `CLOSED` comes exactly if the slot has no handle.
+    // `CLOSED` is returned exactly if the slot has no handle.
     ensures closed { (result ≡ said_closed) ↔ (handle_of slot.old.raw.inside ≡ None) }
-    // The answer is that of the handle's `fetch_add`: yes, and the old value is written, if the key is present, else
-    // no. `NO_TRIES` comes exactly without tries, then `FOREIGN` exactly for a key neither owned nor shared, then
-    // `BUSY` and `SPENT` as the handle's. Keys and tree stay, and after refusals the map. It keeps to the handle's
-    // bounds on steps, tries and cards.
+    // The answer is that of the handle's `fetch_add`: yes, and the old value is written, if the key is present, and
+    // otherwise no. `NO_TRIES` is returned exactly if no try is allowed, then `FOREIGN` exactly for a key that is
+    // neither owned nor shared, then `BUSY` and `SPENT` as the handle's. Keys and tree stay the same, and after
+    // refusals so does the map. It keeps to the handle's bounds on steps, tries and cards.
     ensures tells { OfHandlesIfAny (TellsSum key addend tries result was.new) (handle_of slot.old.raw.inside)
         (handle_of slot.new.raw.inside) }
     // The value is written only with yes.
@@ -167,7 +167,7 @@ fn fetch_add(handle: &mut Handle, key: u64, addend: u64, tries: u32, was: &mut u
     tell_old_value(handle.fetch_add(key, addend, tries), was)
 }
 
-// What a put or a sum has answered, as a code: a value that the key had is written.
+// What a put or a sum has answered, as a code. A value that the key had is written.
 fn tell_old_value(answer: Result<Option<u64>, Refusal>, was: &mut u64) -> i32
     ensures yes { result ≡ said_yes → answer ≡ Ok (Some was.new) }
     ensures no { result ≡ said_no → answer ≡ Ok None }

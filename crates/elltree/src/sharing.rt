@@ -14,8 +14,8 @@ use crate::starting::why_refused;
 use ell_handle::{Handle, HandlePlace, Refusal};
 use std::alloc::Global;
 
-/// Opens a tree of so many cards in which every key up to `KEY_MAX` is shared, and which has the start keys with their values. Trees that are
-/// open at once have different numbers.
+/// Opens a tree with the given number of cards in which every key up to `KEY_MAX` is shared, and which has the start
+/// keys with their values. Trees that are open at once have different numbers.
 #[unsafe(no_mangle)]
 pub extern "C" fn elltree_slot_open_shared(
     alloc: Global,
@@ -27,10 +27,10 @@ pub extern "C" fn elltree_slot_open_shared(
     // With yes the slot has a handle as `Handle::open_shared` makes it, with the cards and the number asked for.
     ensures opened { result ≡ said_yes →
         OfHandle (BeginsShared (as_pairs start.now) cards number) (handle_of slot.new.raw.inside) }
-    // `BAD_START`, `BAD_KEY` and `BAD_CARDS` come only as the refusals of `Handle::open`, and `NO_MEMORY` only if none
-    // of these is so.
+    // `BAD_START`, `BAD_KEY` and `BAD_CARDS` are returned only as the refusals of `Handle::open`, and `NO_MEMORY` only
+    // if none of these applies.
     ensures why { SaysWhyShut [] (as_pairs start.now) cards result }
-    // `OPEN` comes exactly if the slot is open. A call that is refused leaves it as it was.
+    // `OPEN` is returned exactly if the slot is open. A call that is refused leaves it as it was.
     ensures busy { (result ≡ said_open) ↔ (slot.old.is_open ≡ true) }
     ensures refused { result ≢ said_yes → slot.new.raw.inside ≡ slot.old.raw.inside }
 {
@@ -64,16 +64,16 @@ fn open_shared(
     Ok(Box::new(alloc, HandlePlace::of(Some(handle)))?)
 }
 
-/// Gives another slot, which is not open yet, a handle of the same tree: it changes shared keys, and looks at any key. A slot's own keys
-/// stay its own.
+/// Gives another slot, which is not open yet, a handle of the same tree: it changes shared keys, and looks at any key.
+/// A slot's own keys stay its own.
 #[tactic(auto, using(crate::proofs::lemmas::Parting::another_refused))]
 #[unsafe(no_mangle)]
 pub extern "C" fn elltree_slot_another(alloc: Global, from: &mut Slot, into: &mut Slot) -> i32
-    // `OPEN` comes exactly if the other slot is open.
+    // `OPEN` is returned exactly if the other slot is open.
     ensures busy { (result ≡ said_open) ↔ (into.old.is_open ≡ true) }
-    // With yes the other slot has a handle of the same tree that owns no key, as by the handle's `another`; both may
-    // join. `CLOSED` comes exactly if the slot has no handle, then `TOO_MANY_HANDLES` exactly if the share is the least
-    // one, and else `NO_MEMORY` alone.
+    // With yes the other slot has a handle of the same tree that owns no key, as by the handle's `another`; both may be
+    // joined. `CLOSED` is returned exactly if the slot has no handle, then `TOO_MANY_HANDLES` exactly if the share is
+    // the least one, and otherwise only `NO_MEMORY`.
     ensures tells { result ≢ said_open → TellsAnother result (handle_of from.old.raw.inside)
         (handle_of from.new.raw.inside) (handle_of into.new.raw.inside) }
     // A call that is refused leaves both slots as they were.

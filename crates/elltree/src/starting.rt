@@ -1,4 +1,4 @@
-//! Why a host's tree is not opened, as its own arrays tell without memory.
+//! Why a host's tree is not opened, found from the host's own arrays without allocating memory.
 ghost use Rattle.std.specs.Prelude.{◌↔◌, IsTrue};
 ghost use Rattle.ell_handle.specs.Opens.{AreKeys, IsStart, RefusesTree};
 ghost use Rattle.elltree.specs.Maps.{as_pairs};
@@ -9,7 +9,8 @@ use ell_handle::Refusal;
 use ell_ops::{all_fit, ascend};
 use ell_tree::START_MAX;
 
-/// Why no tree is opened where memory for its start keys was refused: want of memory is named only where nothing else is wrong.
+/// Why no tree is opened if the allocation for its start keys failed: `NoMemory` is returned only if nothing else is
+/// wrong.
 pub(crate) fn why_refused(keys: &[u64], start: &[Pair], cards: u64) -> Refusal
     ensures { RefusesTree keys.now (as_pairs start.now) cards result }
 {

@@ -315,7 +315,7 @@ fn a_slot_tells_ranges(rt: HostRuntime) {
     for key in [3, 4, 6, KEY_MAX] {
         assert!(rt; elltree_slot_insert(alloc, &mut one, key, key % 1000, 9) == YES);
     }
-    // More than there is room for, and the rest.
+    // More pairs than there is room for, and the rest.
     assert!(rt;
         elltree_slot_range(
             alloc,
@@ -393,7 +393,7 @@ fn a_slot_tells_the_next_key_and_the_last(rt: HostRuntime) {
     assert!(rt; elltree_slot_next_at_least(alloc, &mut one, 0, &mut found, &mut value) == NO);
     assert!(rt; elltree_slot_last_at_most(alloc, &mut one, u64::MAX, &mut found, &mut value) == NO);
     assert!(rt; (found, value) == (7, 8));
-    // One key, and keys beside it.
+    // One key, and keys next to it.
     assert!(rt; elltree_slot_insert(alloc, &mut one, 5, 50, 9) == YES);
     for key in [0, 4, 5] {
         assert!(rt;

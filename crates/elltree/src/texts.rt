@@ -1,4 +1,4 @@
-//! What each code says, for a reader. The texts stand here alone: header and bindings ask for them.
+//! What each code says, for a reader. The texts stand only here: the header and the bindings ask for them.
 ghost use Rattle.std.specs.Prelude.{◌≡◌, ◌<◌, length};
 ghost use Rattle.elltree.specs.Texts.{WritesText, text_of};
 
@@ -7,15 +7,16 @@ use crate::codes::{
     NO_TRIES, NULL, OPEN, OTHER_TREE, OTHER_VALUE, SAME, SHARED_KEYS, SPENT, TOO_MANY_HANDLES, YES,
 };
 
-/// Writes what a code says to the front of an array, with a 0 behind it, and returns how many bytes the whole text has, without the 0. As
-/// `snprintf`, it cuts the text off where the array has no room for all, and still puts the 0; an array without room stays as it was. A
-/// text is of ASCII alone, and 64 bytes are room for each. A number that is no code has a text too, which says so.
+/// Writes what a code says to the front of an array, with a 0 after it, and returns how many bytes the whole text has,
+/// without the 0. Like `snprintf`, it truncates the text if the array has no room for all of it, and still writes the
+/// 0; an array without room stays as it was. A text is pure ASCII, and 64 bytes are enough for each. A number that is
+/// not a code has a text too, which says so.
 #[unsafe(no_mangle)]
 pub extern "C" fn elltree_code_text(code: i32, out: &mut [u8]) -> usize
     // Returns the length of the code's text, below 64.
     ensures length { result ≡ length (text_of code) }
     ensures short { result < 64 }
-    // The text is written, cut off to the room before a 0. The rest of the array stays.
+    // The text is written, cut off to the room before a 0. The rest of the array is unchanged.
     ensures text { WritesText (text_of code) out.old out.new }
 {
     let text = text_of(code);
@@ -23,7 +24,7 @@ pub extern "C" fn elltree_code_text(code: i32, out: &mut [u8]) -> usize
     text.len()
 }
 
-// Writes a text to the front of an array, as much of it as there is room for, and a 0 behind it.
+// Writes a text to the front of an array, as much of it as there is room for, and a 0 after it.
 fn write_text(text: &[u8], out: &mut [u8])
     ensures { WritesText text.now out.old out.new }
 {

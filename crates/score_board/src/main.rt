@@ -1,7 +1,8 @@
-//! A board of scores that one thread writes each of, and that all threads read.
+//! A board of scores, each written by one thread and read by all.
 //!
-//! Each of three threads owns a player, and adds up the points of that one alone; a fourth owns none. All four look at the scores of all
-//! players again and again. No thread waits for another, and a score that has been seen never falls.
+//! Each of three threads owns a player, and adds up the points of that player alone; a fourth owns none. All four look
+//! at the scores of all players again and again. No thread waits for another, and a score that has been seen never
+//! falls.
 #![tactic(auto)]
 
 ghost use Rattle.std.specs.Prelude.{◌≡◌, IfOk, false};
@@ -14,10 +15,10 @@ use std::thread::{Threads, join};
 
 const PLAYERS: [u64; 3] = [1, 2, 3];
 
-// Each has a score from the first on.
+// Each has a score from the beginning.
 const START: [(u64, u64); 3] = [(1, 0), (2, 0), (3, 0)];
 
-// Who made how many points, one after the other.
+// The points that were made, each with its player, in order.
 const POINTS: [(u64, u64); 12] = [
     (3, 2),
     (1, 5),
@@ -72,7 +73,7 @@ fn add(board: &Tree<Global>, pass: Pass<Global>, player: u64, points: u64) -> Re
     Ok(pass)
 }
 
-// Looks at the scores of all players, whoever owns them.
+// Looks at the scores of all players, whichever pass owns them.
 fn look_at_all(board: &Tree<Global>, pass: Pass<Global>, seen: &mut Seen) -> Pass<Global>
     requires own { pass.table ≡ board.now.id }
     requires idle { IsIdle pass }
@@ -87,7 +88,8 @@ fn look_at_all(board: &Tree<Global>, pass: Pass<Global>, seen: &mut Seen) -> Pas
     pass
 }
 
-// One thread: adds up the points of the players that its pass owns, and looks at all scores. How many of them it saw fall.
+// One thread: adds up the points of the players that its pass owns, and looks at all scores. Returns how many of them
+// it saw fall.
 fn play(board: &Tree<Global>, pass: Pass<Global>) -> Result<(Pass<Global>, u64)>
     requires own { pass.table ≡ board.now.id }
     requires idle { IsIdle pass }
@@ -107,7 +109,7 @@ fn play(board: &Tree<Global>, pass: Pass<Global>) -> Result<(Pass<Global>, u64)>
     Ok((pass, seen.falls))
 }
 
-// Two threads, each with a pass of its own: the pass that both leave, and how many scores they saw fall.
+// Two threads, each with a pass of its own. Returns the pass that both leave, and how many scores they saw fall.
 fn play_by_two<R: Threads>(
     rt: &R,
     board: &Tree<Global>,
@@ -122,7 +124,7 @@ fn play_by_two<R: Threads>(
     both(board, left?, right?)
 }
 
-// What two threads leave, in one.
+// What two threads leave, combined.
 fn both(
     board: &Tree<Global>,
     left: (Pass<Global>, u64),
@@ -139,7 +141,7 @@ fn both(
     Ok((pass, falls))
 }
 
-// Ends the board, by a pass that is to own all its players: the scores.
+// Ends the board, given a pass that should own all its players. Returns the scores.
 fn close(board: Tree<Global>, pass: Pass<Global>, players: &[u64]) -> Result<Vec<(u64, u64)>>
     requires own { pass.table ≡ board.id }
     requires idle { IsIdle pass }

@@ -1,7 +1,7 @@
 //! Four threads share one map from the players of a game to their scores, and add up the points that were made.
 //!
-//! Each thread owns a quarter of the players, and reads and writes the scores of those alone. No thread waits for another: where a
-//! neighbor has stalled half-way through a change, a thread finishes that change and goes on.
+//! Each thread owns a quarter of the players, and reads and writes only their scores. No thread waits for another: if a
+//! neighbor has stalled halfway through a change, a thread finishes that change and goes on.
 #![tactic(auto)]
 
 ghost use Rattle.std.specs.Prelude.{◌≡◌, IfOk, false};
@@ -14,7 +14,7 @@ use std::thread::{Threads, join};
 
 const PLAYERS: [u64; 8] = [1, 2, 3, 4, 5, 6, 7, 8];
 
-// Who made how many points, one after the other.
+// The points that were made, each with its player, in order.
 const POINTS: [(u64, u64); 12] = [
     (3, 2),
     (1, 5),
@@ -30,7 +30,8 @@ const POINTS: [(u64, u64); 12] = [
     (2, 7),
 ];
 
-// An insert that adds its key takes a card, and so does a delete that takes one away; a try that meets a neighbor may cost one.
+// An insert that adds its key takes a card, and so does a delete that takes one away; a try that meets a neighbor may
+// cost one.
 const CARDS: u64 = 10_000;
 
 // How often a change is tried before it is `Busy`.
@@ -57,7 +58,7 @@ fn add_up(scores: &Tree<Global>, pass: Pass<Global>) -> Result<Pass<Global>>
     Ok(pass)
 }
 
-// Two threads, each with a part of a pass: the pass that both leave.
+// Two threads, each with a part of a pass. Returns the pass that both leave.
 fn add_up_by_two<R: Threads>(
     rt: &R,
     scores: &Tree<Global>,
@@ -79,7 +80,8 @@ fn add_up_by_two<R: Threads>(
     Ok(both)
 }
 
-// Ends the map, by a pass that is to own all its players: those who have a score, each with it.
+// Ends the map, given a pass that should own all its players. Returns the players who have a score, each with that
+// score.
 fn close(scores: Tree<Global>, pass: Pass<Global>, players: &[u64]) -> Result<Vec<(u64, u64)>>
     requires own { pass.table ≡ scores.id }
     requires idle { IsIdle pass }
