@@ -174,8 +174,12 @@ static int32_t change(struct elltree_handle *handle, uint64_t place, uint64_t ho
     return said;
 }
 
+/* Where the threads of a tree begin together. */
+static pthread_barrier_t start_line;
+
 static void *write_keys(void *given) {
     struct worker *w = given;
+    pthread_barrier_wait(&start_line);
     uint64_t seed = 88172645463325252u + w->number;
     for (uint64_t i = 0; i < CHANGES; i++) {
         uint64_t place = next(&seed) % (PLACES / WRITERS) * WRITERS + w->number, how = next(&seed) >> 20;
@@ -204,10 +208,12 @@ static void seek(struct elltree_handle *handle, struct scan *scan, int is_up) {
         scan->from = said == ELLTREE_YES ? place_of(pair->key) : 0;
 }
 
+/* Goes over ranges as long as others write, and once at least. */
 static void *go_over(void *given) {
     struct worker *w = given;
+    pthread_barrier_wait(&start_line);
     uint64_t seed = 88172645463325252u + 7919 * w->number;
-    for (w->scans = 0; w->scans < SCANS && __atomic_load_n(&writing, __ATOMIC_SEQ_CST) > 0; w->scans++) {
+    for (w->scans = 0; w->scans < SCANS && (w->scans == 0 || __atomic_load_n(&writing, __ATOMIC_SEQ_CST) > 0); w->scans++) {
         struct scan *scan = &w->made[w->scans];
         uint64_t random = next(&seed) >> 8;
         scan->from = random % PLACES;
@@ -278,10 +284,12 @@ static long beside_threads(void) {
     long wrong = open_all(), told = 0, still = 0, scans = 0;
     ticks = 1;
     writing = WRITERS;
+    pthread_barrier_init(&start_line, NULL, WRITERS + READERS);
     for (int t = 0; t < WRITERS + READERS; t++)
         pthread_create(&running[t], NULL, t < WRITERS ? write_keys : go_over, &workers[t]);
     for (int t = 0; t < WRITERS + READERS; t++)
         pthread_join(running[t], NULL);
+    pthread_barrier_destroy(&start_line);
     for (int t = 0; t < WRITERS + READERS; t++) {
         for (size_t i = 0; i < workers[t].scans; i++)
             wrong += untrue(&workers[t].made[i], &told, &still);

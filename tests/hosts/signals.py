@@ -59,12 +59,15 @@ class Calls:
 
 
 def is_fine(check):
-    """Whether a check passes, and no call of it is refused."""
-    try:
-        return check()
-    except elltree.Refused as why:
-        print(why)
-        return False
+    """Whether a check passes, and no call of it is refused. If a signal comes late and cuts it off, it is made again."""
+    while True:
+        try:
+            return check()
+        except Cut:
+            continue
+        except elltree.Refused as why:
+            print(why)
+            return False
 
 
 def faults_by(calls, step, chance):
