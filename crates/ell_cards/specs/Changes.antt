@@ -108,8 +108,10 @@ given_up v = record v { hindrances = way_now v ++ v.hindrances; hindered = tries
 
 -- the pass has found an update at a node
 abbrev pub with_found : ℕ → Update → View → View
-with_found x u v =
-    record v { worker = knowing v.worker (facts_by u.state u.card v.worker.knows); told = places_by x u.state u.card v.told }
+with_found x u v = record v {
+  worker = knowing v.worker (facts_by u.state u.card v.worker.knows);
+  told = places_by x u.state u.card v.told;
+}
 
 -- the pass has learnt a fact
 abbrev pub with_fact : Fact → View → View
@@ -239,14 +241,11 @@ filling_of c v =
     filling_for c v.worker.operation v.worker.search.node v.worker.search.parent v.worker.search.grandparent
     (unwrap_or v.here 0) (told_value v.told)
 
--- what was told with a word of a card that never changes: children and update word do
-abbrev pub told_fixed : ℕ → Field → ℕ → List Told → List Told
-told_fixed c f x told = if is_fixed f then Info c f x ∷ told else told
-
 -- what was told with what fills a card, as far as it never changes
 abbrev pub told_filling : ℕ → List (Field × ℕ) → List Told → List Told
 told_filling c [] told = told
-told_filling c (e ∷ es) told = told_fixed c e.0 e.1 (told_filling c es told)
+told_filling c (e ∷ es) told =
+    if is_fixed e.0 then Info c e.0 e.1 ∷ told_filling c es told else told_filling c es told
 
 -- claim: the card is in hand, and its words are told; or it was lost, a hindrance
 abbrev pub after_claim : Bool → ℕ → View → View

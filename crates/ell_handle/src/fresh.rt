@@ -145,8 +145,10 @@ fn open_shared_handles(
 fn another_of(whole: Handle, alloc: Global) -> Result<(Handle, Handle), Refusal>
     ensures first { IfOk result (λ both. arc_value both.0.shared ≡ arc_value whole.shared) }
     ensures second { IfOk result (λ both. arc_value both.1.shared ≡ arc_value whole.shared) }
-    ensures first_milestones { IfOk result (λ both. (most : ℕ) → milestones_known most both.0.pass.view ≡ milestones_known most whole.pass.view) }
-    ensures second_milestones { IfOk result (λ both. (most : ℕ) → milestones_known most both.1.pass.view ≡ milestones_known most whole.pass.view) }
+    ensures first_milestones { IfOk result (λ both. (most : ℕ) → milestones_known most both.0.pass.view
+        ≡ milestones_known most whole.pass.view) }
+    ensures second_milestones { IfOk result (λ both. (most : ℕ) → milestones_known most both.1.pass.view
+        ≡ milestones_known most whole.pass.view) }
     ensures why { IfErr result AnotherFails }
 {
     match whole.another(alloc) {

@@ -1,15 +1,16 @@
-use Rattle.std.proofs.Common.{◌≡◌, ℕ, ◌+◌, ◌≤◌, Bool, true, false, None, List, [], ◌∷◌, length, refl, sym, ◌∙◌, ap, subst, arith}
+use Rattle.std.proofs.Common.{if◌then◌else◌, ◌≡◌, ℕ, ◌+◌, ◌≤◌, Bool, true, false, None, List, [], ◌∷◌, length, refl, sym, ◌∙◌, ap, subst, arith}
 use Rattle.ell_ops.specs.declared.op.Op.{Op}
 use Rattle.ell_word.specs.declared.update.State.TheVariants as state
 use Rattle.ell_layout.specs.declared.field.Field.{Field}
 use Rattle.ell_layout.specs.declared.field.Field.TheVariants as field
 use Rattle.ell_core.specs.declared.view.Search.{Search}
+use Rattle.ell_core.specs.statements.Told.{is_fixed}
 use Rattle.ell_cards.specs.declared.view.Told.{Told}
 use Rattle.ell_cards.specs.declared.view.Told.TheVariants.{Info}
 use Rattle.ell_cards.specs.declared.view.Hindrance.TheVariants.{Claim}
 use Rattle.ell_cards.specs.declared.view.View.{View}
 use Rattle.ell_cards.specs.Models.{PassModel, Steps, one_more as one_step_more, Has, latest, earlier, Does}
-use Rattle.ell_cards.specs.Changes.{after_claim, filling_of, told_filling, told_fixed}
+use Rattle.ell_cards.specs.Changes.{after_claim, filling_of, told_filling}
 use Rattle.ell_cards.proofs.lemmas.views.Afters.{after_next}
 use Rattle.ell_cards.specs.Guards.{MayClaim, Wants}
 use Rattle.ell_cards.proofs.lemmas.words.Updates.{clean_word}
@@ -30,7 +31,7 @@ one_more : (es ds : List Told) (x e : Told) → ((d : Told) → Has es d → Has
 one_more es ds x e more (latest _ _) = latest x ds
 one_more es ds x e more (earlier _ _ _ h) = earlier e x ds (more e h)
 
-told_fixed_over : (c : ℕ) (f : Field) (x : ℕ) (es ds : List Told) (e : Told) → ((d : Told) → Has es d → Has ds d) → Has (told_fixed c f x es) e → Has (told_fixed c f x ds) e
+told_fixed_over : (c : ℕ) (f : Field) (x : ℕ) (es ds : List Told) (e : Told) → ((d : Told) → Has es d → Has ds d) → Has (if is_fixed f then Info c f x ∷ es else es) e → Has (if is_fixed f then Info c f x ∷ ds else ds) e
 told_fixed_over c field.Gp x es ds e more h = one_more es ds (Info c field.Gp x) e more h
 told_fixed_over c field.P x es ds e more h = one_more es ds (Info c field.P x) e more h
 told_fixed_over c field.L x es ds e more h = one_more es ds (Info c field.L x) e more h

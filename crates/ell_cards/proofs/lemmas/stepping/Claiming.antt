@@ -6,6 +6,7 @@ use Rattle.ell_core.specs.declared.put.Put.{Put}
 use Rattle.ell_core.specs.declared.view.Seen.{Seen}
 use Rattle.ell_core.specs.acts.Searching.{put_of, TakesPut}
 use Rattle.ell_core.proofs.lemmas.keeping.Puts.{added, replacing}
+use Rattle.ell_core.specs.statements.Told.{is_fixed}
 use Rattle.ell_cards.specs.Models.{IsTold}
 use mathlib.Core.Option.{some}
 use lib.ListN.{get_elem?}
@@ -33,7 +34,7 @@ use Rattle.ell_cards.specs.declared.view.Told.{Told}
 use Rattle.ell_cards.specs.declared.view.Told.TheVariants.{Key, Info, Value}
 use Rattle.ell_cards.specs.declared.view.View.{View}
 use Rattle.ell_cards.specs.Models.{Has}
-use Rattle.ell_cards.specs.Changes.{told_value, told_fixed, told_filling, filling_for, filling_of, after_claim}
+use Rattle.ell_cards.specs.Changes.{told_value, told_filling, filling_for, filling_of, after_claim}
 use Rattle.ell_cards.specs.Guards.{MayClaim, Wants}
 use Rattle.ell_cards.specs.States.{TableState, seated}
 use Rattle.ell_cards.specs.Machines.{EntryHolds, HasMachine}
@@ -48,7 +49,7 @@ use Rattle.ell_cards.proofs.lemmas.stepping.Looks.{here_key}
 
 -- what holds of a card's word is told of it
 fixed_holds : (w : Words) (stage : Stages) (c : ℕ) (f : Field) (x : ℕ) (told : List Told) → c < w.next → word w c f ≡ x
-    → ((e : Told) → Has told e → EntryHolds w stage e) → (e : Told) → Has (told_fixed c f x told) e → EntryHolds w stage e
+    → ((e : Told) → Has told e → EntryHolds w stage e) → (e : Told) → Has (if is_fixed f then Info c f x ∷ told else told) e → EntryHolds w stage e
 fixed_holds w stage c field.Left x told low is old = old
 fixed_holds w stage c field.Right x told low is old = old
 fixed_holds w stage c field.Update x told low is old = old

@@ -1,12 +1,13 @@
-use Rattle.std.proofs.Common.{ℕ, List, [], ◌∷◌}
+use Rattle.std.proofs.Common.{if◌then◌else◌, ℕ, List, [], ◌∷◌}
 use Rattle.ell_word.specs.declared.update.State.{State}
 use Rattle.ell_word.specs.declared.update.State.TheVariants as state
 use Rattle.ell_layout.specs.declared.field.Field.{Field}
 use Rattle.ell_layout.specs.declared.field.Field.TheVariants as field
+use Rattle.ell_core.specs.statements.Told.{is_fixed}
 use Rattle.ell_cards.specs.declared.view.Told.{Told}
 use Rattle.ell_cards.specs.declared.view.Told.TheVariants.{Met, Info}
 use Rattle.ell_cards.specs.Models.{Has, latest, earlier}
-use Rattle.ell_cards.specs.Changes.{places_by, told_info, told_fixed, told_filling}
+use Rattle.ell_cards.specs.Changes.{places_by, told_info, told_filling}
 use Rattle.ell_cards.specs.Guards.{NamesNode}
 
 -- what was told before where an update's card goes is told
@@ -37,7 +38,7 @@ info_node c field.L x told h = earlier (Met x) (Info c field.L x) (Met x ∷ tol
 info_node c f x told h = absurd h
 
 -- what was told before what fills a card is told
-fixed_more : (c : ℕ) (f : Field) (x : ℕ) (told : List Told) (e : Told) → Has told e → Has (told_fixed c f x told) e
+fixed_more : (c : ℕ) (f : Field) (x : ℕ) (told : List Told) (e : Told) → Has told e → Has (if is_fixed f then Info c f x ∷ told else told) e
 fixed_more c field.Left x told e h = h
 fixed_more c field.Right x told e h = h
 fixed_more c field.Update x told e h = h
