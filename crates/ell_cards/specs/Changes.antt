@@ -13,7 +13,7 @@ use Rattle.ell_word.specs.Word.{packed, unpacked}
 use Rattle.ell_core.specs.declared.fact.Fact.{Fact}
 use Rattle.ell_core.specs.declared.fact.Fact.TheVariants as fact
 use Rattle.ell_layout.specs.declared.field.Field.{Field}
-use Rattle.ell_layout.specs.declared.field.Field.TheVariants.{Gp, P, L, Left, Right, Update as UpdateField}
+use Rattle.ell_layout.specs.declared.field.Field.TheVariants.{Gp, P, L}
 use Rattle.ell_core.specs.declared.view.Seen.{Seen}
 use Rattle.ell_layout.specs.Cards.{insert_filling, delete_filling}
 use Rattle.ell_core.specs.state.Machine.{WorkerView, idle}

@@ -77,52 +77,13 @@ impl<A: Allocator + Copy> CardTable<A> {
         if !is_card_count(cards) {
             return Err(CardFault::BadCards);
         }
-        let copy = copied(alloc, keys)?;
-        let present = copied(alloc, start)?;
-        CardTable::reserve_with_zeros(alloc, Vec::new(alloc), present, copy, cards)
-    }
-
-    /// Does the same with lists that the caller gives up: the start keys with their values, the keys, and zero words,
-    /// which may have been made beforehand, for example in another thread. The zeros are cut to the words of the table,
-    /// which is a copy of them, or more are put behind them; nothing else is asked of the allocator. Errors and
-    /// conditions are those of `reserve_from`.
-    pub fn reserve_with_zeros(
-        alloc: A,
-        zeros: Vec<u64, A>,
-        start: Vec<(u64, u64), A>,
-        keys: Vec<u64, A>,
-        cards: u64,
-    ) -> Result<(CardTable<A>, Pass<A>), CardFault>
-        requires zeros { All (λ word. word ≡ 0) zeros.items }
-        requires ascending { IsStrictlyIncreasing keys.items }
-        requires real { All (λ k. k ≤ greatest_key) keys.items }
-        requires start_ascending { IsStrictlyIncreasing (keys_of start.items) }
-        requires given { All (λ k. set_of keys.items k ≡ true) (keys_of start.items) }
-        requires few { length start.items ≤ most_start }
-        // It succeeds only with 1 to 1,000,000 cards.
-        ensures cards { OnOk result (IsCardCount cards) }
-        // The table has this plan, and the pass knows what a first pass does: it owns the keys, of which the start keys
-        // are present, and has made no step.
-        ensures opened { IfOk result (OpensBy (record {
-          keys = keys.items;
-          start = start.items;
-          last_card = last_card start.items cards;
-          shared = false;
-        })) }
-        // `BadCards` is returned exactly if the number of cards is not 1 to 1,000,000; the only other error is
-        // `NoMemory`.
-        ensures refused { IfErr result (RefusesCards cards) }
-    {
-        if !is_card_count(cards) {
-            return Err(CardFault::BadCards);
-        }
         let plan = Plan {
             last_card: cards + start.len() as u64,
-            keys,
-            start,
+            keys: copied(alloc, keys)?,
+            start: copied(alloc, start)?,
             shared: false,
         };
-        Ok(CardTable::open(alloc, zeros, plan)?)
+        Ok(CardTable::open(alloc, plan)?)
     }
 
     /// Creates a table of a tree that has these start keys with their values, balanced, with this many cards to be
@@ -161,22 +122,17 @@ impl<A: Allocator + Copy> CardTable<A> {
             start: copied(alloc, start)?,
             shared: true,
         };
-        Ok(CardTable::open(alloc, Vec::new(alloc), plan)?)
+        Ok(CardTable::open(alloc, plan)?)
     }
 
-    // A table with this plan, and its first pass. The zeros are cut to the words of the table, or more are put behind them.
-    fn open(
-        alloc: A,
-        zeros: Vec<u64, A>,
-        plan: Plan<A>,
-    ) -> Result<(CardTable<A>, Pass<A>), AllocError>
-        requires zeros { All (λ word. word ≡ 0) zeros.items }
+    // A table with this plan, and its first pass.
+    fn open(alloc: A, plan: Plan<A>) -> Result<(CardTable<A>, Pass<A>), AllocError>
         requires cards { plan.last_card ≤ greatest_card }
         requires few { length plan.start < greatest_card }
         requires may { MayStart plan }
         ensures opened { IfOk result (OpensBy plan) }
     {
-        let (table, seat) = opened(alloc, zeros, &plan)?;
+        let (table, seat) = opened(alloc, &plan)?;
         let Plan {
             keys,
             start: _,
@@ -360,29 +316,27 @@ pub fn is_card_count(cards: u64) -> bool
 // The opening table. It copies the words, and their first list goes at once.
 fn opened<A: Allocator + Copy>(
     alloc: A,
-    zeros: Vec<u64, A>,
     plan: &Plan<A>,
 ) -> Result<(Table<(), View, Plan<A>, CardRule, A>, Seat<(), View>), AllocError>
-    requires zeros { All (λ word. word ≡ 0) zeros.items }
     requires cards { plan.now.last_card ≤ greatest_card }
     requires few { length plan.now.start < greatest_card }
     requires may { MayStart plan.now }
     ensures { IfOk result (λ made. IsNewTable plan.now.last_card made.0.shared.table_id made.1.table_id made.1.me
         (first_of plan.now) × (made.0.shared.key ≡ plan.now)) }
 {
-    let mut words = so_many(zeros, table_size(plan.last_card))?;
+    let mut words = zero_words(alloc, table_size(plan.last_card))?;
     write_opening(words.as_mut_slice(), plan.start.as_slice(), plan.last_card);
     Table::of_words(alloc, words.as_slice(), plan)
 }
 
-// Zeros, cut or filled up to this many.
-fn so_many<A: Allocator>(mut zeros: Vec<u64, A>, count: usize) -> Result<Vec<u64, A>, AllocError>
-    requires { All (λ word. word ≡ 0) zeros.items }
+// This many words, all of them zero.
+fn zero_words<A: Allocator>(alloc: A, count: usize) -> Result<Vec<u64, A>, AllocError>
     ensures zeros { IfOk result (λ words. words.items ≡ replicate count 0) }
     ensures len { IfOk result (λ words. vec_len words ≡ count) }
 {
-    zeros.resize(count, 0)?;
-    Ok(zeros)
+    let mut words = Vec::new(alloc);
+    words.resize(count, 0)?;
+    Ok(words)
 }
 
 // A copy of some items.

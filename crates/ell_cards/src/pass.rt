@@ -71,7 +71,6 @@ impl<A: Allocator + Copy> Pass<A> {
 
     /// Returns `true` if the pass may be parted. If some keys of its table are shared, each part gets a share, so a
     /// pass that has no more than the least one may not be parted.
-    /// least one may not.
     pub fn may_part(&self) -> bool
         // Returns `true` exactly if the pass may be split.
         ensures { IsTrue result ↔ MayPart self.now.view }

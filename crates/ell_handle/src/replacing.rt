@@ -1,8 +1,8 @@
-//! Compares, puts and updates values in place, each in one atomic step.
+//! Compares, puts, updates and removes values in place, each in one atomic step.
 ghost use Rattle.std.specs.Prelude.{◌≡◌, IfOk, IfErr, OnOk, OnErr};
 ghost use Rattle.ell_ops.specs.declared.op.Op.TheVariants.{Swap};
 ghost use Rattle.ell_ops.specs.Meaning.{found};
-ghost use Rattle.ell_tree.specs.Computing.{IsSum, PutsValue, UpdatesValue};
+ghost use Rattle.ell_tree.specs.Computing.{IsSum, PutsValue, RemovesIf, UpdatesValue};
 ghost use Rattle.ell_tree.specs.Ends.{Answers};
 ghost use Rattle.ell_tree.specs.Promises.{SpendsCards};
 ghost use Rattle.ell_handle.specs.Groups.{StaysPut};
@@ -51,6 +51,49 @@ impl Handle {
             .shared
             .tree
             .swap(&mut self.pass, key, current, new, tries, &NoGate)?;
+        if there == Some(current) {
+            Ok(Ok(current))
+        } else {
+            Ok(Err(there))
+        }
+    }
+
+    /// Removes a key of the handle's own, or a shared one, if its value is `current`. Returns `Ok(current)` if it was
+    /// removed, and otherwise what is there: `Err(Some(value))` if the key has another value, and `Err(None)` if it is
+    /// absent. Either way comparing and removing are one atomic step. Refusals are as for `put`. A removal takes a card.
+    #[tactic(auto, using(crate::proofs::lemmas::Trying::rounds_same, crate::proofs::lemmas::Trying::spends_none, crate::proofs::lemmas::May::may_do, crate::proofs::lemmas::Values::removal_leaves))]
+    pub fn remove_if(
+        &mut self,
+        key: u64,
+        current: u64,
+        tries: u32,
+    ) -> Result<Result<u64, Option<u64>>, Refusal>
+        // If the answer is the expected value, the key was deleted, and the value that it had at that point is this
+        // one. Otherwise the answer is what the key had at the point of a find, and the call has changed nothing. It is
+        // as with the tree's `remove_if`.
+        ensures removes { IfOk result (λ said.
+            RemovesIf (tree_of self.old) key current self.old.pass self.new.pass (value_seen said)) }
+        // It is `Ok` exactly if the key had the expected value, and otherwise tells the other value, or none.
+        ensures removed { IfOk result (SaysIfExchanged current) }
+        // `NoTries` is returned exactly if no try is allowed, and then `Foreign` exactly for a key that is neither
+        // owned nor shared. `Busy` and `Spent` are the tree's, and change nothing: with `Busy` on an owned key, others
+        // hindered each try, of which there are at most `2 * cards`. A call that is refused leaves keys, map and tree
+        // unchanged.
+        ensures may { OnOk result (MayTryChange key tries self.old) }
+        ensures why { IfErr result (ValueRefuses key tries self.old self.new) }
+        ensures refused { OnErr result (StaysPut self.old self.new) }
+        // The keys and the tree stay the same.
+        ensures keeps { KeepsKeys self.old self.new }
+        // It keeps to the bounds of the tree's call on steps and on hindered tries.
+        ensures took { TookRounds tries self.old self.new }
+        // It keeps to the bounds of the tree's call on cards.
+        ensures cards { SpendsCards key tries self.old.pass self.new.pass (whether_exchanged result) }
+    {
+        self.may_change(key, tries)?;
+        let there = self
+            .shared
+            .tree
+            .remove_if(&mut self.pass, key, current, tries, &NoGate)?;
         if there == Some(current) {
             Ok(Ok(current))
         } else {

@@ -18,7 +18,7 @@ use std::alloc::{Allocator, Global};
 pub type Piece<A = Global> = Vec<(usize, Reply), A>;
 
 // Works a part off, operation by operation, and leaves the rest of it from the first operation on that is not done. The
-// bound on the steps rests on the law of the moves that a pass knows of, whose function does nothing.
+// bound on the steps rests on the law of the milestones that a pass knows of, whose function does nothing.
 pub(crate) fn work_off<A: Allocator + Copy, G: StepGate>(
     alloc: A,
     tree: &Tree<A>,

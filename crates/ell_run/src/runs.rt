@@ -116,9 +116,8 @@ fn reserve<A: Allocator + Copy>(
     ensures pass { IfOk result (λ made. IsFirst made.0 made.1) }
     ensures owned { IfOk result (λ made. All (λ key. Owns made.1 key) used.now) }
 {
-    let present = Vec::from_slice(alloc, start)?;
     let keys = all_keys(alloc, start, used)?;
-    match Tree::reserve_with_zeros(alloc, Vec::new(alloc), present, keys, cards) {
+    match Tree::reserve_from(alloc, start, &keys, cards) {
         Ok(made) => Ok(made),
         Err(fault) => Err(only_memory(fault, CardFault::NoMemory)),
     }

@@ -1,13 +1,7 @@
-//! Each call that may want memory, on an allocator that refuses it one growth after the other.
-mod cards;
+//! Calls on an allocator that refuses them one growth after the other: what they answer, and what they leave.
 mod halves;
 mod lists;
-mod passes;
 mod refusing;
-mod runs;
-mod schedule;
 mod sweeping;
-mod texts;
 mod trees;
-mod words;
 mod worlds;

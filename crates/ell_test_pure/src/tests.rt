@@ -1,5 +1,4 @@
 //! What no clause says, and what clauses come to, by examples that a person worked out.
-mod answering;
 mod machine;
 mod operations;
 mod orders;
@@ -7,7 +6,6 @@ mod parts;
 mod reading;
 mod replaying;
 mod shared;
-mod spellings;
 mod tracing;
 mod words;
 mod writing;

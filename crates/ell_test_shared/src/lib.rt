@@ -1,4 +1,4 @@
-//! Tests of trees whose keys are shared, on several threads: whether each history of calls is that of one map.
+//! Tests of trees whose keys are shared: what a gate has to hold at a step.
 #![tactic(auto)]
 
 #[cfg(test)]

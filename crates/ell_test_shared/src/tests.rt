@@ -1,11 +1,14 @@
-//! Histories, calls that up to 64 threads make at once, counters, ones that a gate holds, owners beside shared keys,
-//! and how passes part and come together.
-mod adding;
+//! Calls on shared keys that a gate holds, or has begin at once; calls in turns; owners beside shared keys; how passes part and come
+//! together; and scans, which are held too, and whose steps are counted.
 mod calling;
-mod histories;
+mod counting;
+mod edges;
 mod holding;
-mod owners;
+mod neighbors;
 mod parting;
 mod racing;
+mod scanning;
 mod swapping;
-mod working;
+mod telling;
+mod turns;
+mod updating;

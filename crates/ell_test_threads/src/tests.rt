@@ -1,5 +1,4 @@
-//! Tables, trees and runs on one thread, on two that a gate holds, on four, and by up to 64 workers; and streams that fail.
-mod keys;
+//! Tables, trees and runs on one thread, on two and more that a gate holds, and by up to 64 workers; and streams that fail.
 mod runs;
 mod streams;
 mod table;

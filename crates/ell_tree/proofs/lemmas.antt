@@ -4,6 +4,8 @@ pub mod Keeping
 pub mod Meeting
 -- what was in the way of a try, by how it ended
 pub mod Halting
+-- a try after its search
+pub mod Trying
 -- steps that read a word
 pub mod Reading
 -- a search, node by node
@@ -42,6 +44,8 @@ pub mod Milestones
 pub mod Putting
 -- calls that are made of several operations
 pub mod Computing
+-- a call that removes a key if it has a value
+pub mod Removing
 -- the steps of the rounds of such a call
 pub mod Rounds
 -- how many stretches of keys a look goes through that goes on

@@ -1,7 +1,8 @@
 use Rattle.std.specs.Prelude.{◌≡◌, ◌≢◌, ℕ, ◌+◌, ◌*◌, ◌<◌, ◌≤◌, ◌↔◌, ◌⊎◌, ◌%◌, ◌^◌, true, false, Bool, Option, Some, None, is_some, Result, Ok, Err}
 use Rattle.ell_ops.specs.declared.op.Op.{Op}
-use Rattle.ell_ops.specs.declared.op.Op.TheVariants.{Find, Insert, Swap}
+use Rattle.ell_ops.specs.declared.op.Op.TheVariants.{Delete, Find, Insert, Swap}
 use Rattle.ell_ops.specs.declared.reply.Reply.{Reply}
+use Rattle.ell_ops.specs.declared.reply.Reply.TheVariants.{Yes}
 use Rattle.ell_ops.specs.Meaning.{key_of, reply_of, after, found}
 use Rattle.ell_core.specs.statements.Effects.{reply_of_change}
 use Rattle.ell_cards.specs.Answering.{IsAnsweredInRuns}
@@ -14,7 +15,7 @@ use Rattle.ell_tree.specs.declared.computing.Replaced.{Replaced}
 use Rattle.ell_tree.specs.declared.computing.Replaced.TheVariants.{Done, Lost}
 use Rattle.ell_tree.specs.declared.operations.NotDone.{NotDone}
 use Rattle.ell_tree.specs.declared.operations.NotDone.TheVariants.{Busy, Spent}
-use Rattle.ell_tree.specs.Ends.{Answers, LaidDown, find_steps, try_steps}
+use Rattle.ell_tree.specs.Ends.{Answers, LaidDown, TakesValue, find_steps, try_steps}
 use Rattle.ell_tree.specs.Ledgers.{TreeModel, present_in, Owns, answers, IsIdle}
 
 -- a pass has the keys that it had, present with their values or absent as they were, and nothing in hand
@@ -69,6 +70,16 @@ abbrev pub UpdatesValue : TreeModel → ℕ → (ℕ → ℕ → Type 0) → Pas
 UpdatesValue t key makes old new None = ReadsValue t key None old new
 UpdatesValue t key makes old new (Some was) = (value : ℕ) × makes was value × PutsValue t key value old new (Some was)
 
+-- a key was removed, in one step, which took just this value
+pub record RemovesValue (t : TreeModel) (key value : ℕ) (old new : PassModel) : Type 0 where
+  pub removes : Concludes t (Delete key) Yes old new
+  pub took : TakesValue t key old new (Some value)
+
+-- a key was removed if it was found with this value, and was left as it was found otherwise
+pub record RemovesIf (t : TreeModel) (key was : ℕ) (old new : PassModel) (there : Option ℕ) : Type 0 where
+  pub removed : there ≡ Some was → RemovesValue t key was old new
+  pub left : there ≢ Some was → Concludes t (Find key) (found there) old new
+
 -- a sum of 64 bits, which starts again at 0 past its greatest
 abbrev pub wrapping_sum : ℕ → ℕ → ℕ
 wrapping_sum one other = (one + other) % 2 ^ 64
@@ -103,6 +114,19 @@ Replaces t key was value old new (Ok Done) =
 Replaces t key was value old new (Ok (Lost there)) =
     IsUntouched old new × ReadsValue t key there old new × (Owns old key → present_in old key ≢ was)
 Replaces t key was value old new (Err why) = LaidDown t (put_by key value was) old new × RanOut t.plan.last_card new why
+
+-- what comes of one try to remove a key that has a value
+abbrev pub RemovesOnce : TreeModel → ℕ → ℕ → PassModel → PassModel → Result Bool NotDone → Type 0
+RemovesOnce t key was old new (Ok true) = Answers t (Delete key) Yes old new × TakesValue t key old new (Some was)
+RemovesOnce t key was old new (Ok false) = IsUntouched old new × (Owns old key → present_in old key ≢ Some was)
+RemovesOnce t key was old new (Err why) = LaidDown t (Delete key) old new × RanOut t.plan.last_card new why
+
+-- and what the key was found to have, if that was another value
+abbrev pub RemovesOrReads : TreeModel → ℕ → ℕ → PassModel → PassModel → Result Replaced NotDone → Type 0
+RemovesOrReads t key was old new (Ok Done) = Answers t (Delete key) Yes old new × TakesValue t key old new (Some was)
+RemovesOrReads t key was old new (Ok (Lost there)) =
+    IsUntouched old new × Concludes t (Find key) (found there) old new × (Owns old key → present_in old key ≢ Some was)
+RemovesOrReads t key was old new (Err why) = LaidDown t (Delete key) old new × RanOut t.plan.last_card new why
 
 -- so many tries were made: each was hindered, or was answered by what another pass had changed; and the key was read
 -- before

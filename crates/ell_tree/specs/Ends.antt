@@ -126,6 +126,10 @@ find_steps last = 3 * last + 7
 abbrev pub try_steps : ℕ → ℕ
 try_steps last = 7 * last + 27
 
+-- the most steps of what one try does after its search
+abbrev pub rest_steps : ℕ → ℕ
+rest_steps last = 4 * last + 22
+
 -- the most steps of so many tries
 abbrev pub change_steps : ℕ → ℕ → ℕ
 change_steps last tries = tries * try_steps last + 1

@@ -78,3 +78,10 @@ pub record EndsAt (last : ℕ) (w : View) (op : Op) (place : LeafFound) : Type 0
   pub there : ledger_of w.worker.ledger (key_of op) ≢ None
       → contents_in (ledger_of w.worker.ledger) (key_of op) ≡ there_at place (key_of op)
   pub deep : place.key ≡ key_of op → place.grandparent ≢ None
+
+-- the search of a try has ended at a place; the try has met nothing yet, and has no card
+pub record HasSearched (last : ℕ) (op : Op) (place : LeafFound) (v : View) : Type 0 where
+  pub busy : Does v op
+  pub ends : EndsAt last v op place
+  pub no_card : v.worker.card ≡ None
+  pub unmet : v.met ≡ []

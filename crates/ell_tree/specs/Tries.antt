@@ -111,6 +111,12 @@ TryTook t key old new (tried.Answered taken) = TakesValue t key old new taken
 TryTook t key old new tried.Spent = Unit {0}
 TryTook t key old new tried.Hindered = Unit {0}
 
+-- a try of a delete that was answered took this value
+abbrev pub TryTookThis : ℕ → Tried → Type 0
+TryTookThis value (tried.Answered taken) = taken ≡ Some value
+TryTookThis value tried.Spent = Unit {0}
+TryTookThis value tried.Hindered = Unit {0}
+
 -- what a try added, took or found
 abbrev pub TryTakesValue : TreeModel → Op → PassModel → PassModel → Tried → Type 0
 TryTakesValue t (Find key) old new ended = Unit {0}

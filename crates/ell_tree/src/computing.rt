@@ -20,10 +20,10 @@ pub(crate) struct Computed {
     pub made: Option<u64>,
 }
 
-/// The outcome of a try to put a value in place of what was found.
+/// The outcome of a try to put a value in place of what was found, or to remove that.
 #[derive(Clone, Copy)]
 pub(crate) enum Replaced {
-    /// The value is there.
+    /// The value is there, or the key is removed.
     Done,
     /// Another pass had changed the key. This is what the key has now.
     Lost(Option<u64>),

@@ -10,12 +10,12 @@ ghost use Rattle.ell_layout.specs.Cards.{delete_filling};
 ghost use Rattle.ell_cards.specs.declared.view.Told.TheVariants.{Info};
 ghost use Rattle.ell_cards.specs.Models.{IsTold, Knows};
 ghost use Rattle.ell_tree.specs.CardsTaken.{TakesNoCard, TryTakes};
-ghost use Rattle.ell_tree.specs.Ends.{try_steps};
+ghost use Rattle.ell_tree.specs.Ends.{rest_steps, try_steps};
 ghost use Rattle.ell_tree.specs.Helps.{IsBacked, IsParent, help_steps};
 ghost use Rattle.ell_tree.specs.Hindrances.{Meets};
 ghost use Rattle.ell_tree.specs.Keeping.{Keeps, IsInnerMet, KeepsAllButMet};
-ghost use Rattle.ell_tree.specs.Searches.{AtRoot};
-ghost use Rattle.ell_tree.specs.Tries.{Fills, Flags, HasCard, TryEnds, TryTook};
+ghost use Rattle.ell_tree.specs.Searches.{AtRoot, HasSearched};
+ghost use Rattle.ell_tree.specs.Tries.{Fills, Flags, HasCard, TryEnds, TryTook, TryTookThis};
 
 use crate::gate::{Kind, StepGate};
 use crate::helping::{DeleteFlag, Ending, finish_delete, help, help_delete};
@@ -46,12 +46,34 @@ pub(crate) fn try_delete<A: Allocator + Copy, G: StepGate>(
     ensures least { pass.old.view.next_at_least ≤ pass.new.view.next_at_least }
     ensures hindered { pass.new.view.hindered ≡ pass.old.view.hindered }
 {
-    let op = Op::Delete(key);
-    let place = search(table, pass, op, gate);
+    let place = search(table, pass, Op::Delete(key), gate);
     if place.key != key {
         answer(table, pass, Reply::No, gate);
         return Tried::Answered(None);
     }
+    delete_at(table, pass, key, place, gate)
+}
+
+/// What a try of a delete does once its search has ended at a leaf that has the key.
+pub(crate) fn delete_at<A: Allocator + Copy, G: StepGate>(
+    table: &CardTable<A>,
+    pass: &mut Pass<A>,
+    key: u64,
+    place: LeafFound,
+    gate: &G,
+) -> Tried
+    requires own { pass.old.table ≡ table.now.id }
+    requires searched { HasSearched table.now.plan.last_card (Delete key) place pass.old.view }
+    requires key { place.key ≡ key }
+    ensures steps { pass.new.steps + 1 ≤ pass.old.steps + rest_steps table.now.plan.last_card }
+    ensures made { pass.new.view.made + 1 ≤ pass.old.view.made + rest_steps table.now.plan.last_card }
+    ensures ends { TryEnds table.now (Delete key) pass.old pass.new result }
+    ensures took { TryTook table.now key pass.old pass.new result }
+    ensures value { TryTookThis place.value result }
+    ensures taken { TryTakes (Delete key) pass.old pass.new result }
+    ensures least { pass.old.view.next_at_least ≤ pass.new.view.next_at_least }
+    ensures hindered { pass.new.view.hindered ≡ pass.old.view.hindered }
+{
     // A leaf of a real key has a grandparent.
     let Some(above) = place.grandparent else {
         return Tried::Hindered;
@@ -65,7 +87,7 @@ pub(crate) fn try_delete<A: Allocator + Copy, G: StepGate>(
         help(table, pass, parent.node, parent.update, gate);
         return Tried::Hindered;
     }
-    let card = match take_card(table, pass, op, place, gate) {
+    let card = match take_card(table, pass, Op::Delete(key), place, gate) {
         Claimed::Card(card) => card,
         Claimed::NoneLeft => return Tried::Spent,
         Claimed::Lost => return Tried::Hindered,

@@ -11,6 +11,7 @@ mod inserting;
 mod laws;
 mod operations;
 mod reading;
+mod removing;
 mod scanning;
 mod searching;
 mod steps;

@@ -12,7 +12,7 @@ ghost use Rattle.ell_cards.specs.Models.{IsCardCount, MayPart, RefusesCards, Spl
 ghost use Rattle.ell_tree.specs.CardsLeft.{AreLeftAtMost, ReadsCardsLeft};
 ghost use Rattle.ell_tree.specs.CardsTaken.{TakesNoCard};
 ghost use Rattle.ell_tree.specs.Closing.{ClosesTo};
-ghost use Rattle.ell_tree.specs.Computing.{AreTried, IsNotDone, IsSum, PutsValue, UpdatesValue, update_steps, whether_put};
+ghost use Rattle.ell_tree.specs.Computing.{AreTried, IsNotDone, IsSum, PutsValue, RemovesIf, UpdatesValue, update_steps, whether_put};
 ghost use Rattle.ell_tree.specs.Counts.{Took};
 ghost use Rattle.ell_tree.specs.Ends.{Answers, CountsTries, Ends, TakesValue, find_steps, found_or_not_done, replied, whether, whether_swapped};
 ghost use Rattle.ell_tree.specs.Milestones.{milestones_known};
@@ -29,6 +29,7 @@ use crate::cursor::About;
 use crate::gate::StepGate;
 use crate::operations::{NotDone, change, find};
 use crate::reading::{cards_left, look, look_about};
+use crate::removing::remove_if;
 use crate::scanning::{Pair, Scanned, last_below, next_from, scan};
 use ell_cards::{CardFault, CardTable, Pass, SplitFault};
 use ell_core::pairs_of_tree;
@@ -104,43 +105,6 @@ impl<A: Allocator + Copy> Tree<A> {
         ensures refused { IfErr result (RefusesCards cards) }
     {
         let (table, pass) = CardTable::reserve_from(alloc, start, keys, cards)?;
-        Ok((Tree { table, alloc }, pass))
-    }
-
-    /// The same, from lists that the caller gives up: the start keys with their values, the keys, and zero words, which
-    /// may have been made beforehand, for example in another thread. Most of the time that `reserve_from` takes is
-    /// spent making these words, `table_size` of the number of the last card; if there are more here, they are cut to
-    /// that, and if there are fewer, more are made. Nothing but those and the tree's own words is requested from the
-    /// allocator. Errors and conditions are as for `reserve_from`.
-    pub fn reserve_with_zeros(
-        alloc: A,
-        zeros: Vec<u64, A>,
-        start: Vec<(u64, u64), A>,
-        keys: Vec<u64, A>,
-        cards: u64,
-    ) -> Result<(Tree<A>, Pass<A>), CardFault>
-        requires zeros { All (λ word. word ≡ 0) zeros.items }
-        requires ascending { IsStrictlyIncreasing keys.items }
-        requires real { All (λ k. k ≤ greatest_key) keys.items }
-        requires start_ascending { IsStrictlyIncreasing (keys_of start.items) }
-        requires given { All (λ k. set_of keys.items k ≡ true) (keys_of start.items) }
-        requires few { length start.items ≤ most_start }
-        // It succeeds only with 1 to 1,000,000 cards.
-        ensures cards { OnOk result (IsCardCount cards) }
-        // The tree has the start pairs and shares no key. The number of its last card is `cards` plus the number of
-        // start keys.
-        ensures tree { IfOk result (λ made. made.0.plan ≡ record {
-          keys = keys.items;
-          start = start.items;
-          last_card = last_card start.items cards;
-          shared = false;
-        }) }
-        // The pass owns these keys, of which the start keys are present, has the whole share, and has made no step.
-        ensures pass { IfOk result (λ made. IsFirst made.0 made.1) }
-        // `BadCards` is returned exactly if the number of cards is not 1 to 1,000,000, and otherwise only `NoMemory`.
-        ensures refused { IfErr result (RefusesCards cards) }
-    {
-        let (table, pass) = CardTable::reserve_with_zeros(alloc, zeros, start, keys, cards)?;
         Ok((Tree { table, alloc }, pass))
     }
 
@@ -731,6 +695,45 @@ impl<A: Allocator + Copy> Tree<A> {
         ensures enough { 2 * self.now.plan.last_card < tries → result ≢ Err Busy }
     {
         Ok(change(&self.table, pass, Op::Delete(key), tries, gate)?)
+    }
+
+    /// Deletes a key of the pass, or a shared one, if it has the value `was`, in one atomic step. Returns the value that
+    /// the key had, if it was present, so it was removed exactly if that is `was`. A key that has another value is left
+    /// unchanged. The step takes just this value, however often other passes have changed the key before it. Tries,
+    /// steps, cards and errors are as for `put`.
+    pub fn remove_if<G: StepGate>(
+        &self,
+        pass: &mut Pass<A>,
+        key: u64,
+        was: u64,
+        tries: u32,
+        gate: &G,
+    ) -> Result<Option<u64>, NotDone>
+        requires may { MayDo self.now key pass.old }
+        requires tries { 1 ≤ tries }
+        // If the answer is `was`, the key was deleted, and the value that it had at that point is `was`. Otherwise the
+        // answer is what the key had at the point of a find, and the call has changed nothing. On a key of the pass,
+        // this holds in the pass's map, and on any key as of one thread at the point of the last operation, in every
+        // run.
+        ensures removes { IfOk result (RemovesIf self.now key was pass.old pass.new) }
+        // A call without an answer changes nothing of what the pass has, and has nothing in hand. Its last operation
+        // changes nothing in any run. `Spent` is returned only if no card is left.
+        ensures not_done { IfErr result (IsNotDone self.now key pass.old pass.new) }
+        // `Busy` is returned only after all tries: each was hindered, or the key was read after another pass had
+        // changed it.
+        ensures tried { result ≡ Err Busy → AreTried tries pass.old pass.new }
+        // On a key of the pass, a `Busy` call counts each of its tries as hindered, because of what others did.
+        ensures others { Owns pass.old key → result ≡ Err Busy → IsOthersDoing self.now tries pass.old pass.new }
+        // It makes at most `3 * cards + 7` steps, and `10 * cards + 35` for each try. It counts at most `tries` tries.
+        ensures steps { Took pass.old pass.new (update_steps self.now.plan.last_card tries) }
+        ensures counted { CountsTries tries pass.old pass.new }
+        // It takes one card if it removes the key, at most one more for each hindered try, and never more than `tries`.
+        // If it removes nothing of a key of the pass, it takes none.
+        ensures cards { SpendsCards key tries pass.old pass.new (whether_swapped was result) }
+        // On a key of the pass, it is never `Busy` with more than `2 * cards` tries.
+        ensures enough { Owns pass.old key → 2 * self.now.plan.last_card < tries → result ≢ Err Busy }
+    {
+        Ok(remove_if(&self.table, pass, key, was, tries, gate)?)
     }
 
     /// A law, the contract of a function that does nothing: a pass of the tree knows of at most two milestones of each

@@ -82,6 +82,10 @@ said_too_many = negsuc 15
 abbrev pub said_shared_keys : ℤ
 said_shared_keys = negsuc 16
 
+-- a map of the bindings is of another process, of which this is a forked child: not from a call
+abbrev pub said_forked : ℤ
+said_forked = negsuc 17
+
 -- the code of a refusal
 abbrev pub code_of : Refusal → ℤ
 code_of Foreign = said_foreign

@@ -1,6 +1,6 @@
 use Rattle.std.specs.Prelude.{◌≡◌, ◌-◌, ◌+◌, ◌<◌, ℕ, ℤ, min, Some, List, length, take, drop, slice_get, codes, if◌then◌else◌}
 use Rattle.std.specs.Ordering.{int_eq}
-use Rattle.elltree.specs.Codes.{said_bad_cards, said_bad_key, said_bad_start, said_busy, said_closed, said_foreign, said_in_call, said_no, said_no_memory, said_no_room, said_no_tries, said_null, said_open, said_other_tree, said_other_value, said_same, said_shared_keys, said_spent, said_too_many, said_yes}
+use Rattle.elltree.specs.Codes.{said_bad_cards, said_bad_key, said_bad_start, said_busy, said_closed, said_foreign, said_forked, said_in_call, said_no, said_no_memory, said_no_room, said_no_tries, said_null, said_open, said_other_tree, said_other_value, said_same, said_shared_keys, said_spent, said_too_many, said_yes}
 
 -- what a code says, as the bytes of a text
 abbrev pub text_of : ℤ → List ℕ
@@ -25,6 +25,7 @@ text_of code =
     if int_eq code said_in_call then codes "the handle is in another call" else
     if int_eq code said_too_many then codes "the handle can make no more handles" else
     if int_eq code said_shared_keys then codes "the keys of the tree are shared" else
+    if int_eq code said_forked then codes "the map is of another process, of which this is a forked child" else
     codes "no code of elltree"
 
 -- how many bytes of a text an array has room for, with a 0 behind them

@@ -2,7 +2,7 @@ use Rattle.std.specs.Prelude.{◌≡◌, ◌≢◌, ◌≤◌, ◌⊎◌, ℕ, �
 use Rattle.ell_ops.specs.declared.op.Op.TheVariants.{Swap}
 use Rattle.ell_ops.specs.declared.reply.Reply.TheVariants.{Found, No}
 use Rattle.ell_tree.specs.CardsTaken.{TakesAtMost, TakesByHindered, TakesNoCard, TakesOneAndByHindered}
-use Rattle.ell_tree.specs.Computing.{IsSum, PutsValue, UpdatesValue}
+use Rattle.ell_tree.specs.Computing.{IsSum, PutsValue, RemovesIf, UpdatesValue}
 use Rattle.ell_tree.specs.Ends.{Answers}
 use Rattle.ell_tree.specs.Ledgers.{Owns}
 use Rattle.ell_handle.specs.Groups.{StaysPut}
@@ -33,6 +33,29 @@ pub record TellsExchange (key current value tries : ℕ) (said : ℤ) (found : �
   pub refused : said ≢ said_yes → said ≢ said_no → said ≢ said_other_value → StaysPut old new
   pub keeps : KeepsKeys old new
   pub took : TookTries tries old new
+  pub cards : SpendsBy key tries said old new
+  pub spares : said ≡ said_other_value → Owns old.pass key → TakesNoCard old.pass new.pass
+
+-- what the code of a removal tells of a handle, with the value that it has left in its place: that the key had the
+-- expected value, and was removed; that it is absent; that it has just this other value; or why there is no answer,
+-- each exactly if it is so, and then the map is as it was
+pub record TellsRemoval (key current tries : ℕ) (said : ℤ) (found : ℕ) (old new : Handle) : Type 0 where
+  pub codes : IsOneOf
+      (said_yes ∷ said_no ∷ said_other_value ∷ said_no_tries ∷ said_foreign ∷ said_busy ∷ said_spent ∷ []) said
+  pub yes : said ≡ said_yes → RemovesIf (tree_of old) key current old.pass new.pass (Some current)
+  pub no : said ≡ said_no → RemovesIf (tree_of old) key current old.pass new.pass None
+  pub other : said ≡ said_other_value → RemovesIf (tree_of old) key current old.pass new.pass (Some found)
+  pub expected : said ≡ said_yes → found ≡ current
+  pub unexpected : said ≡ said_other_value → found ≢ current
+  pub no_tries : said ≡ said_no_tries → tries ≡ 0
+  pub tried : said ≢ said_no_tries → 1 ≤ tries
+  pub foreign : said ≡ said_foreign → ¬ MayUse old key
+  pub may : said ≢ said_no_tries → said ≢ said_foreign → MayUse old key
+  pub busy : said ≡ said_busy → EndsBusy key tries old new
+  pub spent : said ≡ said_spent → EndsSpent key old new
+  pub refused : said ≢ said_yes → said ≢ said_no → said ≢ said_other_value → StaysPut old new
+  pub keeps : KeepsKeys old new
+  pub took : TookRounds tries old new
   pub cards : SpendsBy key tries said old new
   pub spares : said ≡ said_other_value → Owns old.pass key → TakesNoCard old.pass new.pass
 

@@ -46,6 +46,9 @@ pub const TOO_MANY_HANDLES: i32 = -16;
 
 pub const SHARED_KEYS: i32 = -17;
 
+// What calls on a map of the bindings return in a forked child. No exported function returns it.
+pub const FORKED: i32 = -18;
+
 /// The code of a refusal.
 pub fn code_of_refusal(refusal: Refusal) -> i32
     // Returns the code of the refusal. No other refusal has it, and it is neither yes nor no, nor `OTHER_VALUE`,

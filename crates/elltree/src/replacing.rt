@@ -1,9 +1,9 @@
-//! Compares, puts and sums of values in place.
+//! Compares, puts, sums and removals of values in place.
 ghost use Rattle.std.specs.Prelude.{◌≡◌, ◌≢◌, ◌↔◌, [], ◌∷◌, None, Some, Ok, Err, IfErr, OnOk};
 ghost use Rattle.elltree.specs.Codes.{IsOneOf, code_of, said_closed, said_no, said_other_value, said_yes};
 ghost use Rattle.elltree.specs.Maps.{handle_of};
 ghost use Rattle.elltree.specs.Slots.{OfHandlesIfAny};
-ghost use Rattle.elltree.specs.Values.{TellsExchange, TellsPut, TellsSum};
+ghost use Rattle.elltree.specs.Values.{TellsExchange, TellsPut, TellsRemoval, TellsSum};
 
 use crate::codes::{CLOSED, NO, OTHER_VALUE, YES, code_of_refusal};
 use crate::slot::Slot;
@@ -60,7 +60,7 @@ fn compare_exchange(
     tell_exchange(handle.compare_exchange(key, current, new, tries), found)
 }
 
-// What a compare-exchange has answered, as a code. A value that was found is written.
+// What a compare-exchange or a removal has answered, as a code. A value that was found is written.
 fn tell_exchange(answer: Result<Result<u64, Option<u64>>, Refusal>, found: &mut u64) -> i32
     ensures yes { result ≡ said_yes → answer ≡ Ok (Ok found.new) }
     ensures no { result ≡ said_no → answer ≡ Ok (Err None) }
@@ -81,6 +81,48 @@ fn tell_exchange(answer: Result<Result<u64, Option<u64>>, Refusal>, found: &mut 
         Ok(Err(None)) => NO,
         Err(refusal) => code_of_refusal(refusal),
     }
+}
+
+/// Removes a key of the slot's if its value is `current`. Returns whether it was removed, and if not, whether the key is
+/// absent or has another value. The value that was found is written, if there was one.
+#[unsafe(no_mangle)]
+pub extern "C" fn elltree_slot_remove_if(
+    alloc: Global,
+    slot: &mut Slot,
+    key: u64,
+    current: u64,
+    tries: u32,
+    found: &mut u64,
+) -> i32
+    // `CLOSED` is returned exactly if the slot has no handle.
+    ensures closed { (result ≡ said_closed) ↔ (handle_of slot.old.raw.inside ≡ None) }
+    // The answer is that of the handle's `remove_if`: yes if the key had the expected value, no if it is absent, or
+    // `OTHER_VALUE`, and the value is written. `NO_TRIES` is returned exactly if no try is allowed, then `FOREIGN`
+    // exactly for a key that is neither owned nor shared, then `BUSY` and `SPENT` as the handle's. Keys and tree stay
+    // the same, and after refusals so does the map. It keeps to the handle's bounds on steps, tries and cards.
+    ensures tells { OfHandlesIfAny (TellsRemoval key current tries result found.new) (handle_of slot.old.raw.inside)
+        (handle_of slot.new.raw.inside) }
+    // The value is written only with yes and `OTHER_VALUE`.
+    ensures kept { result ≢ said_yes → result ≢ said_other_value → found.new ≡ found.old }
+{
+    let Some(mut place) = slot.take(alloc) else {
+        return CLOSED;
+    };
+    let code = match &mut place.handle {
+        Some(handle) => remove_if(handle, key, current, tries, found),
+        None => CLOSED,
+    };
+    slot.put(place);
+    code
+}
+
+// A removal as a code.
+fn remove_if(handle: &mut Handle, key: u64, current: u64, tries: u32, found: &mut u64) -> i32
+    ensures tells { TellsRemoval key current tries result found.new handle.old handle.new }
+    ensures kept { result ≢ said_yes → result ≢ said_other_value → found.new ≡ found.old }
+    ensures open { result ≢ said_closed }
+{
+    tell_exchange(handle.remove_if(key, current, tries), found)
 }
 
 /// Stores a value of a key of the slot's, whether the key was present or not. Returns whether it was; if it was, the

@@ -5,8 +5,8 @@ use crate::calls::{
     elltree_slot_take,
 };
 use crate::codes::{
-    BAD_CARDS, BAD_KEY, BAD_START, CLOSED, FOREIGN, NO, NO_TRIES, OPEN, OTHER_TREE, OTHER_VALUE,
-    SHARED_KEYS, SPENT, TOO_MANY_HANDLES, YES,
+    BAD_CARDS, CLOSED, FOREIGN, NO, NO_TRIES, OPEN, OTHER_TREE, OTHER_VALUE, SHARED_KEYS, SPENT,
+    TOO_MANY_HANDLES, YES,
 };
 use crate::fresh::elltree_slots_renew_shared;
 use crate::grouping::elltree_slots_renew;
@@ -14,7 +14,9 @@ use crate::opening::{elltree_slot_free, elltree_slot_join, elltree_slot_open, el
 use crate::ranging::{elltree_slot_last_at_most, elltree_slot_next_at_least, elltree_slot_range};
 use crate::reading::{elltree_slot_cards_left, elltree_slot_owned, elltree_slot_pairs};
 use crate::renewing::elltree_slot_renew;
-use crate::replacing::{elltree_slot_compare_exchange, elltree_slot_fetch_add, elltree_slot_put};
+use crate::replacing::{
+    elltree_slot_compare_exchange, elltree_slot_fetch_add, elltree_slot_put, elltree_slot_remove_if,
+};
 use crate::sharing::{elltree_slot_another, elltree_slot_open_shared};
 use crate::slot::Slot;
 use crate::texts::elltree_code_text;
@@ -62,16 +64,8 @@ fn two_slots_share_all_keys(rt: HostRuntime) {
     let mut one = Slot::empty(alloc);
     let mut two = Slot::empty(alloc);
     let (mut value, mut count, mut left) = (0, 7, 0);
-    let great = [Pair {
-        key: KEY_MAX + 1,
-        value: 0,
-    }];
     assert!(rt; elltree_slot_another(alloc, &mut one, &mut two) == CLOSED);
-    assert!(rt; elltree_slot_open_shared(alloc, &mut one, &great, 10, 1) == BAD_KEY);
-    assert!(rt; elltree_slot_open_shared(alloc, &mut one, &[START[0]; 2], 10, 1) == BAD_START);
-    assert!(rt; elltree_slot_open_shared(alloc, &mut one, &START, 0, 1) == BAD_CARDS);
     assert!(rt; elltree_slot_open_shared(alloc, &mut one, &START, 10, 1) == YES);
-    assert!(rt; elltree_slot_open_shared(alloc, &mut one, &START, 10, 1) == OPEN);
     assert!(rt; elltree_slot_another(alloc, &mut one, &mut two) == YES);
     assert!(rt; elltree_slot_insert(alloc, &mut two, KEY_MAX, 77, 9) == YES);
     assert!(rt; elltree_slot_insert(alloc, &mut one, KEY_MAX, 78, 9) == NO);
@@ -119,25 +113,6 @@ fn a_slot_gives_another_until_its_share_is_the_least(rt: HostRuntime) {
 }
 
 #[test]
-fn an_owner_gives_another_without_keys(rt: HostRuntime) {
-    let alloc: Global = rt.alloc();
-    let mut owner = Slot::empty(alloc);
-    let mut other = Slot::empty(alloc);
-    let (mut value, mut count) = (0, 7);
-    assert!(rt; elltree_slot_open(alloc, &mut owner, &KEYS, &START, 10, 1) == YES);
-    assert!(rt; elltree_slot_another(alloc, &mut owner, &mut other) == YES);
-    assert!(rt; elltree_slot_another(alloc, &mut owner, &mut other) == OPEN);
-    assert!(rt; elltree_slot_owned(alloc, &mut owner, &mut count) == YES);
-    assert!(rt; count == 4);
-    assert!(rt; elltree_slot_insert(alloc, &mut other, 3, 30, 9) == FOREIGN);
-    assert!(rt; elltree_slot_insert(alloc, &mut owner, 3, 30, 9) == YES);
-    assert!(rt; elltree_slot_look(alloc, &mut other, 3, &mut value) == YES);
-    assert!(rt; value == 30);
-    assert!(rt; elltree_slot_free(alloc, &mut owner) == YES);
-    assert!(rt; elltree_slot_free(alloc, &mut other) == YES);
-}
-
-#[test]
 fn slots_renew_together(rt: HostRuntime) {
     let alloc: Global = rt.alloc();
     let mut low = Slot::empty(alloc);
@@ -168,36 +143,6 @@ fn slots_renew_together(rt: HostRuntime) {
     assert!(rt; elltree_slot_insert(alloc, &mut slots[0], 1, 10, 9) == SPENT);
     assert!(rt; elltree_slot_free(alloc, &mut slots[0]) == YES);
     assert!(rt; elltree_slot_free(alloc, &mut slots[1]) == YES);
-}
-
-#[test]
-fn a_slot_tells_how_many_cards_are_left(rt: HostRuntime) {
-    let alloc: Global = rt.alloc();
-    let mut low = Slot::empty(alloc);
-    let mut high = Slot::empty(alloc);
-    let mut left = 77;
-    assert!(rt; elltree_slot_cards_left(alloc, &mut low, &mut left) == CLOSED);
-    assert!(rt; left == 77);
-    assert!(rt; elltree_slot_open(alloc, &mut low, &KEYS, &START, 3, 1) == YES);
-    assert!(rt; elltree_slot_split(alloc, &mut low, &mut high, &[3, 4]) == YES);
-    assert!(rt; elltree_slot_cards_left(alloc, &mut low, &mut left) == YES);
-    assert!(rt; left == 3);
-    assert!(rt; elltree_slot_insert(alloc, &mut high, 3, 30, 9) == YES);
-    assert!(rt; elltree_slot_insert(alloc, &mut high, 3, 31, 9) == NO);
-    assert!(rt; elltree_slot_cards_left(alloc, &mut low, &mut left) == YES);
-    assert!(rt; left == 2);
-    assert!(rt; elltree_slot_delete(alloc, &mut low, 2, 9) == YES);
-    assert!(rt; elltree_slot_insert(alloc, &mut low, 2, 21, 9) == YES);
-    assert!(rt; elltree_slot_cards_left(alloc, &mut high, &mut left) == YES);
-    assert!(rt; left == 0);
-    assert!(rt; elltree_slot_insert(alloc, &mut high, 4, 40, 9) == SPENT);
-    assert!(rt; elltree_slot_renew(alloc, &mut high, 5, 2) == YES);
-    assert!(rt; elltree_slot_cards_left(alloc, &mut high, &mut left) == YES);
-    assert!(rt; left == 5);
-    assert!(rt; elltree_slot_cards_left(alloc, &mut low, &mut left) == YES);
-    assert!(rt; left == 0);
-    assert!(rt; elltree_slot_free(alloc, &mut low) == YES);
-    assert!(rt; elltree_slot_free(alloc, &mut high) == YES);
 }
 
 #[test]
@@ -289,149 +234,63 @@ fn a_slot_takes_a_value(rt: HostRuntime) {
 }
 
 #[test]
-fn a_slot_tells_ranges(rt: HostRuntime) {
+fn a_slot_removes_a_value_that_is_expected(rt: HostRuntime) {
     let alloc: Global = rt.alloc();
     let mut one = Slot::empty(alloc);
-    let nothing = Pair { key: 7, value: 7 };
-    let (mut room, mut count, mut next) = ([nothing; 3], 7, 7);
-    assert!(rt;
-        elltree_slot_range(alloc, &mut one, 0, 9, &mut room, &mut count, &mut next) == CLOSED
-    );
-    assert!(rt; (count, next, room[0].key) == (7, 7, 7));
-    assert!(rt; elltree_slot_open_shared(alloc, &mut one, &[], 10, 1) == YES);
-    // An empty tree.
-    assert!(rt;
-        elltree_slot_range(
-            alloc,
-            &mut one,
-            0,
-            u64::MAX,
-            &mut room,
-            &mut count,
-            &mut next
-        ) == YES
-    );
-    assert!(rt; (count, next, room[0].key) == (0, u64::MAX, 7));
-    for key in [3, 4, 6, KEY_MAX] {
-        assert!(rt; elltree_slot_insert(alloc, &mut one, key, key % 1000, 9) == YES);
-    }
-    // More pairs than there is room for, and the rest.
-    assert!(rt;
-        elltree_slot_range(
-            alloc,
-            &mut one,
-            0,
-            u64::MAX,
-            &mut room,
-            &mut count,
-            &mut next
-        ) == YES
-    );
-    assert!(rt; count == 3 && 6 < next && next <= KEY_MAX);
-    assert!(rt; (room[0].key, room[1].key, room[2].key) == (3, 4, 6));
-    assert!(rt; (room[0].value, room[1].value, room[2].value) == (3, 4, 6));
-    assert!(rt;
-        elltree_slot_range(
-            alloc,
-            &mut one,
-            next,
-            u64::MAX,
-            &mut room,
-            &mut count,
-            &mut next
-        ) == YES
-    );
-    assert!(rt; (count, next) == (1, u64::MAX));
-    assert!(rt; (room[0].key, room[0].value, room[1].key) == (KEY_MAX, 613, 4));
-    // The ends of a range: the first is in it, the second is not.
-    let mut room = [nothing; 3];
-    assert!(rt; elltree_slot_range(alloc, &mut one, 3, 6, &mut room, &mut count, &mut next) == YES);
-    assert!(rt; (count, next) == (2, 6));
-    assert!(rt; (room[0].key, room[1].key, room[2].key) == (3, 4, 7));
-    assert!(rt; elltree_slot_range(alloc, &mut one, 4, 5, &mut room, &mut count, &mut next) == YES);
-    assert!(rt; (count, next, room[0].key, room[1].key) == (1, 5, 4, 4));
-    assert!(rt; elltree_slot_range(alloc, &mut one, 5, 6, &mut room, &mut count, &mut next) == YES);
-    assert!(rt; (count, next, room[0].key) == (0, 6, 4));
-    // Ranges without keys.
-    for (from, upto) in [(4, 4), (6, 3), (KEY_MAX + 1, u64::MAX), (u64::MAX, 0)] {
-        assert!(rt;
-            elltree_slot_range(
-                alloc, &mut one, from, upto, &mut room, &mut count, &mut next
-            ) == YES
-        );
-        assert!(rt; (count, next, room[0].key) == (0, upto, 4));
-    }
-    // The greatest key, and no room.
-    assert!(rt;
-        elltree_slot_range(
-            alloc,
-            &mut one,
-            KEY_MAX,
-            KEY_MAX + 1,
-            &mut room,
-            &mut count,
-            &mut next
-        ) == YES
-    );
-    assert!(rt; (count, next, room[0].key) == (1, KEY_MAX + 1, KEY_MAX));
-    assert!(rt;
-        elltree_slot_range(alloc, &mut one, 4, 9, &mut room[..0], &mut count, &mut next) == YES
-    );
-    assert!(rt; (count, next) == (0, 4));
+    let mut value = 7;
+    assert!(rt; elltree_slot_remove_if(alloc, &mut one, 2, 20, 9, &mut value) == CLOSED);
+    assert!(rt; elltree_slot_open_shared(alloc, &mut one, &START, 2, 1) == YES);
+    assert!(rt; elltree_slot_remove_if(alloc, &mut one, 3, 20, 9, &mut value) == NO);
+    assert!(rt; elltree_slot_remove_if(alloc, &mut one, 2, 20, 0, &mut value) == NO_TRIES);
+    assert!(rt; elltree_slot_remove_if(alloc, &mut one, KEY_MAX + 1, 20, 9, &mut value) == FOREIGN);
+    assert!(rt; value == 7);
+    assert!(rt; elltree_slot_remove_if(alloc, &mut one, 2, 21, 9, &mut value) == OTHER_VALUE);
+    assert!(rt; value == 20);
+    assert!(rt; elltree_slot_remove_if(alloc, &mut one, 2, 20, 9, &mut value) == YES);
+    assert!(rt; elltree_slot_find(alloc, &mut one, 2, &mut value) == NO);
+    assert!(rt; elltree_slot_insert(alloc, &mut one, 2, 22, 9) == YES);
+    assert!(rt; elltree_slot_remove_if(alloc, &mut one, 2, 22, 9, &mut value) == SPENT);
+    assert!(rt; value == 20);
     assert!(rt; elltree_slot_free(alloc, &mut one) == YES);
 }
 
 #[test]
-fn a_slot_tells_the_next_key_and_the_last(rt: HostRuntime) {
+fn a_slot_tells_ranges_and_the_keys_next_to_one(rt: HostRuntime) {
     let alloc: Global = rt.alloc();
     let mut one = Slot::empty(alloc);
+    let (mut room, mut count, mut next) = ([Pair { key: 7, value: 7 }; 3], 7, 7);
+    assert!(rt; elltree_slot_open_shared(alloc, &mut one, &[], 10, 1) == YES);
+    for key in [3, 4, 6, KEY_MAX] {
+        assert!(rt; elltree_slot_insert(alloc, &mut one, key, key % 1000, 9) == YES);
+    }
+    // More pairs than there is room for, and the rest.
+    let end = u64::MAX;
+    assert!(rt;
+        elltree_slot_range(alloc, &mut one, 0, end, &mut room, &mut count, &mut next) == YES
+    );
+    assert!(rt; count == 3 && 6 < next && next <= KEY_MAX);
+    assert!(rt; (room[0].key, room[1].key, room[2].key) == (3, 4, 6));
+    assert!(rt; (room[0].value, room[1].value, room[2].value) == (3, 4, 6));
+    let from = next;
+    assert!(rt;
+        elltree_slot_range(alloc, &mut one, from, end, &mut room, &mut count, &mut next) == YES
+    );
+    assert!(rt; (count, next) == (1, end));
+    assert!(rt; (room[0].key, room[0].value, room[1].key) == (KEY_MAX, 613, 4));
+    // The first end of a range is in it, and the second is not.
+    assert!(rt; elltree_slot_range(alloc, &mut one, 4, 6, &mut room, &mut count, &mut next) == YES);
+    assert!(rt; (count, next, room[0].key, room[1].key) == (1, 6, 4, 4));
     let (mut found, mut value) = (7, 8);
-    assert!(rt; elltree_slot_next_at_least(alloc, &mut one, 0, &mut found, &mut value) == CLOSED);
-    assert!(rt; elltree_slot_last_at_most(alloc, &mut one, 0, &mut found, &mut value) == CLOSED);
-    assert!(rt; elltree_slot_open(alloc, &mut one, &[KEY_MAX, 0, 5], &[], 10, 1) == YES);
-    // An empty tree.
-    assert!(rt; elltree_slot_next_at_least(alloc, &mut one, 0, &mut found, &mut value) == NO);
-    assert!(rt; elltree_slot_last_at_most(alloc, &mut one, u64::MAX, &mut found, &mut value) == NO);
-    assert!(rt; (found, value) == (7, 8));
-    // One key, and keys next to it.
-    assert!(rt; elltree_slot_insert(alloc, &mut one, 5, 50, 9) == YES);
-    for key in [0, 4, 5] {
-        assert!(rt;
-            elltree_slot_next_at_least(alloc, &mut one, key, &mut found, &mut value) == YES
-        );
-        assert!(rt; (found, value) == (5, 50));
-        (found, value) = (7, 8);
-    }
-    for key in [5, 6, KEY_MAX, u64::MAX] {
-        assert!(rt; elltree_slot_last_at_most(alloc, &mut one, key, &mut found, &mut value) == YES);
-        assert!(rt; (found, value) == (5, 50));
-        (found, value) = (7, 8);
-    }
-    assert!(rt; elltree_slot_next_at_least(alloc, &mut one, 6, &mut found, &mut value) == NO);
-    assert!(rt; elltree_slot_last_at_most(alloc, &mut one, 4, &mut found, &mut value) == NO);
-    assert!(rt; (found, value) == (7, 8));
-    // The least key and the greatest.
-    assert!(rt; elltree_slot_insert(alloc, &mut one, 0, 1, 9) == YES);
-    assert!(rt; elltree_slot_insert(alloc, &mut one, KEY_MAX, 2, 9) == YES);
-    assert!(rt; elltree_slot_next_at_least(alloc, &mut one, 6, &mut found, &mut value) == YES);
-    assert!(rt; (found, value) == (KEY_MAX, 2));
-    assert!(rt; elltree_slot_last_at_most(alloc, &mut one, 4, &mut found, &mut value) == YES);
-    assert!(rt; (found, value) == (0, 1));
-    for key in [KEY_MAX + 1, u64::MAX] {
-        assert!(rt; elltree_slot_next_at_least(alloc, &mut one, key, &mut found, &mut value) == NO);
-        assert!(rt; elltree_slot_last_at_most(alloc, &mut one, key, &mut found, &mut value) == YES);
-        assert!(rt; (found, value) == (KEY_MAX, 2));
-        (found, value) = (0, 1);
-    }
-    // A key that is gone, and one of another owner.
-    let mut other = Slot::empty(alloc);
-    assert!(rt; elltree_slot_split(alloc, &mut one, &mut other, &[5]) == YES);
-    assert!(rt; elltree_slot_delete(alloc, &mut one, 0, 9) == YES);
-    assert!(rt; elltree_slot_next_at_least(alloc, &mut one, 0, &mut found, &mut value) == YES);
-    assert!(rt; (found, value) == (5, 50));
+    assert!(rt; elltree_slot_next_at_least(alloc, &mut one, 5, &mut found, &mut value) == YES);
+    assert!(rt; (found, value) == (6, 6));
+    assert!(rt; elltree_slot_last_at_most(alloc, &mut one, 5, &mut found, &mut value) == YES);
+    assert!(rt; (found, value) == (4, 4));
+    assert!(rt;
+        elltree_slot_next_at_least(alloc, &mut one, KEY_MAX + 1, &mut found, &mut value) == NO
+    );
+    assert!(rt; elltree_slot_last_at_most(alloc, &mut one, 2, &mut found, &mut value) == NO);
+    assert!(rt; (found, value) == (4, 4));
     assert!(rt; elltree_slot_free(alloc, &mut one) == YES);
-    assert!(rt; elltree_slot_last_at_most(alloc, &mut other, 4, &mut found, &mut value) == NO);
-    assert!(rt; elltree_slot_free(alloc, &mut other) == YES);
 }
 
 #[test]

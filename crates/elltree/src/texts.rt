@@ -3,7 +3,7 @@ ghost use Rattle.std.specs.Prelude.{◌≡◌, ◌<◌, length};
 ghost use Rattle.elltree.specs.Texts.{WritesText, text_of};
 
 use crate::codes::{
-    BAD_CARDS, BAD_KEY, BAD_START, BUSY, CLOSED, FOREIGN, IN_CALL, NO, NO_MEMORY, NO_ROOM,
+    BAD_CARDS, BAD_KEY, BAD_START, BUSY, CLOSED, FOREIGN, FORKED, IN_CALL, NO, NO_MEMORY, NO_ROOM,
     NO_TRIES, NULL, OPEN, OTHER_TREE, OTHER_VALUE, SAME, SHARED_KEYS, SPENT, TOO_MANY_HANDLES, YES,
 };
 
@@ -61,6 +61,7 @@ fn text_of(code: i32) -> &'static [u8]
         IN_CALL => b"the handle is in another call",
         TOO_MANY_HANDLES => b"the handle can make no more handles",
         SHARED_KEYS => b"the keys of the tree are shared",
+        FORKED => b"the map is of another process, of which this is a forked child",
         _ => b"no code of elltree",
     }
 }

@@ -8,14 +8,8 @@ use std::thread::Threads;
 /// The exit status, and what standard output and standard error get.
 pub(super) type Ending<'a> = (u8, &'a str, &'a str);
 
-/// The words of a command, the text on its standard input, and how it ends where no stream fails.
-pub(super) type Row<'a> = (&'a [&'a str], &'a str, Ending<'a>);
-
-/// The words of a run.
-pub(super) const RUN: &[&str] = &["run"];
-
-/// The words of a replay.
-pub(super) const REPLAY: &[&str] = &["replay"];
+/// The words of a command, with spaces between them, the text on its standard input, and how it ends where no stream fails.
+pub(super) type Row<'a> = (&'static str, &'a str, Ending<'a>);
 
 /// What is told where help was cut or a flush failed.
 pub(super) const WRITE_FAILED: &str = "elltree: write failed\n";
@@ -65,38 +59,30 @@ impl Ended {
     }
 }
 
-/// Whether the program ends so, where no stream fails.
-pub(super) fn ends<R: Threads + Sync + AllocGlobal>(
-    rt: &R,
-    words: &[&str],
-    text: &str,
-    ending: Ending<'_>,
-) -> bool {
-    let mut out = Vec::new(rt.alloc());
-    let mut err = Vec::new(rt.alloc());
-    let mut input = text.as_bytes();
-    let status = elltree(rt, rt.alloc(), words, &mut input, &mut out, &mut err);
-    let (wanted, answer, told) = ending;
-    status == wanted && out.as_slice() == answer.as_bytes() && err.as_slice() == told.as_bytes()
+/// The words of a command that stand in a text, with a space between two of them.
+pub(super) fn words_of(rt: &(impl Abort + AllocGlobal), text: &'static str) -> Vec<&'static str> {
+    let words = text.split(' ').collect(rt.alloc());
+    words.expect(rt, "memory")
 }
 
 /// Runs the program into such writers.
-pub(super) fn run_into<R: Threads + Sync + AllocGlobal, I: Read>(
+pub(super) fn run_into<R: Threads + Sync + Abort + AllocGlobal, I: Read>(
     rt: &R,
-    words: &[&str],
+    words: &'static str,
     input: &mut I,
     writers: Writers,
 ) -> Ended {
     let mut out = Narrow::new(rt.alloc(), writers.out_room, writers.flushes);
     let mut err = Narrow::new(rt.alloc(), writers.err_room, true);
-    let status = elltree(rt, rt.alloc(), words, input, &mut out, &mut err);
+    let words = words_of(rt, words);
+    let status = elltree(rt, rt.alloc(), &words, input, &mut out, &mut err);
     Ended { status, out, err }
 }
 
 /// Whether the program ends so, into such writers.
-pub(super) fn ends_into<R: Threads + Sync + AllocGlobal>(
+pub(super) fn ends_into<R: Threads + Sync + Abort + AllocGlobal>(
     rt: &R,
-    words: &[&str],
+    words: &'static str,
     text: &str,
     writers: Writers,
     ending: Ending<'_>,
@@ -107,6 +93,7 @@ pub(super) fn ends_into<R: Threads + Sync + AllocGlobal>(
 /// Asserts that the program ends so at each row.
 pub(super) fn assert_rows<R: Threads + Sync + AllocGlobal + Abort>(rt: &R, rows: &[Row<'_>]) {
     for (words, text, ending) in rows {
-        assert!(rt; ends(rt, words, text, *ending), "at {words:?} of {text:?}");
+        let is_so = ends_into(rt, words, text, WIDE, *ending);
+        assert!(rt; is_so, "at {words:?} of {text:?}");
     }
 }

@@ -1,14 +1,12 @@
 //! Reports of runs.
-use super::endings::{Row, UNFLUSHED, WIDE, assert_rows, ends, ends_into, run_into};
+use super::endings::{Row, UNFLUSHED, WIDE, assert_rows, ends_into, run_into, words_of};
 use ell_command::carry_out;
 use ell_run::{Exchange, Kind};
 use ell_test_gates::{Holding, two_threads_meet};
 
-const RUN_WITH_REPORT: &[&str] = &["run", "--report"];
+const TEXT: &str = "insert 5\nfind 5\n";
 
-const FOUR_LINES: &str = "insert 5\nfind 5\ndelete 5\nfind 5\n";
-
-const FOUR_ANSWERS: &str = "yes\nyes\nyes\nno\nkeys 0\n";
+const ANSWER: &str = "yes\nyes\nkeys 1\n5\n";
 
 // With one card one insert alone is made on the tree. The other is late, and so is what is behind it in its worker's part: so,
 // however the workers' turns fall, the report tells how many workers there were, how the operations were parted among them, and
@@ -17,104 +15,38 @@ const TWO_INSERTS: &str = "insert 5\ninsert 6\nfind 7\nfind 8\n";
 
 const TWO_KEYS: &str = "yes\nyes\nno\nno\nkeys 2\n5\n6\n";
 
-static LATE: [Row<'static>; 7] = [
+static LATE: [Row<'static>; 6] = [
     (
-        &[
-            "run",
-            "--workers=1",
-            "--parting=stripe",
-            "--cards=1",
-            "--report",
-        ],
-        "insert 5\ninsert 6\nfind 5\n",
-        (0, "yes\nyes\nyes\nkeys 2\n5\n6\n", "late 2\n"),
-    ),
-    (
-        &[
-            "run",
-            "--workers=1",
-            "--parting=stripe",
-            "--cards=1",
-            "--report",
-        ],
+        "run --workers=1 --parting=stripe --cards=1 --report",
         TWO_INSERTS,
         (0, TWO_KEYS, "late 3\n"),
     ),
     (
-        &[
-            "run",
-            "--workers=2",
-            "--parting=stripe",
-            "--cards=1",
-            "--report",
-        ],
+        "run --workers=2 --parting=stripe --cards=1 --report",
         TWO_INSERTS,
         (0, TWO_KEYS, "late 2\n"),
     ),
     (
-        &[
-            "run",
-            "--workers=4",
-            "--parting=stripe",
-            "--cards=1",
-            "--report",
-        ],
+        "run --workers=4 --parting=stripe --cards=1 --report",
         TWO_INSERTS,
         (0, TWO_KEYS, "late 1\n"),
     ),
     (
-        &[
-            "run",
-            "--workers=1",
-            "--parting=range",
-            "--cards=1",
-            "--report",
-        ],
+        "run --workers=1 --parting=range --cards=1 --report",
         TWO_INSERTS,
         (0, TWO_KEYS, "late 3\n"),
     ),
     (
-        &[
-            "run",
-            "--workers=2",
-            "--parting=range",
-            "--cards=1",
-            "--report",
-        ],
+        "run --workers=2 --parting=range --cards=1 --report",
         TWO_INSERTS,
         (0, TWO_KEYS, "late 1\n"),
     ),
     (
-        &[
-            "run",
-            "--workers=1",
-            "--parting=stripe",
-            "--cards=2",
-            "--report",
-        ],
+        "run --workers=1 --parting=stripe --cards=2 --report",
         TWO_INSERTS,
         (0, TWO_KEYS, "late 0\n"),
     ),
 ];
-
-// Each option at the end of its range.
-static AT_THE_ENDS: &[&str] = &[
-    "run",
-    "--workers",
-    "64",
-    "--parting",
-    "range",
-    "--cards",
-    "1000000",
-    "--tries",
-    "1",
-    "--report",
-];
-
-#[test]
-fn a_report_goes_to_standard_error(rt: HostRuntime) {
-    assert!(rt; ends(&rt, AT_THE_ENDS, FOUR_LINES, (0, FOUR_ANSWERS, "late 0\n")));
-}
 
 #[test]
 fn a_report_tells_what_was_late(rt: HostRuntime) {
@@ -123,20 +55,14 @@ fn a_report_tells_what_was_late(rt: HostRuntime) {
 
 #[test]
 fn a_report_is_one_write(rt: HostRuntime) {
-    let ended = run_into(&rt, RUN_WITH_REPORT, &mut FOUR_LINES.as_bytes(), WIDE);
+    let ended = run_into(&rt, "run --report", &mut TEXT.as_bytes(), WIDE);
     assert!(rt; ended.status == 0 && ended.err.has_in_one_write("late 0\n"));
 }
 
 #[test]
 fn a_report_comes_before_the_flush(rt: HostRuntime) {
-    let ending = (4, FOUR_ANSWERS, "late 0\nelltree: write failed\n");
-    assert!(rt; ends_into(&rt, RUN_WITH_REPORT, FOUR_LINES, UNFLUSHED, ending));
-}
-
-#[test]
-fn a_fault_has_no_report(rt: HostRuntime) {
-    let ending = (2, "", "elltree: line 1: not a key\n");
-    assert!(rt; ends(&rt, RUN_WITH_REPORT, "insert 007\n", ending));
+    let ending = (4, ANSWER, "late 0\nelltree: write failed\n");
+    assert!(rt; ends_into(&rt, "run --report", TEXT, UNFLUSHED, ending));
 }
 
 // Of two workers one has the inserts of 7 and 9, and meets at its first try what the other, which inserts 6, has begun. With one try
@@ -145,9 +71,9 @@ const THREE_INSERTS: &str = "insert 6\ninsert 7\ninsert 9\n";
 
 const THREE_KEYS: &str = "yes\nyes\nyes\nkeys 3\n6\n7\n9\n";
 
-static TRIES: [(&[&str], &str); 2] = [
-    (&["run", "--workers=2", "--tries=1", "--report"], "late 2\n"),
-    (&["run", "--workers=2", "--tries=2", "--report"], "late 0\n"),
+static TRIES: [(&str, &str); 2] = [
+    ("run --workers=2 --tries=1 --report", "late 2\n"),
+    ("run --workers=2 --tries=2 --report", "late 0\n"),
 ];
 
 #[test]
@@ -158,18 +84,18 @@ fn a_report_tells_what_tries_were_too_few_for(rt: HostRuntime) {
     for (words, late) in TRIES.iter() {
         let gate = Holding::at(Kind::Exchange(Exchange::IChild));
         let (mut out, mut err) = (Vec::new(rt.alloc()), Vec::new(rt.alloc()));
-        let mut input = THREE_INSERTS.as_bytes();
+        let (words, mut input) = (words_of(&rt, words), THREE_INSERTS.as_bytes());
         let carried = carry_out(
             &rt,
             rt.alloc(),
-            *words,
+            &words,
             &mut input,
             &mut out,
             &mut err,
             &gate,
         );
-        assert!(rt; carried.is_ok() && gate.has_held(), "{words:?}");
-        assert!(rt; out.as_slice() == THREE_KEYS.as_bytes(), "{words:?}");
-        assert!(rt; err.as_slice() == late.as_bytes(), "{words:?}");
+        assert!(rt; carried.is_ok() && gate.has_held(), "{late}");
+        assert!(rt; out.as_slice() == THREE_KEYS.as_bytes(), "{late}");
+        assert!(rt; err.as_slice() == late.as_bytes());
     }
 }

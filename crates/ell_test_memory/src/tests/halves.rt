@@ -21,7 +21,7 @@ const OPS: [Op; 6] = [
 const OWNERS: [u32; 6] = [0, 1, 0, 1, 0, 1];
 
 // How often a worker looks whether a growth has come, before it goes on without.
-const TURNS: u32 = 1_000_000;
+const TURNS: u32 = 200_000;
 
 // Holds each worker that begins an operation until there were so many growths.
 #[derive(Drop)]
@@ -60,8 +60,8 @@ fn is_whole(told: Tally) -> bool {
     told.answered == told.begun && (told.begun == 0 || told.begun == 3)
 }
 
-// Refuses the growth of this number: whether only one of the workers had no memory.
-fn halves<R: Threads + Abort + AllocGlobal + Sync>(rt: &R, number: u64) -> bool {
+// Refuses the growth of this number, if there is one: whether only one of the workers had no memory.
+fn halves<R: Threads + Abort + AllocGlobal + Sync>(rt: &R, number: u64) -> Option<bool> {
     let heap = Heap::new(rt.alloc());
     let waiting = Waiting {
         heap: &heap,
@@ -69,11 +69,11 @@ fn halves<R: Threads + Abort + AllocGlobal + Sync>(rt: &R, number: u64) -> bool 
     };
     let gate = Counting::new(rt.alloc(), 2, waiting).expect(rt, "no memory");
     if are_worked(rt, &heap, number, &gate) {
-        return false;
+        return None;
     }
     let (one, other) = (gate.tally(0), gate.tally(1));
     assert!(rt; is_whole(one) && is_whole(other), "growth {number}");
-    one.begun != other.begun
+    Some(one.begun != other.begun)
 }
 
 #[test]
@@ -83,7 +83,10 @@ fn a_worker_without_memory_stops_nobody(rt: HostRuntime) {
     }
     let mut half_came = false;
     for number in 1..20 {
-        half_came |= halves(&rt, number);
+        let Some(is_half) = halves(&rt, number) else {
+            break;
+        };
+        half_came |= is_half;
     }
     assert!(rt; half_came, "no half alone was refused");
 }

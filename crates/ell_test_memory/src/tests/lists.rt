@@ -1,141 +1,63 @@
-//! Lists of operations, their order, their parts and their replies.
+//! Lists of operations, their order, their parts and their replies, and the order of the faults of texts.
 ghost use Rattle.std.specs.Prelude.{◌≡◌, length};
 
 use super::refusing::{Heap, Refusal};
 use super::sweeping::{Ended, sweep};
 use ell_ops::Reply::{self, Found, No, Yes};
-use ell_ops::{KEY_MAX, NoMemory, Op, apply_all, apply_from};
+use ell_ops::{NoMemory, Op, apply_from};
 use ell_order::RunOrder;
 use ell_parts::{GatherFault, PartFault, Parts, gather};
-use ell_word::{INF1, INF2};
+use ell_text::{TextFault, read_bulk};
 use std::alloc::Allocator;
 use std::thread::Threads;
 
-// Eight keys come, and four of them go.
-const OPS: [Op; 12] = [
-    Op::Insert(1, 0),
-    Op::Insert(2, 0),
-    Op::Insert(3, 0),
-    Op::Insert(4, 0),
-    Op::Insert(5, 0),
-    Op::Insert(6, 0),
-    Op::Insert(7, 0),
-    Op::Insert(8, 0),
-    Op::Delete(2),
-    Op::Delete(4),
-    Op::Delete(6),
-    Op::Delete(8),
-];
+// The keys of these are 5 and 6.
+const OPS: [Op; 3] = [Op::Insert(5, 50), Op::Find(6), Op::Delete(5)];
 
-// Whether operations have these replies, and leave these keys with their values.
-fn are_answered<A: Allocator>(
-    answered: &Result<(Vec<Reply, A>, Vec<(u64, u64), A>), NoMemory>,
-    wants: &[Reply],
-    pairs: &[(u64, u64)],
-) -> Ended {
+// Answers operations, from the map that has 6.
+fn answer(heap: &Heap, refusal: Refusal) -> Ended {
+    heap.refuse(refusal);
+    let answered = apply_from(heap, &[(6, 60)], &OPS);
+    heap.stop();
     match answered {
-        Ok((replies, left)) => {
-            Ended::answered(replies.as_slice() == wants && left.as_slice() == pairs)
-        }
+        Ok((replies, left)) => Ended::answered(
+            replies.as_slice() == [Yes, Found(60), Yes].as_slice()
+                && left.as_slice() == [(6, 60)].as_slice(),
+        ),
         Err(NoMemory) => Ended::NoMemory,
     }
 }
 
-// Answers operations, from the empty map.
-fn answer_all(heap: &Heap, refusal: Refusal) -> Ended {
+// How operations are parted.
+#[derive(Clone, Copy)]
+enum Way {
+    ByOwner,
+    Striped,
+    Ranged,
+}
+
+// Parts operations among two workers, in this way. They own keys 5 and 6, in this order or the other.
+fn part(heap: &Heap, refusal: Refusal, way: Way) -> Ended {
     heap.refuse(refusal);
-    let answered = apply_all(heap, &OPS);
-    heap.stop();
-    are_answered(&answered, &[Yes; 12], &[(1, 0), (3, 0), (5, 0), (7, 0)])
-}
-
-// Answers operations, from the map that has 3 and 9.
-fn answer_from(heap: &Heap, refusal: Refusal) -> Ended {
-    let ops = [Op::Delete(3), Op::Insert(4, 0), Op::Find(9)];
-    heap.refuse(refusal);
-    let answered = apply_from(heap, &[(3, 0), (9, 0)], &ops);
-    heap.stop();
-    are_answered(&answered, &[Yes, Yes, Found(0)], &[(4, 0), (9, 0)])
-}
-
-// The keys of these are 5 and 6.
-const OWNED: [Op; 3] = [Op::Insert(5, 0), Op::Find(6), Op::Delete(5)];
-
-// A worker's part: where its operations stand in the list, and their keys.
-type Part = (&'static [usize], &'static [u64]);
-
-// The parts of both workers, as a person worked them out.
-const BY_OWNER: [Part; 2] = [(&[0, 2], &[5]), (&[1], &[6])];
-
-const STRIPED: [Part; 2] = [(&[1], &[4]), (&[0, 2], &[3])];
-
-const RANGED: [Part; 2] = [(&[0, 1, 2], &[10, 20, 30]), (&[3, 4], &[40, 50])];
-
-// Whether a worker has this part.
-fn has_part<A: Allocator>(parts: &Parts<'_, A>, worker: u32, want: Part) -> bool {
-    if parts.workers() <= worker {
-        return false;
-    }
-    let places = parts.part(worker).iter().map(|item| item.0);
-    places.eq(want.0.iter().copied()) && parts.keys(worker) == want.1
-}
-
-// Whether so many operations were parted so, at which no memory is wanted for a look.
-fn are_parts(
-    heap: &Heap,
-    parted: &Result<Parts<'_, &Heap>, PartFault>,
-    count: usize,
-    want: [Part; 2],
-) -> Ended {
-    let growths = heap.growths();
-    let ended = match parted {
-        Ok(parts) => Ended::answered(
-            parts.len() == count
-                && parts.workers() == 2
-                && has_part(parts, 0, want[0])
-                && has_part(parts, 1, want[1])
-                && heap.growths() == growths,
-        ),
-        Err(fault) => Ended::no_memory(*fault == PartFault::NoMemory),
+    let parted = match way {
+        Way::ByOwner => Parts::by_owner(heap, &OPS, &[0, 1, 0], 2),
+        Way::Striped => Parts::striped(heap, &OPS, 2),
+        Way::Ranged => Parts::ranged(heap, &OPS, 2),
     };
     heap.stop();
-    ended
-}
-
-fn part_by_owner(heap: &Heap, refusal: Refusal) -> Ended {
-    heap.refuse(refusal);
-    let parted = Parts::by_owner(heap, &OWNED, &[0, 1, 0], 2);
-    are_parts(heap, &parted, 3, BY_OWNER)
-}
-
-// Parts operations of which two on one key have two owners.
-fn part_split_key(heap: &Heap, refusal: Refusal) -> Ended {
-    heap.refuse(refusal);
-    let fault = Parts::by_owner(heap, &OWNED, &[0, 1, 1], 2).err();
-    heap.stop();
-    if fault == Some(PartFault::NoMemory) {
-        Ended::NoMemory
-    } else {
-        Ended::answered(
-            fault
-                == Some(PartFault::KeySplit {
-                    first: 0,
-                    second: 2,
-                }),
-        )
+    let (first, second) = match way {
+        Way::ByOwner | Way::Ranged => ([5], [6]),
+        Way::Striped => ([6], [5]),
+    };
+    match parted {
+        Ok(parts) => Ended::answered(
+            parts.len() == 3
+                && parts.workers() == 2
+                && parts.keys(0) == first.as_slice()
+                && parts.keys(1) == second.as_slice(),
+        ),
+        Err(fault) => Ended::no_memory(fault == PartFault::NoMemory),
     }
-}
-
-fn part_striped(heap: &Heap, refusal: Refusal) -> Ended {
-    let ops = [3, 4, 3].map(Op::Find);
-    heap.refuse(refusal);
-    are_parts(heap, &Parts::striped(heap, &ops, 2), 3, STRIPED)
-}
-
-fn part_ranged(heap: &Heap, refusal: Refusal) -> Ended {
-    let ops = [10, 20, 30, 40, 50].map(Op::Find);
-    heap.refuse(refusal);
-    are_parts(heap, &Parts::ranged(heap, &ops, 2), 5, RANGED)
 }
 
 // How many operations are run in another order than their list's.
@@ -196,16 +118,14 @@ fn gather_all<A: Allocator>(
 
 #[test]
 fn operations_are_answered_or_there_is_no_memory(rt: HostRuntime) {
-    sweep(&rt, answer_all);
-    sweep(&rt, answer_from);
+    sweep(&rt, answer);
 }
 
 #[test]
 fn operations_are_parted_or_there_is_no_memory(rt: HostRuntime) {
-    sweep(&rt, part_by_owner);
-    sweep(&rt, part_split_key);
-    sweep(&rt, part_striped);
-    sweep(&rt, part_ranged);
+    for way in [Way::ByOwner, Way::Striped, Way::Ranged] {
+        sweep(&rt, |heap, refusal| part(heap, refusal, way));
+    }
 }
 
 #[test]
@@ -247,12 +167,12 @@ fn counts_and_owners_are_tested_before_memory(rt: HostRuntime) {
         (&[0, 2, 0], 2, PartFault::StrangerOwner { at: 1 }),
         (&[0, 1, 1], 2, PartFault::NoMemory),
     ] {
-        let fault = Parts::by_owner(&heap, &OWNED, owners, workers).err();
+        let fault = Parts::by_owner(&heap, &OPS, owners, workers).err();
         assert!(rt; fault == Some(want));
     }
     for workers in [0, 65] {
-        let striped = Parts::striped(&heap, &OWNED, workers).err();
-        let ranged = Parts::ranged(&heap, &OWNED, workers).err();
+        let striped = Parts::striped(&heap, &OPS, workers).err();
+        let ranged = Parts::ranged(&heap, &OPS, workers).err();
         assert!(rt; striped == Some(PartFault::BadWorkers) && ranged == striped);
     }
     assert!(rt; heap.growths() == 1);
@@ -278,14 +198,25 @@ fn memory_is_tested_before_replies(rt: HostRuntime) {
 }
 
 #[test]
-fn a_key_wants_no_memory(rt: HostRuntime) {
+fn memory_is_wanted_at_a_start_key_or_an_operation(rt: HostRuntime) {
+    let texts: [(&[u8], TextFault, u64); 8] = [
+        (b"insert 007\ninsert 5\n", TextFault::BadKey { line: 1 }, 0),
+        (b"start 007\nstart 5\n", TextFault::BadKey { line: 1 }, 0),
+        (b"start 5\nstart 5\n", TextFault::NoMemory, 1),
+        (b"# none\n\nfind 5 \n", TextFault::BadKey { line: 3 }, 0),
+        (b"insert 5\ninsert 007\n", TextFault::NoMemory, 1),
+        (b"version 2\ninsert 5\n", TextFault::BadValue { line: 2 }, 0),
+        (b"version 2\nstart 5 50\nstart 5\n", TextFault::NoMemory, 1),
+        (
+            b"version 2\ninsert 5 50\ninsert 5\n",
+            TextFault::NoMemory,
+            1,
+        ),
+    ];
     let heap = Heap::new(rt.alloc());
-    heap.refuse(Refusal::From(1));
-    assert!(rt; OWNED.iter().map(|op| op.key()).eq([5, 6, 5]));
-    for (key, fits) in [(0, true), (KEY_MAX, true), (INF1, false), (INF2, false)] {
-        for op in [Op::Find(key), Op::Insert(key, 0), Op::Delete(key)] {
-            assert!(rt; op.fits() == fits, "key {key}");
-        }
+    for (text, want, growths) in texts {
+        heap.refuse(Refusal::From(1));
+        assert!(rt; read_bulk(&rt, &heap, text).err() == Some(want));
+        assert!(rt; growths <= heap.growths());
     }
-    assert!(rt; heap.growths() == 0);
 }

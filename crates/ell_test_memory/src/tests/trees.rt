@@ -1,80 +1,49 @@
 //! Trees, and the passes that they part and join.
-ghost use Rattle.std.specs.Prelude.{◌≡◌};
+ghost use Rattle.std.specs.Prelude.{◌≡◌, IsTrue};
 ghost use Rattle.std.specs.List.{All};
-ghost use Rattle.ell_ops.specs.Meaning.{key_of};
 ghost use Rattle.ell_tree.specs.Ledgers.{IsIdle, IsIdlePassOf, Owns};
 
-use super::passes::{KEYS, START, START_CARDS, START_KEYS, owns_all, tells};
 use super::refusing::{Heap, Refusal};
 use super::sweeping::{Ended, sweep};
-use ell_ops::Reply::{self, Found, No, Yes};
-use ell_ops::{NoMemory, Op};
-use ell_tree::{CardFault, NoGate, NotDone, Pass, SplitFault, Tree};
+use ell_ops::NoMemory;
+use ell_tree::{CardFault, NoGate, Pass, SplitFault, Tree};
 use std::alloc::Allocator;
 use std::process::Abort;
 
 const CARDS: u64 = 3;
 
-// What is left of the operations on an empty tree.
-const LEFT: [(u64, u64); 1] = [(7, 0)];
+// The keys of a tree that opens empty.
+const KEYS: [u64; 2] = [5, 7];
 
-// An operation that may take one card, and what it is to answer.
-type Row = (Op, Result<Reply, NotDone>);
+// What another tree opens with, which has no other keys.
+const START: [(u64, u64); 3] = [(2, 20), (4, 40), (6, 60)];
 
-// Does an operation on a key of the pass.
-fn answer_of<A: Allocator + Copy>(
-    tree: &Tree<A>,
-    pass: &mut Pass<A>,
-    op: Op,
-) -> Result<Reply, NotDone>
-    requires own { pass.old.table ≡ tree.now.id }
-    requires idle { IsIdle pass.old }
-    requires owned { Owns pass.old (key_of op) }
-    ensures own { pass.new.table ≡ tree.now.id }
-    ensures idle { IsIdle pass.new }
+const START_KEYS: [u64; 3] = [2, 4, 6];
+
+// Whether a pass owns all these keys.
+fn owns_all<A: Allocator + Copy>(pass: &Pass<A>, keys: &[u64]) -> bool
+    ensures { IsTrue result → All (λ k. Owns pass.now k) keys.now }
 {
-    match op {
-        Op::Find(key) => Ok(Reply::found(tree.find(pass, key, &NoGate))),
-        Op::Insert(key, value) => Ok(Reply::yes_if(tree.insert(pass, key, value, 1, &NoGate)?)),
-        Op::Delete(key) => Ok(Reply::yes_if(tree.delete(pass, key, 1, &NoGate)?)),
-        Op::Swap(key, was, value) => {
-            Ok(Reply::found(tree.swap(pass, key, was, value, 1, &NoGate)?))
-        }
-    }
+    keys.iter().all(|key| pass.owns(*key))
 }
 
-// Does operations one after the other: whether each answers what it is to.
-fn are_answered<A: Allocator + Copy>(tree: &Tree<A>, pass: &mut Pass<A>, rows: &[Row]) -> bool
-    requires own { pass.old.table ≡ tree.now.id }
-    requires idle { IsIdle pass.old }
-    ensures own { pass.new.table ≡ tree.now.id }
-    ensures idle { IsIdle pass.new }
-{
-    for (op, want) in rows {
-        if !pass.owns(op.key()) || answer_of(tree, pass, *op) != *want {
-            return false;
-        }
-    }
-    true
+// Whether a pass tells that it owns these keys, that this is its label, and that it made so many steps.
+fn tells<A: Allocator + Copy>(pass: &Pass<A>, keys: &[u64], label: u32, steps: u64) -> bool {
+    pass.keys() == keys && pass.label() == label && pass.steps() == steps
 }
 
-// Does operations with every growth refused: each answers what it is to, and they ask for none.
-fn answer_without_memory<'a>(
-    rt: &impl Abort,
-    heap: &'a Heap,
-    tree: &Tree<&'a Heap>,
-    pass: &mut Pass<&'a Heap>,
-    rows: &[Row],
-)
+// Puts a key of a pass into its tree, with itself as its value.
+fn put_in<A: Allocator + Copy>(rt: &impl Abort, tree: &Tree<A>, pass: &mut Pass<A>, key: u64)
     requires own { pass.old.table ≡ tree.now.id }
     requires idle { IsIdle pass.old }
     ensures own { pass.new.table ≡ tree.now.id }
     ensures idle { IsIdle pass.new }
 {
-    heap.refuse(Refusal::From(1));
-    assert!(rt; are_answered(tree, pass, rows));
-    heap.stop();
-    assert!(rt; heap.growths() == 0);
+    assert!(rt; pass.owns(key));
+    match tree.insert(pass, key, key, 1, &NoGate) {
+        Ok(added) => assert!(rt; added),
+        Err(_) => panic!(rt; "no answer"),
+    }
 }
 
 // An empty tree into which 5 was put, and its pass.
@@ -84,14 +53,9 @@ fn planted<'a>(rt: &impl Abort, heap: &'a Heap) -> (Tree<&'a Heap>, Pass<&'a Hea
     ensures keys { result.0.plan.keys ≡ KEYS }
     ensures owned { All (λ k. Owns result.1 k) KEYS }
 {
-    let rows = [
-        (Op::Insert(5, 0), Ok(Yes)),
-        (Op::Insert(5, 0), Ok(No)),
-        (Op::Find(7), Ok(No)),
-    ];
     let (tree, mut pass) = Tree::reserve(heap, &KEYS, CARDS).expect(rt, "no memory");
     pass.relabel(3);
-    answer_without_memory(rt, heap, &tree, &mut pass, &rows);
+    put_in(rt, &tree, &mut pass, 5);
     assert!(rt; owns_all(&pass, &KEYS));
     (tree, pass)
 }
@@ -102,52 +66,11 @@ fn started<'a>(rt: &impl Abort, heap: &'a Heap) -> (Tree<&'a Heap>, Pass<&'a Hea
     ensures idle { IsIdle result.1 }
     ensures all { All (λ k. Owns result.1 k) result.0.plan.keys }
 {
-    let made = Tree::reserve_from(heap, &START, &START_KEYS, START_CARDS);
+    let made = Tree::reserve_from(heap, &START, &START_KEYS, CARDS);
     let (tree, mut pass) = made.expect(rt, "no memory");
     pass.relabel(3);
     assert!(rt; owns_all(&pass, &START_KEYS));
     (tree, pass)
-}
-
-// What a tree opens with that has 7 with a value, and can give out four cards.
-const VALUED: [(u64, u64); 1] = [(7, 77)];
-
-// Such a tree, and its pass.
-fn valued<'a>(rt: &impl Abort, heap: &'a Heap) -> (Tree<&'a Heap>, Pass<&'a Heap>)
-    ensures own { result.1.table ≡ result.0.id }
-    ensures idle { IsIdle result.1 }
-    ensures all { All (λ k. Owns result.1 k) result.0.plan.keys }
-{
-    let made = Tree::reserve_from(heap, &VALUED, &KEYS, 4);
-    let (tree, mut pass) = made.expect(rt, "no memory");
-    pass.relabel(3);
-    assert!(rt; owns_all(&pass, &KEYS));
-    (tree, pass)
-}
-
-// Reserves a tree.
-fn reserve(heap: &Heap, refusal: Refusal) -> Ended {
-    heap.refuse(refusal);
-    let made = Tree::reserve(heap, &KEYS, CARDS);
-    heap.stop();
-    match made {
-        Ok((_tree, pass)) => Ended::answered(tells(&pass, &KEYS, 0, 0)),
-        Err(fault) => Ended::no_memory(fault == CardFault::NoMemory),
-    }
-}
-
-// Reserves a tree that opens with the start keys, and ends it.
-fn reserve_from(heap: &Heap, refusal: Refusal) -> Ended {
-    heap.refuse(refusal);
-    let made = Tree::reserve_from(heap, &START, &START_KEYS, START_CARDS);
-    heap.stop();
-    match made {
-        Ok((tree, pass)) => {
-            let is_first = tells(&pass, &START_KEYS, 0, 0) && owns_all(&pass, &START_KEYS);
-            Ended::answered(is_first && is_closed(tree, pass, &START))
-        }
-        Err(fault) => Ended::no_memory(fault == CardFault::NoMemory),
-    }
 }
 
 // Parts a pass: whether one part has 5, and the other 7.
@@ -180,24 +103,18 @@ fn split(rt: &impl Abort, heap: &Heap, refusal: Refusal) -> Ended {
     }
 }
 
-// A tree in which 5 came and went, and the two passes of it, of which the right one put 7 into it. It has a label of its own.
+// A tree with both keys, and the two passes of it, of which the right one has a label of its own.
 fn parted<'a>(rt: &impl Abort, heap: &'a Heap) -> (Tree<&'a Heap>, Pass<&'a Heap>, Pass<&'a Heap>)
     ensures left { IsIdlePassOf result.0 result.1 }
     ensures right { IsIdlePassOf result.0 result.2 }
     ensures keys { result.0.plan.keys ≡ KEYS }
 {
     let (tree, pass) = planted(rt, heap);
-    let Ok((mut left, mut right)) = tree.split(pass, &[5]) else {
+    let Ok((left, mut right)) = tree.split(pass, &[5]) else {
         panic!(rt; "no memory");
     };
     right.relabel(4);
-    answer_without_memory(rt, heap, &tree, &mut right, &[(Op::Insert(7, 0), Ok(Yes))]);
-    answer_without_memory(rt, heap, &tree, &mut left, &[(Op::Delete(5), Ok(Yes))]);
-    let rows = [
-        (Op::Delete(7), Err(NotDone::Spent)),
-        (Op::Find(7), Ok(Found(0))),
-    ];
-    answer_without_memory(rt, heap, &tree, &mut right, &rows);
+    put_in(rt, &tree, &mut right, 7);
     (tree, left, right)
 }
 
@@ -292,16 +209,6 @@ fn close<'a>(
 }
 
 #[test]
-fn a_tree_is_reserved_or_there_is_no_memory(rt: HostRuntime) {
-    sweep(&rt, reserve);
-}
-
-#[test]
-fn a_tree_is_reserved_with_start_keys_or_there_is_no_memory(rt: HostRuntime) {
-    sweep(&rt, reserve_from);
-}
-
-#[test]
 fn a_pass_is_parted_or_comes_back(rt: HostRuntime) {
     sweep(&rt, |heap, refusal| split(&rt, heap, refusal));
 }
@@ -315,15 +222,11 @@ fn passes_are_joined_or_come_back(rt: HostRuntime) {
 fn a_tree_is_closed_or_comes_back(rt: HostRuntime) {
     sweep(
         &rt,
-        |heap, refusal| close(heap, refusal, joined(&rt, heap), &KEYS, &LEFT),
+        |heap, refusal| close(heap, refusal, joined(&rt, heap), &KEYS, &[(5, 5), (7, 7)]),
     );
     sweep(
         &rt,
         |heap, refusal| close(heap, refusal, started(&rt, heap), &START_KEYS, &START),
-    );
-    sweep(
-        &rt,
-        |heap, refusal| close(heap, refusal, valued(&rt, heap), &KEYS, &VALUED),
     );
 }
 
@@ -332,41 +235,13 @@ fn cards_are_tested_before_memory(rt: HostRuntime) {
     let heap = Heap::new(rt.alloc());
     heap.refuse(Refusal::From(1));
     for cards in [0, 1_000_001, 2_000_000] {
-        let fault = Tree::reserve(&heap, &KEYS, cards).err();
-        assert!(rt; fault == Some(CardFault::BadCards), "{cards} cards");
-        let fault = Tree::reserve_from(&heap, &[], &KEYS, cards).err();
-        assert!(rt; fault == Some(CardFault::BadCards), "{cards} cards");
-        let fault = Tree::reserve_from(&heap, &START, &START_KEYS, cards).err();
-        assert!(rt; fault == Some(CardFault::BadCards), "{cards} cards");
+        let faults = [
+            Tree::reserve(&heap, &KEYS, cards).err(),
+            Tree::reserve_from(&heap, &START, &START_KEYS, cards).err(),
+            Tree::reserve_shared(&heap, &START, &KEYS, cards).err(),
+        ];
+        assert!(rt; faults == [Some(CardFault::BadCards); 3], "{cards} cards");
     }
     assert!(rt; heap.growths() == 0);
-}
-
-#[test]
-fn an_operation_wants_no_memory(rt: HostRuntime) {
-    let heap = Heap::new(rt.alloc());
-    let (tree, pass) = joined(&rt, &heap);
-    assert!(rt; is_closed(tree, pass, &LEFT));
-}
-
-#[test]
-fn an_operation_on_start_keys_wants_no_memory(rt: HostRuntime) {
-    let rows = [
-        (Op::Find(5), Ok(No)),
-        (Op::Find(7), Ok(Found(77))),
-        (Op::Insert(7, 70), Ok(No)),
-        (Op::Delete(7), Ok(Yes)),
-        (Op::Insert(5, 50), Ok(Yes)),
-        (Op::Insert(7, 70), Ok(Yes)),
-        (Op::Delete(5), Ok(Yes)),
-        (Op::Delete(7), Err(NotDone::Spent)),
-        (Op::Find(7), Ok(Found(70))),
-    ];
-    let heap = Heap::new(rt.alloc());
-    let (tree, mut pass) = valued(&rt, &heap);
-    answer_without_memory(&rt, &heap, &tree, &mut pass, &rows);
-    heap.refuse(Refusal::From(1));
-    assert!(rt; tree.look(&mut pass, 7, &NoGate) == Some(70));
-    heap.stop();
-    assert!(rt; heap.growths() == 0);
+    assert!(rt; Tree::reserve(&heap, &KEYS, 1).err() == Some(CardFault::NoMemory));
 }

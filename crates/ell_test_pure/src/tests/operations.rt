@@ -1,7 +1,7 @@
 //! Worked lists of operations, with the replies and the pairs that a person gave them.
 use super::shared::have_texts;
 use ell_ops::Reply::{self, Found, No, Yes};
-use ell_ops::{KEY_MAX, NoMemory, Op, apply, apply_all, apply_from, united_keys};
+use ell_ops::{NoMemory, Op, apply, apply_all, apply_from, united_keys};
 use std::alloc::AllocError;
 use std::collections::BTreeMap;
 
@@ -26,23 +26,6 @@ fn are_keys(found: Result<Vec<u64>, AllocError>, keys: &[u64]) -> bool {
 }
 
 #[test]
-fn keys_fit_up_to_the_greatest(rt: HostRuntime) {
-    assert!(rt; KEY_MAX == u64::MAX - 2);
-    let rows = [
-        (Op::Find(0), 0, true),
-        (Op::Insert(u64::MAX - 2, u64::MAX), u64::MAX - 2, true),
-        (Op::Delete(u64::MAX - 1), u64::MAX - 1, false),
-        (Op::Find(u64::MAX), u64::MAX, false),
-        (Op::Swap(u64::MAX - 2, u64::MAX, 0), u64::MAX - 2, true),
-        (Op::Swap(u64::MAX - 1, 0, 1), u64::MAX - 1, false),
-    ];
-    for row in 0..6 {
-        let (op, key, fits) = rows[row];
-        assert!(rt; op.key() == key && op.fits() == fits, "row {row}");
-    }
-}
-
-#[test]
 fn one_thread_answers(rt: HostRuntime) {
     let ops = [
         Op::Insert(5, 50),
@@ -55,63 +38,21 @@ fn one_thread_answers(rt: HostRuntime) {
     ];
     let replies = [Yes, Found(50), No, Found(50), Yes, No, No];
     assert!(rt; is_done(apply_all(rt.alloc(), &ops), &replies, &[]));
-    assert!(rt; is_done(apply_all(rt.alloc(), &[]), &[], &[]));
-
-    let ops = [Op::Delete(3), Op::Insert(4, 40), Op::Find(9)];
+    let ops = [
+        Op::Delete(3),
+        Op::Insert(4, 40),
+        Op::Find(9),
+        Op::Swap(9, 92, u64::MAX),
+    ];
     let start = [(3, 31), (9, 92)];
-    let replies = [Yes, Yes, Found(92)];
+    let replies = [Yes, Yes, Found(92), Found(92)];
     assert!(rt;
         is_done(
             apply_from(rt.alloc(), &start, &ops),
             &replies,
-            &[(4, 40), (9, 92)]
+            &[(4, 40), (9, u64::MAX)]
         )
     );
-}
-
-#[test]
-fn a_key_has_the_value_that_found_it_absent(rt: HostRuntime) {
-    let ops = [
-        Op::Insert(5, 0),
-        Op::Find(5),
-        Op::Delete(5),
-        Op::Insert(5, u64::MAX),
-        Op::Insert(5, 7),
-        Op::Find(5),
-        Op::Insert(8, 80),
-        Op::Delete(8),
-        Op::Insert(8, 81),
-    ];
-    let replies = [Yes, Found(0), Yes, Yes, No, Found(u64::MAX), No, Yes, Yes];
-    let pairs = [(5, u64::MAX), (8, 81)];
-    assert!(rt; is_done(apply_from(rt.alloc(), &[(8, 79)], &ops), &replies, &pairs));
-}
-
-#[test]
-fn a_swap_changes_the_value_that_it_finds(rt: HostRuntime) {
-    let ops = [
-        Op::Swap(5, 50, 51),
-        Op::Find(5),
-        Op::Swap(5, 50, 52),
-        Op::Find(5),
-        Op::Swap(6, 0, 60),
-        Op::Find(6),
-        Op::Swap(7, 70, u64::MAX),
-        Op::Swap(7, u64::MAX, u64::MAX),
-    ];
-    let replies = [
-        Found(50),
-        Found(51),
-        Found(51),
-        Found(51),
-        No,
-        No,
-        Found(70),
-        Found(u64::MAX),
-    ];
-    let start = [(5, 50), (7, 70), (8, 50)];
-    let pairs = [(5, 51), (7, u64::MAX), (8, 50)];
-    assert!(rt; is_done(apply_from(rt.alloc(), &start, &ops), &replies, &pairs));
 }
 
 // Each operation with its reply, and the value that 5 has behind it: that of the last insert which found it absent, or
@@ -142,26 +83,6 @@ fn a_key_has_the_value_of_its_last_writer(rt: HostRuntime) {
         assert!(rt; map.get(&5).copied() == *value, "row {at}");
         assert!(rt; !map.contains_key(&6), "row {at}");
     }
-}
-
-#[test]
-fn eight_keys_of_which_four_are_deleted(rt: HostRuntime) {
-    let ops = [
-        Op::Insert(1, 10),
-        Op::Insert(2, 20),
-        Op::Insert(3, 30),
-        Op::Insert(4, 40),
-        Op::Insert(5, 50),
-        Op::Insert(6, 60),
-        Op::Insert(7, 70),
-        Op::Insert(8, 80),
-        Op::Delete(2),
-        Op::Delete(4),
-        Op::Delete(6),
-        Op::Delete(8),
-    ];
-    let pairs = [(1, 10), (3, 30), (5, 50), (7, 70)];
-    assert!(rt; is_done(apply_all(rt.alloc(), &ops), &[Yes; 12], &pairs));
 }
 
 #[test]

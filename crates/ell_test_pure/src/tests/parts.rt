@@ -5,7 +5,13 @@ use ell_ops::Reply::{self, Found, No, Yes};
 use ell_parts::{GatherFault, PartFault, Parts, gather};
 use std::alloc::{AllocError, Global};
 
-const FIVES: [Op; 3] = [Op::Insert(5, 50), Op::Find(6), Op::Delete(5)];
+const FIVE: [Op; 5] = [
+    Op::Insert(3, 1),
+    Op::Insert(4, 5),
+    Op::Insert(3, 0),
+    Op::Delete(8),
+    Op::Find(4),
+];
 
 // A worker's part, and its keys.
 type Want = (&'static [(usize, Op)], &'static [u64]);
@@ -32,93 +38,51 @@ fn are_parts(parts: &Parts<'_, Global>, wants: &[Want]) -> bool {
 }
 
 #[test]
-fn owners_part_a_list(rt: HostRuntime) {
-    let parted = Parts::by_owner(rt.alloc(), &FIVES, &[0, 1, 0], 2);
-    let first: Want = (&[(0, Op::Insert(5, 50)), (2, Op::Delete(5))], &[5]);
-    let second: Want = (&[(1, Op::Find(6))], &[6]);
-    assert!(rt; is_parted(parted, &[first, second]));
+fn a_list_is_parted_in_three_ways(rt: HostRuntime) {
+    let threes: &[(usize, Op)] = &[(0, Op::Insert(3, 1)), (2, Op::Insert(3, 0))];
+    let fours: &[(usize, Op)] = &[(1, Op::Insert(4, 5)), (4, Op::Find(4))];
+    let eights: &[(usize, Op)] = &[(3, Op::Delete(8))];
+    let fours_and_eights: &[(usize, Op)] = &[
+        (1, Op::Insert(4, 5)),
+        (3, Op::Delete(8)),
+        (4, Op::Find(4)),
+    ];
+    let striped = Parts::striped(rt.alloc(), &FIVE, 2);
+    assert!(rt; is_parted(striped, &[(fours_and_eights, &[4, 8]), (threes, &[3])]));
+    let ranged = Parts::ranged(rt.alloc(), &FIVE, 3);
+    assert!(rt; is_parted(ranged, &[(threes, &[3]), (fours, &[4]), (eights, &[8])]));
+    let owned = Parts::by_owner(rt.alloc(), &FIVE, &[1, 2, 1, 0, 2], 3);
+    assert!(rt; is_parted(owned, &[(eights, &[8]), (threes, &[3]), (fours, &[4])]));
+    let none: Want = (&[], &[]);
+    assert!(rt; is_parted(Parts::ranged(rt.alloc(), &[], 3), &[none, none, none]));
 }
 
 #[test]
 fn parts_have_a_length(rt: HostRuntime) {
     let length = |parts: Parts<'_, Global>| (parts.len(), parts.is_empty());
-    let fives = Parts::by_owner(rt.alloc(), &FIVES, &[0, 1, 0], 2).map(length);
-    assert!(rt; fives == Ok((3, false)));
+    assert!(rt; Parts::striped(rt.alloc(), &FIVE, 2).map(length) == Ok((5, false)));
     assert!(rt; Parts::ranged(rt.alloc(), &[], 3).map(length) == Ok((0, true)));
 }
 
 #[test]
-fn owners_that_part_no_list(rt: HostRuntime) {
+fn lists_that_are_not_parted(rt: HostRuntime) {
     let (first, second) = (0, 2);
     let rows: [(&[u32], u32, PartFault); 4] = [
-        (&[0, 1, 1], 2, PartFault::KeySplit { first, second }),
+        (&[0, 1, 1, 0, 1], 2, PartFault::KeySplit { first, second }),
         (&[0, 1], 2, PartFault::OwnerCount),
-        (&[0, 2, 0], 2, PartFault::StrangerOwner { at: 1 }),
+        (&[0, 2, 0, 0, 0], 2, PartFault::StrangerOwner { at: 1 }),
         (&[0, 2], 0, PartFault::BadWorkers),
     ];
     for row in 0..4 {
         let (owners, workers, fault) = rows[row];
-        let refused = Parts::by_owner(rt.alloc(), &FIVES, owners, workers).err();
+        let refused = Parts::by_owner(rt.alloc(), &FIVE, owners, workers).err();
         assert!(rt; refused == Some(fault), "row {row}");
     }
-}
-
-#[test]
-fn stripes_go_by_the_remainder(rt: HostRuntime) {
-    let ops = [Op::Find(3), Op::Find(4), Op::Find(3)];
-    let first: Want = (&[(1, Op::Find(4))], &[4]);
-    let second: Want = (&[(0, Op::Find(3)), (2, Op::Find(3))], &[3]);
-    assert!(rt; is_parted(Parts::striped(rt.alloc(), &ops, 2), &[first, second]));
     for workers in [0, 65] {
-        let fault = Parts::striped(rt.alloc(), &ops, workers).err();
-        assert!(rt; fault == Some(PartFault::BadWorkers), "{workers} workers");
+        let striped = Parts::striped(rt.alloc(), &FIVE, workers).err();
+        let ranged = Parts::ranged(rt.alloc(), &FIVE, workers).err();
+        assert!(rt; striped == Some(PartFault::BadWorkers) && ranged == striped);
     }
-}
-
-// Five inserts of three keys, whose values go the other way.
-const FIVE_INSERTS: [Op; 5] = [
-    Op::Insert(3, 1),
-    Op::Insert(4, 5),
-    Op::Insert(3, 0),
-    Op::Insert(8, 18_446_744_073_709_551_615),
-    Op::Insert(4, 4),
-];
-
-#[test]
-fn parts_keep_the_values(rt: HostRuntime) {
-    let threes: &[(usize, Op)] = &[(0, Op::Insert(3, 1)), (2, Op::Insert(3, 0))];
-    let fours: &[(usize, Op)] = &[(1, Op::Insert(4, 5)), (4, Op::Insert(4, 4))];
-    let eights: &[(usize, Op)] = &[(3, Op::Insert(8, 18_446_744_073_709_551_615))];
-    let fours_and_eights: &[(usize, Op)] = &[
-        (1, Op::Insert(4, 5)),
-        (3, Op::Insert(8, 18_446_744_073_709_551_615)),
-        (4, Op::Insert(4, 4)),
-    ];
-    let striped = Parts::striped(rt.alloc(), &FIVE_INSERTS, 2);
-    assert!(rt; is_parted(striped, &[(fours_and_eights, &[4, 8]), (threes, &[3])]));
-    let ranged = Parts::ranged(rt.alloc(), &FIVE_INSERTS, 3);
-    assert!(rt; is_parted(ranged, &[(threes, &[3]), (fours, &[4]), (eights, &[8])]));
-    let owned = Parts::by_owner(rt.alloc(), &FIVE_INSERTS, &[1, 2, 1, 0, 2], 3);
-    assert!(rt; is_parted(owned, &[(eights, &[8]), (threes, &[3]), (fours, &[4])]));
-}
-
-#[test]
-fn ranges_go_by_the_order_of_the_keys(rt: HostRuntime) {
-    let ops = [
-        Op::Find(10),
-        Op::Find(20),
-        Op::Find(30),
-        Op::Find(40),
-        Op::Find(50),
-    ];
-    let first: Want = (
-        &[(0, Op::Find(10)), (1, Op::Find(20)), (2, Op::Find(30))],
-        &[10, 20, 30],
-    );
-    let second: Want = (&[(3, Op::Find(40)), (4, Op::Find(50))], &[40, 50]);
-    assert!(rt; is_parted(Parts::ranged(rt.alloc(), &ops, 2), &[first, second]));
-    let none: Want = (&[], &[]);
-    assert!(rt; is_parted(Parts::ranged(rt.alloc(), &[], 3), &[none, none, none]));
 }
 
 // A position, and its reply.
@@ -151,12 +115,6 @@ fn is_gathered(
 
 #[test]
 fn replies_come_together(rt: HostRuntime) {
-    let pieces: [&[Item]; 2] = [&[(0, Yes), (2, No)], &[(1, Yes)]];
-    assert!(rt; is_gathered(rt.alloc(), 3, &pieces, Ok(&[Yes, Yes, No])));
-}
-
-#[test]
-fn found_values_come_together(rt: HostRuntime) {
     let greatest = Found(18_446_744_073_709_551_615);
     let pieces: [&[Item]; 3] = [
         &[(3, Found(30)), (0, greatest)],
@@ -169,18 +127,12 @@ fn found_values_come_together(rt: HostRuntime) {
 
 #[test]
 fn replies_that_do_not_fit(rt: HostRuntime) {
-    let rows: [(&[Item], GatherFault); 6] = [
+    let rows: [(&[Item], GatherFault); 3] = [
         (&[(0, Yes), (0, Yes)], GatherFault::Doubled { at: 0 }),
         (&[(2, Yes)], GatherFault::Stranger { at: 2 }),
         (&[(1, Yes)], GatherFault::Missing { at: 0 }),
-        (
-            &[(1, Found(5)), (1, Found(6))],
-            GatherFault::Doubled { at: 1 },
-        ),
-        (&[(0, Yes), (2, Found(0))], GatherFault::Stranger { at: 2 }),
-        (&[(0, Found(1))], GatherFault::Missing { at: 1 }),
     ];
-    for row in 0..6 {
+    for row in 0..3 {
         let (piece, fault) = rows[row];
         assert!(rt;
             is_gathered(rt.alloc(), 2, &[piece], Err(fault)),

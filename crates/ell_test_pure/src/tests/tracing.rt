@@ -1,4 +1,4 @@
-//! The texts of replays, written by hand.
+//! The trace of a replay, and what comes before it. `tests/texts` has more replays.
 use super::shared::have_texts;
 use ell_core::{CoreFault, Shown, Stepped};
 use ell_ops::Reply;
@@ -30,33 +30,9 @@ fn a_line_of_each_kind(rt: HostRuntime) {
     assert!(rt; written.is_ok() && out.as_slice() == text);
 }
 
-// Two inserts meet at the root: worker 0 flags it, and worker 1 does not.
-const TWO_INSERTS: &[u8] = b"workers 2\ncards 4\nown 0 5\nown 1 7\n\
-    0 begin insert 5\n0 upd\n0 down\n1 begin insert 7\n1 upd\n1 down\n\
-    0 claim\n1 claim\n0 iflag\n1 iflag\n1 ichild 2\n";
-
-const TWO_INSERTS_TRACE: &[u8] = b"moved\nmoved\nmoved\nmoved\nmoved\nmoved\nmoved\nmoved\n\
-    won\nlost\nrefused NotNow\nkeys 0\n";
-
 // Worker 0 inserts 5 alone.
 const ONE_INSERT: &[u8] = b"workers 1\ncards 1\nown 0 5\n\
     0 begin insert 5\n0 upd\n0 down\n0 claim\n0 iflag\n0 ichild 1\n0 iunflag 1\n0 answer\n";
-
-// Worker 0 inserts 5 twice, finds it, deletes it and does not find it any more.
-const ONE_LIFE: &[u8] = b"workers 1\ncards 2\nown 0 5\n\
-    0 begin insert 5\n0 upd\n0 down\n0 claim\n0 iflag\n0 ichild 1\n0 iunflag 1\n0 answer\n\
-    0 begin insert 5\n0 upd\n0 down\n0 upd\n0 down\n0 answer\n\
-    0 begin find 5\n0 upd\n0 down\n0 upd\n0 down\n0 answer\n\
-    0 begin delete 5\n0 upd\n0 down\n0 upd\n0 down\n0 claim\n\
-    0 dflag\n0 mark 2\n0 dchild 2\n0 dunflag 2\n0 answer\n\
-    0 begin find 5\n0 upd\n0 down\n0 answer\n";
-
-const ONE_LIFE_TRACE: &[u8] = b"moved\nmoved\nmoved\nmoved\nwon\nwon\nwon\nyes\n\
-    moved\nmoved\nmoved\nmoved\nmoved\nno\n\
-    moved\nmoved\nmoved\nmoved\nmoved\nyes\n\
-    moved\nmoved\nmoved\nmoved\nmoved\nmoved\n\
-    won\nwon\nwon\nwon\nyes\n\
-    moved\nmoved\nmoved\nno\nkeys 0\n";
 
 // What a replay of a text answers, if it wrote this trace.
 fn answer_with(alloc: Global, text: &[u8], trace: &[u8]) -> Option<Result<(), ScriptFault>> {
@@ -71,23 +47,9 @@ fn answer_with(alloc: Global, text: &[u8], trace: &[u8]) -> Option<Result<(), Sc
 }
 
 #[test]
-fn traces(rt: HostRuntime) {
-    let texts: [(&[u8], &[u8]); 4] = [
-        (TWO_INSERTS, TWO_INSERTS_TRACE),
-        (
-            ONE_INSERT,
-            b"moved\nmoved\nmoved\nmoved\nwon\nwon\nwon\nyes\nkeys 1\n5\n",
-        ),
-        (ONE_LIFE, ONE_LIFE_TRACE),
-        (b"workers 1\ncards 1\n", b"keys 0\n"),
-    ];
-    for row in 0..4 {
-        let (text, trace) = texts[row];
-        assert!(rt;
-            answer_with(rt.alloc(), text, trace) == Some(Ok(())),
-            "row {row}"
-        );
-    }
+fn an_insert_has_its_trace(rt: HostRuntime) {
+    let trace = b"moved\nmoved\nmoved\nmoved\nwon\nwon\nwon\nyes\nkeys 1\n5\n";
+    assert!(rt; answer_with(rt.alloc(), ONE_INSERT, trace) == Some(Ok(())));
 }
 
 #[test]
@@ -95,17 +57,12 @@ fn faults_before_a_trace(rt: HostRuntime) {
     let owned_twice = ScriptFault::Start(CoreFault::OwnedTwice);
     let no_such_worker = ScriptFault::Start(CoreFault::NoSuchWorker);
     let bad_number = ScriptFault::Text(ReplayFault::BadNumber { line: 2 });
-    let bad_line = ScriptFault::Text(ReplayFault::BadLine { line: 4 });
-    let faults: [(&[u8], ScriptFault); 4] = [
+    let faults: [(&[u8], ScriptFault); 3] = [
         (b"workers 2\ncards 4\nown 0 5\nown 1 5\n", owned_twice),
         (b"workers 2\ncards 4\nown 2 5\n", no_such_worker),
         (b"workers 2\ncards 0\n", bad_number),
-        (
-            b"workers 1\ncards 1\nown 0 5\n0 begin insert 5 50\n",
-            bad_line,
-        ),
     ];
-    for row in 0..4 {
+    for row in 0..3 {
         let (text, fault) = faults[row];
         assert!(rt;
             answer_with(rt.alloc(), text, b"") == Some(Err(fault)),

@@ -1,4 +1,5 @@
-//! Words that were packed by hand, and the nodes of a card.
+//! Words that were packed by hand, the nodes of a card, and where its words are.
+use ell_layout::{Field, table_size};
 use ell_word::{
     CARD_MAX, INF1, INF2, State, Update, card_of, internal_of, is_internal, left_leaf_of, pack,
     right_leaf_of, unpack,
@@ -25,4 +26,23 @@ fn a_card_has_a_node_and_two_leaves(rt: HostRuntime) {
     assert!(rt; left_leaf_of(4) == 17 && right_leaf_of(4) == 18);
     assert!(rt; card_of(18) == 4 && !is_internal(18) && is_internal(internal_of(4)));
     assert!(rt; INF1 == u64::MAX - 1 && INF2 == u64::MAX);
+}
+
+#[test]
+fn a_card_has_four_words_in_each_part_of_its_group(rt: HostRuntime) {
+    let places = [
+        (Field::Key.address(0), 6),
+        (Field::Update.address(2), 17),
+        (Field::RightLeafKey.address(0), 263),
+        (Field::RightValue.address(63), 517),
+        (Field::Gp.address(0), 518),
+        (Field::Was.address(63), 773),
+        (Field::Key.address(64), 774),
+        (Field::Gp.address(65), 1290),
+        (table_size(2), 530),
+        (table_size(64), 1290),
+    ];
+    for row in 0..10 {
+        assert!(rt; places[row].0 == places[row].1, "row {row}");
+    }
 }

@@ -6,7 +6,8 @@ use Rattle.ell_ops.specs.KeySet.{set_of}
 use Rattle.ell_ops.specs.Meaning.{greatest_key}
 use Rattle.ell_core.specs.state.Machine.{shared_of}
 use Rattle.ell_core.specs.state.Machine.{WorkerView}
-use Rattle.ell_tree.specs.Computing.{Concludes, IsNotDone, PutsValue, UpdatesValue}
+use Rattle.ell_tree.proofs.lemmas.Removing.{that_or_other}
+use Rattle.ell_tree.specs.Computing.{Concludes, IsNotDone, PutsValue, RemovesIf, UpdatesValue}
 use Rattle.ell_tree.specs.declared.operations.NotDone.{NotDone}
 use Rattle.ell_tree.specs.Ends.{Answers, LaidDown}
 use Rattle.ell_tree.specs.Ledgers.{TreeModel, PassModel, Owns}
@@ -53,6 +54,13 @@ pub member_updated : (owned : List ℕ) (t : TreeModel) (key : ℕ) (makes : ℕ
 member_updated owned t key makes p q None h (inl a) = member_concluded owned t _ _ p q h a
 member_updated owned t key makes p q None h (inr (other, value, differs, a)) = member_concluded owned t _ _ p q h a
 member_updated owned t key makes p q (Some was) h (value, made, a) = member_concluded owned t _ _ p q h a
+
+pub member_removed : (owned : List ℕ) (t : TreeModel) (key was : ℕ) (p q : PassModel) (there : Option ℕ) → IsMember owned t p
+    → RemovesIf t key was p q there → IsMember owned t q
+member_removed owned t key was p q there h r = elim (that_or_other was there) [
+  | inl that ↦ member_concluded owned t _ _ p q h (r.removed that).removes
+  | inr other ↦ member_concluded owned t _ _ p q h (r.left other)
+]
 
 -- and one that has changed nothing
 pub member_not_done : (owned : List ℕ) (t : TreeModel) (key : ℕ) (p q : PassModel) (why : NotDone) → IsMember owned t p

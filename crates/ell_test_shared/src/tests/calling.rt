@@ -1,10 +1,9 @@
-//! Calls of passes of a tree of shared keys, some of which may have owners, and their history.
+//! Calls of passes of a tree of shared keys, some of which may have owners.
 ghost use Rattle.std.specs.Prelude.{◌≡◌, ◌≤◌};
 ghost use Rattle.ell_ops.specs.KeySet.{set_of};
 ghost use Rattle.ell_test_shared.specs.Sharing.{IsMember};
 
 use ell_ops::{KEY_MAX, Op, Reply};
-use ell_test_gates::{Made, are_in_order, calls_on};
 use ell_tree::{NotDone, Pass, StepGate, Tree};
 use std::alloc::Global;
 use std::process::Abort;
@@ -25,43 +24,13 @@ pub enum KeyCall {
     Add(u64, u64),
     /// Updates the value of a key to the one that `next_value` makes of it.
     Update(u64),
+    /// Removes the key that the first number is, if its value is the second one.
+    RemoveIf(u64, u64),
 }
 
 /// What an update makes of a value: another one.
 pub fn next_value(value: u64) -> u64 {
     value.wrapping_mul(3).wrapping_add(1)
-}
-
-impl KeyCall {
-    /// The key.
-    pub fn key(self) -> u64 {
-        match self {
-            KeyCall::Ask(op) => op.key(),
-            KeyCall::Take(key) | KeyCall::Look(key) | KeyCall::Update(key) => key,
-            KeyCall::Put(key, _) | KeyCall::Add(key, _) => key,
-        }
-    }
-
-    // As what it stands in a history, and what it answers there, if it answers this.
-    fn told(self, said: Reply) -> (Op, Reply) {
-        match (self, said) {
-            (KeyCall::Ask(op), _) => (op, said),
-            (KeyCall::Take(key), _) => (Op::Delete(key), said),
-            (KeyCall::Put(key, value), Reply::Found(was)) => (Op::Swap(key, was, value), said),
-            (KeyCall::Put(key, value), _) => (Op::Insert(key, value), Reply::Yes),
-            (KeyCall::Add(key, addend), Reply::Found(was)) => {
-                (Op::Swap(key, was, was.wrapping_add(addend)), said)
-            }
-            (KeyCall::Update(key), Reply::Found(was)) => (
-                Op::Swap(key, was, next_value(was)),
-                said,
-            ),
-            (KeyCall::Look(key) | KeyCall::Add(key, _) | KeyCall::Update(key), _) => (
-                Op::Find(key),
-                said,
-            ),
-        }
-    }
 }
 
 /// Whether a key is one of these.
@@ -183,6 +152,26 @@ pub fn update<G: StepGate>(
     tree.update(pass, key, next, tries, gate)
 }
 
+// Removes such a key if it has a value: the value that it had.
+#[tactic(auto, using(crate::proofs::lemmas::Sharers::may_own, crate::proofs::lemmas::Sharers::may_share, crate::proofs::lemmas::Sharers::member_removed, crate::proofs::lemmas::Sharers::member_not_done))]
+fn remove_if<G: StepGate>(
+    rt: &impl Abort,
+    tree: &Tree<Global>,
+    pass: &mut Pass<Global>,
+    owned: &[u64],
+    key: u64,
+    was: u64,
+    tries: u32,
+    gate: &G,
+) -> Result<Option<u64>, NotDone>
+    requires member { IsMember owned.now tree.now pass.old }
+    requires tries { 1 ≤ tries }
+    ensures { IsMember owned.now tree.now pass.new }
+{
+    assert!(rt; pass.owns(key) || (key <= KEY_MAX && !is_among(key, owned)));
+    tree.remove_if(pass, key, was, tries, gate)
+}
+
 /// Makes a call with so many tries: what it answers, of a look as a find does, and of one that answers a value that it
 /// found that.
 #[tactic(auto, using(crate::proofs::lemmas::Sharers::member_looking))]
@@ -208,6 +197,7 @@ pub fn answer_by<G: StepGate>(
         }
         KeyCall::Put(key, value) => put(rt, tree, pass, owned, key, value, tries, gate)?,
         KeyCall::Add(key, addend) => add(rt, tree, pass, owned, key, addend, tries, gate)?,
+        KeyCall::RemoveIf(key, was) => remove_if(rt, tree, pass, owned, key, was, tries, gate)?,
         KeyCall::Update(key) => {
             let called = AtomicU64::new(0);
             update(rt, tree, pass, owned, key, &called, tries, gate)?
@@ -231,42 +221,6 @@ pub fn answer<G: StepGate>(
     answer_by(rt, tree, pass, owned, call, TRIES, gate)
 }
 
-/// The next moment of a clock that all workers read.
-pub fn tick(clock: &AtomicU64) -> u64 {
-    clock.fetch_add(1, Ordering::SeqCst)
-}
-
-/// What a history says of a call of a worker.
-pub fn made(worker: u32, call: KeyCall, said: Reply, begun: u64, ended: u64) -> Made {
-    let (op, said) = call.told(said);
-    Made {
-        worker,
-        op,
-        said,
-        begun,
-        ended,
-    }
-}
-
-/// Makes a call: what a history says of it, if it was answered.
-pub fn make<G: StepGate>(
-    rt: &impl Abort,
-    tree: &Tree<Global>,
-    pass: &mut Pass<Global>,
-    owned: &[u64],
-    clock: &AtomicU64,
-    call: KeyCall,
-    gate: &G,
-) -> Option<Made>
-    requires { IsMember owned.now tree.now pass.old }
-    ensures { IsMember owned.now tree.now pass.new }
-{
-    let begun = tick(clock);
-    let said = answer(rt, tree, pass, owned, call, gate).ok()?;
-    let ended = tick(clock);
-    Some(made(pass.label(), call, said, begun, ended))
-}
-
 /// Ends a tree, by the pass that is to own all keys that may have owners, and to have the whole share: the keys with their values.
 pub fn close(
     rt: &impl Abort,
@@ -279,64 +233,4 @@ pub fn close(
 {
     assert!(rt; owned.iter().all(|key| pass.owns(*key)) && pass.has_whole_share());
     tree.close(pass).ok().expect(rt, "memory")
-}
-
-// The value of a key among pairs.
-fn value_in(pairs: &[(u64, u64)], key: u64) -> Option<u64> {
-    let pair = pairs.iter().find(|pair| pair.0 == key)?;
-    Some(pair.1)
-}
-
-// How many calls added their key.
-fn added(calls: &[Made]) -> usize {
-    let is_so = |call: &&Made| matches!((call.op, call.said), (Op::Insert(_, _), Reply::Yes));
-    calls.iter().filter(is_so).count()
-}
-
-// How many calls took their key away.
-fn taken(calls: &[Made]) -> usize {
-    let is_so = |call: &&Made| matches!(call.op, Op::Delete(_)) && call.said != Reply::No;
-    calls.iter().filter(is_so).count()
-}
-
-/// Checks the calls on a key: there is an order of them, at whose end the key is as the tree closed with it.
-pub fn check_key(
-    rt: &(impl Abort + AllocGlobal),
-    key: u64,
-    start: &[(u64, u64)],
-    calls: &[Made],
-    end: &[(u64, u64)],
-) {
-    let (alloc, left) = (rt.alloc(), value_in(end, key));
-    let mut history = calls_on(alloc, key, calls).expect(rt, "memory");
-    let first = value_in(start, key);
-    let came = added(&history).saturating_add(first.is_some() as usize);
-    let went = taken(&history).saturating_add(left.is_some() as usize);
-    assert!(rt; came == went, "key {key}");
-    let last = Made {
-        worker: 63,
-        op: Op::Find(key),
-        said: Reply::found(left),
-        begun: u64::MAX,
-        ended: u64::MAX,
-    };
-    history.push(last).expect(rt, "memory");
-    assert!(rt;
-        are_in_order(alloc, first, &history).expect(rt, "memory"),
-        "key {key}"
-    );
-}
-
-/// Checks the calls on keys below a number, from the keys with their values at the start to those at the end.
-pub fn check(
-    rt: &(impl Abort + AllocGlobal),
-    keys: u64,
-    start: &[(u64, u64)],
-    calls: &[Made],
-    end: &[(u64, u64)],
-) {
-    assert!(rt; end.iter().all(|pair| pair.0 < keys));
-    for key in 0..keys {
-        check_key(rt, key, start, calls, end);
-    }
 }

@@ -8,9 +8,8 @@ ghost use Rattle.ell_tree.specs.Node.{most_start};
 ghost use Rattle.ell_test_shared.specs.Sharing.{IsMember};
 
 use super::calling::KeyCall::{self, Ask};
-use super::calling::{answer, check, close, made, tick};
+use super::calling::{answer, close};
 use super::parting::{joined, parted};
-use super::working::Done;
 use ell_ops::Op::{Delete, Find, Insert};
 use ell_ops::Reply;
 use ell_ops::Reply::{Found, No, Yes};
@@ -18,40 +17,34 @@ use ell_test_gates::{Holding, Turns, Until, WorkerTurn, two_threads_meet};
 use ell_tree::{Exchange, Kind, Pass, StepGate, Tree};
 use std::alloc::Global;
 use std::process::Abort;
-use std::sync::atomic::AtomicU64;
 use std::thread::{Threads, join};
 
 /// A call, and what it answers.
 pub type Row = (KeyCall, Reply);
 
-/// Makes calls one after the other, each of which is to be answered as its row says.
-pub fn play<G: StepGate>(
-    rt: &(impl Abort + AllocGlobal),
+// Makes calls one after the other, each of which is to be answered as its row says.
+fn play<G: StepGate>(
+    rt: &impl Abort,
     tree: &Tree<Global>,
     pass: Pass<Global>,
     owned: &[u64],
-    clock: &AtomicU64,
     gate: &G,
     rows: &[Row],
-) -> Done
+) -> Pass<Global>
     requires { IsMember owned.now tree.now pass }
-    ensures { IsMember owned.now tree.now result.pass }
+    ensures { IsMember owned.now tree.now result }
 {
     let mut pass = pass;
-    let mut calls = Vec::new(rt.alloc());
     for (number, (call, want)) in rows.iter().enumerate() {
-        let (label, begun) = (pass.label(), tick(clock));
         let said = answer(rt, tree, &mut pass, owned, *call, gate);
-        assert!(rt; said == Ok(*want), "row {number} of worker {label}");
-        let ended = tick(clock);
-        let call = made(label, *call, *want, begun, ended);
-        calls.push(call).expect(rt, "memory");
+        let worker = pass.label();
+        assert!(rt; said == Ok(*want), "row {number} of worker {worker}");
     }
-    Done { pass, calls }
+    pass
 }
 
-/// Two workers: worker 0 is held at its first step of a kind, until worker 1 has made its calls. The keys at the start and at the end, with
-/// their values; those that have owners, and those of them that worker 0 owns.
+/// Two workers: worker 0 is held at its first step of a kind, until worker 1 has made its calls. The keys at the start and at the end,
+/// with their values; those that have owners, and those of them that worker 0 owns.
 #[derive(Clone, Copy)]
 pub struct Meeting<'a> {
     pub owned: &'a [u64],
@@ -62,26 +55,9 @@ pub struct Meeting<'a> {
     pub end: &'a [(u64, u64)],
 }
 
-/// Has the two meet, worker 0 at this kind of step.
-pub fn meet<R: Threads + Abort + AllocGlobal + Sync>(rt: &R, at: Kind, meeting: Meeting)
-    requires ascending { IsStrictlyIncreasing (keys_of meeting.start.now) }
-    requires real { All (λ k. k ≤ greatest_key) (keys_of meeting.start.now) }
-    requires few { length meeting.start.now ≤ most_start }
-    requires owned { IsStrictlyIncreasing meeting.owned.now }
-    requires owned_real { All (λ k. k ≤ greatest_key) meeting.owned.now }
-    requires by_zero { IsStrictlyIncreasing meeting.by_zero.now }
-{
-    meet_until(rt, at, meeting.rows.len() as u64, meeting);
-}
-
-/// The same, where worker 0 is held until worker 1 has ended so many operations, of which a put or an update makes two
-/// or more.
-pub fn meet_until<R: Threads + Abort + AllocGlobal + Sync>(
-    rt: &R,
-    at: Kind,
-    ends: u64,
-    meeting: Meeting,
-)
+/// Has the two meet: worker 0 is held at this kind of step until worker 1 has ended so many operations, of which a put or an update makes
+/// two or more.
+pub fn meet<R: Threads + Abort + AllocGlobal + Sync>(rt: &R, at: Kind, ends: u64, meeting: Meeting)
     requires ascending { IsStrictlyIncreasing (keys_of meeting.start.now) }
     requires real { All (λ k. k ≤ greatest_key) (keys_of meeting.start.now) }
     requires few { length meeting.start.now ≤ most_start }
@@ -107,27 +83,40 @@ fn meet_under<R: Threads + Abort + AllocGlobal + Sync, G: StepGate + Sync>(
     requires owned_real { All (λ k. k ≤ greatest_key) meeting.owned.now }
     requires by_zero { IsStrictlyIncreasing meeting.by_zero.now }
 {
-    let (owned, start) = (meeting.owned, meeting.start);
-    let (held, rows, clock) = ([meeting.held], meeting.rows, AtomicU64::new(0));
-    let made = Tree::reserve_shared(rt.alloc(), start, owned, 100);
+    let (owned, held, rows) = (meeting.owned, [meeting.held], meeting.rows);
+    let made = Tree::reserve_shared(rt.alloc(), meeting.start, owned, 100);
     let (tree, pass) = made.expect(rt, "tree");
     let (zero, mut one) = parted(rt, &tree, pass, owned, meeting.by_zero);
     one.relabel(1);
-    let (shared, time, held) = (&tree, &clock, &held);
+    let (shared, held) = (&tree, &held);
     let (zero, one) = join(
         rt,
-        move || play(rt, shared, zero, owned, time, gate, held),
-        move || play(rt, shared, one, owned, time, gate, rows),
+        move || play(rt, shared, zero, owned, gate, held),
+        move || play(rt, shared, one, owned, gate, rows),
     );
-    let mut calls = zero.calls;
-    for call in &one.calls {
-        calls.push(*call).expect(rt, "memory");
-    }
-    let pass = joined(rt, &tree, owned, zero.pass, one.pass);
+    let pass = joined(rt, &tree, owned, zero, one);
     let pairs = close(rt, tree, pass, owned);
     assert!(rt; pairs.as_slice() == meeting.end);
-    check(rt, 10, start, &calls, &pairs);
 }
+
+/// The kinds of the steps of an insert or a swap up to its flag, and of a delete: until then the key may change.
+pub const TO_INSERT: [Kind; 6] = [
+    Kind::Begin,
+    Kind::Note,
+    Kind::Look,
+    Kind::Exchange(Exchange::Claim),
+    Kind::Fill,
+    Kind::Exchange(Exchange::IFlag),
+];
+
+pub const TO_DELETE: [Kind; 6] = [
+    Kind::Begin,
+    Kind::Note,
+    Kind::Look,
+    Kind::Exchange(Exchange::Claim),
+    Kind::Fill,
+    Kind::Exchange(Exchange::DFlag),
+];
 
 // Worker 0 has not flagged yet: it is as if its insert began behind the others.
 const BEFORE_ITS_FLAG: Meeting = Meeting {
@@ -178,18 +167,16 @@ fn others_go_past_an_insert_of_their_key(rt: HostRuntime) {
     if !two_threads_meet(&rt) {
         return;
     }
-    for at in [
-        Kind::Begin,
-        Kind::Note,
-        Kind::Look,
-        Kind::Exchange(Exchange::Claim),
-        Kind::Fill,
-        Kind::Exchange(Exchange::IFlag),
-    ] {
-        meet(&rt, at, BEFORE_ITS_FLAG);
+    for at in TO_INSERT {
+        meet(&rt, at, 6, BEFORE_ITS_FLAG);
     }
-    meet(&rt, Kind::Exchange(Exchange::IChild), BEHIND_ITS_FLAG);
-    meet(&rt, Kind::Exchange(Exchange::IUnflag), BEHIND_ITS_EXCHANGE);
+    meet(&rt, Kind::Exchange(Exchange::IChild), 6, BEHIND_ITS_FLAG);
+    meet(
+        &rt,
+        Kind::Exchange(Exchange::IUnflag),
+        5,
+        BEHIND_ITS_EXCHANGE,
+    );
 }
 
 // Worker 0 has not flagged yet: it is as if its delete began behind the others.
@@ -240,27 +227,20 @@ fn others_go_past_a_delete_of_their_key(rt: HostRuntime) {
     if !two_threads_meet(&rt) {
         return;
     }
-    for at in [
-        Kind::Begin,
-        Kind::Note,
-        Kind::Look,
-        Kind::Exchange(Exchange::Claim),
-        Kind::Fill,
-        Kind::Exchange(Exchange::DFlag),
-    ] {
-        meet(&rt, at, BEFORE_ITS_DELETE);
+    for at in TO_DELETE {
+        meet(&rt, at, 7, BEFORE_ITS_DELETE);
     }
     for at in [
         Kind::Exchange(Exchange::Mark),
         Kind::Exchange(Exchange::DChild),
     ] {
-        meet(&rt, at, BEHIND_ITS_DELETE_FLAG);
+        meet(&rt, at, 5, BEHIND_ITS_DELETE_FLAG);
     }
-    meet(&rt, Kind::Exchange(Exchange::DUnflag), BEHIND_ITS_CUT);
+    meet(&rt, Kind::Exchange(Exchange::DUnflag), 4, BEHIND_ITS_CUT);
 }
 
-// Between the flag of worker 0 and its mark, worker 1 adds a neighbor at its place: so the mark is lost. Worker 0 is held again before it takes
-// its flag back, and then deletes what it finds.
+// Between the flag of worker 0 and its mark, worker 1 adds a neighbor at its place: so the mark is lost. Worker 0 is held again before it
+// takes its flag back, and then deletes what it finds.
 const BEHIND_A_LOST_MARK: Meeting = Meeting {
     held: (Ask(Delete(5)), Yes),
     rows: &[

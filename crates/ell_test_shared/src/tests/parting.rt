@@ -1,6 +1,6 @@
 //! Passes of a tree of shared keys part and come together.
 ghost use Rattle.std.specs.List.Sorted.{IsStrictlyIncreasing};
-ghost use Rattle.ell_test_shared.specs.Sharing.{IsMember, IsSharer};
+ghost use Rattle.ell_test_shared.specs.Sharing.{IsMember};
 
 use super::calling::KeyCall::Ask;
 use super::calling::{answer, close, is_among};
@@ -51,46 +51,6 @@ pub fn joined(
             .all(|key| !(left.owns(*key) && right.owns(*key)))
     );
     tree.join(left, right).ok().expect(rt, "memory")
-}
-
-// Parts the right part of a pass again and again, until it may not be parted, and joins all again: how often it was parted.
-fn chained(
-    rt: &impl Abort,
-    tree: &Tree<Global>,
-    pass: Pass<Global>,
-    most: u32,
-) -> (Pass<Global>, u32)
-    requires { IsSharer tree.now pass }
-    ensures { IsSharer tree.now result.0 }
-{
-    if most == 0 || !pass.may_part() {
-        return (refused(rt, tree, pass), 0);
-    }
-    let (left, right) = parted(rt, tree, pass, &[], &[]);
-    assert!(rt; !left.has_whole_share() && !right.has_whole_share());
-    let (right, times) = chained(rt, tree, right, most - 1);
-    (joined(rt, tree, &[], left, right), times.saturating_add(1))
-}
-
-// A pass that may not be parted is refused, and comes back as it was: it makes its calls as ever.
-fn refused(rt: &impl Abort, tree: &Tree<Global>, pass: Pass<Global>) -> Pass<Global>
-    requires { IsSharer tree.now pass }
-    ensures { IsSharer tree.now result }
-{
-    let (mut pass, why) = tree.split(pass, &[]).err().expect(rt, "refusal");
-    assert!(rt; why == SplitFault::TooManyPasses);
-    assert!(rt; answer(rt, tree, &mut pass, &[], Ask(Insert(5, 50)), &NoGate) == Ok(Yes));
-    assert!(rt; answer(rt, tree, &mut pass, &[], Ask(Find(5)), &NoGate) == Ok(Found(50)));
-    pass
-}
-
-#[test]
-fn a_pass_is_parted_until_its_share_may_not_be(rt: HostRuntime) {
-    let made = Tree::reserve_shared(rt.alloc(), &[], &[], 10);
-    let (tree, pass) = made.expect(&rt, "tree");
-    let (pass, times) = chained(&rt, &tree, pass, 100);
-    assert!(rt; times == 32);
-    assert!(rt; close(&rt, tree, pass, &[]).as_slice() == [(5, 50)].as_slice());
 }
 
 #[test]

@@ -20,7 +20,7 @@ use std::process::Abort;
 use std::thread::{Threads, join};
 
 // How often each race is run.
-const RACES: u32 = 200;
+const RACES: u32 = 50;
 
 // A pass behind its call, and what that was answered.
 type Ran = (Pass<Global>, Option<Reply>);
@@ -82,24 +82,25 @@ fn of_two_inserts_at_once_one_adds_the_key(rt: HostRuntime) {
     ] {
         for _ in 0..RACES {
             let raced = race(&rt, at, &[], (Ask(Insert(5, 50)), Ask(Insert(5, 51))));
-            match (raced.0, raced.1) {
-                (Some(Yes), Some(No)) => {
-                    assert!(rt; raced.2.as_slice() == [(5, 50)].as_slice());
-                }
-                (Some(No), Some(Yes)) => {
-                    assert!(rt; raced.2.as_slice() == [(5, 51)].as_slice());
-                }
-                _ => assert!(rt; false, "not one of both"),
-            }
+            let added = match (raced.0, raced.1) {
+                (Some(Yes), Some(No)) => 50,
+                (Some(No), Some(Yes)) => 51,
+                _ => panic!(rt; "not one of both at {at:?}"),
+            };
+            assert!(rt; raced.2.as_slice() == [(5, added)].as_slice(), "{at:?}");
         }
     }
 }
 
 const START: [(u64, u64); 2] = [(5, 50), (6, 60)];
 
-#[test]
-fn of_two_deletes_at_once_one_takes_the_key_away(rt: HostRuntime) {
-    if !two_threads_meet(&rt) {
+// Has two calls take key 5 away at once from each kind of step, of which one answers as it does if it takes the key.
+fn take_away_at_each<R: Threads + Abort + AllocGlobal + Sync>(
+    rt: &R,
+    calls: (KeyCall, KeyCall),
+    wants: (Reply, Reply),
+) {
+    if !two_threads_meet(rt) {
         return;
     }
     for at in [
@@ -111,37 +112,36 @@ fn of_two_deletes_at_once_one_takes_the_key_away(rt: HostRuntime) {
         Kind::Exchange(Exchange::Mark),
         Kind::Exchange(Exchange::DChild),
     ] {
-        for _ in 0..RACES {
-            let raced = race(&rt, at, &START, (Ask(Delete(5)), Ask(Delete(5))));
-            assert!(rt; raced.2.as_slice() == [(6, 60)].as_slice());
-            match (raced.0, raced.1) {
-                (Some(Yes), Some(No)) | (Some(No), Some(Yes)) => {}
-                _ => assert!(rt; false, "not one of both"),
-            }
-        }
+        take_away(rt, at, calls, [(wants.0, No), (No, wants.1)]);
     }
 }
 
 #[test]
+fn of_two_deletes_at_once_one_takes_the_key_away(rt: HostRuntime) {
+    take_away_at_each(&rt, (Ask(Delete(5)), Ask(Delete(5))), (Yes, Yes));
+}
+
+#[test]
 fn of_two_takes_at_once_one_gets_the_value(rt: HostRuntime) {
-    if !two_threads_meet(&rt) {
-        return;
-    }
-    for at in [
-        Kind::Begin,
-        Kind::Look,
-        Kind::Exchange(Exchange::DFlag),
-        Kind::Exchange(Exchange::Mark),
-    ] {
-        for other in [Take(5), Ask(Delete(5))] {
-            for _ in 0..RACES {
-                let raced = race(&rt, at, &START, (Take(5), other));
-                assert!(rt; raced.2.as_slice() == [(6, 60)].as_slice());
-                match (raced.0, raced.1) {
-                    (Some(Found(50)), Some(No)) | (Some(No), Some(Yes | Found(50))) => {}
-                    _ => assert!(rt; false, "not one of both"),
-                }
-            }
-        }
+    take_away_at_each(&rt, (Take(5), Take(5)), (Found(50), Found(50)));
+}
+
+#[test]
+fn of_a_take_and_a_delete_at_once_one_takes_the_key_away(rt: HostRuntime) {
+    take_away_at_each(&rt, (Take(5), Ask(Delete(5))), (Found(50), Yes));
+}
+
+// Has two calls take key 5 away again and again: each time both answer as one of these rows says.
+fn take_away<R: Threads + Abort + AllocGlobal + Sync>(
+    rt: &R,
+    at: Kind,
+    calls: (KeyCall, KeyCall),
+    wants: [(Reply, Reply); 2],
+) {
+    for _ in 0..RACES {
+        let raced = race(rt, at, &START, calls);
+        let is_one = |want: &(Reply, Reply)| raced.0 == Some(want.0) && raced.1 == Some(want.1);
+        assert!(rt; wants.iter().any(is_one), "not one of both at {at:?}");
+        assert!(rt; raced.2.as_slice() == [(6, 60)].as_slice(), "{at:?}");
     }
 }

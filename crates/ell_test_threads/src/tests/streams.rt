@@ -1,8 +1,4 @@
-//! What runs and replays answer where a reader or a writer fails, and to texts at the edges of what is read.
+//! What runs and replays answer if a reader or a writer fails, or gives and takes little at a time.
 mod calls;
-mod limits;
-mod reading;
-mod samples;
+mod failing;
 mod sources;
-mod spellings;
-mod writing;

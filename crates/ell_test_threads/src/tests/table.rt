@@ -1,9 +1,94 @@
-//! Tables of cards: how they begin, part and end, schedules that are stepped on them beside a world, and threads that share one.
-mod claims;
-mod lifetimes;
-mod parting;
-mod playing;
-mod random_schedules;
-mod schedules;
-mod starts;
-mod values;
+//! A table of cards from its begin to its end, and texts of faults.
+ghost use Rattle.std.specs.Prelude.{◌≡◌};
+ghost use Rattle.ell_cards.specs.Models.{IsFree};
+
+use ell_cards::{CardFault, CardTable, Closed, Pass};
+use ell_layout::Field;
+use ell_tree::NotDone;
+use std::alloc::Global;
+use std::process::Abort;
+
+const INF1: u64 = 18_446_744_073_709_551_614;
+
+const INF2: u64 = 18_446_744_073_709_551_615;
+
+// Three start keys, and the words of each card, in the order of `Field::ALL`.
+const START: [(u64, u64); 3] = [(2, 200), (4, 400), (6, 600)];
+
+const KEYS: [u64; 3] = [2, 4, 6];
+
+const OPENING: [[u64; 12]; 5] = [
+    [INF2, 4, 2, 3, INF1, INF2, 0, 0, 0, 0, 0, 0],
+    [6, 8, 12, 3, 0, 0, 0, 0, 0, 0, 0, 0],
+    [4, 9, 10, 3, 2, 4, 200, 400, 0, 0, 0, 0],
+    [INF1, 13, 14, 3, 6, INF1, 600, 0, 0, 0, 0, 0],
+    [0; 12],
+];
+
+// Whether a card has these words.
+fn has_words(closed: &Closed<Global>, card: u64, words: &[u64; 12]) -> bool {
+    card <= closed.last_card() && (0..12).all(|at| closed.word(card, Field::ALL[at]) == words[at])
+}
+
+// The pass that two are joined to.
+fn joined(
+    rt: &impl Abort,
+    table: &CardTable<Global>,
+    left: Pass<Global>,
+    right: Pass<Global>,
+) -> Pass<Global>
+    requires left { (left.table ≡ table.now.id) × IsFree left.view }
+    requires right { (right.table ≡ table.now.id) × IsFree right.view }
+    ensures { (result.table ≡ table.now.id) × IsFree result.view }
+{
+    table.join(left, right).ok().expect(rt, "memory")
+}
+
+#[test]
+fn a_table_begins_parts_and_ends(rt: HostRuntime) {
+    let made = CardTable::reserve_from(rt.alloc(), &START, &KEYS, 1);
+    let (table, mut pass) = made.expect(&rt, "table");
+    assert!(rt; table.last_card() == 4 && table.next(&mut pass) == 4);
+    assert!(rt; pass.keys() == KEYS.as_slice() && pass.owns(4));
+    let (left, right) = table.split(pass, &[4]).ok().expect(&rt, "memory");
+    assert!(rt; left.owns(4) && !left.owns(2) && right.owns(2) && !right.owns(4));
+    let both = joined(&rt, &table, left, right);
+    assert!(rt; both.has_whole_share() && KEYS.iter().all(|key| both.owns(*key)));
+    let closed = table.close(both);
+    assert!(rt; closed.last_card() == 4);
+    for (card, words) in (0..5).zip(&OPENING) {
+        assert!(rt; has_words(&closed, card, words), "card {card}");
+    }
+}
+
+#[test]
+fn a_table_without_start_keys_has_one_inner_node(rt: HostRuntime) {
+    let (table, mut pass) = CardTable::reserve(rt.alloc(), &KEYS, 2).expect(&rt, "table");
+    assert!(rt; table.next(&mut pass) == 1 && pass.has_whole_share());
+    assert!(rt; KEYS.iter().all(|key| pass.owns(*key)));
+    let closed = table.close(pass);
+    let root = [INF2, 1, 2, 3, INF1, INF2, 0, 0, 0, 0, 0, 0];
+    assert!(rt; has_words(&closed, 0, &root) && has_words(&closed, 1, &[0; 12]));
+}
+
+#[test]
+fn faults_have_texts(rt: HostRuntime) {
+    for (fault, text) in [
+        (CardFault::BadCards, "cards are not 1 to 1000000"),
+        (CardFault::NoMemory, "out of memory"),
+    ] {
+        let said = fault.to_string(rt.alloc()).expect(&rt, "memory");
+        assert!(rt; said.as_str() == text);
+    }
+}
+
+#[test]
+fn held_changes_have_texts(rt: HostRuntime) {
+    for (held, text) in [
+        (NotDone::Busy, "something was in the way of each try"),
+        (NotDone::Spent, "all cards are given out"),
+    ] {
+        let said = held.to_string(rt.alloc()).expect(&rt, "memory");
+        assert!(rt; said.as_str() == text);
+    }
+}

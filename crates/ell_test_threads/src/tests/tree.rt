@@ -1,11 +1,5 @@
-//! Trees on one thread, on two that a gate holds, on four, and on 64 of which half look.
+//! Trees on one thread, and on two of which one looks.
 pub(super) mod asking;
-mod four_threads;
 mod looks;
-mod plain_map;
-mod random_operations;
-mod readers;
-mod rows;
 mod starts;
 mod steps_told;
-mod threads;

@@ -13,6 +13,7 @@ use Rattle.ell_core.specs.statements.Effects.{contents_in}
 use Rattle.ell_core.proofs.lemmas.outcomes.Decide.{cases_option, some_not_none}
 use Rattle.ell_core.proofs.lemmas.following.AnswerMeaning.{key_kept, swap_lacked, swap_other}
 use Rattle.ell_cards.specs.Models.{PassModel, ledger}
+use Rattle.ell_cards.specs.Stepping.{SameShare}
 use Rattle.ell_tree.specs.Ledgers.{TreeModel, present_in, Owns, IsIdle, answers}
 use Rattle.ell_tree.specs.Ends.{Answers, LaidDown}
 use Rattle.ell_tree.specs.Computing.{IsUntouched, Concludes, LastChangesNothing, ReadsValue, put_by}
@@ -38,17 +39,22 @@ untouched_by t op said p q leaves h = record {
   idle = h.idle;
 }
 
--- so is one that lays an operation down
-pub untouched_laid : (t : TreeModel) (op : Op) (p q : PassModel) → LaidDown t op p q → IsUntouched p q
-untouched_laid t op p q h = let same : ledger q ≡ ledger p = ap ledger_of h.ledger in record {
-  table = h.table;
-  label = h.label;
+-- so is one whose ledger is as it was
+pub untouched_still : (p q : PassModel) → q.table ≡ p.table → q.label ≡ p.label → q.view.worker.ledger ≡ p.view.worker.ledger → answers q ≡ answers p → SameShare p.view q.view
+    → IsIdle q → IsUntouched p q
+untouched_still p q table label ledgers count share idle = let same : ledger q ≡ ledger p = ap ledger_of ledgers in record {
+  table = table;
+  label = label;
   map = λ key. ap (λ f. contents_in f key) same;
   owned = λ key. (λ owns none. owns (ap (λ f. f key) same ∙ none), λ owns none. owns (sym (ap (λ f. f key) same) ∙ none));
-  answered = let one = h.answered in omega arith;
-  share = h.share;
-  idle = h.idle;
+  answered = omega (arith, count);
+  share = share;
+  idle = idle;
 }
+
+-- and one that lays an operation down
+pub untouched_laid : (t : TreeModel) (op : Op) (p q : PassModel) → LaidDown t op p q → IsUntouched p q
+untouched_laid t op p q h = untouched_still p q h.table h.label h.ledger h.answered h.share h.idle
 
 pub untouched_trans : (p q r : PassModel) → IsUntouched p q → IsUntouched q r → IsUntouched p r
 untouched_trans p q r g h = record {
@@ -141,9 +147,12 @@ swap_leaves t key was value o p q other h owns k =
     left_by (present_in p) key was value (present_in p key) refl
     (λ e. other (found_one o (present_in p key) (h.says owns) ∙ e)) k
 
--- what was read of an own key is what the pass has
+-- what was found of an own key is what the pass has
+pub found_own : (t : TreeModel) (key : ℕ) (was : Option ℕ) (p q : PassModel) → Concludes t (Find key) (found was) p q → Owns p key → present_in p key ≡ was
+found_own t key was p q h owns = sym (found_one was (present_in p key) (h.says owns))
+
 pub reads_own : (t : TreeModel) (key : ℕ) (was : Option ℕ) (p q : PassModel) → ReadsValue t key was p q → Owns p key → present_in p key ≡ was
-reads_own t key was p q (inl h) owns = sym (found_one was (present_in p key) (h.says owns))
+reads_own t key was p q (inl h) owns = found_own t key was p q h owns
 reads_own t key was p q (inr h) owns = sym (found_one was (present_in p key) (h.3.says owns))
 
 -- and reading changes nothing
@@ -194,9 +203,11 @@ found_not_yes : (o : Option ℕ) → found o ≢ Yes
 found_not_yes None e = absurd cc
 found_not_yes (Some v) e = absurd cc
 
+pub found_last : (t : TreeModel) (key : ℕ) (was : Option ℕ) (p q : PassModel) → Concludes t (Find key) (found was) p q → LastChangesNothing t key q.view
+found_last t key was p q h = record { op = Find key; on = refl; nothing = inr (found was, found_not_yes was, h.point) }
+
 pub reads_last : (t : TreeModel) (key : ℕ) (was : Option ℕ) (p q : PassModel) → ReadsValue t key was p q → LastChangesNothing t key q.view
-reads_last t key was p q (inl h) =
-    record { op = Find key; on = refl; nothing = inr (found was, found_not_yes was, h.point) }
+reads_last t key was p q (inl h) = found_last t key was p q h
 reads_last t key was p q (inr h) =
     record { op = Swap key h.0 h.1; on = refl; nothing = inr (found was, λ e. h.2 (found_one was (Some h.0) e), h.3.point) }
 

@@ -73,19 +73,19 @@ keeps_answers t op said p q r n keeps h = answers_before t op said p q r keeps.t
 -- an insert whose search ended at another key would add its own; a swap whose search ended at its key and its first value would swap it; a delete
 -- whose search ended at its key would take it away
 module _ (cards : ℕ) (p q : PassModel) (same : q.view.worker.ledger ≡ p.view.worker.ledger) (place : LeafFound) where
-  there : (op : Op) → EndsAt cards q.view op place → Owns p (key_of op) → present_in p (key_of op) ≡ there_at place (key_of op)
-  there op ends owns =
+  pub has_there : (op : Op) → EndsAt cards q.view op place → Owns p (key_of op) → present_in p (key_of op) ≡ there_at place (key_of op)
+  has_there op ends owns =
       sym (ap (λ (l : List (ℕ × Entry)). contents_in (ledger_of l) (key_of op)) same) ∙ ends.there (still_owned (key_of op) p q same owns)
 
   would_insert : (key value : ℕ) → EndsAt cards q.view (Insert key value) place → place.key ≢ key → Owns p key
       → reply_of (Insert key value) (present_in p) ≡ Yes
   would_insert key value ends other owns =
-      ap (λ o. yes_if (not (is_some o))) (there (Insert key value) ends owns ∙ ap (λ b. if b then Some place.value else None) (ne_eqb place.key key other))
+      ap (λ o. yes_if (not (is_some o))) (has_there (Insert key value) ends owns ∙ ap (λ b. if b then Some place.value else None) (ne_eqb place.key key other))
 
   would_swap : (key was value : ℕ) → EndsAt cards q.view (Swap key was value) place → place.key ≡ key → place.value ≡ was → Owns p key
       → reply_of (Swap key was value) (present_in p) ≡ Found was
   would_swap key was value ends own same_value owns =
-      ap found (there (Swap key was value) ends owns
+      ap found (has_there (Swap key was value) ends owns
       ∙ (ap (λ b. if b then Some place.value else None) (eq-eqb place.key key own) ∙ ap Some same_value))
 
   pub would_put : (op : Op) (what : Put) → put_of op ≡ Some what → EndsAt cards q.view op place → TakesPut what place.key place.value → Owns p (key_of op)
@@ -100,11 +100,11 @@ module _ (cards : ℕ) (p q : PassModel) (same : q.view.worker.ledger ≡ p.view
 
   -- what it took was there, and nothing was where its search ended at another key
   pub had_value : (key : ℕ) → EndsAt cards q.view (Delete key) place → place.key ≡ key → Owns p key → Some place.value ≡ present_in p key
-  had_value key ends own owns = sym (there (Delete key) ends owns ∙ ap (λ b. if b then Some place.value else None) (eq-eqb place.key key own))
+  had_value key ends own owns = sym (has_there (Delete key) ends owns ∙ ap (λ b. if b then Some place.value else None) (eq-eqb place.key key own))
 
   pub had_none : (key : ℕ) → EndsAt cards q.view (Delete key) place → place.key ≢ key → Owns p key → None ≡ present_in p key
-  had_none key ends other owns = sym (there (Delete key) ends owns ∙ ap (λ b. if b then Some place.value else None) (ne_eqb place.key key other))
+  had_none key ends other owns = sym (has_there (Delete key) ends owns ∙ ap (λ b. if b then Some place.value else None) (ne_eqb place.key key other))
 
   pub would_delete : (key : ℕ) → EndsAt cards q.view (Delete key) place → place.key ≡ key → Owns p key → reply_of (Delete key) (present_in p) ≡ Yes
   would_delete key ends own owns =
-      ap (λ o. yes_if (is_some o)) (there (Delete key) ends owns ∙ ap (λ b. if b then Some place.value else None) (eq-eqb place.key key own))
+      ap (λ o. yes_if (is_some o)) (has_there (Delete key) ends owns ∙ ap (λ b. if b then Some place.value else None) (eq-eqb place.key key own))

@@ -1,4 +1,4 @@
-use Rattle.std.proofs.Common.{◌≡◌, ◌≢◌, ℕ, ◌<◌, ◌≤◌, ◌==◌, List, Bool, true, false, true≢false, inl, Option, Some, None, IfSome, if◌then◌else◌, eq-eqb, eqb-true, refl, sym, ◌∙◌, ap, subst, arith}
+use Rattle.std.proofs.Common.{◌≡◌, ◌≢◌, ℕ, ◌<◌, ◌≤◌, ◌==◌, ◌++◌, List, Bool, true, false, true≢false, inl, Option, Some, None, IfSome, if◌then◌else◌, eq-eqb, eqb-true, refl, sym, ◌∙◌, ap, subst, arith}
 use Rattle.std.specs.Option.{is_some}
 use Rattle.ell_ops.specs.declared.op.Op.{Op}
 use Rattle.ell_ops.specs.declared.reply.Reply.{Reply}
@@ -24,7 +24,7 @@ use Rattle.ell_tree.specs.declared.searching.LeafFound.{LeafFound}
 use Rattle.ell_tree.specs.Keeping.{LosesNothing, KeepsAllButSearch, IsInnerMet}
 use Rattle.ell_word.specs.declared.update.State.TheVariants as state
 use Rattle.ell_core.specs.declared.fact.Fact.{Fact}
-use Rattle.ell_tree.specs.Searches.{seen_any, below, KnowsPassed, EndWasUnknownAt, Stands, IsAt, there_at, EndsAt}
+use Rattle.ell_tree.specs.Searches.{seen_any, below, KnowsPassed, EndWasUnknownAt, Stands, IsAt, there_at, EndsAt, HasSearched}
 use Rattle.ell_tree.specs.Counts.{HasUncounted}
 use Rattle.ell_tree.proofs.lemmas.Counts.{uncounted_one, uncounted_trans}
 use Rattle.ell_tree.proofs.lemmas.Keeping.{keeps_but_search_unseen, keeps_but_search_trans, upd_keeps, key_of_keeps, value_of_keeps, down_keeps, loses_trans, seen_kept, place_told}
@@ -97,6 +97,10 @@ unknown_above v o x e h = subst (λ p. IfSome p (EndWasUnknownAt v)) e h
 
 pub named_above : (cards : ℕ) (v : View) (o : Option Passed) (x : Passed) → o ≡ Some x → IfSome o (λ y. KnowsPassed cards v y) → x.update.card ≤ cards
 named_above cards v o x e h = (subst (λ p. IfSome p (λ y. KnowsPassed cards v y)) e h).named
+
+-- a try that has met nothing met all that came to be in the way meanwhile
+pub searched_in_try : (cards : ℕ) (op : Op) (place : LeafFound) (v : View) → HasSearched cards op place v → v.hindrances ≡ v.met ++ v.hindrances
+searched_in_try cards op place v h = ap (λ hs. hs ++ v.hindrances) (sym h.unmet)
 
 -- what a search passed stays so
 pub passes_kept : (cards : ℕ) (a b : View) (x : Passed) → LosesNothing a b → KnowsPassed cards a x → KnowsPassed cards b x

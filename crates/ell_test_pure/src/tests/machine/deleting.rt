@@ -1,9 +1,8 @@
-//! Deletes that are helped, that lose their mark, and whose node another worker still stands at.
+//! A delete that loses its mark, and begins anew.
 use super::scripts::Line::{self, Does, Filled, Has, Lists, Searches};
-use super::scripts::{FIVE_INSERTED, LOST, MOVED, NO, NOT_NOW, WON, YES, played};
+use super::scripts::{FIVE_INSERTED, LOST, MOVED, WON, YES, played};
 use ell_core::Act::{
-    Again, Answer, Backtrack, Begin, Claim, DChild, DFlag, DUnflag, Down, IChild, IFlag, IUnflag,
-    Mark, Upd,
+    Again, Answer, Backtrack, Begin, Claim, DChild, DFlag, DUnflag, IChild, IFlag, IUnflag, Mark,
 };
 use ell_layout::Field;
 use ell_ops::Op;
@@ -67,65 +66,4 @@ fn a_lost_mark_backtracks(rt: HostRuntime) {
         BACKTRACKED,
     ];
     played(&rt, 2, &[(0, 5), (0, 6), (1, 7)], 5, &scripts);
-}
-
-const A_LATE_CHILD_EXCHANGE: &[Line] = &[
-    Searches(0, Begin(Op::Delete(5)), 2),
-    Does(0, &[Claim], MOVED),
-    Has(0, Field::Update, 7),
-    Has(1, Field::Update, 3),
-    Does(0, &[DFlag, Mark(2)], WON),
-    Has(0, Field::Update, 9),
-    Has(1, Field::Update, 10),
-    Searches(1, Begin(Op::Find(7)), 1),
-    Does(1, &[Upd], MOVED),
-    Has(0, Field::Left, 4),
-    Lists(&[(5, 50)]),
-    Does(1, &[DChild(2)], WON),
-    Has(0, Field::Left, 6),
-    Lists(&[]),
-    Does(1, &[DChild(2)], LOST),
-    Lists(&[]),
-    Does(1, &[DUnflag(2)], WON),
-    Has(0, Field::Update, 11),
-    Does(1, &[Down], MOVED),
-    Does(1, &[Answer], NO),
-    Does(0, &[DChild(2), DUnflag(2)], LOST),
-    Does(0, &[Answer], YES),
-    Lists(&[]),
-];
-
-#[test]
-fn a_second_child_exchange_is_lost(rt: HostRuntime) {
-    let scripts = [FIVE_INSERTED, A_LATE_CHILD_EXCHANGE];
-    played(&rt, 2, &[(0, 5), (1, 7)], 4, &scripts);
-}
-
-const A_HELPER: &[Line] = &[
-    Searches(0, Begin(Op::Delete(5)), 2),
-    Does(0, &[Claim], MOVED),
-    Has(0, Field::Update, 7),
-    Does(0, &[DFlag], WON),
-    Has(0, Field::Update, 9),
-    Does(1, &[Begin(Op::Find(7)), Upd], MOVED),
-    Does(1, &[Backtrack(2)], NOT_NOW),
-    Has(1, Field::Update, 3),
-    Does(1, &[Mark(2)], WON),
-    Has(1, Field::Update, 10),
-    Does(1, &[Backtrack(2)], NOT_NOW),
-    Has(0, Field::Left, 4),
-    Has(0, Field::Update, 9),
-    Does(1, &[DChild(2), DUnflag(2)], WON),
-    Has(0, Field::Left, 6),
-    Has(0, Field::Update, 11),
-    Does(0, &[Mark(2), DChild(2), DUnflag(2)], LOST),
-    Does(0, &[Answer], YES),
-    Does(1, &[Down], MOVED),
-    Does(1, &[Answer], NO),
-    Lists(&[]),
-];
-
-#[test]
-fn a_helper_may_not_backtrack(rt: HostRuntime) {
-    played(&rt, 2, &[(0, 5), (1, 7)], 4, &[FIVE_INSERTED, A_HELPER]);
 }

@@ -1,6 +1,6 @@
 //! Events that are refused, and leave the world as it was.
-use super::scripts::Line::{self, Does, Lists, Next, Searches};
-use super::scripts::{FIVE_INSERTED, MOVED, NO_CARDS, NO_SUCH_WORKER, NOT_NOW, NOT_OWNED, played};
+use super::scripts::Line::{self, Does, Lists};
+use super::scripts::{MOVED, NO_SUCH_WORKER, NOT_NOW, NOT_OWNED, played};
 use ell_core::Act::{Answer, Begin, Claim, Down, Leave, Upd};
 use ell_ops::Op;
 
@@ -23,17 +23,4 @@ const REFUSALS: &[Line] = &[
 #[test]
 fn refusals_come_in_their_order(rt: HostRuntime) {
     played(&rt, 2, &[(0, 5)], 4, &[REFUSALS]);
-}
-
-const NO_CARD_LEFT: &[Line] = &[
-    Searches(0, Begin(Op::Insert(6, 60)), 2),
-    Does(0, &[Claim], NO_CARDS),
-    Next(2),
-    Does(0, &[Leave], MOVED),
-    Lists(&[(5, 50)]),
-];
-
-#[test]
-fn a_worker_without_a_card_leaves(rt: HostRuntime) {
-    played(&rt, 2, &[(0, 5), (0, 6)], 1, &[FIVE_INSERTED, NO_CARD_LEFT]);
 }

@@ -1,82 +1,117 @@
-//! What workers do at once on a tree that one thread has filled before.
-use super::pieces::work_by;
-use crate::tests::keys::keys_below;
-use crate::tests::tree::asking::{Row, close, play};
-use ell_ops::{Op, Reply};
+//! What workers do at once on one tree, one at a time, in turns, and how often each then comes to each kind of exchange.
+ghost use Rattle.std.specs.List.Sorted.{IsStrictlyIncreasing};
+ghost use Rattle.std.specs.Map.{keys_of};
+
+use super::running::run_from;
+use ell_ops::Op;
 use ell_parts::Parts;
-use ell_run::{Piece, Tree};
-use ell_test_gates::Counting;
-use ell_tree::{Exchange, Kind, NoGate, StepGate};
+use ell_test_gates::Until::Comes;
+use ell_test_gates::{Counting, Turns, Until, WorkerTurn};
+use ell_tree::Exchange::{
+    self, Backtrack, Claim, DChild, DFlag, DUnflag, IChild, IFlag, IUnflag, Mark,
+};
+use ell_tree::Kind;
 use std::process::Abort;
 use std::thread::Threads;
 
-/// How many workers there may be.
-pub const WORKERS: u32 = 8;
+// How many workers there may be.
+const WORKERS: u32 = 5;
 
-/// Kinds of step by which a worker makes changes, its own and others'.
-pub const CHANGING: [Kind; 8] = [
-    Kind::Exchange(Exchange::DFlag),
-    Kind::Exchange(Exchange::Mark),
-    Kind::Exchange(Exchange::DChild),
-    Kind::Exchange(Exchange::DUnflag),
-    Kind::Exchange(Exchange::Backtrack),
-    Kind::Exchange(Exchange::IFlag),
-    Kind::Exchange(Exchange::IChild),
-    Kind::Exchange(Exchange::IUnflag),
+const EXCHANGES: [Exchange; 9] = [
+    Claim, IFlag, IChild, IUnflag, DFlag, Mark, DChild, DUnflag, Backtrack,
 ];
 
-/// How often a worker comes to each of these kinds.
-pub type Changes = [u64; 8];
+/// How often a worker comes to each kind of exchange: the claim of a card; the flag, the child and the unflag of an insert; the
+/// flag, the mark, the child and the unflag of a delete; and the flag of a delete that is taken back.
+pub type Made = [u64; 9];
 
-/// Operations of one thread on a new tree, and then operations that workers do at once, each by its owner.
+/// An insert and a delete, each in a try that nothing hinders, or whose later steps another one has made already.
+pub const INSERT: Made = [1, 1, 1, 1, 0, 0, 0, 0, 0];
+
+pub const DELETE: Made = [1, 0, 0, 0, 1, 1, 1, 1, 0];
+
+/// Tries that lost the claim, the flag or the mark. A delete that lost its mark takes its flag back.
+pub const LOST_CLAIM: Made = [1, 0, 0, 0, 0, 0, 0, 0, 0];
+
+pub const LOST_INSERT: Made = [1, 1, 0, 0, 0, 0, 0, 0, 0];
+
+pub const LOST_DELETE: Made = [1, 0, 0, 0, 1, 0, 0, 0, 0];
+
+pub const LOST_MARK: Made = [1, 0, 0, 0, 1, 1, 0, 0, 1];
+
+/// Steps for another worker: of an insert from its child on; of a delete from its mark on, or from its child on, or of one that lost
+/// its mark.
+pub const HELP_INSERT: Made = [0, 0, 1, 1, 0, 0, 0, 0, 0];
+
+pub const HELP_DELETE: Made = [0, 0, 0, 0, 0, 1, 1, 1, 0];
+
+pub const HELP_MARKED: Made = [0, 0, 0, 0, 0, 0, 1, 1, 0];
+
+pub const HELP_UNMARKED: Made = [0, 0, 0, 0, 0, 1, 0, 0, 1];
+
+/// Turns of workers that end when they have come to an exchange.
+pub const AT_CLAIM: Until = Comes(Kind::Exchange(Claim), 1);
+
+pub const AT_IFLAG: Until = Comes(Kind::Exchange(IFlag), 1);
+
+pub const AT_ICHILD: Until = Comes(Kind::Exchange(IChild), 1);
+
+pub const AT_IUNFLAG: Until = Comes(Kind::Exchange(IUnflag), 1);
+
+pub const AT_DFLAG: Until = Comes(Kind::Exchange(DFlag), 1);
+
+pub const AT_MARK: Until = Comes(Kind::Exchange(Mark), 1);
+
+pub const AT_DCHILD: Until = Comes(Kind::Exchange(DChild), 1);
+
+pub const AT_DUNFLAG: Until = Comes(Kind::Exchange(DUnflag), 1);
+
+pub const AT_BACKTRACK: Until = Comes(Kind::Exchange(Backtrack), 1);
+
+/// Operations of workers, each of which does those that it owns, in turns.
 #[derive(Clone, Copy)]
 pub struct Scene<'a> {
-    pub before: &'a [Row],
     pub ops: &'a [Op],
     pub owners: &'a [u32],
+    pub turns: &'a [WorkerTurn],
+    pub cards: u64,
+    pub tries: u32,
+    /// How many operations are done after the workers have ended.
+    pub late: usize,
+    /// What workers come to, by their numbers.
+    pub made: &'a [(u32, &'a [Made])],
 }
 
-// Whether a reply is that of an operation that does what it is for: a find, which finds the key with ten times the key as its
-// value, or a change that is made.
-fn is_done(op: Op, reply: Reply) -> bool {
-    match op {
-        Op::Find(key) => reply == Reply::Found(key.wrapping_mul(10)),
-        Op::Swap(_, was, _) => reply == Reply::Found(was),
-        Op::Insert(_, _) | Op::Delete(_) => reply == Reply::Yes,
+/// Plays a scene, over start keys, in which each worker is to come to what it says.
+pub fn play_scene<R: Threads + Abort + AllocGlobal + Sync>(
+    rt: &R,
+    start: &[(u64, u64)],
+    scene: Scene,
+    row: usize,
+)
+    requires { IsStrictlyIncreasing (keys_of start.now) }
+{
+    let turns = Turns::new(scene.turns);
+    let gate = Counting::new(rt.alloc(), WORKERS, turns).expect(rt, "memory");
+    let parts = Parts::by_owner(rt.alloc(), scene.ops, scene.owners, WORKERS).expect(rt, "parts");
+    let limits = (scene.cards, scene.tries);
+    let outcome = run_from(rt, start, scene.ops, &parts, limits, &gate);
+    assert!(rt;
+        gate.behind().are_over() && outcome.late == scene.late,
+        "row {row}"
+    );
+    for (worker, made) in scene.made {
+        assert!(rt;
+            has_made(&gate, *worker, made),
+            "worker {worker} of row {row}"
+        );
     }
 }
 
-// How many of the operations a worker was answered so.
-fn done_count(ops: &[Op], piece: &Piece) -> usize {
-    piece
-        .iter()
-        .filter(|(at, reply)| ops.get(*at).is_some_and(|op| is_done(*op, *reply)))
-        .count()
-}
-
-/// Plays a scene, in which each operation of a worker is to do what it is for: the keys at the end, with their values.
-pub fn play_scene<R: Threads + Abort + AllocGlobal + Sync, G: StepGate + Sync>(
-    rt: &R,
-    scene: Scene,
-    gate: &G,
-) -> Vec<(u64, u64)> {
-    let keys = keys_below(rt, 64, &[0, 1, 2, 3]);
-    let (tree, pass) = Tree::reserve(rt.alloc(), &keys, 64).expect(rt, "tree");
-    let pass = play(rt, &tree, pass, 1, &NoGate, scene.before);
-    let parts = Parts::by_owner(rt.alloc(), scene.ops, scene.owners, WORKERS).expect(rt, "parts");
-    let (pass, pieces) = work_by(rt, &tree, pass, scene.ops, &parts, 8, gate);
-    let done = pieces
-        .iter()
-        .map(|piece| done_count(scene.ops, piece))
-        .fold(0, usize::wrapping_add);
-    assert!(rt; done == scene.ops.len());
-    close(rt, tree, pass, &keys)
-}
-
-/// Whether a worker came so often to each kind of step by which it makes changes.
-pub fn made<G: StepGate + Drop>(gate: &Counting<G>, worker: u32, want: &Changes) -> bool {
-    CHANGING
-        .iter()
-        .zip(want)
-        .all(|(kind, times)| gate.count(worker, *kind) == *times)
+// Whether a worker came to the sum of these.
+fn has_made(gate: &Counting<Turns>, worker: u32, made: &[Made]) -> bool {
+    (0..9).all(|at| {
+        let want = made.iter().map(|one| one[at]).fold(0, u64::wrapping_add);
+        gate.count(worker, Kind::Exchange(EXCHANGES[at])) == want
+    })
 }

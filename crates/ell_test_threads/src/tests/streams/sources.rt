@@ -1,60 +1,15 @@
 //! Readers and writers that fail, or that give and take little at a time.
-ghost use Rattle.std.specs.Prelude.{◌≡◌, ◌≤◌, length};
-
 use std::alloc::Global;
 use std::io::{Error, ErrorKind, Read, Result, Write};
 
-/// Errors by which readers fail here, that of an interrupted call among them.
-pub(super) const KINDS: [ErrorKind; 3] = [
+/// Errors by which readers and writers fail here, beside that of an interrupted call.
+pub(super) const KINDS: [ErrorKind; 6] = [
     ErrorKind::Other,
-    ErrorKind::Interrupted,
-    ErrorKind::UnexpectedEof,
-];
-
-/// Every kind of error there is.
-pub(super) const ALL_KINDS: [ErrorKind; 42] = [
-    ErrorKind::NotFound,
-    ErrorKind::PermissionDenied,
-    ErrorKind::ConnectionRefused,
-    ErrorKind::ConnectionReset,
-    ErrorKind::HostUnreachable,
-    ErrorKind::NetworkUnreachable,
-    ErrorKind::ConnectionAborted,
-    ErrorKind::NotConnected,
-    ErrorKind::AddrInUse,
-    ErrorKind::AddrNotAvailable,
-    ErrorKind::NetworkDown,
-    ErrorKind::BrokenPipe,
-    ErrorKind::AlreadyExists,
     ErrorKind::WouldBlock,
-    ErrorKind::NotADirectory,
-    ErrorKind::IsADirectory,
-    ErrorKind::DirectoryNotEmpty,
-    ErrorKind::ReadOnlyFilesystem,
-    ErrorKind::FilesystemLoop,
-    ErrorKind::StaleNetworkFileHandle,
-    ErrorKind::InvalidInput,
-    ErrorKind::InvalidData,
     ErrorKind::TimedOut,
-    ErrorKind::WriteZero,
-    ErrorKind::StorageFull,
-    ErrorKind::NotSeekable,
-    ErrorKind::QuotaExceeded,
-    ErrorKind::FileTooLarge,
-    ErrorKind::ResourceBusy,
-    ErrorKind::ExecutableFileBusy,
-    ErrorKind::Deadlock,
-    ErrorKind::CrossesDevices,
-    ErrorKind::TooManyLinks,
-    ErrorKind::InvalidFilename,
-    ErrorKind::ArgumentListTooLong,
-    ErrorKind::Interrupted,
-    ErrorKind::Unsupported,
     ErrorKind::UnexpectedEof,
+    ErrorKind::BrokenPipe,
     ErrorKind::OutOfMemory,
-    ErrorKind::InProgress,
-    ErrorKind::Other,
-    ErrorKind::Uncategorized,
 ];
 
 /// A reader that fails once: it gives some bytes, then an error, and after that the other bytes.
@@ -69,10 +24,8 @@ pub(super) struct Faltering<'a> {
 
 impl<'a> Faltering<'a> {
     /// Fails after so many of the bytes, by an error of this kind.
-    pub(super) fn after(bytes: &'a [u8], count: usize, kind: ErrorKind) -> Faltering<'a>
-        requires { count ≤ length bytes.now }
-    {
-        let (front, rest) = bytes.split_at(count);
+    pub(super) fn after(bytes: &'a [u8], count: usize, kind: ErrorKind) -> Faltering<'a> {
+        let (front, rest) = bytes.split_at(count.min(bytes.len()));
         Faltering {
             front,
             fault: Some(kind),
@@ -115,37 +68,20 @@ impl Read for ByteByByte<'_> {
     }
 }
 
-/// How a writer fails.
-#[derive(Clone, Copy)]
-pub(super) enum Failure {
-    /// By an error of this kind.
-    Error(ErrorKind),
-    /// By taking no byte.
-    TakesNothing,
-}
-
-/// The ways in which writers fail here.
-pub(super) const FAILURES: [Failure; 4] = [
-    Failure::TakesNothing,
-    Failure::Error(ErrorKind::Other),
-    Failure::Error(ErrorKind::Interrupted),
-    Failure::Error(ErrorKind::UnexpectedEof),
-];
-
 /// A writer that fails once: it takes some bytes, then fails, and after that takes all.
 #[derive(Drop)]
 pub(super) struct Narrow {
     pub(super) taken: Vec<u8>,
     room: usize,
-    failure: Failure,
+    failure: Option<ErrorKind>,
     has_failed: bool,
     // It was called after it had failed.
     called_again: bool,
 }
 
 impl Narrow {
-    /// Fails so after so many bytes.
-    pub(super) fn after(alloc: Global, room: usize, failure: Failure) -> Narrow {
+    /// Fails after so many bytes, by an error of this kind, or by taking no byte.
+    pub(super) fn after(alloc: Global, room: usize, failure: Option<ErrorKind>) -> Narrow {
         Narrow {
             taken: Vec::new(alloc),
             room,
@@ -169,8 +105,8 @@ impl Write for Narrow {
             self.room = usize::MAX;
             self.has_failed = true;
             return match self.failure {
-                Failure::Error(kind) => Err(Error::from(kind)),
-                Failure::TakesNothing => Ok(0),
+                Some(kind) => Err(Error::from(kind)),
+                None => Ok(0),
             };
         }
         self.taken.extend_from_slice(&buf[..count])?;
@@ -188,15 +124,6 @@ impl Write for Narrow {
 #[derive(Drop)]
 pub(super) struct Slow {
     pub(super) taken: Vec<u8>,
-}
-
-impl Slow {
-    /// It has taken nothing yet.
-    pub(super) fn new(alloc: Global) -> Slow {
-        Slow {
-            taken: Vec::new(alloc),
-        }
-    }
 }
 
 impl Write for Slow {

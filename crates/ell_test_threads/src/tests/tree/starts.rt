@@ -1,12 +1,11 @@
-//! Trees that open with start keys, on one thread, as a person worked them out.
+//! Trees that open with start keys, part and close, on one thread, as a person worked them out.
 ghost use Rattle.std.specs.Prelude.{◌≡◌, ◌≤◌, false, IfOk};
 ghost use Rattle.std.specs.List.{All};
 ghost use Rattle.std.specs.List.Sorted.{IsStrictlyIncreasing};
 ghost use Rattle.ell_tree.specs.Ledgers.{IsIdle, IsIdlePassOf, present_in};
 ghost use Rattle.ell_tree.specs.Meaning.{greatest_key};
 
-use super::asking::{Row, ask, close, play};
-use ell_ops::Op;
+use super::asking::{Row, close, play};
 use ell_ops::Op::{Delete, Find, Insert};
 use ell_ops::Reply::{Found, No, Yes};
 use ell_tree::{CardFault, NoGate, NotDone, Pass, START_MAX, Tree};
@@ -15,110 +14,58 @@ use std::process::Abort;
 
 const START: [(u64, u64); 3] = [(2, 200), (4, 400), (6, 600)];
 
-const START_KEYS: [u64; 3] = [2, 4, 6];
-
 const KEYS: [u64; 5] = [1, 2, 4, 5, 6];
 
-// Plays rows, with one try each, on a tree with the start keys and so many cards to take: the keys that are left, with their
-// values.
-fn played(rt: &(impl Abort + AllocGlobal), cards: u64, rows: &[Row]) -> Vec<(u64, u64)> {
-    let made = Tree::reserve_from(rt.alloc(), &START, &KEYS, cards);
-    let (tree, pass) = made.expect(rt, "tree");
-    let pass = play(rt, &tree, pass, 1, &NoGate, rows);
-    close(rt, tree, pass, &KEYS)
-}
-
-#[test]
-fn a_tree_closes_with_the_keys_that_it_opens_with(rt: HostRuntime) {
-    let made = Tree::reserve_from(rt.alloc(), &START, &START_KEYS, 4);
-    let (tree, pass) = made.expect(&rt, "tree");
-    assert!(rt; pass.keys() == START_KEYS.as_slice() && pass.steps() == 0 && pass.label() == 0);
-    assert!(rt; close(&rt, tree, pass, &START_KEYS).as_slice() == START.as_slice());
-    assert!(rt; played(&rt, 4, &[]).as_slice() == START.as_slice());
-}
-
-#[test]
-fn operations_see_start_keys(rt: HostRuntime) {
-    let rows = [
-        (Find(4), Ok(Found(400))),
-        (Find(5), Ok(No)),
-        (Delete(4), Ok(Yes)),
-        (Insert(5, 50), Ok(Yes)),
-        (Insert(6, 60), Ok(No)),
-        (Delete(1), Ok(No)),
-        (Find(6), Ok(Found(600))),
-    ];
-    let left = [(2, 200), (5, 50), (6, 600)];
-    assert!(rt; played(&rt, 4, &rows).as_slice() == left.as_slice());
-}
+// The keys of the left part of a pass.
+const LEFT: [u64; 2] = [4, 5];
 
 // Two cards may be taken; what changes nothing takes none.
-const TWO_CHANGES: [Row; 10] = [
-    (Insert(2, 20), Ok(No)),
-    (Insert(5, 50), Ok(Yes)),
+const LEFT_ROWS: [Row; 5] = [
+    (Find(4), Ok(Found(400))),
+    (Find(5), Ok(No)),
     (Delete(4), Ok(Yes)),
+    (Insert(5, 50), Ok(Yes)),
+    (Insert(5, 55), Ok(No)),
+];
+
+const RIGHT_ROWS: [Row; 6] = [
+    (Delete(1), Ok(No)),
+    (Insert(2, 20), Ok(No)),
     (Delete(2), Err(NotDone::Spent)),
     (Insert(1, 10), Err(NotDone::Spent)),
     (Insert(6, 60), Ok(No)),
-    (Delete(4), Ok(No)),
-    (Find(2), Ok(Found(200))),
-    (Find(1), Ok(No)),
-    (Find(4), Ok(No)),
+    (Find(6), Ok(Found(600))),
 ];
 
-#[test]
-fn as_many_cards_as_were_asked_for_can_be_taken(rt: HostRuntime) {
-    let left = [(2, 200), (5, 50), (6, 600)];
-    assert!(rt; played(&rt, 2, &TWO_CHANGES).as_slice() == left.as_slice());
-}
-
-// Does an operation: how many cards are left then.
-fn left_after(rt: &impl Abort, tree: &Tree<Global>, pass: &mut Pass<Global>, op: Op) -> u64
-    requires own { pass.old.table ≡ tree.now.id }
-    requires idle { IsIdle pass.old }
-    ensures own { pass.new.table ≡ tree.now.id }
-    ensures idle { IsIdle pass.new }
+// Plays the rows of the left part of a pass, after which no card is left, and then those of the right one.
+fn play_both(
+    rt: &impl Abort,
+    tree: &Tree<Global>,
+    parts: (Pass<Global>, Pass<Global>),
+) -> (Pass<Global>, Pass<Global>)
+    requires left { IsIdlePassOf tree.now parts.0 }
+    requires right { IsIdlePassOf tree.now parts.1 }
+    ensures left { IsIdlePassOf tree.now result.0 }
+    ensures right { IsIdlePassOf tree.now result.1 }
 {
-    let _ = ask(rt, tree, pass, op, 1, &NoGate);
-    tree.cards_left(pass, &NoGate)
+    let (left, right) = parts;
+    let mut left = play(rt, tree, left, 1, &NoGate, &LEFT_ROWS);
+    assert!(rt; tree.cards_left(&mut left, &NoGate) == 0);
+    let right = play(rt, tree, right, 1, &NoGate, &RIGHT_ROWS);
+    (left, right)
 }
 
 #[test]
-fn a_change_takes_a_card_and_nothing_else_does(rt: HostRuntime) {
+fn a_tree_parts_joins_and_closes(rt: HostRuntime) {
     let made = Tree::reserve_from(rt.alloc(), &START, &KEYS, 2);
     let (tree, mut pass) = made.expect(&rt, "tree");
     assert!(rt; tree.cards_left(&mut pass, &NoGate) == 2);
-    assert!(rt; left_after(&rt, &tree, &mut pass, Find(4)) == 2);
-    assert!(rt; left_after(&rt, &tree, &mut pass, Insert(2, 20)) == 2);
-    assert!(rt; left_after(&rt, &tree, &mut pass, Insert(5, 50)) == 1);
-    assert!(rt; left_after(&rt, &tree, &mut pass, Delete(1)) == 1);
-    assert!(rt; left_after(&rt, &tree, &mut pass, Delete(4)) == 0);
-    assert!(rt; left_after(&rt, &tree, &mut pass, Delete(2)) == 0);
-    assert!(rt; tree.look(&mut pass, 5, &NoGate) == Some(50));
-    assert!(rt; tree.cards_left(&mut pass, &NoGate) == 0);
-}
-
-// All start keys go and come again, with other values, and the others do too, until no card is left.
-const EACH_KEY_TWICE: [Row; 13] = [
-    (Delete(2), Ok(Yes)),
-    (Delete(4), Ok(Yes)),
-    (Delete(6), Ok(Yes)),
-    (Find(4), Ok(No)),
-    (Insert(6, 60), Ok(Yes)),
-    (Insert(1, 10), Ok(Yes)),
-    (Insert(2, 20), Ok(Yes)),
-    (Insert(4, 40), Ok(Yes)),
-    (Insert(5, 50), Ok(Yes)),
-    (Delete(1), Ok(Yes)),
-    (Find(2), Ok(Found(20))),
-    (Delete(5), Ok(Yes)),
-    (Delete(2), Err(NotDone::Spent)),
-];
-
-#[test]
-fn start_keys_go_and_come_again(rt: HostRuntime) {
-    let left = [(2, 20), (4, 40), (6, 60)];
-    assert!(rt; played(&rt, 10, &EACH_KEY_TWICE).as_slice() == left.as_slice());
+    assert!(rt; pass.owns(4) && pass.owns(5) && !pass.owns(3));
+    let parts = tree.split(pass, &LEFT).ok().expect(&rt, "memory");
+    let (left, right) = play_both(&rt, &tree, parts);
+    let both = tree.join(left, right).ok().expect(&rt, "memory");
+    let pairs = close(&rt, tree, both, &KEYS);
+    assert!(rt; pairs.as_slice() == [(2, 200), (5, 50), (6, 600)].as_slice());
 }
 
 // Goes on after all cards of a tree are given out, by a pass that is to own all its keys: another tree has the same keys and values,
@@ -151,9 +98,13 @@ fn renewed(
 
 #[test]
 fn a_tree_without_cards_goes_on_as_another(rt: HostRuntime) {
-    let made = Tree::reserve_from(rt.alloc(), &START, &KEYS, 2);
-    let (tree, pass) = made.expect(&rt, "tree");
-    let pass = play(&rt, &tree, pass, 1, &NoGate, &TWO_CHANGES);
+    let (tree, pass) = Tree::reserve(rt.alloc(), &KEYS, 2).expect(&rt, "tree");
+    let rows = [
+        (Insert(5, 50), Ok(Yes)),
+        (Insert(2, 20), Ok(Yes)),
+        (Delete(2), Err(NotDone::Spent)),
+    ];
+    let pass = play(&rt, &tree, pass, 1, &NoGate, &rows);
     let (tree, pass) = renewed(&rt, tree, pass, &KEYS, 1).expect(&rt, "tree");
     let rows = [
         (Find(5), Ok(Found(50))),
@@ -161,15 +112,5 @@ fn a_tree_without_cards_goes_on_as_another(rt: HostRuntime) {
         (Insert(1, 10), Err(NotDone::Spent)),
     ];
     let pass = play(&rt, &tree, pass, 1, &NoGate, &rows);
-    assert!(rt; close(&rt, tree, pass, &KEYS).as_slice() == [(5, 50), (6, 600)].as_slice());
-}
-
-#[test]
-fn start_keys_add_no_card_to_those_that_may_be_asked_for(rt: HostRuntime) {
-    for cards in [0, 1_000_001, 2_000_000] {
-        let made = Tree::reserve_from(rt.alloc(), &[], &KEYS, cards);
-        assert!(rt; made.err() == Some(CardFault::BadCards), "{cards} cards");
-        let made = Tree::reserve_from(rt.alloc(), &START, &KEYS, cards);
-        assert!(rt; made.err() == Some(CardFault::BadCards), "{cards} cards");
-    }
+    assert!(rt; close(&rt, tree, pass, &KEYS).as_slice() == [(5, 50)].as_slice());
 }

@@ -1,2 +1,0 @@
--- Pairs whose keys rise.
-pub mod Starts

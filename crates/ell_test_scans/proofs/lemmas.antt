@@ -1,2 +1,0 @@
--- start keys that are real
-pub mod Starts

@@ -1,0 +1,90 @@
+//! The owner of a key, or of its neighbors, beside a worker that is held in the middle of a change.
+ghost use Rattle.std.specs.Prelude.{[]};
+
+use super::calling::KeyCall::Ask;
+use super::holding::{Meeting, TO_DELETE, TO_INSERT, meet};
+use ell_ops::Op::{Delete, Find, Insert};
+use ell_ops::Reply::{Found, No, Yes};
+use ell_test_gates::two_threads_meet;
+use ell_tree::{Exchange, Kind};
+
+// The owner of a key is held in the middle of a change, and its shared neighbors come and go beside.
+const OWNER_ADDS: Meeting = Meeting {
+    owned: &[5],
+    by_zero: &[5],
+    start: &[(6, 60)],
+    held: (Ask(Insert(5, 50)), Yes),
+    rows: &[
+        (Ask(Insert(4, 40)), Yes),
+        (Ask(Delete(6)), Yes),
+        (Ask(Find(4)), Found(40)),
+        (Ask(Insert(6, 61)), Yes),
+        (Ask(Delete(4)), Yes),
+        (Ask(Insert(4, 41)), Yes),
+        (Ask(Delete(4)), Yes),
+        (Ask(Insert(7, 70)), Yes),
+    ],
+    end: &[(5, 50), (6, 61), (7, 70)],
+};
+
+const OWNER_DELETES: Meeting = Meeting {
+    start: &[(4, 40), (5, 50), (6, 60)],
+    held: (Ask(Delete(5)), Yes),
+    rows: &[
+        (Ask(Delete(4)), Yes),
+        (Ask(Insert(4, 41)), Yes),
+        (Ask(Delete(6)), Yes),
+        (Ask(Find(6)), No),
+        (Ask(Delete(4)), Yes),
+        (Ask(Insert(6, 61)), Yes),
+    ],
+    end: &[(6, 61)],
+    ..OWNER_ADDS
+};
+
+// A shared key is being changed by a worker that is held, and the owner of the neighbors is answered as by a private map.
+const GUEST_ADDS: Meeting = Meeting {
+    by_zero: &[],
+    owned: &[4, 6],
+    end: &[(5, 50), (6, 61)],
+    rows: &[
+        (Ask(Insert(4, 40)), Yes),
+        (Ask(Delete(6)), Yes),
+        (Ask(Delete(6)), No),
+        (Ask(Find(4)), Found(40)),
+        (Ask(Insert(6, 61)), Yes),
+        (Ask(Insert(6, 62)), No),
+        (Ask(Delete(4)), Yes),
+        (Ask(Find(4)), No),
+    ],
+    ..OWNER_ADDS
+};
+
+const GUEST_DELETES: Meeting = Meeting {
+    by_zero: &[],
+    owned: &[4, 6],
+    ..OWNER_DELETES
+};
+
+#[test]
+fn shared_neighbors_come_and_go_beside_an_owner_that_is_held(rt: HostRuntime) {
+    if !two_threads_meet(&rt) {
+        return;
+    }
+    for at in TO_INSERT {
+        meet(&rt, at, 8, OWNER_ADDS);
+        meet(&rt, at, 8, GUEST_ADDS);
+    }
+    for at in [Exchange::IChild, Exchange::IUnflag] {
+        meet(&rt, Kind::Exchange(at), 8, OWNER_ADDS);
+        meet(&rt, Kind::Exchange(at), 8, GUEST_ADDS);
+    }
+    for at in TO_DELETE {
+        meet(&rt, at, 6, OWNER_DELETES);
+        meet(&rt, at, 6, GUEST_DELETES);
+    }
+    for at in [Exchange::Mark, Exchange::DChild, Exchange::DUnflag] {
+        meet(&rt, Kind::Exchange(at), 6, OWNER_DELETES);
+        meet(&rt, Kind::Exchange(at), 6, GUEST_DELETES);
+    }
+}

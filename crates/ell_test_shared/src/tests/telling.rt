@@ -1,0 +1,195 @@
+//! Trees of shared keys, and the calls that tell of many keys: what each tells, in one form.
+ghost use Rattle.std.specs.Prelude.{◌≡◌, ◌≤◌};
+ghost use Rattle.ell_test_shared.specs.Sharing.{IsSharer};
+ghost use Rattle.ell_tree.specs.Ledgers.{IsIdlePassOf};
+ghost use Rattle.ell_tree.specs.Meaning.{greatest_key};
+
+use super::calling::KeyCall::Ask as Call;
+use super::calling::answer;
+use ell_ops::{KEY_MAX, Op, Reply, all_fit, ascend};
+use ell_tree::{About, NoGate, Pair, Pass, START_MAX, StepGate, Tree};
+use std::alloc::Global;
+use std::process::Abort;
+
+// What stands in a room before a scan.
+const BLANK: Pair = Pair {
+    key: u64::MAX,
+    value: 1,
+};
+
+/// A call that tells of keys.
+#[derive(Clone, Copy, Debug)]
+pub enum Ask {
+    /// A scan from the first number on and below the second, with room for so many pairs.
+    Scan(u64, u64, usize),
+    About(u64),
+    AtLeast(u64),
+    After(u64),
+    First,
+    AtMost(u64),
+    Before(u64),
+    Last,
+}
+
+/// What a call tells: of all keys from one on and below another, these are there with their values, and no others.
+#[derive(Debug, Drop)]
+pub struct Sight {
+    pub from: u64,
+    pub upto: u64,
+    pub pairs: Vec<(u64, u64)>,
+}
+
+/// A tree in which all keys are shared, with these start keys, and its pass.
+#[tactic(auto, using(crate::proofs::lemmas::Starts::start_real))]
+pub fn opened(
+    rt: &(impl Abort + AllocGlobal),
+    start: &[(u64, u64)],
+    cards: u64,
+) -> (Tree<Global>, Pass<Global>)
+    ensures { IsSharer result.0 result.1 }
+{
+    assert!(rt; ascend(start) && all_fit(start) && start.len() <= START_MAX as usize);
+    let made = Tree::reserve_shared(rt.alloc(), start, &[], cards);
+    made.expect(rt, "tree")
+}
+
+/// So many keys with their values, ascending or descending: the multiples of 3 from 0 on.
+pub fn list(rt: &(impl Abort + AllocGlobal), count: u64, upwards: bool) -> Vec<(u64, u64)> {
+    let mut pairs = Vec::new(rt.alloc());
+    for number in 0..count {
+        let place = if upwards { number } else { count - 1 - number };
+        let key = place.wrapping_mul(3);
+        pairs.push((key, place)).expect(rt, "memory");
+    }
+    pairs
+}
+
+/// Inserts keys, which are to be absent.
+pub fn insert_all(
+    rt: &impl Abort,
+    tree: &Tree<Global>,
+    pass: &mut Pass<Global>,
+    pairs: &[(u64, u64)],
+)
+    requires { IsSharer tree.now pass.old }
+    ensures { IsSharer tree.now pass.new }
+{
+    for (key, value) in pairs {
+        let call = Call(Op::Insert(*key, *value));
+        assert!(rt;
+            answer(rt, tree, pass, &[], call, &NoGate) == Ok(Reply::Yes),
+            "{key}"
+        );
+    }
+}
+
+// What a scan tells.
+#[tactic(auto, using(crate::proofs::lemmas::Sharers::member_looking))]
+fn scan<G: StepGate>(
+    rt: &(impl Abort + AllocGlobal),
+    tree: &Tree<Global>,
+    pass: &mut Pass<Global>,
+    from: u64,
+    upto: u64,
+    room: usize,
+    gate: &G,
+) -> Sight
+    requires { IsSharer tree.now pass.old }
+    ensures { IsSharer tree.now pass.new }
+{
+    assert!(rt; upto <= KEY_MAX + 1);
+    let mut written = vec![in rt.alloc(); BLANK; room].expect(rt, "memory");
+    let scanned = tree.scan(pass, from, upto, &mut written, gate);
+    assert!(rt; scanned.count == room || scanned.next.is_none());
+    let mut pairs = Vec::new(rt.alloc());
+    for (place, pair) in written.iter().enumerate() {
+        if place < scanned.count {
+            pairs.push((pair.key, pair.value)).expect(rt, "memory");
+        } else {
+            assert!(rt; (pair.key, pair.value) == (BLANK.key, BLANK.value));
+        }
+    }
+    Sight {
+        from,
+        upto: scanned.next.unwrap_or(upto),
+        pairs,
+    }
+}
+
+// That of all keys from one on and below another this one is there, or none.
+fn sight_of(
+    rt: &(impl Abort + AllocGlobal),
+    from: u64,
+    upto: u64,
+    found: Option<(u64, u64)>,
+) -> Sight {
+    let mut pairs = Vec::new(rt.alloc());
+    if let Some(pair) = found {
+        pairs.push(pair).expect(rt, "memory");
+    }
+    Sight { from, upto, pairs }
+}
+
+// That this is the least key from one on that is there, or that there is none.
+fn next_of(rt: &(impl Abort + AllocGlobal), from: u64, found: Option<(u64, u64)>) -> Sight {
+    let upto = found.map_or(KEY_MAX + 1, |pair| pair.0.saturating_add(1));
+    sight_of(rt, from, upto, found)
+}
+
+// That this is the greatest key below one that is there, or that there is none.
+fn last_of(rt: &(impl Abort + AllocGlobal), upto: u64, found: Option<(u64, u64)>) -> Sight {
+    sight_of(rt, found.map_or(0, |pair| pair.0), upto, found)
+}
+
+// The key of a call, or 0.
+fn key_of(ask: Ask) -> u64 {
+    match ask {
+        Ask::Scan(_, _, _) | Ask::First | Ask::Last => 0,
+        Ask::About(key) | Ask::AtLeast(key) | Ask::After(key) => key,
+        Ask::AtMost(key) | Ask::Before(key) => key,
+    }
+}
+
+/// Makes such a call: what it tells.
+#[tactic(auto, using(crate::proofs::lemmas::Sharers::member_looking))]
+pub fn tell<G: StepGate>(
+    rt: &(impl Abort + AllocGlobal),
+    tree: &Tree<Global>,
+    pass: &mut Pass<Global>,
+    ask: Ask,
+    gate: &G,
+) -> Sight
+    requires { IsSharer tree.now pass.old }
+    ensures { IsSharer tree.now pass.new }
+{
+    let key = key_of(ask);
+    assert!(rt; key <= KEY_MAX);
+    match ask {
+        Ask::Scan(from, upto, room) => scan(rt, tree, pass, from, upto, room, gate),
+        Ask::About(_) => {
+            let About { low, high, found } = tree.look_about(pass, key, gate);
+            assert!(rt; low <= key && key < high && high <= KEY_MAX + 1);
+            sight_of(rt, low, high, found)
+        }
+        Ask::AtLeast(_) => next_of(rt, key, tree.next_at_least(pass, key, gate)),
+        Ask::After(_) => next_of(rt, key + 1, tree.next_after(pass, key, gate)),
+        Ask::First => next_of(rt, 0, tree.first(pass, gate)),
+        Ask::AtMost(_) => last_of(rt, key + 1, tree.last_at_most(pass, key, gate)),
+        Ask::Before(_) => last_of(rt, key, tree.last_before(pass, key, gate)),
+        Ask::Last => last_of(rt, KEY_MAX + 1, tree.last(pass, gate)),
+    }
+}
+
+impl Sight {
+    /// The value that it tells of a key.
+    pub fn value_of(&self, key: u64) -> Option<u64> {
+        let pair = self.pairs.iter().find(|pair| pair.0 == key)?;
+        Some(pair.1)
+    }
+
+    /// Whether its keys lie in its range, and ascend strictly.
+    pub fn is_in_order(&self) -> bool {
+        let lies_within = |pair: &(u64, u64)| self.from <= pair.0 && pair.0 < self.upto;
+        ascend(&self.pairs) && self.pairs.iter().all(lies_within)
+    }
+}

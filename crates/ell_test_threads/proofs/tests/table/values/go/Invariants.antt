@@ -1,9 +1,0 @@
-use Rattle.std.proofs.Common.{◌≡◌}
-use Rattle.ell_test_steps.specs.Fitting.{IsReady}
-use Rattle.ell_test_threads.proofs.tests.table.values.go.Given as goal
-
-abbrev pub invariant-loop-number : goal.invariant-loop-number
-invariant-loop-number g l = record {
-  ready : IsReady l.fn.table l.pass l.memory;
-  same : l.table ≡ l.fn.table;
-}

@@ -1,0 +1,80 @@
+//! Readers and writers that fail after each number of bytes, and ones that give or take one byte at a time.
+use super::calls::{Call, End};
+use super::sources::{ByteByByte, Faltering, KINDS, Narrow, Slow};
+use std::alloc::Global;
+use std::io::ErrorKind;
+use std::thread::Threads;
+
+const CALLS: [Call; 2] = [Call::Run, Call::Replay];
+
+// Whether a call with a reader that fails so, after so many bytes, ends there, with nothing written: no other read follows.
+fn is_left<R: Threads + Sync>(
+    rt: &R,
+    alloc: Global,
+    call: Call,
+    count: usize,
+    kind: ErrorKind,
+) -> bool {
+    let mut reader = Faltering::after(call.text(), count, kind);
+    let mut out = Vec::new(alloc);
+    call.make(rt, alloc, &mut reader, &mut out) == End::Read && out.is_empty() && reader.was_left()
+}
+
+// Each number of bytes with an error that others try again after, and with one of the other kinds.
+#[test]
+fn a_read_that_fails_once_ends_the_call(rt: HostRuntime) {
+    for call in CALLS {
+        for count in 0..=call.text().len() {
+            for kind in [ErrorKind::Interrupted, KINDS[count % 6]] {
+                assert!(rt;
+                    is_left(&rt, rt.alloc(), call, count, kind),
+                    "{call:?}: {kind} after {count}"
+                );
+            }
+        }
+    }
+}
+
+// Whether a call with a writer that fails so, after so many bytes, ends there, and those bytes are out: no other call follows.
+fn is_cut<R: Threads + Sync>(
+    rt: &R,
+    alloc: Global,
+    call: Call,
+    count: usize,
+    failure: Option<ErrorKind>,
+) -> bool {
+    let mut out = Narrow::after(alloc, count, failure);
+    let mut reader = call.text();
+    call.make(rt, alloc, &mut reader, &mut out) == End::Write(count as u64)
+        && call.answer().get(..count) == Some(out.taken.as_slice())
+        && out.was_left()
+}
+
+#[test]
+fn a_write_that_fails_once_ends_the_call(rt: HostRuntime) {
+    for call in CALLS {
+        for count in 0..call.answer().len() {
+            for failure in [None, Some(ErrorKind::Interrupted), Some(KINDS[count % 6])] {
+                assert!(rt;
+                    is_cut(&rt, rt.alloc(), call, count, failure),
+                    "{call:?}: after {count}"
+                );
+            }
+        }
+    }
+}
+
+#[test]
+fn bytes_that_come_and_go_one_by_one_are_all_answered(rt: HostRuntime) {
+    for call in CALLS {
+        let mut reader = ByteByByte { left: call.text() };
+        let mut out = Slow {
+            taken: Vec::new(rt.alloc()),
+        };
+        let end = call.make(&rt, rt.alloc(), &mut reader, &mut out);
+        assert!(rt;
+            end == End::Answered && out.taken.as_slice() == call.answer(),
+            "{call:?}"
+        );
+    }
+}

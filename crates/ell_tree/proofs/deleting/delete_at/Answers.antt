@@ -1,0 +1,287 @@
+use Rattle.std.proofs.Common.{◌+◌, ◌≡◌, ◌≢◌, Some, List, refl, sym, ap, ◌∙◌, subst, rules, arith}
+use Rattle.ell_ops.specs.declared.op.Op.TheVariants.{Delete}
+use Rattle.ell_ops.specs.declared.reply.Reply.TheVariants.{Yes}
+use Rattle.ell_word.specs.declared.update.State.TheVariants.{Clean}
+use Rattle.ell_core.specs.declared.view.Search.{Search}
+use Rattle.ell_cards.specs.declared.view.Told.{Told}
+use Rattle.ell_cards.specs.Models.{Does, Has, IsTold}
+use Rattle.ell_cards.specs.Changes.{answered_so}
+use Rattle.ell_cards.proofs.lemmas.runs.Taking.{deletes_take_the_told_value}
+use Rattle.ell_tree.specs.CardsTaken.{cards_taken}
+use Rattle.ell_tree.specs.Hindrances.{way_of}
+use Rattle.ell_tree.specs.Searches.{seen_any, below}
+use Rattle.ell_tree.proofs.lemmas.Keeping.{inner_kept, share_trans}
+use Rattle.ell_tree.proofs.lemmas.Owning.{keeps_answers, had_value, would_delete}
+use Rattle.ell_tree.proofs.lemmas.Meeting.{meets_trans, meets_more, above_way, parent_way, nowhere_way, way_over, way_free, no_way}
+use Rattle.ell_tree.proofs.lemmas.Halting.{keeps_meets, said_meets, flag_lost}
+use Rattle.ell_tree.proofs.lemmas.Filling.{delete_wants, told_grandparent, told_leaf, told_parent, told_was}
+use Rattle.ell_tree.proofs.lemmas.Milestones.{sees_end, gives_out}
+use Rattle.ell_tree.proofs.lemmas.Searches.{unknown_above, named_above, searched_in_try}
+use Rattle.ell_tree.proofs.deleting.delete_at.Goals as goal
+
+pub take_card-requires-clause-wants : goal.take_card-requires-clause-wants
+take_card-requires-clause-wants g c =
+    let calm : c.in-Some.above.update.state ≡ Clean = search rules in
+    delete_wants c.args.pass.now.view c.args.key c.args.place c.in-Some.above c.requires.searched.ends.at c.requires.key c.in-Some.is calm
+
+pub finish_own-requires-clause-grandparent : goal.finish_own-requires-clause-grandparent
+finish_own-requires-clause-grandparent g c =
+    told_grandparent c.args.pass.now.view c.take_card.new.pass.view c.flag_delete.new.pass.view c.in-Card.card c.args.key c.args.place c.flag_delete.ensures.keeps.view
+    c.in-Some.above c.in-Some.is c.requires.searched.busy c.requires.searched.ends.at c.in-Card.ensures.claims.0
+
+pub finish_own-requires-clause-parent : goal.finish_own-requires-clause-parent
+finish_own-requires-clause-parent g c =
+    let a = c.args.pass.now in
+    let ends = c.requires.searched.ends in
+    let cards = c.args.table.now.plan.last_card in
+    told_parent a.view c.take_card.new.pass.view c.flag_delete.new.pass.view c.in-Card.card c.args.key c.args.place c.flag_delete.ensures.keeps.view
+    c.in-Some.above c.in-Some.is c.requires.searched.busy ends.at c.in-Card.ensures.claims.0 cards
+    (inner_kept cards a.view c.take_card.new.pass.view c.args.place.parent.node c.take_card.ensures.keeps.view ends.passed.node)
+
+pub finish_own-requires-clause-read : goal.finish_own-requires-clause-read
+finish_own-requires-clause-read g c =
+    told_was c.args.pass.now.view c.take_card.new.pass.view c.flag_delete.new.pass.view c.in-Card.card c.args.key c.args.place c.flag_delete.ensures.keeps.view
+    c.in-Some.above c.in-Some.is c.requires.searched.busy c.requires.searched.ends.at c.in-Card.ensures.claims.0
+
+-- a flag or a mark stood at the grandparent
+pub returns-then-ne-clause-ends : goal.returns-then-ne-clause-ends
+returns-then-ne-clause-ends g c =
+    let a = c.args.pass.now in
+    let ends = c.requires.searched.ends in
+    let cards = c.args.table.now.plan.last_card in
+    let place = c.args.place in
+    let above = c.in-Some.above in
+    let new = c.help.new.pass in
+    let met = c.help.ensures.keeps_but_met in
+    let stands : above.update.state ≢ Clean = search rules in
+    let meets = c.help.ensures.meets in
+    let way = way_over new.view above.update.state above.update.card (way_of (Delete c.args.key) new.view)
+    (above_way c.args.key place.leaf place.parent above new.view
+    (met.search ∙ (ends.at.search ∙ ap (λ o. below place.leaf place.parent (seen_any o)) c.in-Some.is)) stands)
+    stands c.help.ensures.ended in
+    let more = meets_more a.view new.view meets in (
+      record {
+        table = search rules;
+        label = search rules;
+        ledger = search rules;
+        answers = search rules;
+        share = met.keeps.view.share;
+        meets = meets;
+        in_try = met.keeps.view.earlier a.view.hindrances (searched_in_try cards (Delete c.args.key) place a.view c.requires.searched);
+        way = way.0;
+        would = would_delete cards a a refl place c.args.key ends c.requires.key;
+        stops = search rules;
+      },
+      omega (arith, way.1, more),
+      sees_end cards a.view a.view new.view above.update.state above.update.card refl
+          (unknown_above a.view place.grandparent above c.in-Some.is ends.unknown_above)
+          (named_above cards a.view place.grandparent above c.in-Some.is ends.passed_above) stands c.help.ensures.ended met.keeps.view.least,
+    )
+
+-- or at the parent
+pub returns-then-ne-2-clause-ends : goal.returns-then-ne-2-clause-ends
+returns-then-ne-2-clause-ends g c =
+    let a = c.args.pass.now in
+    let ends = c.requires.searched.ends in
+    let cards = c.args.table.now.plan.last_card in
+    let place = c.args.place in
+    let above = c.in-Some.above in
+    let update = place.parent.update in
+    let help = c.help-then-ne-2 in
+    let new = help.new.pass in
+    let met = help.ensures.keeps_but_met in
+    let calm : above.update.state ≡ Clean = search rules in
+    let stands : update.state ≢ Clean = search rules in
+    let meets = help.ensures.meets in
+    let way = way_over new.view update.state update.card (way_of (Delete c.args.key) new.view)
+    (parent_way c.args.key place.leaf place.parent above new.view
+    (met.search ∙ (ends.at.search ∙ ap (λ o. below place.leaf place.parent (seen_any o)) c.in-Some.is)) calm)
+    stands help.ensures.ended in
+    let more = meets_more a.view new.view meets in (
+      record {
+        table = search rules;
+        label = search rules;
+        ledger = search rules;
+        answers = search rules;
+        share = met.keeps.view.share;
+        meets = meets;
+        in_try = met.keeps.view.earlier a.view.hindrances (searched_in_try cards (Delete c.args.key) place a.view c.requires.searched);
+        way = way.0;
+        would = would_delete cards a a refl place c.args.key ends c.requires.key;
+        stops = search rules;
+      },
+      omega (arith, way.1, more),
+      sees_end cards a.view a.view new.view update.state update.card refl ends.unknown ends.passed.named stands help.ensures.ended met.keeps.view.least,
+    )
+
+-- no card was left
+pub returns-in-NoneLeft-clause-ends : goal.returns-in-NoneLeft-clause-ends
+returns-in-NoneLeft-clause-ends g c =
+    let a = c.args.pass.now in
+    let ends = c.requires.searched.ends in
+    let cards = c.args.table.now.plan.last_card in
+    let place = c.args.place in
+    let above = c.in-Some.above in
+    let update = place.parent.update in
+    let new = c.take_card.new.pass in
+    let claims = c.in-NoneLeft.ensures.claims in
+    let calm : above.update.state ≡ Clean = search rules in
+    let free : update.state ≡ Clean = search rules in
+    let way = way_free new.view update.state update.card (way_of (Delete c.args.key) new.view)
+    (parent_way c.args.key place.leaf place.parent above new.view
+    (claims.0.search ∙ (ends.at.search ∙ ap (λ o. below place.leaf place.parent (seen_any o)) c.in-Some.is)) calm) free in (
+      record {
+        table = search rules;
+        label = search rules;
+        ledger = search rules;
+        answers = search rules;
+        share = c.take_card.ensures.keeps.view.share;
+        meets = keeps_meets a new 2 c.in-NoneLeft.ensures.keeps claims.2;
+        in_try = c.take_card.ensures.keeps.view.earlier a.view.hindrances (searched_in_try cards (Delete c.args.key) place a.view c.requires.searched);
+        way = way;
+        would = would_delete cards a a refl place c.args.key ends c.requires.key;
+        stops = search rules;
+      },
+      claims.1,
+    )
+
+-- another pass took the card
+pub returns-in-Lost-clause-ends : goal.returns-in-Lost-clause-ends
+returns-in-Lost-clause-ends g c =
+    let a = c.args.pass.now in
+    let ends = c.requires.searched.ends in
+    let cards = c.args.table.now.plan.last_card in
+    let place = c.args.place in
+    let above = c.in-Some.above in
+    let update = place.parent.update in
+    let new = c.take_card.new.pass in
+    let claims = c.in-Lost.ensures.claims in
+    let calm : above.update.state ≡ Clean = search rules in
+    let free : update.state ≡ Clean = search rules in
+    let way = way_free new.view update.state update.card (way_of (Delete c.args.key) new.view)
+    (parent_way c.args.key place.leaf place.parent above new.view
+    (claims.0.search ∙ (ends.at.search ∙ ap (λ o. below place.leaf place.parent (seen_any o)) c.in-Some.is)) calm) free in (
+      record {
+        table = search rules;
+        label = search rules;
+        ledger = search rules;
+        answers = search rules;
+        share = c.take_card.ensures.keeps.view.share;
+        meets = claims.1;
+        in_try = c.take_card.ensures.keeps.view.earlier a.view.hindrances (searched_in_try cards (Delete c.args.key) place a.view c.requires.searched);
+        way = way;
+        would = would_delete cards a a refl place c.args.key ends c.requires.key;
+        stops = search rules;
+      },
+      omega (arith, claims.2),
+      gives_out cards a.view a.view new.view new.view (omega arith) claims.3 (omega arith),
+    )
+
+-- the flag was lost
+pub returns-in-Err-clause-ends : goal.returns-in-Err-clause-ends
+returns-in-Err-clause-ends g c =
+    let a = c.args.pass.now in
+    let ends = c.requires.searched.ends in
+    let cards = c.args.table.now.plan.last_card in
+    let t = c.take_card.new.pass in
+    let f = c.flag_delete.new.pass in
+    let help = c.help-in-Err in
+    let new = help.new.pass in
+    let flags = c.in-Err.ensures.flags in
+    let taken = keeps_meets a t 2 c.take_card.ensures.keeps c.in-Card.ensures.claims.2 in
+    let lost = flag_lost cards c.in-Some.above.node c.in-Err.found t.view f.view new.view flags c.flag_delete.ensures.keeps.view.knows
+    help.ensures.meets help.ensures.ended in
+    let way = no_way new.view (way_of (Delete c.args.key) new.view)
+    (nowhere_way (Delete c.args.key) new.view (ap (λ (r : Search). r.node) help.ensures.keeps_but_met.search ∙ flags.nowhere)) in
+    let in_try = help.ensures.keeps_but_met.keeps.view.earlier a.view.hindrances (c.flag_delete.ensures.keeps.view.earlier a.view.hindrances
+    (c.take_card.ensures.keeps.view.earlier a.view.hindrances (searched_in_try cards (Delete c.args.key) c.args.place a.view c.requires.searched))) in
+    let more = meets_more a.view t.view taken in (
+      record {
+        table = search rules;
+        label = search rules;
+        ledger = search rules;
+        answers = search rules;
+        share = share_trans a.view f.view new.view (share_trans a.view t.view f.view c.take_card.ensures.keeps.view.share c.flag_delete.ensures.keeps.view.share)
+            help.ensures.keeps_but_met.keeps.view.share;
+        meets = meets_trans a.view t.view new.view taken lost.0;
+        in_try = in_try;
+        way = way;
+        would = would_delete cards a a refl c.args.place c.args.key ends c.requires.key;
+        stops = search rules;
+      },
+      omega (arith, lost.1, more),
+      gives_out cards a.view a.view t.view new.view (omega arith) c.in-Card.ensures.claims.3
+          (omega (arith, c.flag_delete.ensures.keeps.view.least, help.ensures.keeps_but_met.keeps.view.least)),
+    )
+
+-- the key was taken away
+pub returns-clause-ends : goal.returns-clause-ends
+returns-clause-ends g c =
+    let a = c.args.pass.now in
+    let t = c.take_card.new.pass in
+    let f = c.flag_delete.new.pass in
+    let m = c.finish_own.new.pass in
+    let said = c.answer in
+    let op = Delete c.args.key in
+    let taken = keeps_meets a t 2 c.take_card.ensures.keeps c.in-Card.ensures.claims.2 in
+    let flagged = meets_trans a.view t.view f.view taken (keeps_meets t f 5 c.flag_delete.ensures.keeps c.in_default-flag_delete.ensures.flags.hindrances) in
+    let finished = meets_trans a.view f.view m.view flagged c.finish_own.ensures.meets in
+    let answers = said.ensures.answers op (search rules) in (
+      keeps_answers c.args.table.now op _ a t said.new.pass _ c.take_card.ensures.keeps
+          (keeps_answers c.args.table.now op _ t f said.new.pass _ c.flag_delete.ensures.keeps
+          (keeps_answers c.args.table.now op _ f m said.new.pass _ c.finish_own.ensures.keeps_but_met.keeps answers)),
+      meets_trans a.view m.view said.new.pass.view finished (said_meets m.view said.new.pass.view said.ensures.hindrances said.ensures.facts),
+      said.ensures.room,
+    )
+
+-- the value of the leaf of the card was taken
+pub returns-clause-took : goal.returns-clause-took
+returns-clause-took g c =
+    let a = c.args.pass.now in
+    let ends = c.requires.searched.ends in
+    let t = c.take_card.new.pass in
+    let f = c.flag_delete.new.pass in
+    let m = c.finish_own.new.pass in
+    let said = c.answer in
+    let new = said.new.pass in
+    let place = c.args.place in
+    let card = c.in-Card.card in
+    let busy : Does m.view (Delete c.args.key) = search rules in
+    let hand : m.view.worker.card ≡ Some card = c.finish_own.ensures.keeps_but_met.card ∙ c.in_default-flag_delete.ensures.flags.card in
+    let stays : (e : Told) → IsTold m.view e → IsTold new.view e = λ e has. subst (λ (es : List Told). Has es e) (sym said.ensures.told) has in
+    let leaf = told_leaf a.view t.view f.view card c.args.key place c.flag_delete.ensures.keeps.view
+    c.in-Some.above c.in-Some.is c.requires.searched.busy ends.at c.in-Card.ensures.claims.0 in
+    let value = c.flag_delete.ensures.keeps.view.told _ (c.take_card.ensures.keeps.view.told _ ends.at.value_told) in
+    let on = c.finish_own.ensures.keeps_but_met.keeps.view.told in
+    record {
+      mine = had_value c.args.table.now.plan.last_card a a refl place c.args.key ends c.requires.key;
+      took = deletes_take_the_told_value c.args.table.now.plan new.view c.args.key card place.leaf place.value
+          (said.ensures.last ∙ (ap (λ o. answered_so o m.view.worker.card Yes) busy ∙ ap (λ o. answered_so (Some (Delete c.args.key)) o Yes) hand))
+          (stays _ (on _ leaf)) (stays _ (on _ value));
+    }
+
+-- the cards of each
+pub returns-then-ne-clause-taken : goal.returns-then-ne-clause-taken
+returns-then-ne-clause-taken g c =
+    let taken = c.help.ensures.keeps_but_met.taken in
+    record { least = omega (arith, taken); most = omega (arith, taken) }
+
+pub returns-then-ne-2-clause-taken : goal.returns-then-ne-2-clause-taken
+returns-then-ne-2-clause-taken g c =
+    let taken = c.help-then-ne-2.ensures.keeps_but_met.taken in
+    record { least = omega (arith, taken); most = omega (arith, taken) }
+
+pub returns-in-Lost-clause-taken : goal.returns-in-Lost-clause-taken
+returns-in-Lost-clause-taken g c =
+    let taken = c.in-Lost.ensures.taken in
+    record { least = omega (arith, taken); most = omega (arith, taken) }
+
+pub returns-in-Err-clause-taken : goal.returns-in-Err-clause-taken
+returns-in-Err-clause-taken g c =
+    let taken : cards_taken c.help-in-Err.new.pass ≡ cards_taken c.args.pass.now + 1 =
+    omega (arith, c.help-in-Err.ensures.keeps_but_met.taken, c.flag_delete.ensures.taken, c.in-Card.ensures.taken) in
+    record { least = omega (arith, taken); most = omega (arith, taken) }
+
+pub returns-clause-taken : goal.returns-clause-taken
+returns-clause-taken g c =
+    omega (arith, c.answer.ensures.taken, c.finish_own.ensures.keeps_but_met.taken, c.flag_delete.ensures.taken, c.in-Card.ensures.taken)
