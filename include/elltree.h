@@ -11,7 +11,8 @@
    The cards of a tree are for its whole life; elltree_renew_all_shared moves handles of it to a new tree with fresh cards.
 
    elltree_compare_exchange, elltree_put, elltree_fetch_add and elltree_update change the value of a key in place, each in one atomic step: no
-   call of another thread finds the key absent in between, and none loses what this call stores.
+   call of another thread finds the key absent in between, and none loses what this call stores. elltree_remove_if removes a key only with the
+   value that you expect.
 
    elltree_open makes a tree of keys that have owners. A handle owns some of these keys, and it alone can find, insert and delete them, so
    that its answers are those of a map of its own. The first handle owns all keys; elltree_split gives some of them to another handle, or none
@@ -21,18 +22,18 @@
    elltree_next_at_least, elltree_last_at_most and the calls after them, whoever owns the keys. None of these calls waits for another thread.
    They are not snapshots: they show each key as it was at one moment of the call, and the moments may differ from key to key.
 
-   Each call returns ELLTREE_YES or ELLTREE_NO, elltree_compare_exchange also ELLTREE_OTHER_VALUE, or a negative code that says why the call
-   was refused; elltree_text writes a text for each code. A refused call has changed neither the map nor what a handle owns, and has written
-   nothing, except, for ELLTREE_NO_ROOM, pairs. elltree_open_shared, elltree_another, elltree_open, elltree_split, elltree_join,
-   elltree_renew, elltree_renew_all and elltree_renew_all_shared ask for memory. No other call does.
+   Each call returns ELLTREE_YES or ELLTREE_NO, elltree_compare_exchange and elltree_remove_if also ELLTREE_OTHER_VALUE, or a negative code
+   that says why the call was refused; elltree_text writes a text for each code. A refused call has changed neither the map nor what a
+   handle owns, and has written nothing, except, for ELLTREE_NO_ROOM, pairs. elltree_open_shared, elltree_another, elltree_open,
+   elltree_split, elltree_join, elltree_renew, elltree_renew_all and elltree_renew_all_shared ask for memory. No other call does.
 
    You have to ensure these conditions, which nothing checks:
    - A handle starts as all zeros. Only these functions write to it, and it is not copied while it holds something (it may be moved).
    - A handle that holds something is freed once, by elltree_free or by a join into another; no call is on it while its memory ends.
    - A pointer that is not null points to what the call says, and an array has as many items as the call says. No other thread writes to what
      a running call reads, or reads what it writes.
-   - malloc, realloc and free are one allocator, which aligns blocks to 16 bytes. No call comes from a signal handler, or from the forked
-     child of a process with threads.
+   - malloc, realloc and free are one allocator, which aligns blocks to 16 bytes. The library calls no other function of it. No call comes from
+     a signal handler, or from the forked child of a process with threads.
    - Trees are told apart by a number, which this header counts in one variable of the program. If a program has two such variables (because
      two shared objects hide their symbols, or because it uses this header together with another binding), their handles are never joined.
 
@@ -84,7 +85,7 @@ struct elltree_pair {
 enum {
     ELLTREE_NO = 0,
     ELLTREE_YES = 1,
-    ELLTREE_OTHER_VALUE = 2,        /* from elltree_compare_exchange: the key has another value */
+    ELLTREE_OTHER_VALUE = 2,        /* from elltree_compare_exchange, elltree_remove_if: another value is there */
     ELLTREE_BUSY = -1,              /* something was in the way of each try, or changed the value first: call again */
     ELLTREE_SPENT = -2,             /* all cards are given out: finds and looks still work, and a renewal makes fresh cards */
     ELLTREE_FOREIGN = -3,           /* a key is neither the handle's own nor shared; no key above ELLTREE_KEY_MAX is */
@@ -101,7 +102,8 @@ enum {
     ELLTREE_SAME = -14,             /* the same handle is given twice */
     ELLTREE_IN_CALL = -15,          /* the handle is in another call */
     ELLTREE_TOO_MANY_HANDLES = -16, /* the handle has the least share of a tree of shared keys */
-    ELLTREE_SHARED_KEYS = -17       /* only elltree_renew_all_shared renews handles of a tree of shared keys */
+    ELLTREE_SHARED_KEYS = -17,      /* only elltree_renew_all_shared renews handles of a tree of shared keys */
+    ELLTREE_FORKED = -18            /* a map (elltree_map.h) is of another process, of which this one is a forked child */
 };
 
 /* This is room for the text of each code and the 0 behind it. */
@@ -129,6 +131,7 @@ ELLTREE_MUST_USE int32_t elltree_slot_delete(struct elltree_slot *slot, uint64_t
 ELLTREE_MUST_USE int32_t elltree_slot_take(struct elltree_slot *slot, uint64_t key, uint32_t tries, uint64_t *taken);
 ELLTREE_MUST_USE int32_t elltree_slot_compare_exchange(struct elltree_slot *slot, uint64_t key, uint64_t current, uint64_t desired, uint32_t tries,
                                                        uint64_t *found);
+ELLTREE_MUST_USE int32_t elltree_slot_remove_if(struct elltree_slot *slot, uint64_t key, uint64_t current, uint32_t tries, uint64_t *found);
 ELLTREE_MUST_USE int32_t elltree_slot_put(struct elltree_slot *slot, uint64_t key, uint64_t value, uint32_t tries, uint64_t *was);
 ELLTREE_MUST_USE int32_t elltree_slot_fetch_add(struct elltree_slot *slot, uint64_t key, uint64_t addend, uint32_t tries, uint64_t *was);
 ELLTREE_MUST_USE int32_t elltree_slot_keys(struct elltree_slot *slot, uint64_t *out, size_t room, size_t *count);
@@ -377,6 +380,17 @@ ELLTREE_MUST_USE static inline int32_t elltree_compare_exchange(struct elltree_h
     if (code != ELLTREE_YES)
         return code;
     return elltree_leave(handle, elltree_slot_compare_exchange(&handle->slot, key, *expected, desired, tries, expected));
+}
+
+/* Removes a shared key, or one of the handle's own, if its value is the expected one, in one atomic step. Returns ELLTREE_YES if it has
+   removed the key, ELLTREE_OTHER_VALUE if the key has another value, which is then written to expected, and ELLTREE_NO if the key is
+   absent; in the last two cases nothing has changed. No value but the expected one is ever removed, whatever other threads store meanwhile.
+   Tries, cards and refusals are those of elltree_put. */
+ELLTREE_MUST_USE static inline int32_t elltree_remove_if(struct elltree_handle *handle, uint64_t key, uint64_t *expected, uint32_t tries) {
+    int32_t code = expected ? elltree_enter(handle) : ELLTREE_NULL;
+    if (code != ELLTREE_YES)
+        return code;
+    return elltree_leave(handle, elltree_slot_remove_if(&handle->slot, key, *expected, tries, expected));
 }
 
 /* Stores the value of a shared key, or of one of the handle's own, whether the key is present or not, in one atomic step. Returns ELLTREE_YES

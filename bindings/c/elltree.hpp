@@ -11,6 +11,9 @@
    elltree.h says more about each call, under the same name, except that erase is elltree_delete there. */
 #ifndef ELLTREE_HPP
 #define ELLTREE_HPP
+#if __cplusplus < 201703L
+#error "elltree.hpp needs C++17 or later: compile with -std=c++17"
+#endif
 #include "elltree.h"
 #include <array>
 #include <functional>

@@ -6,12 +6,23 @@
        map.insert(7, 70);
        if (auto value = map.get(7))
            .. *value ..
-*/
+       for (auto [key, value] : map.range(5, 10))
+           .. 5 is in it, and 10 is not ..
+
+   A call that reads finds no key above ELLTREE_KEY_MAX, and one that changes keys refuses such a key with ELLTREE_BAD_KEY. elltree_map.h says more
+   about each call. */
 #ifndef ELLTREE_MAP_HPP
 #define ELLTREE_MAP_HPP
+#if __cplusplus < 201703L
+#error "elltree_map.hpp needs C++17 or later: compile with -std=c++17"
+#endif
 #include "elltree.hpp"
 #include "elltree_map.h"
+#include <algorithm>
 #include <array>
+#include <cstddef>
+#include <initializer_list>
+#include <iterator>
 #include <optional>
 #include <utility>
 #include <vector>
@@ -20,12 +31,78 @@ namespace elltree {
 
 class map {
 public:
-    /* An empty map. The hint is about as many as there will be changes soon; 0 leaves it to the map. */
-    explicit map(uint64_t cards_hint = 0) { check(elltree_map_new(&map_, cards_hint)); }
+    /* Goes over pairs in the ascending order of their keys, in one pass. It fetches some pairs at a time: each one was there at a moment since the
+       iterator was made. Other threads may change the map meanwhile, and so may the loop. An iterator must not outlive its map. */
+    class const_iterator {
+    public:
+        using iterator_category = std::input_iterator_tag;
+        using value_type = elltree_pair;
+        using difference_type = std::ptrdiff_t;
+        using pointer = const elltree_pair *;
+        using reference = const elltree_pair &;
+
+        /* Makes an iterator at the end of all ranges. */
+        const_iterator() noexcept = default;
+
+        reference operator*() const noexcept { return found_[at_]; }
+        pointer operator->() const noexcept { return &found_[at_]; }
+        const_iterator &operator++() {
+            if (++at_ == count_)
+                fetch();
+            return *this;
+        }
+        const_iterator operator++(int) {
+            const_iterator was = *this;
+            ++*this;
+            return was;
+        }
+        friend bool operator==(const const_iterator &one, const const_iterator &other) noexcept {
+            return one.is_at_end() || other.is_at_end() ? one.is_at_end() == other.is_at_end() : one->key == other->key;
+        }
+        friend bool operator!=(const const_iterator &one, const const_iterator &other) noexcept { return !(one == other); }
+
+    private:
+        friend class map;
+        const_iterator(elltree_map *map, uint64_t from, uint64_t upto) : map_(map), next_(from), upto_(upto) { fetch(); }
+
+        bool is_at_end() const noexcept { return at_ == count_; }
+        void fetch() {
+            at_ = count_ = 0;
+            if (next_ < upto_)
+                check(elltree_map_range(map_, next_, upto_, found_.data(), room_, &count_, &next_));
+            room_ = std::min(2 * room_, found_.size());
+        }
+
+        elltree_map *map_ = nullptr;
+        uint64_t next_ = 0, upto_ = 0;   /* the keys that nobody has asked for yet */
+        std::size_t at_ = 0, count_ = 0; /* where the iterator is among the pairs that it has fetched, and how many these are */
+        std::size_t room_ = 4;           /* how many it fetches next: few at first, so that a short range is cheap */
+        std::array<elltree_pair, 32> found_ = {};
+    };
+
+    /* The pairs of a range of keys. Each begin() goes over them anew. It must not outlive its map. */
+    class key_range {
+    public:
+        const_iterator begin() const { return {map_, from_, upto_}; }
+        const_iterator end() const noexcept { return {}; }
+
+    private:
+        friend class map;
+        key_range(elltree_map *map, uint64_t from, uint64_t upto) noexcept : map_(map), from_(from), upto_(upto) {}
+
+        elltree_map *map_;
+        uint64_t from_, upto_;
+    };
+
+    /* An empty map. */
+    map() { check(elltree_map_new(&map_)); }
 
     /* A map with these pairs, whose keys ascend strictly. */
     explicit map(const std::vector<elltree_pair> &pairs, const elltree_map_settings &settings = {}) {
         check(elltree_map_from_sorted(&map_, pairs.data(), pairs.size(), &settings));
+    }
+    [[nodiscard]] static map from_sorted(const std::vector<elltree_pair> &pairs, const elltree_map_settings &settings = {}) {
+        return map(pairs, settings);
     }
 
     map(map &&other) noexcept : map_(std::exchange(other.map_, nullptr)) {}
@@ -35,9 +112,9 @@ public:
     }
     map(const map &) = delete;
     map &operator=(const map &) = delete;
-    ~map() { elltree_map_free(map_); }
+    ~map() { (void)elltree_map_free(map_); }
 
-    /* The value of a key. A key above ELLTREE_KEY_MAX is refused, here and below. */
+    /* The value of a key. */
     std::optional<uint64_t> get(uint64_t key) const {
         uint64_t value = 0;
         return told(elltree_map_get(map_, key, &value), value);
@@ -51,6 +128,13 @@ public:
     std::optional<uint64_t> put(uint64_t key, uint64_t value) {
         uint64_t was = 0;
         return told(elltree_map_put(map_, key, value, &was), was);
+    }
+
+    /* Adds a key if it is absent, in one atomic step: the value that the key has then, and whether it was added. */
+    std::pair<uint64_t, bool> get_or_insert(uint64_t key, uint64_t value) {
+        uint64_t there = 0;
+        const bool is_added = check(elltree_map_get_or_insert(map_, key, value, &there));
+        return {there, is_added};
     }
 
     /* Takes a key away: the value that was taken. erase says whether the key was present. */
@@ -68,6 +152,14 @@ public:
         return check(code) ? exchanged::yes : exchanged::absent;
     }
 
+    /* Takes a key away if its value is the expected one, in one atomic step; another value is written to expected. */
+    exchanged remove_if(uint64_t key, uint64_t &expected) {
+        const int32_t code = elltree_map_remove_if(map_, key, expected, &expected);
+        if (code == ELLTREE_OTHER_VALUE)
+            return exchanged::other_value;
+        return check(code) ? exchanged::yes : exchanged::absent;
+    }
+
     /* Adds to the value of a key in one atomic step: the value that it had. An absent key is left so. */
     std::optional<uint64_t> fetch_add(uint64_t key, uint64_t addend) {
         uint64_t was = 0;
@@ -77,7 +169,7 @@ public:
     /* Stores what f makes of the value of a key, in one atomic step: the value that it had. An absent key is left so. f is called again if another
        thread has changed the value meanwhile; it may call the map, and throw. */
     template <class F> std::optional<uint64_t> update(uint64_t key, F f) {
-        auto value = get(key);
+        auto value = key > ELLTREE_KEY_MAX ? throw refused(ELLTREE_BAD_KEY) : get(key);
         auto said = exchanged::other_value;
         while (value && said == exchanged::other_value)
             said = compare_exchange(key, *value, f(std::as_const(*value)));
@@ -96,6 +188,12 @@ public:
         }
     }
 
+    /* The pairs of the keys from one on and below another, ascending, for a loop: what for_each shows. Without an end the range goes up to the last
+       key. begin() and end() go over all pairs. */
+    key_range range(uint64_t from = 0, uint64_t upto = UINT64_MAX) const noexcept { return {map_, from, upto}; }
+    const_iterator begin() const { return range().begin(); }
+    const_iterator end() const noexcept { return {}; }
+
     /* The pair of the least key from one on, or above one, and of the greatest up to one, or below one. */
     std::optional<elltree_pair> next_at_least(uint64_t key) const { return found(elltree_map_next_at_least, key); }
     std::optional<elltree_pair> next_after(uint64_t key) const { return found(elltree_map_next_after, key); }
@@ -103,6 +201,11 @@ public:
     std::optional<elltree_pair> last_before(uint64_t key) const { return found(elltree_map_last_before, key); }
     std::optional<elltree_pair> first() const { return next_at_least(0); }
     std::optional<elltree_pair> last() const { return last_at_most(ELLTREE_KEY_MAX); }
+
+    /* Takes the pair of the least key away, or of the greatest, which no other call takes then. Each key that was passed over was absent at a moment
+       of the call. */
+    std::optional<elltree_pair> pop_first() { return popped(elltree_map_pop_first); }
+    std::optional<elltree_pair> pop_last() { return popped(elltree_map_pop_last); }
 
     /* How many keys are present: exactly so if no change is under way, and else as many as the changes so far make. */
     size_t size() const {
@@ -112,7 +215,21 @@ public:
     }
     bool empty() const { return check(elltree_map_is_empty(map_)); }
 
-    /* All pairs, as they are at one moment. All other calls wait meanwhile. */
+    /* Puts pairs one after the other, in any order: those of a list in braces, or of a container whose pairs have a key and a value, as a std::map.
+       If one is refused, those before it are put. */
+    template <class Pairs> void extend(const Pairs &pairs) {
+        for (const auto &[key, value] : pairs)
+            put(key, value);
+    }
+    void extend(std::initializer_list<elltree_pair> pairs) { extend<std::initializer_list<elltree_pair>>(pairs); }
+
+    /* Takes all keys away, one after the other: other threads see some of them gone first. */
+    void clear() {
+        for (const auto &pair : *this)
+            erase(pair.key);
+    }
+
+    /* All pairs, as they are at one moment. Calls that change keys wait meanwhile. */
     std::vector<elltree_pair> pairs() const {
         std::vector<elltree_pair> out;
         size_t count = size();
@@ -126,7 +243,7 @@ public:
         return out;
     }
 
-    /* Renews all sections now, one after the other, so that a program has renewals at a moment of its choice. */
+    /* Renews all sections now, one after the other, so that a program has renewals at a moment of its choice. Those that were busy once give cards back. */
     void renew() { check(elltree_map_renew(map_)); }
 
     elltree_map_counters counts() const {
@@ -143,6 +260,10 @@ private:
     std::optional<elltree_pair> found(search *call, uint64_t key) const {
         elltree_pair pair = {0, 0};
         return check(call(map_, key, &pair.key, &pair.value)) ? std::optional<elltree_pair>(pair) : std::nullopt;
+    }
+    std::optional<elltree_pair> popped(int32_t (*pop)(elltree_map *, uint64_t *, uint64_t *)) {
+        elltree_pair pair = {0, 0};
+        return check(pop(map_, &pair.key, &pair.value)) ? std::optional<elltree_pair>(pair) : std::nullopt;
     }
 
     elltree_map *map_ = nullptr;

@@ -1,26 +1,35 @@
-/* The gate of a map, and its places. docs/GATE.md has the protocol, whose steps are numbered there, and the argument that it is right. */
+/* The gate of a map, and its places. docs/GATE.md has the protocol, whose steps are numbered there, and the argument that it is right. No function is
+   a cancellation point of POSIX: a thread that is cancelled ends between two calls. So threads sleep by calls of the system, and not by nanosleep. */
 #ifndef ELLTREE_MAP_GATE_H
 #define ELLTREE_MAP_GATE_H
+#include "memory.h"
+#include "order.h"
 #include <linux/futex.h>
 #include <sched.h>
 #include <stdatomic.h>
 #include <stdbool.h>
-#include <stdint.h>
 #include <sys/syscall.h>
 #include <time.h>
 #include <unistd.h>
 
-/* Two cache lines, since processors fetch lines in pairs. */
-#define LINE 128
+enum {
+    SPINS = 100,
+    YIELDS = 200,
+    REST_NANOSECONDS = 50000,
+    PAUSE_LEAST = 200000, /* how long the gate is closed for calls under way at first, in nanoseconds */
+    PAUSE_MOST = 8000000  /* and at most, as each time in vain is followed by one of twice the length */
+};
 
-enum { SPINS = 100, YIELDS = 200 };
+/* What a thread does with a place: the last two bits of `busy`. Whoever reads doesn't look at the gate. */
+enum kind { FREE, READS, CHANGES };
 
-/* A place has lines of its own. A thread has it while `busy` is odd, and then it alone touches the members below, but for `added`, which others
+/* A place has lines of its own. A thread has it while its kind is not FREE, and then it alone touches the members below, but for `added`, which others
    read. */
 struct place {
     _Alignas(LINE) _Atomic uint64_t busy;
     uint32_t number;       /* of the place, from 0 */
-    uint32_t calls;        /* how many there were, to take samples of them */
+    uint32_t until;        /* how many calls there are up to the next one that is weighed */
+    uint32_t chance;       /* by which that is chosen */
     _Atomic int64_t added; /* keys added less keys taken, by calls on this place */
 };
 
@@ -31,15 +40,31 @@ struct gate {
     struct place *places;
 };
 
+/* How far a thread is that waits for the calls under way: those on the places before this one have ended, and this one was busy so when it was looked
+   at, or 0. */
+struct wait {
+    uint32_t number;
+    uint64_t busy;
+};
+
+/* What a clock says, in nanoseconds. */
+static uint64_t time_of(clockid_t clock) {
+    struct timespec time;
+    clock_gettime(clock, &time);
+    return (uint64_t)time.tv_sec * UINT64_C(1000000000) + (uint64_t)time.tv_nsec;
+}
+
+static uint64_t now(void) { return time_of(CLOCK_MONOTONIC); }
+
 /* Waits for a thread that is about to be done: briefly at first, and longer if it seems to be stopped. */
 static void rest(unsigned tries) {
-    const struct timespec while_ = {0, 50000};
+    const struct timespec while_ = {0, REST_NANOSECONDS};
     if (tries < SPINS)
         __builtin_ia32_pause();
     else if (tries < SPINS + YIELDS)
         sched_yield();
     else
-        nanosleep(&while_, NULL);
+        syscall(SYS_nanosleep, &while_, NULL);
 }
 
 /* Waits until a word is no longer what it was: spins briefly, and then sleeps, after the system has looked at the word again. */
@@ -66,77 +91,110 @@ static _Atomic uint32_t threads;
 
 /* Step 1 of a call. The exchange is sequentially consistent, as are the loads behind it and the accesses of a renewal: of a call and a renewal at
    least one sees the other. */
-static inline bool take(struct place *place) {
+static inline bool take(struct place *place, enum kind kind) {
     uint64_t busy = atomic_load_explicit(&place->busy, memory_order_relaxed);
-    return busy % 2 == 0 && atomic_compare_exchange_strong(&place->busy, &busy, busy + 1);
+    if (busy % 4 != FREE || !atomic_compare_exchange_strong(&place->busy, &busy, busy + kind))
+        return false;
+    seen(&place->busy);
+    return true;
 }
 
-/* Steps 3 and 6 of a call. Whoever has the place next, or sees it free, sees all that was done before. */
+/* Steps 3 and 6 of a call. Whoever has the place next, or sees it free, sees all that was done before. The store is sequentially consistent, as the
+   library asks where a slot goes from one thread to another. */
 static inline void give_back(struct place *place) {
     const uint64_t busy = atomic_load_explicit(&place->busy, memory_order_relaxed);
-    atomic_store_explicit(&place->busy, busy + 1, memory_order_release);
+    shown(&place->busy);
+    atomic_store(&place->busy, (busy | 3) + 1);
 }
 
 /* A place behind the one that another thread has, or that a thread without a number would have. */
-static __attribute__((noinline, cold)) struct place *take_another_place(struct gate *gate) {
+static __attribute__((noinline, cold)) struct place *take_another_place(struct gate *gate, enum kind kind) {
     unsigned tries = 0;
     if (!hint)
         hint = atomic_fetch_add_explicit(&threads, 1, memory_order_relaxed);
     for (;;) {
         struct place *place = &gate->places[++hint & gate->mask];
-        if (take(place))
+        if (take(place, kind))
             return place;
         if (++tries > gate->mask) /* each place had a call on it when it was looked at */
             rest(tries);
     }
 }
 
-static inline struct place *take_place(struct gate *gate) {
+static inline __attribute__((always_inline)) struct place *take_place(struct gate *gate, enum kind kind) {
     struct place *place = &gate->places[hint & gate->mask];
-    return hint && take(place) ? place : take_another_place(gate);
+    return hint && take(place, kind) ? place : take_another_place(gate, kind);
 }
 
-/* Calls. */
+/* Calls that change keys. */
 
 static inline bool is_closed(uint32_t gate) { return gate % 2 != 0; }
 
-/* Steps 1 to 4 of a call: a place that is the caller's, with the gate open. */
+/* Steps 1 to 4 of such a call: a place that is the caller's, with the gate open. */
 static inline __attribute__((always_inline)) struct place *enter(struct gate *gate) {
     for (;;) {
-        struct place *place = take_place(gate);
-        const uint32_t seen = atomic_load(&gate->word);
-        if (__builtin_expect(!is_closed(seen), 1))
+        struct place *place = take_place(gate, CHANGES);
+        const uint32_t word = atomic_load(&gate->word);
+        if (__builtin_expect(!is_closed(word), 1)) {
+            seen(&gate->word);
             return place;
+        }
         give_back(place);
-        wait_while(&gate->word, seen);
+        wait_while(&gate->word, word);
     }
 }
 
 /* Renewals and snapshots. */
 
-static void wait_for_call(struct place *place) {
-    const uint64_t busy = atomic_load(&place->busy);
+/* Whether the call of this kind that was seen on a place has ended, by this time, or now, if that is 0. */
+static bool has_ended(struct place *place, uint64_t *busy, enum kind kind, uint64_t until) {
     unsigned tries = 0;
-    while (busy % 2 != 0 && atomic_load(&place->busy) == busy)
+    if (!*busy)
+        *busy = atomic_load(&place->busy);
+    while (*busy % 4 >= kind && atomic_load(&place->busy) == *busy) {
+        if (!until || (tries >= SPINS && now() >= until))
+            return false;
         rest(tries++);
-}
-
-/* Waits for every call that is under way. Calls that begin later see what the thread has stored before, in a sequentially consistent way. */
-static void wait_for_calls(struct gate *gate) {
-    for (uint32_t i = 0; i <= gate->mask; i++)
-        wait_for_call(&gate->places[i]);
-}
-
-/* Closes the gate, once it is open, and waits until no call is at work. */
-static void close_gate(struct gate *gate) {
-    uint32_t seen = atomic_load(&gate->word);
-    while (is_closed(seen) || !atomic_compare_exchange_strong(&gate->word, &seen, seen + 1)) {
-        wait_while(&gate->word, seen | 1);
-        seen = atomic_load(&gate->word);
     }
-    wait_for_calls(gate);
+    seen(&place->busy);
+    return true;
 }
 
-static void open_gate(struct gate *gate) { advance(&gate->word); }
+/* Waits for every call of this kind, or a later one, that was under way when the wait began, but not beyond a time: whether they have ended. Calls that
+   begin later see what the thread has stored before the wait, in a sequentially consistent way. */
+static bool await_calls(struct gate *gate, struct wait *wait, enum kind kind, uint64_t until) {
+    for (; wait->number <= gate->mask; wait->number++, wait->busy = 0)
+        if (!has_ended(&gate->places[wait->number], &wait->busy, kind, until))
+            return false;
+    return true;
+}
+
+static void open_gate(struct gate *gate) {
+    shown(&gate->word);
+    advance(&gate->word);
+}
+
+/* Closes the gate, once it is open, and waits a while until no call is at work that changes keys. If one still is, the gate is opened again, and the wait
+   tells its place. */
+static bool close_gate(struct gate *gate, struct wait *wait, uint64_t pause) {
+    uint32_t word = atomic_load(&gate->word);
+    while (is_closed(word) || !atomic_compare_exchange_strong(&gate->word, &word, word + 1)) {
+        wait_while(&gate->word, word | 1);
+        word = atomic_load(&gate->word);
+    }
+    seen(&gate->word);
+    *wait = (struct wait){0, 0};
+    if (await_calls(gate, wait, CHANGES, now() + pause))
+        return true;
+    open_gate(gate);
+    return false;
+}
+
+/* Closes the gate, however long calls take that are under way. Other calls go on while the thread waits for one that seems to be stopped. */
+static void close_gate_at_last(struct gate *gate) {
+    struct wait wait;
+    for (uint64_t pause = PAUSE_LEAST; !close_gate(gate, &wait, pause); pause = pause < PAUSE_MOST ? 2 * pause : PAUSE_MOST)
+        (void)has_ended(&gate->places[wait.number], &wait.busy, CHANGES, UINT64_MAX);
+}
 
 #endif

@@ -1,306 +1,135 @@
-/* Renewals: a section gets a fresh tree, or is parted, or joined with the next one, while calls go on. docs/GATE.md has the protocol, whose steps
-   are numbered there, and the argument that it is right. */
+/* Renewals: a section gets a fresh tree, or is parted, or joined with a neighbor, while calls go on. docs/GATE.md has the protocol, whose steps are
+   numbered there, and the argument that it is right. */
 #ifndef ELLTREE_MAP_RENEWAL_H
 #define ELLTREE_MAP_RENEWAL_H
-#include "sections.h"
+#include "cards.h"
+#include "carrying.h"
 
-enum {
-    CARDS_FIRST = 16384, /* of a new map, if nobody asks for another number */
-    CARDS_LEAST = 1024,
-    RENEWAL_PERCENT = 5,
-    RENEWAL_MICROSECONDS = 5000,
-    TRIES = 64,           /* of one call of the library, so that none holds its place for long */
-    PAIRS_AT_ONCE = 4096, /* for which an array of pairs has room at first */
-    SAMPLE = 64,          /* of so many calls on a place one is weighed */
-    KEY_IN_CARDS = 3,     /* a key takes a renewal about as long as so many cards */
-    REST_IN_CARDS = 1000, /* and so does what it has to do without keys and cards */
-    STEP_NANOSECONDS = 2, /* what a step down a deep tree takes at least */
-    STEPS_LEAST = 10000   /* a renewal takes at least as long as so many */
-};
-
-struct elltree_map {
-    struct gate gate;
-    struct directory directory;
-    struct elltree_map_settings settings;
-    _Alignas(LINE) _Atomic uint32_t ended; /* how many renewals ended, also those that were refused: who waits for one waits for this word */
-    _Atomic uint32_t swept;                /* how many sections were looked at, whether they have few keys */
-    _Atomic uint64_t all_effort;           /* what renewals took in all, in nanoseconds of a processor */
-    _Atomic uint64_t sections, cards, renewals, early_renewals, all_pauses, longest_pause;
-};
-
-/* Why a section is renewed. */
-enum reason { NO_REASON, FEW_CARDS, DEEP_TREE, FEW_KEYS, WANTED };
-
-/* An array of pairs that grows. */
-struct pairs {
-    struct elltree_pair *items;
-    size_t count, room;
-};
-
-/* What a thread takes a key's value to be. */
-struct state {
-    int32_t there; /* ELLTREE_YES if the key is present, and ELLTREE_NO if it is absent */
-    uint64_t value;
-};
-
-/* A key of which a section and its heir differ, and what the section has. */
-struct difference {
-    uint64_t key;
-    struct state state;
-};
-
-/* A renewal under way. */
-struct renewal {
-    struct section *sections[2]; /* which are renewed: one, or two that are joined */
-    uint32_t count;
-    enum reason reason;
-    struct heirs *heirs;
-    struct pairs there, copied; /* what was read last of the sections, and of their heirs */
-    struct difference *differences;
-    size_t difference_count;
-    uint64_t began; /* time at work */
-    uint64_t left;  /* cards of the first section, when it began */
-};
-
-static int32_t grow(struct pairs *pairs) {
-    const size_t room = pairs->room ? 2 * pairs->room : PAIRS_AT_ONCE;
-    struct elltree_pair *items = realloc(pairs->items, room * sizeof *items);
-    if (!items)
-        return ELLTREE_NO_MEMORY;
-    pairs->items = items;
-    pairs->room = room;
-    return ELLTREE_YES;
-}
-
-/* Adds the pairs of a section, each as it is at a moment of the call. */
-static int32_t append_pairs(const struct gate *gate, struct pairs *pairs, struct section *section) {
-    uint64_t next = section->first;
-    size_t part = 0;
-    int32_t code;
-    do {
-        code = pairs->count < pairs->room ? ELLTREE_YES : grow(pairs);
-        if (code == ELLTREE_YES)
-            code = elltree_slot_range(slot_to_renew(gate, section), next, UINT64_MAX, pairs->items + pairs->count, pairs->room - pairs->count, &part,
-                                      &next);
-        if (code == ELLTREE_YES)
-            pairs->count += part;
-    } while (code == ELLTREE_YES && next < UINT64_MAX);
-    return code;
-}
-
-/* The pairs of these sections in place of what the array has. */
-static int32_t read_pairs(const struct gate *gate, struct pairs *pairs, struct section *const *sections, uint32_t count) {
-    int32_t code = ELLTREE_YES;
-    pairs->count = 0;
-    for (uint32_t i = 0; i < count && code == ELLTREE_YES; i++)
-        code = append_pairs(gate, pairs, sections[i]);
-    return code;
-}
-
-/* Carrying over. */
-
-/* Gives a key of a tree the value that it has in another, or takes it away if it is absent there: ELLTREE_SPENT if the cards are spent. */
-static int32_t store(struct elltree_slot *slot, uint64_t key, int32_t there, uint64_t value) {
-    uint64_t was;
-    int32_t code;
-    do
-        code = there == ELLTREE_YES ? elltree_slot_put(slot, key, value, TRIES, &was) : elltree_slot_delete(slot, key, TRIES);
-    while (code == ELLTREE_BUSY);
-    return code;
-}
-
-static bool are_alike(struct state one, struct state other) {
-    return one.there == other.there && (one.there != ELLTREE_YES || one.value == other.value);
-}
-
-/* Carries a key over to the heirs: stores there what the section is taken to have of it, until the section has that after it was stored. So whoever
-   stores last has stored what the section has since then. If the cards of the heir are spent, the heirs have failed. */
-static void carry_over(struct heirs *heirs, struct elltree_slot *from, struct elltree_slot *into, uint64_t key, struct state state) {
-    struct state stored;
-    do {
-        stored = state;
-        if (state.there < 0 || store(into, key, state.there, state.value) < 0) {
-            atomic_store(&heirs->failed, true);
-            return;
-        }
-        state.there = elltree_slot_find(from, key, &state.value);
-    } while (!are_alike(stored, state));
-}
-
-/* The slots of a key's section and heir that the thread has that renews. */
-static struct elltree_slot *slot_from(const struct gate *gate, struct renewal *renewal, uint64_t key) {
-    return slot_to_renew(gate, renewal->sections[renewal->count > 1 && key >= renewal->sections[1]->first]);
-}
-
-static struct elltree_slot *slot_into(const struct gate *gate, struct renewal *renewal, uint64_t key) {
-    return slot_to_renew(gate, heir_of(renewal->heirs, key));
-}
-
-/* Notes the keys of which the sections and their heirs were read to differ, ascending, with what the sections have. */
-static int32_t note_differences(struct renewal *renewal) {
-    const struct elltree_pair *there = renewal->there.items, *copied = renewal->copied.items;
-    const struct elltree_pair *end = there + renewal->there.count, *end_copied = copied + renewal->copied.count;
-    renewal->difference_count = 0;
-    renewal->differences = malloc((renewal->there.count + renewal->copied.count + 1) * sizeof *renewal->differences);
-    if (!renewal->differences)
-        return ELLTREE_NO_MEMORY;
-    while (there < end || copied < end_copied) {
-        const bool is_there = there < end && (copied == end_copied || there->key <= copied->key);
-        const bool is_copied = copied < end_copied && (there == end || copied->key <= there->key);
-        if (!is_there || !is_copied || there->value != copied->value)
-            renewal->differences[renewal->difference_count++] = is_there ? (struct difference){there->key, {ELLTREE_YES, there->value}}
-                                                                         : (struct difference){copied->key, {ELLTREE_NO, 0}};
-        there += is_there;
-        copied += is_copied;
-    }
-    return ELLTREE_YES;
-}
-
-/* Stores the differences in the heirs, each half of them before those between, so that keys in order make no list. */
-static void store_differences(const struct gate *gate, struct renewal *renewal) {
-    const size_t count = renewal->difference_count;
-    size_t step = 1;
-    while (step <= count / 2)
-        step *= 2;
-    for (; step; step /= 2)
-        for (size_t i = step; i <= count; i += 2 * step) {
-            const struct difference *it = &renewal->differences[i - 1];
-            if (store(slot_into(gate, renewal, it->key), it->key, it->state.there, it->state.value) < 0)
-                atomic_store(&renewal->heirs->failed, true);
-        }
-}
-
-/* Carries each of them over of which the sections have since been read to have something else than was stored. */
-static void carry_changed(const struct gate *gate, struct renewal *renewal) {
-    const struct elltree_pair *there = renewal->there.items, *end = there + renewal->there.count;
-    for (size_t i = 0; i < renewal->difference_count; i++) {
-        const struct difference *it = &renewal->differences[i];
-        struct state state = {ELLTREE_NO, 0};
-        while (there < end && there->key < it->key)
-            there++;
-        if (there < end && there->key == it->key)
-            state = (struct state){ELLTREE_YES, there->value};
-        if (!are_alike(state, it->state))
-            carry_over(renewal->heirs, slot_from(gate, renewal, it->key), slot_into(gate, renewal, it->key), it->key, state);
-    }
-}
-
-/* How many cards. */
-
-/* How many cards each of some sections gets, if they get so many together. */
-static uint64_t part_of_cards(uint64_t cards, uint32_t parts) { return parts > 1 ? at_least(cards / parts, CARDS_LEAST) : cards; }
-
-/* What a renewal has to do besides cards, in cards. */
-static uint64_t weight(uint64_t keys) { return KEY_IN_CARDS * keys + REST_IN_CARDS; }
-
-/* How long a renewal with so many cards and keys is likely to take, by what the section took to make, in nanoseconds of a processor. */
-static uint64_t likely_effort(const struct section *section, uint64_t cards, uint64_t keys) {
-    return section->effort * (cards + weight(keys)) / (section->cards + weight(section->keys));
-}
-
-/* How many cards the heirs get together, if cards were left when the renewal of the section began. If renewals of all sections took too much of the
-   time since this one was made, the cards are doubled, unless that would save little, as each card takes its time too, or a renewal would take too
-   long by its cards. If renewals took little, the cards are halved, which saves memory. */
-static uint64_t cards_of_all(struct elltree_map *map, const struct renewal *renewal, bool may_double) {
-    const struct section *section = renewal->sections[0];
-    const uint64_t keys = renewal->there.count, cards = section->cards, least = at_least(CARDS_LEAST, keys / 8);
-    const uint64_t part = (now() - section->opened_at) / 100 * map->settings.renewal_percent;
-    const uint64_t all_effort = atomic_load(&map->all_effort) - section->all_effort + section->effort;
-    if (renewal->reason == WANTED)
-        return cards;
-    if (renewal->reason == FEW_KEYS)
-        return at_most(least, cards);
-    if (renewal->reason == DEEP_TREE) /* they were not used up */
-        return at_most(at_least(2 * (cards - at_most(renewal->left, cards)), at_most(least, cards)), cards);
-    if (all_effort > part && cards < weight(keys) && may_double)
-        return 2 * cards;
-    if (all_effort < part / 8)
-        return at_least(cards / 2, at_most(least, cards));
-    return cards;
-}
-
-/* How many each of them gets. If calls had to wait for cards, each gets twice as many as the section had, as calls may be about to change the keys of one
-   of them alone. */
-static uint64_t cards_of_each(struct elltree_map *map, const struct renewal *renewal, uint32_t parts) {
-    const struct section *section = renewal->sections[0];
-    const uint64_t cards = section->cards, most = UINT64_C(1000) * map->settings.renewal_microseconds;
-    const bool may_double = likely_effort(section, 2 * cards, renewal->there.count) <= most;
-    if (atomic_load(&section->spent_at))
-        return may_double && cards < at_least(weight(renewal->there.count), CARDS_FIRST) ? 2 * cards : cards;
-    return part_of_cards(cards_of_all(map, renewal, may_double), parts);
-}
-
-/* How few cards may be left of a section when its renewal begins: twice as many as calls have taken during the last one, if it is clear how many
-   these were. */
-static uint64_t next_reserve(const struct elltree_map *map, const struct renewal *renewal, uint64_t cards) {
-    uint64_t left = 0;
-    struct section *section = renewal->sections[0];
-    if (atomic_load(&section->spent_at) || elltree_slot_cards_left(slot_to_renew(&map->gate, section), &left) != ELLTREE_YES)
-        return cards / 2;
-    return at_most(at_least(2 * (renewal->left - at_most(left, renewal->left)), cards / 16), cards / 2);
-}
-
-/* The steps of a renewal. */
-
-/* Whether this thread is to renew a section, of which a caller with a place knows that it is in the directory. */
+/* Whether this thread is to renew a section, of which a caller with a place knows that it is not freed. */
 static bool take_renewal(struct section *section) { return !atomic_exchange(&section->renewing, true); }
 
-/* Ends a renewal, and wakes those who wait for it. */
-static void end_renewal(struct elltree_map *map) { advance(&map->ended); }
+/* Wakes those who wait for a renewal that has ended or was left. */
+static void tell_end(struct elltree_map *map) { advance(&map->ended); }
 
 /* Leaves a section as it is. */
 static void leave_section(struct elltree_map *map, struct section *section) {
     atomic_store(&section->renewing, false);
-    end_renewal(map);
+    tell_end(map);
 }
 
-/* Takes the section behind another along, which has few keys, if that one has no more than a section should have together with it. */
-static int32_t take_next_along(struct elltree_map *map, struct renewal *renewal) {
-    const uint64_t most = section_keys(&map->gate) / 2, count = renewal->there.count;
-    struct place *place = enter(&map->gate);
-    const uint32_t after = index_of(&map->directory, renewal->sections[0]->first) + 1;
-    struct section *next = after < map->directory.count ? map->directory.sections[after] : NULL;
-    const bool may_fit = next && (renewal->reason == FEW_KEYS || next->keys <= most), taken = may_fit && take_renewal(next);
-    int32_t code;
-    give_back(place);
-    if (!taken)
-        return ELLTREE_YES;
-    code = append_pairs(&map->gate, &renewal->there, next);
-    if (code == ELLTREE_YES && renewal->there.count <= most) {
-        renewal->sections[renewal->count++] = next;
-    } else {
-        renewal->there.count = count;
-        leave_section(map, next);
-    }
-    return code;
+/* The directory, for a thread that has a place, or that has closed the gate. */
+static inline struct directory *directory_of(struct elltree_map *map) {
+    struct directory *directory = atomic_load(&map->directory);
+    seen(&map->directory);
+    return directory;
 }
+
+/* Step 1 of a renewal. */
 
 static bool is_small(const struct elltree_map *map, uint64_t keys) { return keys <= section_keys(&map->gate) / 4; }
 
-/* Step 1: the heirs, with the pairs that the sections have, each key as it is at a moment of the call. */
-static int32_t prepare(struct elltree_map *map, struct renewal *renewal, uint64_t times) {
-    uint64_t cards;
+/* How many keys two sections have at most that are joined. */
+static uint64_t most_joined(const struct elltree_map *map) { return section_keys(&map->gate) / 4 * 3; }
+
+/* About how many keys a section has. */
+static uint64_t keys_about(const struct section *section) {
+    const int64_t about = atomic_load(&section->about);
+    return about > 0 ? (uint64_t)about : 0;
+}
+
+static struct section *section_after(const struct directory *directory, uint32_t at) {
+    return at + 1 < directory->count ? directory->sections[at + 1] : NULL;
+}
+
+static struct section *section_before(const struct directory *directory, uint32_t at) { return at > 0 ? directory->sections[at - 1] : NULL; }
+
+/* Whether a neighbor may be joined with a section of so many keys, as far as is known. */
+static bool may_fit(const struct elltree_map *map, const struct section *neighbor, uint64_t keys) {
+    return neighbor && keys_about(neighbor) + keys <= most_joined(map);
+}
+
+/* Notes how many cards are left of the section that tells how many the heirs get. */
+static void note_left(const struct elltree_map *map, struct renewal *renewal) {
+    (void)!elltree_slot_cards_left(slot_to_renew(&map->gate, renewal->sections[0]), &renewal->left);
+}
+
+/* Takes a neighbor of the section along, the next one if that may be, and else the one before. Sections that are not replaced stand side by side as long
+   as this thread has them. */
+static void take_neighbor(struct elltree_map *map, struct renewal *renewal) {
+    struct section *section = renewal->sections[0], *next, *before;
+    struct place *place = take_place(&map->gate, READS);
+    const struct directory *directory = directory_of(map);
+    const uint32_t at = index_of(directory, section->first);
+    next = section_after(directory, at);
+    before = section_before(directory, at);
+    if (may_fit(map, next, renewal->there.count) && take_renewal(next)) {
+        renewal->sections[renewal->count++] = next;
+    } else if (may_fit(map, before, renewal->there.count) && take_renewal(before)) {
+        renewal->sections[0] = before;
+        renewal->sections[renewal->count++] = section;
+    }
+    give_back(place);
+}
+
+/* Reads the pairs of the neighbor that was taken along too, and leaves it if both have too many. */
+static int32_t read_both(struct elltree_map *map, struct renewal *renewal, struct section *section) {
+    struct section *neighbor = renewal->sections[renewal->sections[0] == section];
+    const uint64_t own = renewal->there.count;
     int32_t code = read_pairs(&map->gate, &renewal->there, renewal->sections, renewal->count);
-    if (code == ELLTREE_YES && renewal->count == 1 && renewal->reason != DEEP_TREE && is_small(map, renewal->there.count))
-        code = take_next_along(map, renewal);
-    if (code == ELLTREE_YES && renewal->count == 1 && renewal->reason == FEW_KEYS)
-        code = ELLTREE_NO; /* the section stays as it is */
+    note_left(map, renewal);
+    if (code != ELLTREE_YES || renewal->there.count <= most_joined(map))
+        return code;
+    atomic_store(&neighbor->about, (int64_t)(renewal->there.count - own));
+    renewal->sections[0] = section;
+    renewal->count = 1;
+    code = read_pairs(&map->gate, &renewal->there, renewal->sections, renewal->count);
+    note_left(map, renewal);
+    leave_section(map, neighbor);
+    return code;
+}
+
+/* Reads the pairs that the sections have, each key as it is at a moment of the call: ELLTREE_NO if the section stays as it is. */
+static int32_t read_first(struct elltree_map *map, struct renewal *renewal) {
+    struct section *section = renewal->sections[0];
+    int32_t code = read_pairs(&map->gate, &renewal->there, renewal->sections, renewal->count);
+    note_left(map, renewal);
+    if (code != ELLTREE_YES || renewal->count > 1)
+        return code;
+    atomic_store(&section->about, (int64_t)renewal->there.count);
+    if (renewal->reason != DEEP_TREE && is_small(map, renewal->there.count)) {
+        take_neighbor(map, renewal);
+        if (renewal->count > 1)
+            code = read_both(map, renewal, section);
+    }
+    return code == ELLTREE_YES && renewal->count == 1 && renewal->reason == FEW_KEYS ? ELLTREE_NO : code;
+}
+
+/* Steps 1 and 2: from here on calls carry over what they change. */
+static int32_t begin(struct elltree_map *map, struct renewal *renewal) {
+    uint64_t cards;
+    int32_t code = read_first(map, renewal);
     if (code != ELLTREE_YES)
         return code;
-    cards = at_most(times * cards_of_each(map, renewal, number_of_parts(&map->gate, renewal->there.count)), ELLTREE_CARDS_MAX);
-    return make_heirs(&map->gate, &renewal->heirs, renewal->sections[0]->first, renewal->sections[renewal->count - 1]->upto, renewal->there.items,
+    cards = at_most(renewal->times * cards_of_each(map, renewal, number_of_parts(&map->gate, renewal->there.count)), ELLTREE_CARDS_MAX);
+    code = make_heirs(&map->gate, &renewal->heirs, renewal->sections[0]->first, renewal->sections[renewal->count - 1]->upto, renewal->there.items,
                       renewal->there.count, cards);
-}
-
-/* Step 2, and its opposite: calls carry the keys over that they change, or do so no more. */
-static void tell_heirs(struct renewal *renewal, struct heirs *heirs) {
+    if (code != ELLTREE_YES)
+        return code;
+    shown(&renewal->heirs->failed);
     for (uint32_t i = 0; i < renewal->count; i++)
-        atomic_store(&renewal->sections[i]->heirs, heirs);
+        atomic_store(&renewal->sections[i]->heirs, renewal->heirs);
+    renewal->stage = AWAITS_CALLS;
+    renewal->wait = (struct wait){0, 0};
+    return code;
 }
 
-/* Step 4: carries over what the sections and their heirs differ by. */
-static int32_t carry_differences(struct elltree_map *map, struct renewal *renewal) {
-    int32_t code = note_differences(renewal);
+/* Step 4: from here on the heirs have what the sections have, but for keys that calls are carrying over. */
+static int32_t compare(struct elltree_map *map, struct renewal *renewal) {
+    int32_t code = read_pairs(&map->gate, &renewal->there, renewal->sections, renewal->count);
+    if (code == ELLTREE_YES)
+        code = read_pairs(&map->gate, &renewal->copied, renewal->heirs->sections, renewal->heirs->count);
+    if (code == ELLTREE_YES)
+        code = note_differences(renewal);
     if (code == ELLTREE_YES && renewal->difference_count) {
         store_differences(&map->gate, renewal);
         code = read_pairs(&map->gate, &renewal->there, renewal->sections, renewal->count);
@@ -308,30 +137,23 @@ static int32_t carry_differences(struct elltree_map *map, struct renewal *renewa
     if (code == ELLTREE_YES)
         carry_changed(&map->gate, renewal);
     free(renewal->differences);
+    renewal->differences = NULL;
+    renewal->stage = AWAITS_PAUSE;
+    renewal->wait = (struct wait){0, 0};
+    renewal->pause = PAUSE_LEAST;
     return code;
 }
 
-/* Steps 2 to 4: from here on the heirs have what the sections have, but for keys that calls are carrying over. */
-static int32_t follow(struct elltree_map *map, struct renewal *renewal) {
-    int32_t code;
-    tell_heirs(renewal, renewal->heirs);
-    wait_for_calls(&map->gate);
-    code = read_pairs(&map->gate, &renewal->there, renewal->sections, renewal->count);
-    if (code == ELLTREE_YES)
-        code = read_pairs(&map->gate, &renewal->copied, renewal->heirs->sections, renewal->heirs->count);
-    return code == ELLTREE_YES ? carry_differences(map, renewal) : code;
-}
-
-/* What a renewal was, for the settings of the next ones, while the gate is closed. */
-static void note_renewal(struct elltree_map *map, struct renewal *renewal) {
-    const uint64_t effort = time_at_work() - renewal->began, at = now();
-    const uint64_t all_effort = effort + atomic_fetch_add(&map->all_effort, effort);
+/* What a renewal was, for the settings of the next ones, while the gate is closed and no call sees the heirs. */
+static void note_renewal(struct elltree_map *map, struct renewal *renewal, uint64_t effort) {
+    const uint64_t at = now(), all_effort = effort + atomic_fetch_add(&map->all_effort, effort);
     for (uint32_t i = 0; i < renewal->heirs->count; i++) {
         struct section *heir = renewal->heirs->sections[i];
         heir->reserve = next_reserve(map, renewal, heir->cards);
         heir->effort = effort / renewal->heirs->count;
         heir->opened_at = at;
         heir->all_effort = all_effort;
+        heir->renewals = atomic_load(&map->renewals);
         map->cards += heir->cards;
     }
     for (uint32_t i = 0; i < renewal->count; i++)
@@ -354,147 +176,234 @@ static void note_pause(struct elltree_map *map, const struct renewal *renewal, u
     map->longest_pause = at_least(map->longest_pause, pause);
 }
 
-/* Steps 5 to 8: ELLTREE_BUSY if the heirs have failed. */
-static int32_t replace(struct elltree_map *map, struct renewal *renewal) {
+/* Sees to it that there is room for the directory to come, before the gate is closed: no memory is asked for while it is. */
+static int32_t make_room(struct elltree_map *map, struct renewal *renewal) {
+    const uint64_t needed = atomic_load(&map->sections) + renewal->heirs->count;
+    if (renewal->directory && renewal->directory->room >= needed)
+        return ELLTREE_YES;
+    free(renewal->directory);
+    renewal->directory = new_directory((uint32_t)at_most(needed + needed / 16 + 8, UINT32_MAX));
+    return renewal->directory ? ELLTREE_YES : ELLTREE_NO_MEMORY;
+}
+
+/* Step 7: the heirs stand in the directory in the place of the sections. Calls that only read may see the sections or the heirs, which are alike. */
+static void replace(struct elltree_map *map, struct renewal *renewal) {
+    struct directory *old = directory_of(map), *made = renewal->directory;
+    fill_directory(made, old, index_of(old, renewal->sections[0]->first), renewal->count, renewal->heirs);
+    shown(&map->directory);
+    atomic_store(&map->directory, made);
+    for (uint32_t i = 0; i < renewal->count; i++)
+        atomic_store(&renewal->sections[i]->replaced, true);
+    renewal->directory = old;
+}
+
+/* Steps 5 to 8: ELLTREE_BUSY if the heirs have failed, and ELLTREE_NO if a call is at work, for which the gate was not closed any longer. */
+static int32_t replace_in_pause(struct elltree_map *map, struct renewal *renewal, uint64_t began) {
     const uint64_t closed_at = now();
-    int32_t code = ELLTREE_BUSY;
-    close_gate(&map->gate);
-    if (!atomic_load(&renewal->heirs->failed))
-        code = replace_sections(&map->directory, index_of(&map->directory, renewal->sections[0]->first), renewal->count, renewal->heirs);
+    int32_t code = make_room(map, renewal);
+    if (code != ELLTREE_YES)
+        return code;
+    if (renewal->wait.busy && !has_ended(&map->gate.places[renewal->wait.number], &renewal->wait.busy, CHANGES, now() + PAUSE_LEAST))
+        return ELLTREE_NO;
+    if (!close_gate(&map->gate, &renewal->wait, renewal->pause)) {
+        renewal->pause = at_most(2 * renewal->pause, PAUSE_MOST);
+        return ELLTREE_NO;
+    }
+    seen(&renewal->heirs->failed);
+    if (atomic_load(&renewal->heirs->failed))
+        code = ELLTREE_BUSY;
+    else if (directory_of(map)->count + renewal->heirs->count > renewal->directory->room)
+        code = ELLTREE_NO; /* others have parted sections meanwhile */
     if (code == ELLTREE_YES) {
-        note_renewal(map, renewal);
+        note_renewal(map, renewal, renewal->effort + time_at_work() - began);
+        replace(map, renewal);
         note_pause(map, renewal, closed_at);
     }
     open_gate(&map->gate);
     return code;
 }
 
-/* Takes back what steps 1 to 4 have done. */
-static void withdraw(struct elltree_map *map, struct renewal *renewal) {
-    tell_heirs(renewal, NULL);
-    wait_for_calls(&map->gate);
-    free_heirs(&map->gate, renewal->heirs);
+static void free_pairs(struct pairs *pairs) {
+    free(pairs->items);
+    *pairs = (struct pairs){NULL, 0, 0};
 }
 
-/* All steps. If the heirs fail, there were too few cards for what calls have changed meanwhile, and the next ones get more. */
-static int32_t replace_by_heirs(struct elltree_map *map, struct renewal *renewal) {
-    int32_t code;
-    uint64_t times = 1;
-    do {
-        code = prepare(map, renewal, times);
-        if (code != ELLTREE_YES)
-            return code;
-        code = follow(map, renewal);
-        if (code == ELLTREE_YES)
-            code = replace(map, renewal);
-        if (code != ELLTREE_YES)
-            withdraw(map, renewal);
-        times *= 2;
-    } while (code == ELLTREE_BUSY);
-    return code;
+/* The sections are no longer the map's, and their memory waits for the calls that still read them. */
+static void wait_for_reads(struct elltree_map *map, struct renewal *renewal) {
+    free_pairs(&renewal->there);
+    free_pairs(&renewal->copied);
+    for (uint32_t i = 0; i < renewal->count; i++)
+        atomic_fetch_add(&map->waiting, renewal->sections[i]->cards);
+    renewal->stage = AWAITS_READS;
+    renewal->wait = (struct wait){0, 0};
+    tell_end(map);
 }
 
-/* Renews a section, which this thread has taken for that, and returns how many more there are for it. If memory is refused, all is as it was. */
-static int32_t renew_section(struct elltree_map *map, struct section *section, enum reason reason, uint32_t *more) {
-    struct renewal renewal = {.sections = {section}, .count = 1, .reason = reason, .began = time_at_work()};
-    int32_t code = elltree_slot_cards_left(slot_to_renew(&map->gate, section), &renewal.left);
-    atomic_store(&section->excess, 0); /* also if it is refused: the next try is to be as long after it as after a renewal */
-    *more = 0;
-    if (code == ELLTREE_YES)
-        code = replace_by_heirs(map, &renewal);
-    for (uint32_t i = 0; i < renewal.count; i++)
+/* Takes back what steps 1 to 4 have done: calls carry over no more. */
+static void begin_to_take_back(struct renewal *renewal, int32_t code) {
+    for (uint32_t i = 0; i < renewal->count; i++)
+        atomic_store(&renewal->sections[i]->heirs, NULL);
+    renewal->code = code;
+    renewal->stage = TAKES_BACK;
+    renewal->wait = (struct wait){0, 0};
+}
+
+/* There were too few cards for what calls have changed meanwhile, and the next heirs get more. */
+static void begin_anew(struct renewal *renewal) {
+    renewal->code = ELLTREE_YES;
+    renewal->times *= 2;
+    renewal->stage = BEGINS;
+}
+
+/* Frees the old sections. */
+static void end_replaced(struct elltree_map *map, struct renewal *renewal) {
+    for (uint32_t i = 0; i < renewal->count; i++) {
+        atomic_fetch_sub(&map->waiting, renewal->sections[i]->cards);
+        free_section(&map->gate, renewal->sections[i]);
+    }
+    free(renewal->heirs);
+    renewal->stage = IS_DONE;
+}
+
+/* Leaves the sections as they are. */
+static void end_refused(struct elltree_map *map, struct renewal *renewal, int32_t code) {
+    for (uint32_t i = 0; i < renewal->count; i++)
+        atomic_store(&renewal->sections[i]->renewing, false);
+    renewal->code = code;
+    renewal->stage = IS_DONE;
+    tell_end(map);
+}
+
+static void free_renewal(struct renewal *renewal) {
+    free(renewal->directory);
+    free_pairs(&renewal->there);
+    free_pairs(&renewal->copied);
+    free(renewal);
+}
+
+/* Waits a while for the calls under way that change keys: whether they have ended. */
+static bool await_changes(struct elltree_map *map, struct renewal *renewal) {
+    return await_calls(&map->gate, &renewal->wait, CHANGES, now() + PAUSE_LEAST);
+}
+
+/* The next steps of a renewal: whether they are done, or else some call has not ended in time. If memory is refused, all is to be as it was. */
+static bool make_steps(struct elltree_map *map, struct renewal *renewal, uint64_t began) {
+    int32_t code = ELLTREE_YES;
+    switch (renewal->stage) {
+    case BEGINS:
+        code = begin(map, renewal);
+        if (code != ELLTREE_YES)
+            end_refused(map, renewal, code == ELLTREE_NO ? ELLTREE_YES : code);
+        return true;
+    case AWAITS_CALLS:
+        if (!await_changes(map, renewal))
+            return false;
+        code = compare(map, renewal);
+        break;
+    case AWAITS_PAUSE:
+        code = replace_in_pause(map, renewal, began);
         if (code == ELLTREE_YES)
-            free_section(&map->gate, renewal.sections[i]);
+            wait_for_reads(map, renewal);
+        break;
+    case AWAITS_READS:
+        if (!await_calls(&map->gate, &renewal->wait, READS, 0))
+            return false;
+        end_replaced(map, renewal);
+        break;
+    default:
+        if (!await_changes(map, renewal))
+            return false;
+        free_heirs(&map->gate, renewal->heirs);
+        renewal->heirs = NULL;
+        if (renewal->code == ELLTREE_BUSY)
+            begin_anew(renewal);
         else
-            atomic_store(&renewal.sections[i]->renewing, false);
-    if (code == ELLTREE_YES && renewal.heirs->count > renewal.count)
-        *more = renewal.heirs->count - renewal.count;
-    if (code == ELLTREE_YES)
-        free(renewal.heirs);
-    free(renewal.there.items);
-    free(renewal.copied.items);
-    end_renewal(map);
+            end_refused(map, renewal, renewal->code);
+    }
+    if (code < 0)
+        begin_to_take_back(renewal, code);
+    return code != ELLTREE_NO;
+}
+
+/* Goes on with a renewal as far as it does not have to wait long for a call under way: whether it is done. */
+static bool go_on(struct elltree_map *map, struct renewal *renewal) {
+    const uint64_t began = time_at_work();
+    bool goes_on = true;
+    while (goes_on && renewal->stage != IS_DONE)
+        goes_on = make_steps(map, renewal, began);
+    renewal->effort += time_at_work() - began;
+    return renewal->stage == IS_DONE;
+}
+
+/* Renewals that were left. */
+
+/* Leaves a renewal to the next call that changes a key and looks whether there is one. Whoever waits for it looks too. */
+static void leave_renewal(struct elltree_map *map, struct renewal *renewal) {
+    const bool is_waited_for = renewal->stage != AWAITS_READS;
+    shown(&map->left);
+    renewal->next = atomic_load(&map->left);
+    while (!atomic_compare_exchange_strong(&map->left, &renewal->next, renewal)) {
+    }
+    if (is_waited_for)
+        tell_end(map);
+}
+
+/* Goes on with a renewal until the sections are replaced, or it is refused, however long that takes, and leaves what is to be freed then. */
+static int32_t go_on_to_the_end(struct elltree_map *map, struct renewal *renewal) {
+    int32_t code;
+    while (!go_on(map, renewal) && renewal->stage != AWAITS_READS)
+        rest(UINT32_MAX);
+    code = renewal->code;
+    if (renewal->stage == IS_DONE)
+        free_renewal(renewal);
+    else
+        leave_renewal(map, renewal);
     return code;
 }
 
-/* Whether a section has few keys, by a range with room for one more. */
-static bool has_few_keys(const struct elltree_map *map, struct section *section) {
-    const size_t room = (size_t)(section_keys(&map->gate) / 4 + 1);
-    struct elltree_pair *few = malloc(room * sizeof *few);
-    uint64_t next;
-    size_t count = room;
-    const int32_t code = few ? elltree_slot_range(slot_to_renew(&map->gate, section), 0, UINT64_MAX, few, room, &count, &next) : ELLTREE_NO_MEMORY;
-    free(few);
-    return code == ELLTREE_YES && is_small(map, count);
+/* Goes on with a renewal, or leaves it. */
+static int32_t go_on_or_leave(struct elltree_map *map, struct renewal *renewal) {
+    int32_t code = ELLTREE_YES;
+    if (go_on(map, renewal)) {
+        code = renewal->code;
+        free_renewal(renewal);
+    } else {
+        leave_renewal(map, renewal);
+    }
+    return code;
 }
 
-/* Joins some section with the one behind it, if it has few keys. The multiples of this number are spread evenly over the sections. */
-static void sweep(struct elltree_map *map) {
-    uint32_t more;
-    const uint32_t at = UINT32_C(2654435769) * atomic_fetch_add(&map->swept, 1);
-    struct place *place = enter(&map->gate);
-    struct section *section = map->directory.sections[(uint64_t)at * map->directory.count >> 32];
-    const bool taken = take_renewal(section);
-    give_back(place);
-    if (taken && has_few_keys(map, section))
-        (void)!renew_section(map, section, FEW_KEYS, &more);
-    else if (taken)
+static bool is_of(const struct renewal *renewal, const struct section *section) {
+    return renewal->stage != AWAITS_READS && (renewal->sections[0] == section || (renewal->count > 1 && renewal->sections[1] == section));
+}
+
+/* Goes on with all renewals that were left, as far as each does not have to wait, but with that of a section to its end, if it is among them: whether it
+   is. */
+static bool take_up(struct elltree_map *map, const struct section *section) {
+    struct renewal *it = atomic_load(&map->left) ? atomic_exchange(&map->left, NULL) : NULL, *next, *wanted = NULL;
+    seen(&map->left);
+    for (; it; it = next) {
+        next = it->next;
+        if (section && is_of(it, section))
+            wanted = it;
+        else
+            (void)!go_on_or_leave(map, it);
+    }
+    if (wanted)
+        (void)!go_on_to_the_end(map, wanted);
+    return wanted != NULL;
+}
+
+/* Begins a renewal of a section that this thread has taken for that, and leaves it where it would have to wait, unless the caller has to wait for it. */
+static int32_t renew_section(struct elltree_map *map, struct section *section, enum reason reason, bool waits) {
+    struct renewal *renewal = malloc(sizeof *renewal);
+    if (!renewal) {
         leave_section(map, section);
-}
-
-/* Renews a section that this thread has taken for that. For each section that there is more after it, the thread looks at two others, whether they have
-   become small, so that at most about half of all sections are. */
-static int32_t renew(struct elltree_map *map, struct section *section, enum reason reason) {
-    uint32_t more;
-    const int32_t code = renew_section(map, section, reason, &more);
-    for (more *= 2; more; more--)
-        sweep(map);
-    return code;
-}
-
-/* What calls find. */
-
-/* Weighs a call by a find of its key, which nothing hinders: whether few cards are left, or the steps beyond those of a tree that is not deep, of all
-   calls since the section was made, are worth a renewal. */
-static enum reason weigh(struct section *section, struct elltree_slot *slot, uint64_t key) {
-    uint64_t before = 0, after = 0, left = 0, value, excess;
-    if (elltree_slot_steps(slot, &before) != ELLTREE_YES || elltree_slot_find(slot, key, &value) < 0 ||
-        elltree_slot_steps(slot, &after) != ELLTREE_YES || elltree_slot_cards_left(slot, &left) != ELLTREE_YES)
-        return NO_REASON;
-    if (left <= section->reserve)
-        return FEW_CARDS;
-    if (after - before <= section->allowed)
-        return NO_REASON;
-    excess = SAMPLE * (after - before - section->allowed);
-    excess += atomic_fetch_add_explicit(&section->excess, excess, memory_order_relaxed);
-    return excess > at_least(section->effort / STEP_NANOSECONDS, STEPS_LEAST) ? DEEP_TREE : NO_REASON;
-}
-
-/* Notes when the cards of a section were found spent first. */
-static void note_spent(struct section *section) {
-    uint64_t none = 0;
-    if (!atomic_load(&section->spent_at))
-        atomic_compare_exchange_strong(&section->spent_at, &none, now());
-}
-
-/* Gives the place back, and sees to it that the section gets fresh cards: by this thread, or by waiting for the one that renews it. */
-static int32_t get_fresh_cards(struct elltree_map *map, struct place *place, struct section *section) {
-    const uint32_t seen = atomic_load(&map->ended);
-    const bool taken = take_renewal(section);
-    note_spent(section);
-    give_back(place);
-    if (taken)
-        return renew(map, section, FEW_CARDS);
-    wait_while(&map->ended, seen);
-    return ELLTREE_YES;
-}
-
-/* Gives the place back, and renews the section if there is a reason and no other thread does so. If memory is refused, the map goes on as it is. */
-static void give_back_and_renew(struct elltree_map *map, struct place *place, struct section *section, enum reason reason) {
-    const bool taken = reason != NO_REASON && take_renewal(section);
-    give_back(place);
-    if (taken)
-        (void)!renew(map, section, reason);
+        return ELLTREE_NO_MEMORY;
+    }
+    *renewal = (struct renewal){.sections = {section}, .count = 1, .reason = reason, .stage = BEGINS, .code = ELLTREE_YES, .times = 1};
+    atomic_store(&section->excess, 0); /* also if it is refused: the next try is to be as long after it as after a renewal */
+    return waits ? go_on_to_the_end(map, renewal) : go_on_or_leave(map, renewal);
 }
 
 #endif

@@ -3,7 +3,6 @@
 #define ELLTREE_MAP_SECTIONS_H
 #include "../elltree_map.h"
 #include "gate.h"
-#include <string.h>
 
 enum {
     SECTION_KEYS = 4096, /* a section with more keys is parted at its next renewal, into parts of half as many */
@@ -17,18 +16,26 @@ struct seat {
     _Alignas(LINE) struct elltree_slot slot;
 };
 
-/* What calls read of a section is written before they see it, but for `heirs`. `renewing` guards what is written later. */
+/* Why a section is renewed. */
+enum reason { NO_REASON, FEW_CARDS, DEEP_TREE, FEW_KEYS, MANY_KEYS, MANY_CARDS, WANTED };
+
+/* What calls read of a section is written before they see it, but for `heirs`, `replaced` and `due`. `renewing` guards what is written later, but for
+   what calls count. */
 struct section {
     _Alignas(LINE) uint64_t first;        /* its least key */
     uint64_t upto;                        /* its keys are below this, or without end if it is UINT64_MAX */
     _Atomic(struct heirs *) heirs;        /* the sections that are to replace it, if it is being renewed */
+    _Atomic bool replaced;                /* whether they have */
+    _Atomic uint32_t due;                 /* the reason of a renewal that a call has left to others */
     uint64_t allowed;                     /* steps that a find takes if the tree is not deep */
     uint64_t reserve;                     /* how few cards are left when a renewal is due */
     uint64_t cards, keys, effort;         /* its cards, the keys that it began with, and the nanoseconds of a processor that it took to make it */
     uint64_t opened_at, all_effort;       /* when it was made, and what all renewals of the map had taken by then */
+    uint64_t renewals;                    /* how many the map had by then */
     _Alignas(LINE) _Atomic bool renewing; /* whether a thread renews it, or has renewed it */
     _Atomic uint64_t excess;              /* steps beyond the allowed ones since it was made */
     _Atomic uint64_t spent_at;            /* when a call found its cards spent, or 0 */
+    _Atomic int64_t about;                /* how many keys it has, as far as the calls tell that were weighed */
     struct seat seats[];                  /* one for each place, and the last for the thread that renews the section */
 };
 
@@ -39,21 +46,12 @@ struct heirs {
     struct section *sections[];
 };
 
-/* Written while the gate is closed and no call is at work, so that calls read it without more ado. */
+/* Is never written once calls see it. */
 struct directory {
     uint32_t count, room;
-    uint64_t *firsts; /* the least keys of the sections, ascending, so that a search has them side by side */
     struct section **sections;
+    uint64_t firsts[]; /* the least keys of the sections, ascending, so that a search has them side by side */
 };
-
-/* What a clock says, in nanoseconds. */
-static uint64_t time_of(clockid_t clock) {
-    struct timespec time;
-    clock_gettime(clock, &time);
-    return (uint64_t)time.tv_sec * UINT64_C(1000000000) + (uint64_t)time.tv_nsec;
-}
-
-static uint64_t now(void) { return time_of(CLOCK_MONOTONIC); }
 
 /* The time that this thread had a processor, so that it does not matter how long it had to wait for one. */
 static uint64_t time_at_work(void) { return time_of(CLOCK_THREAD_CPUTIME_ID); }
@@ -85,19 +83,23 @@ static uint64_t allowed_steps(uint64_t keys) {
     return 12 + 3 * (levels + levels / 2);
 }
 
+/* How many seats a section has. */
+static uint64_t number_of_seats(const struct gate *gate) { return gate->mask + UINT64_C(2); }
+
+static inline struct elltree_slot *slot_of(struct section *section, const struct place *place) { return &section->seats[place->number].slot; }
+
 /* The slot that only the thread has that renews the section. */
 static struct elltree_slot *slot_to_renew(const struct gate *gate, struct section *section) { return &section->seats[gate->mask + UINT64_C(1)].slot; }
 
 /* Opens a tree with these pairs, with a slot for each seat. If it is refused, no slot holds anything. */
-static int32_t open_seats(struct seat *seats, uint64_t number_of_seats, const struct elltree_pair *pairs, size_t count, uint64_t cards) {
+static int32_t open_seats(struct seat *seats, uint64_t seat_count, const struct elltree_pair *pairs, size_t count, uint64_t cards) {
     static const struct elltree_pair no_pair[1] = {{0, 0}};
     const uint64_t number = __atomic_add_fetch(&elltree_trees, 1, __ATOMIC_SEQ_CST);
     int32_t code;
-    memset(seats, 0, number_of_seats * sizeof *seats);
     code = elltree_slot_open_shared(&seats[0].slot, count ? pairs : no_pair, count, cards, number);
-    for (uint64_t i = 1; i < number_of_seats && code == ELLTREE_YES; i++)
+    for (uint64_t i = 1; i < seat_count && code == ELLTREE_YES; i++)
         code = elltree_slot_another(&seats[0].slot, &seats[i].slot);
-    for (uint64_t i = 0; i < number_of_seats && code != ELLTREE_YES; i++)
+    for (uint64_t i = 0; i < seat_count && code != ELLTREE_YES; i++)
         elltree_slot_free(&seats[i].slot); /* one that holds nothing says so, and that is all */
     return code;
 }
@@ -105,28 +107,27 @@ static int32_t open_seats(struct seat *seats, uint64_t number_of_seats, const st
 /* A section of these keys, which begins with these pairs. If it is refused, nothing is made. */
 static int32_t make_section(const struct gate *gate, struct section **made, uint64_t first, uint64_t upto, const struct elltree_pair *pairs,
                             size_t count, uint64_t cards) {
-    const uint64_t number_of_seats = gate->mask + UINT64_C(2);
-    struct section *section = aligned_alloc(LINE, sizeof *section + number_of_seats * sizeof *section->seats);
-    const int32_t code = section ? open_seats(section->seats, number_of_seats, pairs, count, cards) : ELLTREE_NO_MEMORY;
+    struct section *section = new_lines(sizeof *section + number_of_seats(gate) * sizeof *section->seats);
+    const int32_t code = section ? open_seats(section->seats, number_of_seats(gate), pairs, count, cards) : ELLTREE_NO_MEMORY;
     if (code != ELLTREE_YES) {
-        free(section);
+        free_lines(section);
         return code;
     }
-    memset(section, 0, sizeof *section);
     section->first = first;
     section->upto = upto;
     section->allowed = allowed_steps(count + cards);
     section->reserve = cards / 4;
     section->cards = cards;
     section->keys = count;
+    atomic_store(&section->about, (int64_t)count);
     *made = section;
     return code;
 }
 
 static void free_section(const struct gate *gate, struct section *section) {
-    for (uint64_t i = 0; i < gate->mask + UINT64_C(2); i++)
+    for (uint64_t i = 0; i < number_of_seats(gate); i++)
         elltree_slot_free(&section->seats[i].slot);
-    free(section);
+    free_lines(section);
 }
 
 static void free_heirs(const struct gate *gate, struct heirs *heirs) {
@@ -171,39 +172,37 @@ static struct section *heir_of(const struct heirs *heirs, uint64_t key) {
     return heirs->sections[index];
 }
 
-/* Makes room for so many sections. */
-static int32_t make_room(struct directory *directory, uint32_t count) {
-    const size_t room = count > UINT32_MAX / 2 ? UINT32_MAX : 2 * (size_t)count;
-    uint64_t *firsts;
-    struct section **sections;
-    if (count <= directory->room)
-        return ELLTREE_YES;
-    firsts = realloc(directory->firsts, room * sizeof *firsts);
-    if (firsts)
-        directory->firsts = firsts;
-    sections = realloc(directory->sections, room * sizeof *sections);
-    if (sections)
-        directory->sections = sections;
-    if (!firsts || !sections)
-        return ELLTREE_NO_MEMORY;
-    directory->room = (uint32_t)room;
-    return ELLTREE_YES;
+/* An empty directory with room for so many sections, or null. */
+static struct directory *new_directory(uint32_t room) {
+    struct directory *made = malloc(sizeof *made + room * (sizeof *made->firsts + sizeof *made->sections));
+    if (!made)
+        return NULL;
+    made->count = 0;
+    made->room = room;
+    made->sections = (struct section **)(made->firsts + room);
+    return made;
 }
 
-/* Puts sections in the place of others, which stand side by side. If memory is refused, the directory is as it was. */
-static int32_t replace_sections(struct directory *directory, uint32_t at, uint32_t count, const struct heirs *heirs) {
-    const uint32_t after = directory->count - at - count, now_there = directory->count - count + heirs->count;
-    const int32_t code = make_room(directory, now_there);
-    if (code != ELLTREE_YES)
-        return code;
-    memmove(directory->firsts + at + heirs->count, directory->firsts + at + count, after * sizeof *directory->firsts);
-    memmove(directory->sections + at + heirs->count, directory->sections + at + count, after * sizeof *directory->sections);
+/* Adds some of the sections of another directory. */
+static void append_sections(struct directory *made, const struct directory *before, uint32_t from, uint32_t upto) {
+    memcpy(made->firsts + made->count, before->firsts + from, (upto - from) * sizeof *made->firsts);
+    memcpy(made->sections + made->count, before->sections + from, (upto - from) * sizeof *made->sections);
+    made->count += upto - from;
+}
+
+static void append_heirs(struct directory *made, const struct heirs *heirs) {
     for (uint32_t i = 0; i < heirs->count; i++) {
-        directory->firsts[at + i] = heirs->sections[i]->first;
-        directory->sections[at + i] = heirs->sections[i];
+        made->firsts[made->count] = heirs->sections[i]->first;
+        made->sections[made->count++] = heirs->sections[i];
     }
-    directory->count = now_there;
-    return code;
+}
+
+/* Fills a directory with what another one has, but with heirs in the place of some sections, which stand side by side. */
+static void fill_directory(struct directory *made, const struct directory *before, uint32_t at, uint32_t count, const struct heirs *heirs) {
+    made->count = 0;
+    append_sections(made, before, 0, at);
+    append_heirs(made, heirs);
+    append_sections(made, before, at + count, before->count);
 }
 
 #endif

@@ -1,4 +1,4 @@
-"""A map from 64-bit keys to 64-bit values that threads share without locks.
+"""An ordered map from 64-bit keys to 64-bit values for many threads.
 
     m = elltree.Map({2: 20})   # one map, which any thread uses at any time like a dict of numbers
     m[3] = 30
@@ -31,7 +31,7 @@ A handle can be in one call at a time: a second call is refused meanwhile. If th
 the handle is free for the next one, but you can't tell whether the interrupted call took effect.
 
 A number that does not fit into 64 bits raises OverflowError, and anything that is not an integer raises TypeError. Every other refusal raises
-Refused, whose code is a Code.
+Refused, whose code is a Code. What a Map has from a dict finds such a key absent, as a dict does: `in`, get, [], pop and del.
 
 The package needs Python 3.10 or later. If the headers of Python were there when it was installed, a compiled module in it contains the library. If
 not, or if the environment variable ELLTREE_PURE or ELLTREE_LIBRARY is not empty, each call goes through ctypes, which takes many times as long. The
@@ -47,6 +47,7 @@ from ._codes import (
     BUSY,
     CLOSED,
     FOREIGN,
+    FORKED,
     IN_CALL,
     NO,
     NO_MEMORY,
@@ -79,6 +80,7 @@ __all__ = [
     "BUSY",
     "CLOSED",
     "FOREIGN",
+    "FORKED",
     "IN_CALL",
     "KEY_MAX",
     "NO",

@@ -2,6 +2,7 @@
 
 from __future__ import annotations
 
+import numbers
 import operator
 from collections.abc import Iterable, Mapping
 from typing import SupportsIndex
@@ -28,6 +29,30 @@ def whole(number: SupportsIndex, bits: int, what: str) -> int:
 
 def as_key(key: SupportsIndex) -> int:
     return whole(key, 64, "a key")
+
+
+def like_key(given: object) -> int:
+    """Returns the key of a map that is equal to an object, as a dict would find it: that of an int, of what stands for one, or of a number such as
+    1.0. If there is none, returns NO_END, which no map has as a key. What has no hash raises TypeError."""
+    try:
+        number = operator.index(given)  # type: ignore[arg-type]
+    except TypeError:
+        if hasattr(type(given), "__index__"):
+            raise
+        hash(given)  # raises where a dict would
+        number = _equal_int(given)
+    return number if 0 <= number <= KEY_MAX else NO_END
+
+
+def _equal_int(given: object) -> int:
+    """Returns the int that is equal to an object that is none, or NO_END."""
+    if not isinstance(given, numbers.Number):
+        return NO_END
+    try:
+        number = int(given.real if isinstance(given, complex) else given)  # type: ignore[call-overload]
+    except (TypeError, ValueError, OverflowError):
+        return NO_END
+    return number if number == given else NO_END
 
 
 def as_value(value: SupportsIndex) -> int:

@@ -9,11 +9,10 @@ import array
 import collections
 import ctypes
 import itertools
-import operator
 from collections.abc import Callable
 from typing import SupportsIndex
 
-from ._arguments import KEY_MAX, as_addend, as_cards, as_key, as_tries, as_value
+from ._arguments import KEY_MAX, as_addend, as_cards, as_key, as_tries, as_value, like_key
 from ._codes import BUSY, CLOSED, IN_CALL, NO_ROOM, OTHER_VALUE, SAME, YES, Refused, answer
 from ._functions import Function, MapCounts, MapSettings, Pair, Slot, free_map, group_calls, map_calls, slot_calls, tree_numbers
 
@@ -92,10 +91,10 @@ class _Core:
         self._call(name, count)
         return count.value
 
-    def _pair(self, name: str, key: int) -> tuple[int, int] | None:
+    def _pair(self, name: str, *args: object) -> tuple[int, int] | None:
         """Returns the pair that a call of the library finds, or None."""
         found, value = ctypes.c_uint64(), ctypes.c_uint64()
-        return (found.value, value.value) if self._call(name, key, found, value) else None
+        return (found.value, value.value) if self._call(name, *args, found, value) else None
 
     def range(self, start: int, stop: int, room: int) -> tuple[list[tuple[int, int]], int]:
         """Returns the first pairs of a range, as many as there is room for, and where to go on."""
@@ -266,7 +265,7 @@ def renew_all_shared(cores: list[HandleCore], cards: SupportsIndex) -> None:
 
 
 class MapCore(_Core):
-    """What the library keeps of a map: nothing in a forked child."""
+    """What the library keeps of a map."""
 
     __slots__ = ("_at",)
 
@@ -279,7 +278,7 @@ class MapCore(_Core):
         answer(map_calls["from_sorted"](at, *_pair_array(pairs), settings))
         self._at = at.value
 
-    def __del__(self, free: Callable[[int | None], None] = free_map) -> None:
+    def __del__(self, free: Callable[[int | None], int] = free_map) -> None:
         # Whoever is in a call has the core too, so that no call is under way.
         at, self._at = getattr(self, "_at", None), None
         free(at)
@@ -287,24 +286,43 @@ class MapCore(_Core):
     def _call(self, name: str, *args: object) -> bool:
         return answer(map_calls[name](self._at, *args))
 
-    def forget(self) -> None:
-        """Has calls be refused, in a forked child. What the parent has is not touched."""
-        self._at = None
-
     def find(self, key: SupportsIndex) -> int | None:
         return self._value_told("get", as_key(key))
 
-    def get(self, key: SupportsIndex, default: object) -> object:
-        """Returns the value of a key, or the default if it is absent or no key."""
-        key = operator.index(key)
-        value = self._value_told("get", key) if 0 <= key <= KEY_MAX else None
+    def _value_or(self, name: str, given: object, default: object) -> object:
+        """Returns the value that a call on a key tells, or the default if the key is absent or no key."""
+        key = like_key(given)
+        value = self._value_told(name, key) if key <= KEY_MAX else None
         return default if value is None else value
+
+    def get(self, key: object, default: object) -> object:
+        return self._value_or("get", key, default)
+
+    def take(self, key: object, default: object) -> object:
+        return self._value_or("remove", key, default)
 
     def insert(self, key: SupportsIndex, value: SupportsIndex) -> bool:
         return self._call("insert", as_key(key), as_value(value))
 
     def put(self, key: SupportsIndex, value: SupportsIndex) -> int | None:
         return self._value_told("put", as_key(key), as_value(value))
+
+    def remove_if(self, key: SupportsIndex, value: SupportsIndex) -> int | None:
+        key, value = as_key(key), as_value(value)
+        found = ctypes.c_uint64(value)
+        code = map_calls["remove_if"](self._at, key, value, found)
+        return found.value if answer(code) or code == OTHER_VALUE else None
+
+    def get_or_insert(self, key: SupportsIndex, value: SupportsIndex) -> tuple[int, bool]:
+        there = ctypes.c_uint64()
+        is_added = self._call("get_or_insert", as_key(key), as_value(value), there)
+        return there.value, is_added
+
+    def pop_first(self) -> tuple[int, int] | None:
+        return self._pair("pop_first")
+
+    def pop_last(self) -> tuple[int, int] | None:
+        return self._pair("pop_last")
 
     def delete(self, key: SupportsIndex) -> bool:
         return self._call("delete", as_key(key))

@@ -30,6 +30,7 @@ class Code(enum.IntEnum):
     IN_CALL = -15
     TOO_MANY_HANDLES = -16
     SHARED_KEYS = -17
+    FORKED = -18
 
     # Codes are written as numbers, in Python 3.10 too.
     __str__ = int.__repr__
@@ -56,6 +57,7 @@ SAME = Code.SAME
 IN_CALL = Code.IN_CALL
 TOO_MANY_HANDLES = Code.TOO_MANY_HANDLES
 SHARED_KEYS = Code.SHARED_KEYS
+FORKED = Code.FORKED
 
 _NUMBERS = frozenset(Code)
 

@@ -4,13 +4,14 @@ from __future__ import annotations
 
 from typing import TYPE_CHECKING
 
+from ._arguments import like_key
 from ._codes import answer
 from ._library import compiled
 
 if TYPE_CHECKING or compiled is None:
     from ._by_ctypes import HandleCore, MapCore, renew_all, renew_all_shared
 else:
-    compiled.answer_by(answer)
+    compiled.call_back(answer, like_key)
     HandleCore, MapCore = compiled.HandleCore, compiled.MapCore
     renew_all, renew_all_shared = compiled.renew_all, compiled.renew_all_shared
 

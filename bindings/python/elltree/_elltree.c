@@ -20,8 +20,11 @@ static const struct number_kind *kind_of(char letter) {
     return kind;
 }
 
+/* Raises what is wrong with an object that stands for no number, in place of the exception that is set. */
 static void raise_no_number(PyObject *given, const char *name) {
-    PyObject *type = PyObject_GetAttrString((PyObject *)Py_TYPE(given), "__name__");
+    PyObject *type;
+    PyErr_Clear(); /* no attribute is asked for while one is set */
+    type = PyObject_GetAttrString((PyObject *)Py_TYPE(given), "__name__");
     if (type)
         PyErr_Format(PyExc_TypeError, "%s has to be an int, not %S", name, type);
     Py_XDECREF(type);
@@ -130,7 +133,7 @@ struct elltree_pair *pairs_in(PyObject *list, size_t *count) {
 
 /* What calls tell. */
 
-/* Raises the exception of a code, by the function that answer_by was given. */
+/* Raises the exception of a code, by the function that call_back was given. */
 PyObject *refuse(struct module_state *state, int32_t code) {
     PyObject *said = state && state->answer ? PyObject_CallFunction(state->answer, "i", (int)code) : NULL;
     Py_XDECREF(said);
@@ -205,12 +208,16 @@ void end_object(PyObject *core) {
 
 /* The module. */
 
-/* Notes the function that raises the exception of a code. */
-static PyObject *answer_by(PyObject *module, PyObject *answer) {
+/* Notes the functions of Python that the module calls: the one that raises the exception of a code, and the one that tells which key an object equals. */
+static PyObject *call_back(PyObject *module, PyObject *given) {
     struct module_state *state = PyModule_GetState(module);
-    PyObject *old = state->answer;
+    PyObject *answer, *like_key, *old_answer = state->answer, *old_like_key = state->like_key;
+    if (!PyArg_ParseTuple(given, "OO", &answer, &like_key))
+        return NULL;
     state->answer = Py_NewRef(answer);
-    Py_XDECREF(old);
+    state->like_key = Py_NewRef(like_key);
+    Py_XDECREF(old_answer);
+    Py_XDECREF(old_like_key);
     Py_RETURN_NONE;
 }
 
@@ -225,7 +232,7 @@ static PyObject *code_text(PyObject *module, PyObject *given) {
 static PyMethodDef module_functions[] = {
     {"renew_all", FAST(renew_all), METH_FASTCALL, NULL},
     {"renew_all_shared", FAST(renew_all_shared), METH_FASTCALL, NULL},
-    {"answer_by", answer_by, METH_O, NULL},
+    {"call_back", call_back, METH_VARARGS, NULL},
     {"code_text", code_text, METH_O, NULL},
     {NULL, NULL, 0, NULL},
 };
@@ -242,6 +249,7 @@ static int start_module(PyObject *module) {
 static int visit_module(PyObject *module, visitproc visit, void *arg) {
     struct module_state *state = PyModule_GetState(module);
     Py_VISIT(state->answer);
+    Py_VISIT(state->like_key);
     Py_VISIT(state->handle_type);
     Py_VISIT(state->map_type);
     return 0;
@@ -250,6 +258,7 @@ static int visit_module(PyObject *module, visitproc visit, void *arg) {
 static int clear_module(PyObject *module) {
     struct module_state *state = PyModule_GetState(module);
     Py_CLEAR(state->answer);
+    Py_CLEAR(state->like_key);
     Py_CLEAR(state->handle_type);
     Py_CLEAR(state->map_type);
     return 0;

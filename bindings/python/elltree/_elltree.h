@@ -32,7 +32,8 @@
 #define FAST(function) (PyCFunction)(void (*)(void)) function
 
 struct module_state {
-    PyObject *answer; /* the function of _codes.py that raises the exception of a code */
+    PyObject *answer;   /* the function of _codes.py that raises the exception of a code */
+    PyObject *like_key; /* the function of _arguments.py that tells the key that is equal to an object */
     PyObject *handle_type;
     PyObject *map_type;
 };

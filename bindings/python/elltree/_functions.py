@@ -87,6 +87,10 @@ _OF_MAPS = {
     "delete": [c_void_p, c_uint64],
     "compare_exchange": [c_void_p, c_uint64, POINTER(c_uint64), c_uint64],
     "fetch_add": [c_void_p, c_uint64, c_uint64, POINTER(c_uint64)],
+    "remove_if": [c_void_p, c_uint64, c_uint64, POINTER(c_uint64)],
+    "get_or_insert": [c_void_p, c_uint64, c_uint64, POINTER(c_uint64)],
+    "pop_first": [c_void_p, POINTER(c_uint64), POINTER(c_uint64)],
+    "pop_last": [c_void_p, POINTER(c_uint64), POINTER(c_uint64)],
     "range": [c_void_p, c_uint64, c_uint64, POINTER(Pair), c_size_t, POINTER(c_size_t), POINTER(c_uint64)],
     "next_at_least": [c_void_p, c_uint64, POINTER(c_uint64), POINTER(c_uint64)],
     "last_at_most": [c_void_p, c_uint64, POINTER(c_uint64), POINTER(c_uint64)],
@@ -120,7 +124,7 @@ group_calls = _functions(_loaded, "elltree_slots_", _OF_GROUPS)
 map_calls = _functions(_loaded, "elltree_map_", _OF_MAPS)
 
 free_map = _loaded.elltree_map_free
-free_map.argtypes, free_map.restype = [c_void_p], None
+free_map.argtypes, free_map.restype = [c_void_p], c_int32
 
 _write_text = _loaded.elltree_code_text
 _write_text.argtypes, _write_text.restype = [c_int32, c_char_p, c_size_t], c_size_t

@@ -3,17 +3,26 @@
 from __future__ import annotations
 
 import collections.abc
-import os
-import weakref
 from collections.abc import Callable, Iterator
 from typing import Any, NoReturn, SupportsIndex, TypeVar, overload
 
-from ._arguments import Pairs, as_cards, as_key, as_value, pair_list, whole
+from ._arguments import Pairs, as_cards, pair_list, whole
 from ._codes import Refused
 from ._cores import MapCore
 from ._ordered import Ordered
 
 _Default = TypeVar("_Default")
+
+
+class _Keys(collections.abc.KeysView[int]):
+    """The keys of a map, in ascending order, or in descending order by reversed()."""
+
+    __slots__ = ()
+
+    _mapping: Map
+
+    def __reversed__(self) -> Iterator[int]:
+        return reversed(self._mapping)
 
 
 class _Items(collections.abc.ItemsView[int, int]):
@@ -25,6 +34,9 @@ class _Items(collections.abc.ItemsView[int, int]):
 
     def __iter__(self) -> Iterator[tuple[int, int]]:
         return self._mapping.range()
+
+    def __reversed__(self) -> Iterator[tuple[int, int]]:
+        return self._mapping._backwards()
 
 
 class _Values(collections.abc.ValuesView[int]):
@@ -40,18 +52,8 @@ class _Values(collections.abc.ValuesView[int]):
     def __iter__(self) -> Iterator[int]:
         return (value for _, value in self._mapping.range())
 
-
-# The maps of this process, by their ids, so that a forked child forgets them.
-_maps: weakref.WeakValueDictionary[int, Map] = weakref.WeakValueDictionary()
-
-
-def _forget_maps() -> None:
-    """Has calls on the parent's maps be refused (NULL) in a forked child, where they might wait for ever for a thread that is not here."""
-    for map_ in list(_maps.values()):
-        map_._core.forget()
-
-
-os.register_at_fork(after_in_child=_forget_maps)
+    def __reversed__(self) -> Iterator[int]:
+        return (value for _, value in self._mapping._backwards())
 
 
 class Map(Ordered, collections.abc.MutableMapping[int, int]):
@@ -62,7 +64,11 @@ class Map(Ordered, collections.abc.MutableMapping[int, int]):
     renews its trees by itself, while other calls go on; counts tells how long they had to wait. docs/GATE.md describes this part, which is tested and
     not proved.
 
-    A map can't be copied or pickled, and a forked child can't use it: calls are refused there (NULL).
+    What a dict has answers as a dict does: to `in`, get, [], pop and del a key is absent that no map has, such as "1", None, -1 or 2**64, and 1.0 is
+    the key 1. Calls that store a value take ints of 64 bits and what stands for one, as do the calls that no dict has: anything else raises
+    TypeError or OverflowError, and a key above KEY_MAX raises Refused (BAD_KEY).
+
+    A map can't be copied or pickled, and a forked child can't use it: calls are refused there (FORKED).
     """
 
     __slots__ = ("_core", "__weakref__")
@@ -79,9 +85,9 @@ class Map(Ordered, collections.abc.MutableMapping[int, int]):
     ) -> None:
         """Makes a map with the pairs of start, a dict or pairs in any order.
 
-        cards is about how many changes there will be soon. Sections of the map get more cards while renewals take more than renewal_percent of the
-        time (5), but no more than a renewal of renewal_microseconds allows (5,000). calls is how many calls may be under way at once. What is 0 is
-        left to the map.
+        cards is how many cards the map has when it is made (512). Sections of the map get more cards while renewals take more than renewal_percent of
+        the time (5), but no more than a renewal of renewal_microseconds allows (5,000). calls is how many calls may be under way at once. What is 0
+        is left to the map.
         """
         self._core = MapCore(
             pair_list(dict(start)),
@@ -90,35 +96,34 @@ class Map(Ordered, collections.abc.MutableMapping[int, int]):
             whole(renewal_microseconds, 32, "renewal_microseconds"),
             whole(calls, 32, "calls"),
         )
-        _maps[id(self)] = self
 
     def __reduce_ex__(self, _: SupportsIndex) -> NoReturn:
         raise TypeError("a map is not copied or pickled: dict(map) is a copy of its pairs")
 
     @overload
-    def get(self, key: SupportsIndex, default: None = None) -> int | None: ...
+    def get(self, key: object, default: None = None) -> int | None: ...
 
     @overload
-    def get(self, key: SupportsIndex, default: _Default) -> int | _Default: ...
+    def get(self, key: object, default: _Default) -> int | _Default: ...
 
-    def get(self, key: SupportsIndex, default: Any = None) -> Any:
+    def get(self, key: object, default: Any = None) -> Any:
         """Returns the value of the key, or the default if the key is absent."""
         return self._core.get(key, default)
 
-    def __getitem__(self, key: SupportsIndex) -> int:
+    def __getitem__(self, key: object) -> int:
         value = self._core.get(key, None)
         if value is None:
             raise KeyError(key)
         return value
 
-    def __contains__(self, key: Any) -> bool:
+    def __contains__(self, key: object) -> bool:
         return self._core.get(key, None) is not None
 
     def __setitem__(self, key: SupportsIndex, value: SupportsIndex) -> None:
         self._core.put(key, value)
 
-    def __delitem__(self, key: SupportsIndex) -> None:
-        if not self.delete(key):
+    def __delitem__(self, key: object) -> None:
+        if self._core.take(key, None) is None:
             raise KeyError(key)
 
     def __len__(self) -> int:
@@ -129,9 +134,13 @@ class Map(Ordered, collections.abc.MutableMapping[int, int]):
         return (key for key, _ in self.range())
 
     def __reversed__(self) -> Iterator[int]:
+        return (key for key, _ in self._backwards())
+
+    def _backwards(self) -> Iterator[tuple[int, int]]:
+        """Returns a generator of all pairs in the descending order of their keys, which is worth as much as that of range."""
         pair = self.last()
         while pair is not None:
-            yield pair[0]
+            yield pair
             pair = self.last_before(pair[0])
 
     def __repr__(self) -> str:
@@ -139,6 +148,10 @@ class Map(Ordered, collections.abc.MutableMapping[int, int]):
             return f"<elltree.Map of {len(self)} keys>"
         except Refused as why:
             return f"<elltree.Map: {why}>"
+
+    def keys(self) -> collections.abc.KeysView[int]:
+        """Returns a view of the keys, in ascending order."""
+        return _Keys(self)
 
     def items(self) -> collections.abc.ItemsView[int, int]:
         """Returns a view of the pairs, in the ascending order of their keys."""
@@ -152,6 +165,10 @@ class Map(Ordered, collections.abc.MutableMapping[int, int]):
         """Adds a key, and returns whether it was absent. A key that is present keeps its value."""
         return self._core.insert(key, value)
 
+    def get_or_insert(self, key: SupportsIndex, value: SupportsIndex) -> tuple[int, bool]:
+        """Adds a key if it is absent, in one atomic step. Returns the value that the key has then, and whether it was added."""
+        return self._core.get_or_insert(key, value)
+
     def put(self, key: SupportsIndex, value: SupportsIndex) -> int | None:
         """Stores the value of a key, whether it is present or absent, in one atomic step. Returns the value that it had, or None if it was absent."""
         return self._core.put(key, value)
@@ -164,39 +181,49 @@ class Map(Ordered, collections.abc.MutableMapping[int, int]):
         """Removes a key, and returns the value that it had, or None if it was absent. No other thread took that value."""
         return self._core.remove(key)
 
-    @overload
-    def pop(self, key: SupportsIndex) -> int: ...
+    def remove_if(self, key: SupportsIndex, value: SupportsIndex) -> int | None:
+        """Removes a key if it has this value, in one atomic step. Returns the value that was found, or None if the key is absent: the key was removed
+        if and only if the value found is this one."""
+        return self._core.remove_if(key, value)
 
     @overload
-    def pop(self, key: SupportsIndex, default: _Default, /) -> int | _Default: ...
+    def pop(self, key: object) -> int: ...
 
-    def pop(self, key: SupportsIndex, *default: Any) -> Any:
+    @overload
+    def pop(self, key: object, default: _Default, /) -> int | _Default: ...
+
+    def pop(self, key: object, *default: Any) -> Any:
         """Removes a key, and returns the value that it had, or the default if it was absent. Without a default an absent key raises KeyError."""
         if len(default) > 1:
             raise TypeError(f"pop takes one default, not {len(default)}")
-        value = self.remove(key)
+        value = self._core.take(key, None)
         if value is not None:
             return value
         if not default:
             raise KeyError(key)
         return default[0]
 
+    def pop_first(self) -> tuple[int, int] | None:
+        """Removes the smallest key, and returns it with the value that it had, or None if there is none. No other call returns this pair, so that
+        threads that empty a map get each pair once. Each smaller key was absent at a moment of the call: so the key was the smallest one when it was
+        removed, unless another thread has added a smaller one during the call."""
+        return self._core.pop_first()
+
+    def pop_last(self) -> tuple[int, int] | None:
+        """Removes the greatest key, and returns it with the value that it had, or None, as pop_first does with the smallest one."""
+        return self._core.pop_last()
+
     def popitem(self) -> tuple[int, int]:
-        """Removes the smallest key, and returns it with the value that it had, or raises KeyError if the map is empty."""
-        while (pair := self.first()) is not None:
-            value = self.remove(pair[0])
-            if value is not None:
-                return pair[0], value
-        raise KeyError("the map is empty")
+        """Removes the smallest key, and returns it with the value that it had, as pop_first does, or raises KeyError if the map is empty. (A dict
+        removes the item that was added last, which a map doesn't know.)"""
+        pair = self.pop_first()
+        if pair is None:
+            raise KeyError("the map is empty")
+        return pair
 
     def setdefault(self, key: SupportsIndex, default: SupportsIndex) -> int:
-        """Returns the value of the key. If the key is absent, it is added with the default as its value."""
-        key, default = as_key(key), as_value(default)
-        while not self.insert(key, default):
-            value = self.get(key)
-            if value is not None:
-                return value
-        return default
+        """Returns the value of the key. If the key is absent, it is added with the default as its value, in one atomic step."""
+        return self._core.get_or_insert(key, default)[0]
 
     def clear(self) -> None:
         """Removes all keys, one after the other."""
@@ -226,7 +253,8 @@ class Map(Ordered, collections.abc.MutableMapping[int, int]):
         return value
 
     def pairs(self) -> list[tuple[int, int]]:
-        """Returns a list of all pairs in the ascending order of their keys, as they are at one moment: a snapshot. All other calls wait meanwhile."""
+        """Returns a list of all pairs in the ascending order of their keys, as they are at one moment: a snapshot. Calls that change keys wait
+        meanwhile."""
         return self._core.pairs()
 
     def renew(self) -> None:

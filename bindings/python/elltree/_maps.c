@@ -1,7 +1,7 @@
 /* Maps. */
 #include "_elltree.h"
 
-/* What the library keeps of a map: nothing in a forked child. */
+/* What the library keeps of a map. */
 struct map_core {
     PyObject_HEAD
     struct elltree_map *map;
@@ -36,9 +36,9 @@ static PyObject *map_value(PyObject *core, PyObject *const *given, Py_ssize_t co
     return number_if(core, code, code != ELLTREE_NO, told[0]);
 }
 
-static PyObject *map_pair(PyObject *core, PyObject *const *given, Py_ssize_t count, map_work *work_on) {
+static PyObject *map_pair(PyObject *core, PyObject *const *given, Py_ssize_t count, const char *letters, map_work *work_on) {
     uint64_t numbers[NUMBERS_MOST], told[2] = {0, 0};
-    return as_numbers(given, count, "k", numbers) ? pair_if_yes(core, call_on_map(core, work_on, numbers, told), told) : NULL;
+    return as_numbers(given, count, letters, numbers) ? pair_if_yes(core, call_on_map(core, work_on, numbers, told), told) : NULL;
 }
 
 static int32_t find_in(struct elltree_map *map, const uint64_t *given, uint64_t *told) { return elltree_map_get(map, given[0], told); }
@@ -64,12 +64,31 @@ static int32_t exchange_in(struct elltree_map *map, const uint64_t *given, uint6
     return elltree_map_compare_exchange(map, given[0], told, given[2]);
 }
 
+static int32_t remove_if_in(struct elltree_map *map, const uint64_t *given, uint64_t *told) {
+    told[0] = given[1];
+    return elltree_map_remove_if(map, given[0], given[1], told);
+}
+
 static int32_t next_in(struct elltree_map *map, const uint64_t *given, uint64_t *told) {
     return elltree_map_next_at_least(map, given[0], &told[0], &told[1]);
 }
 
 static int32_t last_in(struct elltree_map *map, const uint64_t *given, uint64_t *told) {
     return elltree_map_last_at_most(map, given[0], &told[0], &told[1]);
+}
+
+static int32_t pop_first_in(struct elltree_map *map, const uint64_t *given, uint64_t *told) {
+    (void)given;
+    return elltree_map_pop_first(map, &told[0], &told[1]);
+}
+
+static int32_t pop_last_in(struct elltree_map *map, const uint64_t *given, uint64_t *told) {
+    (void)given;
+    return elltree_map_pop_last(map, &told[0], &told[1]);
+}
+
+static int32_t get_or_insert_in(struct elltree_map *map, const uint64_t *given, uint64_t *told) {
+    return elltree_map_get_or_insert(map, given[0], given[1], told);
 }
 
 static int32_t len_of(struct elltree_map *map, const uint64_t *given, uint64_t *told) {
@@ -93,22 +112,47 @@ static PyObject *map_delete(PyObject *core, PyObject *const *given, Py_ssize_t c
 static PyObject *map_remove(PyObject *core, PyObject *const *given, Py_ssize_t count) { return map_value(core, given, count, "k", remove_in); }
 static PyObject *map_fetch_add(PyObject *core, PyObject *const *given, Py_ssize_t count) { return map_value(core, given, count, "ka", fetch_add_in); }
 static PyObject *map_exchange(PyObject *core, PyObject *const *given, Py_ssize_t count) { return map_value(core, given, count, "kvv", exchange_in); }
-static PyObject *map_next(PyObject *core, PyObject *const *given, Py_ssize_t count) { return map_pair(core, given, count, next_in); }
-static PyObject *map_last(PyObject *core, PyObject *const *given, Py_ssize_t count) { return map_pair(core, given, count, last_in); }
+static PyObject *map_remove_if(PyObject *core, PyObject *const *given, Py_ssize_t count) { return map_value(core, given, count, "kv", remove_if_in); }
+static PyObject *map_next(PyObject *core, PyObject *const *given, Py_ssize_t count) { return map_pair(core, given, count, "k", next_in); }
+static PyObject *map_last(PyObject *core, PyObject *const *given, Py_ssize_t count) { return map_pair(core, given, count, "k", last_in); }
+static PyObject *map_pop_first(PyObject *core, PyObject *const *given, Py_ssize_t count) { return map_pair(core, given, count, "", pop_first_in); }
+static PyObject *map_pop_last(PyObject *core, PyObject *const *given, Py_ssize_t count) { return map_pair(core, given, count, "", pop_last_in); }
 static PyObject *map_len(PyObject *core, PyObject *const *given, Py_ssize_t count) { return map_value(core, given, count, "", len_of); }
 static PyObject *map_renew(PyObject *core, PyObject *const *given, Py_ssize_t count) { return map_truth(core, given, count, "", renew_it); }
 
-/* The value of a key, or the default if it is absent or no key. */
-static PyObject *map_get(PyObject *core, PyObject *const *given, Py_ssize_t count) {
-    PyObject *whole = has_count(count, 2) ? PyNumber_Index(given[0]) : NULL;
-    uint64_t key = 0, value = 0;
-    int32_t code = ELLTREE_NO;
+/* Writes the key that is equal to an object, as a dict would find it, or UINT64_MAX if there is none. */
+static bool as_like_key(PyObject *core, PyObject *given, uint64_t *key) {
+    PyObject *whole = PyIndex_Check(given) ? PyNumber_Index(given) : PyObject_CallFunctionObjArgs(state_of(core)->like_key, given, NULL);
     if (!whole)
-        return NULL;
-    if (holds(whole, &key) && key <= ELLTREE_KEY_MAX)
-        code = call_on_map(core, find_in, &key, &value);
+        return false;
+    if (!holds(whole, key))
+        *key = UINT64_MAX;
     Py_DECREF(whole);
+    return true;
+}
+
+/* The value that a call on a key tells, or the default if the key is absent or no key. */
+static PyObject *map_value_or(PyObject *core, PyObject *const *given, Py_ssize_t count, map_work *work_on) {
+    uint64_t key, value = 0;
+    int32_t code = ELLTREE_NO;
+    if (!has_count(count, 2) || !as_like_key(core, given[0], &key))
+        return NULL;
+    if (key <= ELLTREE_KEY_MAX)
+        code = call_on_map(core, work_on, &key, &value);
     return code == ELLTREE_NO ? Py_NewRef(given[1]) : number_if(core, code, true, value);
+}
+
+static PyObject *map_get(PyObject *core, PyObject *const *given, Py_ssize_t count) { return map_value_or(core, given, count, find_in); }
+static PyObject *map_take(PyObject *core, PyObject *const *given, Py_ssize_t count) { return map_value_or(core, given, count, remove_in); }
+
+/* The value that a key has after a get or an insert, and whether it was inserted. */
+static PyObject *map_get_or_insert(PyObject *core, PyObject *const *given, Py_ssize_t count) {
+    uint64_t numbers[NUMBERS_MOST], there = 0;
+    int32_t code;
+    if (!as_numbers(given, count, "kv", numbers))
+        return NULL;
+    code = call_on_map(core, get_or_insert_in, numbers, &there);
+    return code < 0 ? refuse(state_of(core), code) : Py_BuildValue("(KN)", (unsigned long long)there, PyBool_FromLong(code == ELLTREE_YES));
 }
 
 static PyObject *map_range(PyObject *core, PyObject *const *given, Py_ssize_t count) {
@@ -178,13 +222,6 @@ static PyObject *map_counts(PyObject *core, PyObject *none) {
                          "longest_nanoseconds", (unsigned long long)counts.longest_nanoseconds);
 }
 
-/* Has calls be refused, in a forked child. What the parent has is not touched. */
-static PyObject *map_forget(PyObject *core, PyObject *none) {
-    (void)none;
-    map_of(core)->map = NULL;
-    Py_RETURN_NONE;
-}
-
 static PyObject *map_new(PyTypeObject *type, PyObject *given, PyObject *named) {
     struct elltree_map_settings settings = ELLTREE_MAP_SETTINGS;
     struct elltree_pair *pairs = NULL;
@@ -214,8 +251,8 @@ static PyObject *map_new(PyTypeObject *type, PyObject *given, PyObject *named) {
 /* Whoever is in a call has the object too, so that no call is under way. */
 static void map_dealloc(PyObject *core) {
     struct elltree_map *map = map_of(core)->map;
-    Py_BEGIN_ALLOW_THREADS
-    elltree_map_free(map);
+    Py_BEGIN_ALLOW_THREADS(void)
+    elltree_map_free(map); /* which leaves a map of the parent alone in a forked child */
     Py_END_ALLOW_THREADS
     end_object(core);
 }
@@ -225,12 +262,17 @@ static void map_dealloc(PyObject *core) {
 static PyMethodDef map_methods[] = {
     {"find", FAST(map_find), METH_FASTCALL, NULL},
     {"get", FAST(map_get), METH_FASTCALL, NULL},
+    {"take", FAST(map_take), METH_FASTCALL, NULL},
     {"insert", FAST(map_insert), METH_FASTCALL, NULL},
+    {"get_or_insert", FAST(map_get_or_insert), METH_FASTCALL, NULL},
+    {"pop_first", FAST(map_pop_first), METH_FASTCALL, NULL},
+    {"pop_last", FAST(map_pop_last), METH_FASTCALL, NULL},
     {"put", FAST(map_put), METH_FASTCALL, NULL},
     {"delete", FAST(map_delete), METH_FASTCALL, NULL},
     {"remove", FAST(map_remove), METH_FASTCALL, NULL},
     {"fetch_add", FAST(map_fetch_add), METH_FASTCALL, NULL},
     {"compare_exchange", FAST(map_exchange), METH_FASTCALL, NULL},
+    {"remove_if", FAST(map_remove_if), METH_FASTCALL, NULL},
     {"range", FAST(map_range), METH_FASTCALL, NULL},
     {"next_at_least", FAST(map_next), METH_FASTCALL, NULL},
     {"last_at_most", FAST(map_last), METH_FASTCALL, NULL},
@@ -238,7 +280,6 @@ static PyMethodDef map_methods[] = {
     {"pairs", map_pairs, METH_NOARGS, NULL},
     {"renew", FAST(map_renew), METH_FASTCALL, NULL},
     {"counts", map_counts, METH_NOARGS, NULL},
-    {"forget", map_forget, METH_NOARGS, NULL},
     {NULL, NULL, 0, NULL},
 };
 static PyType_Slot map_slots[] = {

@@ -18,6 +18,7 @@ pub(crate) const NO_ROOM: i32 = -8;
 const BAD_KEY: i32 = Refused::BadKey.code();
 const BAD_START: i32 = Refused::BadStart.code();
 const NO_MEMORY: i32 = Refused::NoMemory.code();
+const FORKED: i32 = -18;
 
 // Room for the text of each code, and the 0 behind it.
 const TEXT_ROOM: usize = 64;
@@ -77,6 +78,7 @@ impl Refused {
     /// ```
     /// assert_eq!(elltree::Refused::OtherTree.code(), -12);
     /// ```
+    #[must_use]
     pub const fn code(self) -> i32 {
         match self {
             Refused::Busy => -1,
@@ -142,16 +144,19 @@ impl JoinError {
     }
 
     /// Returns why the join was refused.
+    #[must_use]
     pub fn refused(&self) -> Refused {
         self.refused
     }
 
     /// Returns the handle that was to be taken over.
+    #[must_use]
     pub fn into_handle(self) -> Handle {
         self.handle
     }
 
     /// Returns the handle that was to be taken over, and why the join was refused.
+    #[must_use]
     pub fn into_parts(self) -> (Handle, Refused) {
         (self.handle, self.refused)
     }
@@ -202,6 +207,8 @@ pub enum MapError {
     BadStart,
     /// Memory was refused, when the map was made or at a renewal that the call needed. The map is as it was, and the call may be made again.
     NoMemory,
+    /// The map is of another process, of which this one is a forked child.
+    Forked,
 }
 
 /// What a call on a [`Map`](crate::Map) gives, or why it was refused.
@@ -213,14 +220,16 @@ impl MapError {
             MapError::BadKey => BAD_KEY,
             MapError::BadStart => BAD_START,
             MapError::NoMemory => NO_MEMORY,
+            MapError::Forked => FORKED,
         }
     }
 
-    // A map refuses a call by these three codes alone.
+    // A map refuses a call by these four codes alone.
     fn of_code(code: i32) -> MapError {
         match code {
             BAD_KEY => MapError::BadKey,
             BAD_START => MapError::BadStart,
+            FORKED => MapError::Forked,
             _ => MapError::NoMemory,
         }
     }

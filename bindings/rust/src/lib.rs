@@ -1,4 +1,4 @@
-//! A map from `u64` to `u64` that threads share without locks, over `libelltree.a`.
+//! An ordered map from `u64` to `u64` for many threads, over `libelltree.a`.
 //!
 //! [`Map`] is one object that any thread uses at any time:
 //!
@@ -7,7 +7,7 @@
 //! std::thread::scope(|threads| {
 //!     for _ in 0..4 {
 //!         threads.spawn(|| {
-//!             map.insert(7, 0).unwrap(); // one of the four adds the key
+//!             map.try_insert(7, 0).unwrap(); // one of the four adds the key
 //!             map.fetch_add(7, 1).unwrap(); // and all of them count
 //!         });
 //!     }
@@ -17,7 +17,9 @@
 //! # Ok::<(), elltree::MapError>(())
 //! ```
 //!
-//! What it stands on can also be used by itself, through handles, without the pauses in which a map renews its cards.
+//! [`TypedMap`] has keys and values of other types that are `u64` underneath, and [`boxed_values`] shows how to have values of any type.
+//!
+//! What a map stands on can also be used by itself, through handles, without the pauses in which a map renews its cards.
 //! [`Handle::open_shared`] makes a tree in which every key is shared, and [`Handle::another`] makes a further handle of it for each thread. Any
 //! handle finds, inserts and deletes any key and never waits for another, and all finds, inserts and deletes together answer as if they were
 //! made one after the other. [`renew_all_shared`] gives all handles of such a tree fresh cards together.
@@ -86,6 +88,7 @@
 //! shared(&handle);
 //! ```
 
+pub mod boxed_values;
 mod error;
 mod handle;
 mod map;
@@ -93,6 +96,7 @@ mod range;
 mod raw;
 mod renewal;
 mod tree;
+mod typed;
 
 pub use error::{JoinError, MapError, MapResult, Refused, Result};
 pub use handle::Handle;
@@ -100,6 +104,7 @@ pub use map::{Map, MapCounts, MapSettings};
 pub use range::{MapRange, Range};
 pub use renewal::{Member, renew_all, renew_all_shared};
 pub use tree::{Reader, Tree};
+pub use typed::{Key, TypedMap, TypedRange, Value};
 
 /// The greatest key that a tree may have.
 pub const KEY_MAX: u64 = u64::MAX - 2;

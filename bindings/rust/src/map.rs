@@ -19,7 +19,7 @@ use crate::raw::{self, Pair, RawCounts, RawMap, RawSettings};
 /// ```
 #[derive(Clone, Copy, Debug, Default, PartialEq, Eq)]
 pub struct MapSettings {
-    /// The cards of the map when it is made: about as many as there will be changes soon; 16,384 if it is 0.
+    /// The cards of the map when it is made; 512 if it is 0.
     pub cards: u64,
     /// Sections get more cards while renewals take more than this part of the time, in percent; 5 if it is 0.
     pub renewal_percent: u32,
@@ -54,10 +54,15 @@ pub struct MapCounts {
 /// All calls take `&self`, and any thread makes any of them at any time. The calls that find or change one key answer as if they were made one after
 /// the other. The map is made of sections, each with a tree of shared keys for its range of keys, as
 /// [`Handle::open_shared`](crate::Handle::open_shared) makes it. A call that finds few cards left renews its section, while other calls go on; that
-/// takes about a millisecond. At its end all calls pause until those under way have ended, and [`Map::counts`] tells how long. `docs/GATE.md` says how
-/// calls and renewals keep out of each other's way. That part is tested and not proved; the trees below it are proved.
+/// takes about a millisecond. At its end all calls that change keys pause until those of them under way have ended, and [`Map::counts`] tells how
+/// long. A call that only reads waits for no other thread. `docs/GATE.md` says how calls and renewals keep out of each other's way. That part is
+/// tested and not proved; the trees below it are proved.
 ///
-/// A map must not be used in the forked child of a process that has used it.
+/// A forked child can't use the map of its parent: calls that change it return [`MapError::Forked`], and others find no key. What a thread did before
+/// it stored a value has happened before what another does after it read that value.
+///
+/// A key above [`KEY_MAX`] is absent to calls that read, and [`MapError::BadKey`] to calls that change keys. [`TypedMap`](crate::TypedMap) has keys
+/// and values of other types, and [`boxed_values`](crate::boxed_values) shows how a map has values of any type.
 ///
 /// ```
 /// let map = elltree::Map::new()?;
@@ -66,7 +71,7 @@ pub struct MapCounts {
 ///         let map = &map;
 ///         threads.spawn(move || {
 ///             map.insert(thread, thread * 10).unwrap();
-///             map.insert(100, 0).unwrap(); // one of the four adds the key
+///             map.try_insert(100, 0).unwrap(); // one of the four adds the key
 ///             map.fetch_add(100, 1).unwrap(); // and all of them count
 ///         });
 ///     }
@@ -91,18 +96,9 @@ impl Map {
     ///
     /// # Errors
     ///
-    /// Returns [`MapError::NoMemory`].
+    /// Returns [`MapError::NoMemory`] if memory is refused.
     pub fn new() -> MapResult<Map> {
         Map::from_sorted(&[], MapSettings::default())
-    }
-
-    /// Makes an empty map that has so many cards at first: about as many as there will be changes soon.
-    ///
-    /// # Errors
-    ///
-    /// Returns [`MapError::NoMemory`].
-    pub fn with_cards(cards: u64) -> MapResult<Map> {
-        Map::from_sorted(&[], MapSettings { cards, ..Default::default() })
     }
 
     /// Makes a map with these pairs, whose keys ascend strictly.
@@ -127,7 +123,33 @@ impl Map {
         let (pairs, mut map) = (Pair::all_of(pairs), ptr::null_mut());
         // SAFETY: the array is as long as said.
         map_answer(unsafe { raw::elltree_map_from_sorted(&mut map, pairs.as_ptr(), pairs.len(), &settings) })?;
-        Ok(Map(NonNull::new(map).expect("a map that was made")))
+        NonNull::new(map).map(Map).ok_or(MapError::NoMemory)
+    }
+
+    /// Makes a map with these pairs, in any order. If a key comes more than once, the map has its last value, as a `BTreeMap` has that is collected.
+    ///
+    /// # Errors
+    ///
+    /// Returns [`MapError::BadKey`] if a key is above [`KEY_MAX`], and [`MapError::NoMemory`] if memory is refused.
+    ///
+    /// # Examples
+    ///
+    /// ```
+    /// let map = elltree::Map::try_from_iter([(2, 20), (1, 10), (2, 21)])?;
+    /// assert_eq!(map.pairs(), [(1, 10), (2, 21)]);
+    /// # Ok::<(), elltree::MapError>(())
+    /// ```
+    pub fn try_from_iter(pairs: impl IntoIterator<Item = (u64, u64)>) -> MapResult<Map> {
+        let mut pairs: Vec<(u64, u64)> = pairs.into_iter().collect();
+        pairs.sort_by_key(|pair| pair.0); // pairs of one key stay in their order
+        pairs.dedup_by(|later, kept| {
+            let is_same = later.0 == kept.0;
+            if is_same {
+                kept.1 = later.1;
+            }
+            is_same
+        });
+        Map::from_sorted(&pairs, MapSettings::default())
     }
 
     /// Returns the value of the key, if it is present. No key above [`KEY_MAX`] is.
@@ -139,51 +161,88 @@ impl Map {
     /// assert_eq!((map.get(1), map.get(2), map.get(u64::MAX)), (Some(10), None, None));
     /// # Ok::<(), elltree::MapError>(())
     /// ```
+    #[must_use]
     pub fn get(&self, key: u64) -> Option<u64> {
+        self.try_get(key).unwrap_or(None)
+    }
+
+    /// Returns the value of the key, as [`Map::get`] does, and in a forked child [`MapError::Forked`].
+    fn try_get(&self, key: u64) -> MapResult<Option<u64>> {
         let mut value = 0;
         // SAFETY: the map lives.
-        let code = unsafe { raw::elltree_map_get(self.0.as_ptr(), key, &mut value) };
-        (code == YES).then_some(value)
+        let there = map_answer(unsafe { raw::elltree_map_get(self.0.as_ptr(), key, &mut value) })?;
+        Ok(there.then_some(value))
     }
 
     /// Returns whether the key is present.
+    #[must_use]
     pub fn contains_key(&self, key: u64) -> bool {
         self.get(key).is_some()
     }
 
-    /// Adds a key that is absent, and returns whether it was. A key that is present keeps its value: [`Map::put`] replaces it.
+    /// Stores the value of a key, present or not, in one atomic step. Returns the value that it had, or `None` if it was absent, as `insert` of a
+    /// `BTreeMap` does. No other call returns that value. [`Map::try_insert`] keeps the value of a key that is present.
     ///
     /// # Errors
     ///
-    /// Returns [`MapError::BadKey`], [`MapError::NoMemory`] or [`MapError::Full`].
+    /// Returns [`MapError::BadKey`] if the key is above [`KEY_MAX`], and [`MapError::NoMemory`] if memory is refused.
     ///
     /// # Examples
     ///
     /// ```
     /// let map = elltree::Map::new()?;
-    /// assert_eq!((map.insert(1, 10)?, map.insert(1, 11)?, map.get(1)), (true, false, Some(10)));
+    /// assert_eq!((map.insert(1, 10)?, map.insert(1, 11)?, map.get(1)), (None, Some(10), Some(11)));
     /// assert_eq!(map.insert(u64::MAX, 0), Err(elltree::MapError::BadKey));
     /// # Ok::<(), elltree::MapError>(())
     /// ```
-    pub fn insert(&self, key: u64, value: u64) -> MapResult<bool> {
+    pub fn insert(&self, key: u64, value: u64) -> MapResult<Option<u64>> {
+        self.put(key, value)
+    }
+
+    /// Adds a key that is absent, and returns whether it was. A key that is present keeps its value: [`Map::insert`] replaces it, and
+    /// [`Map::get_or_insert`] returns it.
+    ///
+    /// # Errors
+    ///
+    /// Returns [`MapError::BadKey`] if the key is above [`KEY_MAX`], and [`MapError::NoMemory`] if memory is refused.
+    ///
+    /// # Examples
+    ///
+    /// ```
+    /// let map = elltree::Map::new()?;
+    /// assert_eq!((map.try_insert(1, 10)?, map.try_insert(1, 11)?, map.get(1)), (true, false, Some(10)));
+    /// # Ok::<(), elltree::MapError>(())
+    /// ```
+    pub fn try_insert(&self, key: u64, value: u64) -> MapResult<bool> {
         // SAFETY: the map lives.
         map_answer(unsafe { raw::elltree_map_insert(self.0.as_ptr(), key, value) })
     }
 
-    /// Stores the value of a key, present or not, in one atomic step. Returns the value that it had, or `None` if it was absent, as `insert` of a
-    /// `BTreeMap` does.
+    /// Adds a key if it is absent, in one atomic step. Returns the value that the key has then, and whether it was added.
     ///
     /// # Errors
     ///
-    /// Returns [`MapError::BadKey`], [`MapError::NoMemory`] or [`MapError::Full`].
+    /// Returns [`MapError::BadKey`] if the key is above [`KEY_MAX`], and [`MapError::NoMemory`] if memory is refused.
     ///
     /// # Examples
     ///
     /// ```
     /// let map = elltree::Map::new()?;
-    /// assert_eq!((map.put(1, 10)?, map.put(1, 11)?, map.get(1)), (None, Some(10), Some(11)));
+    /// assert_eq!((map.get_or_insert(1, 10)?, map.get_or_insert(1, 11)?), ((10, true), (10, false)));
     /// # Ok::<(), elltree::MapError>(())
     /// ```
+    pub fn get_or_insert(&self, key: u64, value: u64) -> MapResult<(u64, bool)> {
+        let mut there = 0;
+        // SAFETY: the map lives.
+        let is_added = map_answer(unsafe { raw::elltree_map_get_or_insert(self.0.as_ptr(), key, value, &mut there) })?;
+        Ok((there, is_added))
+    }
+
+    /// Does the same as [`Map::insert`], by the name that the call has in C, C++ and Python.
+    ///
+    /// # Errors
+    ///
+    /// Returns [`MapError::BadKey`] if the key is above [`KEY_MAX`], and [`MapError::NoMemory`] if memory is refused.
     pub fn put(&self, key: u64, value: u64) -> MapResult<Option<u64>> {
         let mut was = 0;
         // SAFETY: the map lives.
@@ -195,7 +254,7 @@ impl Map {
     ///
     /// # Errors
     ///
-    /// Returns [`MapError::BadKey`] or [`MapError::NoMemory`].
+    /// Returns [`MapError::BadKey`] if the key is above [`KEY_MAX`], and [`MapError::NoMemory`] if memory is refused.
     ///
     /// # Examples
     ///
@@ -215,10 +274,35 @@ impl Map {
     ///
     /// # Errors
     ///
-    /// Returns [`MapError::BadKey`] or [`MapError::NoMemory`].
+    /// Returns [`MapError::BadKey`] if the key is above [`KEY_MAX`], and [`MapError::NoMemory`] if memory is refused.
     pub fn delete(&self, key: u64) -> MapResult<bool> {
         // SAFETY: the map lives.
         map_answer(unsafe { raw::elltree_map_delete(self.0.as_ptr(), key) })
+    }
+
+    /// Takes a key away if its value is `current`, in one atomic step. Returns `Ok(current)` if it did, and else what is there: `Err(Some(value))` if the
+    /// key has another value, and `Err(None)` if it is absent. So a thread that has read a value, and found that it is to go, takes away no value that
+    /// another one has stored since.
+    ///
+    /// # Errors
+    ///
+    /// Returns [`MapError::BadKey`] if the key is above [`KEY_MAX`], and [`MapError::NoMemory`] if memory is refused.
+    ///
+    /// # Examples
+    ///
+    /// ```
+    /// let map = elltree::Map::from_sorted(&[(1, 10)], Default::default())?;
+    /// assert_eq!((map.remove_if(1, 9)?, map.remove_if(1, 10)?, map.remove_if(1, 10)?), (Err(Some(10)), Ok(10), Err(None)));
+    /// # Ok::<(), elltree::MapError>(())
+    /// ```
+    pub fn remove_if(&self, key: u64, current: u64) -> MapResult<Result<u64, Option<u64>>> {
+        let mut found = current;
+        // SAFETY: the map lives.
+        let code = unsafe { raw::elltree_map_remove_if(self.0.as_ptr(), key, current, &mut found) };
+        if code == OTHER_VALUE {
+            return Ok(Err(Some(found)));
+        }
+        Ok(if map_answer(code)? { Ok(found) } else { Err(None) })
     }
 
     /// Stores `new` as the value of a key if its value is `current`, in one atomic step. Returns `Ok(current)` if it was exchanged, and else what is
@@ -226,7 +310,7 @@ impl Map {
     ///
     /// # Errors
     ///
-    /// Returns [`MapError::BadKey`] or [`MapError::NoMemory`].
+    /// Returns [`MapError::BadKey`] if the key is above [`KEY_MAX`], and [`MapError::NoMemory`] if memory is refused.
     ///
     /// # Examples
     ///
@@ -252,7 +336,7 @@ impl Map {
     ///
     /// # Errors
     ///
-    /// Returns [`MapError::BadKey`] or [`MapError::NoMemory`].
+    /// Returns [`MapError::BadKey`] if the key is above [`KEY_MAX`], and [`MapError::NoMemory`] if memory is refused.
     ///
     /// # Examples
     ///
@@ -271,9 +355,13 @@ impl Map {
     /// Stores what `f` makes of the value of a key, in one atomic step. Returns the value that it had, or `None` if the key is absent, which is left
     /// so. `f` is called again if another thread has changed the value meanwhile. It may take its time and call the map: nothing waits for it.
     ///
+    /// # Panics
+    ///
+    /// Panics if `f` does. The key then has the value that it had, and the map goes on.
+    ///
     /// # Errors
     ///
-    /// Returns [`MapError::BadKey`] or [`MapError::NoMemory`].
+    /// Returns [`MapError::BadKey`] if the key is above [`KEY_MAX`], and [`MapError::NoMemory`] if memory is refused.
     ///
     /// # Examples
     ///
@@ -286,7 +374,7 @@ impl Map {
         if key > KEY_MAX {
             return Err(MapError::BadKey);
         }
-        let Some(mut value) = self.get(key) else {
+        let Some(mut value) = self.try_get(key)? else {
             return Ok(None);
         };
         loop {
@@ -310,17 +398,20 @@ impl Map {
     /// assert_eq!(map.range(..=3).rev().map(|pair| pair.0).collect::<Vec<_>>(), [3, 2, 1]);
     /// # Ok::<(), elltree::MapError>(())
     /// ```
+    #[must_use]
     pub fn range(&self, range: impl RangeBounds<u64>) -> MapRange<'_> {
         MapRange::new(self, range)
     }
 
     /// Goes over all pairs, as [`Map::range`] does.
+    #[must_use]
     pub fn iter(&self) -> MapRange<'_> {
         self.range(..)
     }
 
     /// Returns the least key from `key` on that is present, with its value: it was present at one moment of the call, and each key before it was
     /// absent at one.
+    #[must_use]
     pub fn next_at_least(&self, key: u64) -> Option<(u64, u64)> {
         let (mut found, mut value) = (0, 0);
         // SAFETY: the map lives.
@@ -329,12 +420,14 @@ impl Map {
     }
 
     /// Returns the least key above `key` that is present, with its value, as [`Map::next_at_least`] finds it.
+    #[must_use]
     pub fn next_after(&self, key: u64) -> Option<(u64, u64)> {
         self.next_at_least(key.checked_add(1)?)
     }
 
     /// Returns the greatest key up to `key` that is present, with its value: it was present at one moment of the call, and each key after it was
     /// absent at one.
+    #[must_use]
     pub fn last_at_most(&self, key: u64) -> Option<(u64, u64)> {
         let (mut found, mut value) = (0, 0);
         // SAFETY: the map lives.
@@ -343,6 +436,7 @@ impl Map {
     }
 
     /// Returns the greatest key below `key` that is present, with its value, as [`Map::last_at_most`] finds it.
+    #[must_use]
     pub fn last_before(&self, key: u64) -> Option<(u64, u64)> {
         self.last_at_most(key.checked_sub(1)?)
     }
@@ -357,17 +451,55 @@ impl Map {
     /// assert_eq!((map.next_after(2), map.last_before(2)), (Some((4, 40)), None));
     /// # Ok::<(), elltree::MapError>(())
     /// ```
+    #[must_use]
     pub fn first_key_value(&self) -> Option<(u64, u64)> {
         self.next_at_least(0)
     }
 
     /// Returns the greatest key that is present, with its value, as [`Map::last_at_most`] finds it.
+    #[must_use]
     pub fn last_key_value(&self) -> Option<(u64, u64)> {
         self.last_at_most(KEY_MAX)
     }
 
+    /// Takes the least key away, and returns it with its value, or `None` if there is none. No other call returns this pair, so that threads that
+    /// empty a map get each pair once. Each smaller key was absent at a moment of the call: so the key was the least one when it was taken, unless
+    /// another thread has added a smaller one during the call.
+    ///
+    /// # Errors
+    ///
+    /// Returns [`MapError::NoMemory`] if memory is refused.
+    ///
+    /// # Examples
+    ///
+    /// ```
+    /// let map = elltree::Map::from_sorted(&[(1, 10), (2, 20), (3, 30)], Default::default())?;
+    /// assert_eq!((map.pop_first()?, map.pop_last()?), (Some((1, 10)), Some((3, 30))));
+    /// assert_eq!((map.pop_first()?, map.pop_first()?), (Some((2, 20)), None));
+    /// # Ok::<(), elltree::MapError>(())
+    /// ```
+    pub fn pop_first(&self) -> MapResult<Option<(u64, u64)>> {
+        let (mut key, mut value) = (0, 0);
+        // SAFETY: the map lives.
+        let is_there = map_answer(unsafe { raw::elltree_map_pop_first(self.0.as_ptr(), &mut key, &mut value) })?;
+        Ok(is_there.then_some((key, value)))
+    }
+
+    /// Takes the greatest key away, and returns it with its value, as [`Map::pop_first`] does with the least one.
+    ///
+    /// # Errors
+    ///
+    /// Returns [`MapError::NoMemory`] if memory is refused.
+    pub fn pop_last(&self) -> MapResult<Option<(u64, u64)>> {
+        let (mut key, mut value) = (0, 0);
+        // SAFETY: the map lives.
+        let is_there = map_answer(unsafe { raw::elltree_map_pop_last(self.0.as_ptr(), &mut key, &mut value) })?;
+        Ok(is_there.then_some((key, value)))
+    }
+
     /// Returns how many keys are present. The number is exact if no change is under way. While others write it is a sum of what each has done so
     /// far, which the map may never have had at any one moment.
+    #[must_use]
     pub fn len(&self) -> usize {
         let mut count = 0;
         // SAFETY: the map lives.
@@ -377,15 +509,17 @@ impl Map {
 
     /// Returns whether a search for the least key finds none. While others write, `true` means that each key was absent at a moment of the call, and
     /// `false` that one was present.
+    #[must_use]
     pub fn is_empty(&self) -> bool {
         self.first_key_value().is_none()
     }
 
-    /// Puts these pairs one after the other, in any order. It is not one atomic step.
+    /// Inserts these pairs one after the other, in any order. It is not one atomic step.
     ///
     /// # Errors
     ///
-    /// As of [`Map::put`]. The pairs before the one that is refused are put.
+    /// Returns [`MapError::BadKey`] if a key is above [`KEY_MAX`], and [`MapError::NoMemory`] if memory is refused. The pairs before the one that is
+    /// refused are inserted.
     ///
     /// # Examples
     ///
@@ -396,10 +530,62 @@ impl Map {
     /// # Ok::<(), elltree::MapError>(())
     /// ```
     pub fn extend(&self, pairs: impl IntoIterator<Item = (u64, u64)>) -> MapResult<()> {
-        pairs.into_iter().try_for_each(|(key, value)| self.put(key, value).map(drop))
+        pairs.into_iter().try_for_each(|(key, value)| self.insert(key, value).map(drop))
     }
 
-    /// Returns all pairs, ascending, as they are at one moment: a snapshot. All other calls wait meanwhile, as at a renewal.
+    /// Takes all keys away, one after the other. It is not one atomic step: a key that another thread adds meanwhile may stay.
+    ///
+    /// # Errors
+    ///
+    /// Returns [`MapError::NoMemory`] if memory is refused. Some keys may be taken away then.
+    ///
+    /// # Examples
+    ///
+    /// ```
+    /// let map = elltree::Map::try_from_iter([(1, 10), (2, 20)])?;
+    /// map.clear()?;
+    /// assert!(map.is_empty());
+    /// # Ok::<(), elltree::MapError>(())
+    /// ```
+    pub fn clear(&self) -> MapResult<()> {
+        self.try_get(0)?; // a forked child is told so, and not that there are no keys
+        self.iter().try_for_each(|(key, _)| self.delete(key).map(drop))
+    }
+
+    /// Takes away each pair for which `f` returns `false`, one after the other. It is not one atomic step, but a pair that `f` has not seen stays: `f` is
+    /// called again if another thread has changed the value meanwhile. It may call the map.
+    ///
+    /// # Errors
+    ///
+    /// Returns [`MapError::NoMemory`] if memory is refused. Some pairs may be taken away then.
+    ///
+    /// # Panics
+    ///
+    /// Panics if `f` does. The map goes on, without the pairs that were taken away.
+    ///
+    /// # Examples
+    ///
+    /// ```
+    /// let map = elltree::Map::try_from_iter((0..10).map(|key| (key, key * key)))?;
+    /// map.retain(|key, value| key % 2 == 0 && value < 50)?;
+    /// assert_eq!(map.pairs(), [(0, 0), (2, 4), (4, 16), (6, 36)]);
+    /// # Ok::<(), elltree::MapError>(())
+    /// ```
+    pub fn retain<F: FnMut(u64, u64) -> bool>(&self, mut f: F) -> MapResult<()> {
+        self.try_get(0)?; // as of clear
+        for (key, mut value) in self {
+            while !f(key, value) {
+                match self.remove_if(key, value)? {
+                    Err(Some(there)) => value = there,
+                    Ok(_) | Err(None) => break,
+                }
+            }
+        }
+        Ok(())
+    }
+
+    /// Returns all pairs, ascending, as they are at one moment: a snapshot. Calls that change keys wait meanwhile, as at a renewal.
+    #[must_use]
     pub fn pairs(&self) -> Vec<(u64, u64)> {
         let (mut out, mut count) = (Vec::new(), self.len());
         loop {
@@ -416,7 +602,7 @@ impl Map {
     ///
     /// # Errors
     ///
-    /// Returns [`MapError::NoMemory`].
+    /// Returns [`MapError::NoMemory`] if memory is refused. Those of the least keys may be renewed then.
     pub fn renew(&self) -> MapResult<()> {
         // SAFETY: the map lives.
         map_answer(unsafe { raw::elltree_map_renew(self.0.as_ptr()) })?;
@@ -428,13 +614,14 @@ impl Map {
     /// # Examples
     ///
     /// ```
-    /// let map = elltree::Map::with_cards(1_000)?;
+    /// let map = elltree::Map::new()?;
     /// for count in 0..10_000 {
-    ///     map.put(count % 7, count)?; // each put takes a card
+    ///     map.insert(count % 7, count)?; // each takes a card
     /// }
     /// assert!(map.counts().renewals > 0 && map.counts().longest_pause <= map.counts().pauses);
     /// # Ok::<(), elltree::MapError>(())
     /// ```
+    #[must_use]
     pub fn counts(&self) -> MapCounts {
         let mut counts = RawCounts::default();
         // SAFETY: the map lives.

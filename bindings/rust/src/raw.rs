@@ -107,7 +107,7 @@ unsafe extern "C" {
 // The functions of a map, which any thread may call at any time, up to the one that frees it.
 unsafe extern "C" {
     pub(crate) fn elltree_map_from_sorted(map: &mut *mut RawMap, pairs: *const Pair, count: usize, settings: &RawSettings) -> i32;
-    pub(crate) fn elltree_map_free(map: *mut RawMap);
+    pub(crate) fn elltree_map_free(map: *mut RawMap) -> i32;
     pub(crate) fn elltree_map_get(map: *mut RawMap, key: u64, value: &mut u64) -> i32;
     pub(crate) fn elltree_map_insert(map: *mut RawMap, key: u64, value: u64) -> i32;
     pub(crate) fn elltree_map_put(map: *mut RawMap, key: u64, value: u64, was: &mut u64) -> i32;
@@ -115,6 +115,10 @@ unsafe extern "C" {
     pub(crate) fn elltree_map_delete(map: *mut RawMap, key: u64) -> i32;
     pub(crate) fn elltree_map_compare_exchange(map: *mut RawMap, key: u64, expected: &mut u64, desired: u64) -> i32;
     pub(crate) fn elltree_map_fetch_add(map: *mut RawMap, key: u64, addend: u64, was: &mut u64) -> i32;
+    pub(crate) fn elltree_map_remove_if(map: *mut RawMap, key: u64, was: u64, found: &mut u64) -> i32;
+    pub(crate) fn elltree_map_get_or_insert(map: *mut RawMap, key: u64, value: u64, there: &mut u64) -> i32;
+    pub(crate) fn elltree_map_pop_first(map: *mut RawMap, key: &mut u64, value: &mut u64) -> i32;
+    pub(crate) fn elltree_map_pop_last(map: *mut RawMap, key: &mut u64, value: &mut u64) -> i32;
     pub(crate) fn elltree_map_range(map: *mut RawMap, from: u64, upto: u64, out: *mut Pair, room: usize, count: &mut usize, next: &mut u64) -> i32;
     pub(crate) fn elltree_map_next_at_least(map: *mut RawMap, key: u64, found: &mut u64, value: &mut u64) -> i32;
     pub(crate) fn elltree_map_last_at_most(map: *mut RawMap, key: u64, found: &mut u64, value: &mut u64) -> i32;

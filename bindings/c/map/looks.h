@@ -1,0 +1,173 @@
+/* What calls find of the section that they are on, and what they do about it: renew it, join it, go on with renewals that were left, or leave a word for
+   later calls. */
+#ifndef ELLTREE_MAP_LOOKS_H
+#define ELLTREE_MAP_LOOKS_H
+#include "renewal.h"
+
+/* Whether this call is weighed: one in 64 of the calls on a place, by strides of 1 to 128 that follow no rule, so that no loop of calls has the same one
+   of them weighed each time. */
+static inline bool is_weighed(struct place *place) {
+    if (__builtin_expect(--place->until != 0, 1))
+        return false;
+    place->chance = place->chance * 1664525 + 1013904223;
+    place->until = 1 + (place->chance >> 25);
+    return true;
+}
+
+/* Weighs a call by a find of its key, which nothing hinders: whether the steps beyond those of a tree that is not deep, of all calls since the section
+   was made, are worth a renewal. */
+static bool is_deep(struct section *section, struct elltree_slot *slot, uint64_t key) {
+    uint64_t before = 0, after = 0, value, excess;
+    if (elltree_slot_steps(slot, &before) != ELLTREE_YES || elltree_slot_find(slot, key, &value) < 0 ||
+        elltree_slot_steps(slot, &after) != ELLTREE_YES || after - before <= section->allowed)
+        return false;
+    excess = SAMPLE * (after - before - section->allowed);
+    excess += atomic_fetch_add_explicit(&section->excess, excess, memory_order_relaxed);
+    return excess > at_least(section->effort / STEP_NANOSECONDS, STEPS_LEAST);
+}
+
+/* Weighs a call that only reads. It renews nothing, and leaves a word for the next call that changes a key of this section. */
+static __attribute__((noinline)) void weigh_read(struct section *section, struct elltree_slot *slot, uint64_t key) {
+    if (key <= ELLTREE_KEY_MAX && is_deep(section, slot, key))
+        atomic_store(&section->due, DEEP_TREE);
+}
+
+/* Whether a section has few keys, and a neighbor for which that is so too, as far as is known. */
+static bool may_be_joined(const struct elltree_map *map, const struct directory *directory, const struct section *section) {
+    const uint32_t at = index_of(directory, section->first);
+    const uint64_t keys = keys_about(section);
+    return is_small(map, keys) && (may_fit(map, section_after(directory, at), keys) || may_fit(map, section_before(directory, at), keys));
+}
+
+/* Weighs a call that has given its section so many keys more, and tells whether that is to be renewed, and why. */
+static enum reason weigh_change(struct elltree_map *map, struct section *section, struct elltree_slot *slot, uint64_t key, int32_t more) {
+    uint64_t left = 0;
+    if (more)
+        atomic_fetch_add_explicit(&section->about, SAMPLE * (int64_t)more, memory_order_relaxed);
+    if (elltree_slot_cards_left(slot, &left) == ELLTREE_YES && left <= section->reserve)
+        return FEW_CARDS;
+    if (is_deep(section, slot, key))
+        return DEEP_TREE;
+    if (more > 0 && keys_about(section) > 2 * section_keys(&map->gate))
+        return MANY_KEYS;
+    return more < 0 && may_be_joined(map, directory_of(map), section) ? FEW_KEYS : NO_REASON;
+}
+
+/* Whether a section changes less than others, and has more than twice the cards that it needs. */
+static bool has_many_cards(const struct elltree_map *map, const struct section *section, struct elltree_slot *slot) {
+    uint64_t left = 0;
+    if (renewals_since(map, section) < two_rounds(map) || elltree_slot_cards_left(slot, &left) != ELLTREE_YES)
+        return false;
+    return section->cards >= 2 * cards_by_use(map, section, left, keys_about(section));
+}
+
+/* Looks at some section, and renews it if it has few keys, as a neighbor has, or has cards that it does not need. The multiples of this number are spread
+   evenly over the sections. */
+static void look_at_another(struct elltree_map *map) {
+    const uint32_t at = UINT32_C(2654435769) * atomic_fetch_add(&map->swept, 1);
+    struct place *place = take_place(&map->gate, READS);
+    const struct directory *directory = directory_of(map);
+    struct section *section = directory->sections[(uint64_t)at * directory->count >> 32];
+    enum reason reason = may_be_joined(map, directory, section) ? FEW_KEYS : NO_REASON;
+    if (reason == NO_REASON && has_many_cards(map, section, slot_of(section, place)))
+        reason = MANY_CARDS;
+    if (reason != NO_REASON && !take_renewal(section))
+        reason = NO_REASON;
+    give_back(place);
+    if (reason != NO_REASON)
+        (void)!renew_section(map, section, reason, false);
+}
+
+/* Whether what was replaced and is still read takes too much memory for another renewal. */
+static bool has_too_many_waiting(const struct elltree_map *map) {
+    return atomic_load(&map->waiting) > at_least(CARDS_WAITING, atomic_load(&map->cards));
+}
+
+/* Renews a section that this thread has taken for that, and looks at two others. */
+static int32_t renew(struct elltree_map *map, struct section *section, enum reason reason, bool waits) {
+    int32_t code;
+    while (has_too_many_waiting(map)) {
+        (void)take_up(map, NULL);
+        if (!waits && has_too_many_waiting(map)) {
+            leave_section(map, section);
+            return ELLTREE_YES;
+        }
+        rest(UINT32_MAX);
+    }
+    code = renew_section(map, section, reason, waits);
+    look_at_another(map);
+    look_at_another(map);
+    return code;
+}
+
+/* Sections without keys that searches pass over. */
+
+/* Leaves word of such a section, for a call that changes a key, also on the section where the search has ended. */
+static __attribute__((noinline)) void note_passed(struct elltree_map *map, struct section *passed, struct section *found) {
+    atomic_store(&passed->about, 0);
+    atomic_store(&map->passed, passed->first + 1);
+    if (found)
+        atomic_store(&found->due, FEW_KEYS);
+}
+
+/* Joins such a section with a neighbor. */
+static void join_passed(struct elltree_map *map) {
+    const uint64_t passed = atomic_exchange(&map->passed, 0);
+    struct place *place;
+    const struct directory *directory;
+    struct section *section;
+    bool taken;
+    if (!passed)
+        return;
+    place = take_place(&map->gate, READS);
+    directory = directory_of(map);
+    section = section_of(directory, passed - 1);
+    taken = may_be_joined(map, directory, section) && take_renewal(section);
+    give_back(place);
+    if (taken)
+        (void)!renew_section(map, section, FEW_KEYS, false);
+}
+
+/* What a call does that changes a key. */
+
+/* Gives the place back, and sees to what this call has found, if it was weighed, and to what others have left. If memory is refused, the map goes on as
+   it is. */
+static __attribute__((noinline)) void give_back_and_renew(struct elltree_map *map, struct place *place, struct section *section, uint64_t key,
+                                                          int32_t more, bool is_weighed) {
+    enum reason reason = (enum reason)atomic_exchange(&section->due, NO_REASON);
+    bool taken;
+    if (reason == FEW_KEYS && !may_be_joined(map, directory_of(map), section))
+        reason = NO_REASON;
+    if (reason == NO_REASON && is_weighed)
+        reason = weigh_change(map, section, slot_of(section, place), key, more);
+    taken = reason != NO_REASON && take_renewal(section);
+    give_back(place);
+    (void)take_up(map, NULL);
+    if (atomic_load(&map->passed))
+        join_passed(map);
+    if (taken)
+        (void)!renew(map, section, reason, false);
+}
+
+/* Notes when the cards of a section were found spent first. */
+static void note_spent(struct section *section) {
+    uint64_t none = 0;
+    if (!atomic_load(&section->spent_at))
+        atomic_compare_exchange_strong(&section->spent_at, &none, now());
+}
+
+/* Gives the place back, and waits until the section is renewed: by this thread, if no other one renews it, or if its renewal was left. */
+static int32_t get_fresh(struct elltree_map *map, struct place *place, struct section *section, enum reason reason) {
+    const uint32_t ended = atomic_load(&map->ended);
+    const bool taken = take_renewal(section);
+    if (reason == FEW_CARDS)
+        note_spent(section);
+    give_back(place);
+    if (taken)
+        return renew(map, section, reason, true);
+    if (!take_up(map, section))
+        wait_while(&map->ended, ended);
+    return ELLTREE_YES;
+}
+
+#endif
