@@ -1,18 +1,23 @@
-# Builds, tests, installs and releases elltree by the scripts that are here, which need rt on the PATH.
+# Builds, tests, proves, installs and releases elltree by the scripts that are here, which need rt on the PATH.
 PREFIX ?= /usr/local
 
-.PHONY: all check test install bench release help
+.PHONY: all prove test check install bench release help
 
 all: ## prove and build the program and the library, and install them in build/
 	tools/install build
 
+test: ## compile without a proof, and run the quick tests and those of the library
+	tests/run quick
+	tests/hosts/run --unproved
+
+prove: ## prove the program and the library, and build them
+	./elltree --prove
+	cd crates/elltree && env -u RT_ALLOW_C -u RT_BACKEND rt lib
+
 check: ## run the gate: prove, test and run every crate
 	.ci/run
 
-test: ## run the tests that take minutes together
-	tests/run quick
-
-install: ## install the program and the library below PREFIX, which is /usr/local if left out
+install: ## prove the program and the library, and install them below PREFIX, which is /usr/local if left out
 	tools/install "$(PREFIX)"
 
 bench: ## measure the program beside plain ones

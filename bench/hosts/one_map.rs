@@ -23,7 +23,7 @@ impl View for Arc<Map> {
     }
 
     fn insert(&mut self, key: u64, value: u64) -> bool {
-        Map::insert(self, key, value).unwrap()
+        Map::try_insert(self, key, value).unwrap()
     }
 
     fn delete(&mut self, key: u64) -> bool {

@@ -1,11 +1,12 @@
 /* What the library keeps of a handle has cache lines of its own, with 128 bytes on each side that no call writes to, in a tree of shared keys and
-   in one of owned keys. It looks at the block that malloc gave for a handle, which no program may do. */
+   in one of owned keys. It looks at the block that malloc gave for a handle, with 16 bytes in front of what the library
+   uses, which no program may do. */
 #include "elltree.h"
 #include <malloc.h>
 #include <stdio.h>
 #include <string.h>
 
-enum { HANDLES = 4, LINE = 128, ROOM = 4096, CARDS = 100 };
+enum { HANDLES = 4, LINE = 128, ROOM = 4096, CARDS = 100, IN_FRONT = 16 };
 
 /* The first and the last byte that calls on a handle write to. */
 struct written {
@@ -30,7 +31,7 @@ static long call_all(struct elltree_handle *handle, uint64_t key) {
 static struct written calls_write(struct elltree_handle *handle, uint64_t key, long *wrong) {
     static unsigned char before[ROOM];
     const unsigned char *block = handle->slot.at;
-    size_t size = malloc_usable_size(handle->slot.at), first = 0, last;
+    size_t size = malloc_usable_size((char *)handle->slot.at - IN_FRONT) - IN_FRONT, first = 0, last;
     if (size > ROOM || size < 2 * LINE) {
         ++*wrong;
         return (struct written){0, 0};

@@ -1,5 +1,8 @@
-/* Threads of C++ over one elltree::map, which renews itself every few thousand changes, and each member of the class. */
+/* Threads of C++ over one elltree::map, which renews itself every few thousand changes, and each member of the class. Ranges are those of a std::map,
+   and beside changes of other keys. */
 #include "elltree_map.hpp"
+#include <algorithm>
+#include <atomic>
 #include <cstdio>
 #include <map>
 #include <thread>
@@ -105,8 +108,103 @@ static void members() {
     EXPECT(std::string(elltree::refused(ELLTREE_NO_MEMORY).what()) == "out of memory");
 }
 
+static void composed() {
+    elltree::map map;
+    EXPECT(map.get_or_insert(2, 20) == std::make_pair(uint64_t(20), true) && map.get_or_insert(2, 21) == std::make_pair(uint64_t(20), false));
+    map.extend({{1, 10}, {3, 30}});
+    map.extend(std::map<uint64_t, uint64_t>{{4, 40}, {2, 22}});
+    map.extend(std::vector<std::pair<uint64_t, uint64_t>>{{5, 50}});
+    EXPECT(map.pop_first()->key == 1 && map.pop_last()->value == 50 && map.size() == 3 && map.get(2) == 22u);
+    uint64_t expected = 21;
+    EXPECT(map.remove_if(2, expected) == elltree::exchanged::other_value && expected == 22);
+    EXPECT(map.remove_if(2, expected) == elltree::exchanged::yes && map.remove_if(2, expected) == elltree::exchanged::absent && expected == 22);
+    map.clear();
+    EXPECT(map.empty() && !map.pop_first() && !map.pop_last() && map.begin() == map.end());
+    EXPECT(elltree::map::from_sorted({{1, 10}, {2, 20}}).size() == 2 && code_of([] {
+                                                                            (void)elltree::map::from_sorted({{2, 0}, {2, 0}});
+                                                                        }) == ELLTREE_BAD_START);
+}
+
+/* Keys that are too great are absent, and refused by calls that change keys. */
+static void too_great() {
+    for (const uint64_t key : {ELLTREE_KEY_MAX + 1, UINT64_MAX}) {
+        auto map = elltree::map::from_sorted({{1, 10}, {ELLTREE_KEY_MAX, 60}});
+        EXPECT(!map.get(key) && !map.contains(key) && !map.next_at_least(key) && !map.next_after(key) && map.last_before(key)->value == 60);
+        EXPECT(map.range(key).begin() == map.end());
+        EXPECT(code_of([&] { map.insert(key, 0); }) == ELLTREE_BAD_KEY && code_of([&] { map.get_or_insert(key, 0); }) == ELLTREE_BAD_KEY);
+        uint64_t expected = 0;
+        EXPECT(code_of([&] { map.remove_if(key, expected); }) == ELLTREE_BAD_KEY);
+        EXPECT(code_of([&] { map.remove(key); }) == ELLTREE_BAD_KEY && code_of([&] { map.erase(key); }) == ELLTREE_BAD_KEY);
+        EXPECT(code_of([&] { map.update(key, [](uint64_t was) { return was; }); }) == ELLTREE_BAD_KEY && map.size() == 2);
+    }
+}
+
+/* Ranges of each length, from each key, show what a plain map has. */
+static void ranges() {
+    std::map<uint64_t, uint64_t> plain;
+    elltree::map map;
+    for (uint64_t key = 0; key < 1000; key += 5) {
+        plain[key] = key * 3;
+        map.insert(key, key * 3);
+    }
+    const auto is_pair = [](const elltree_pair &one, const auto &other) { return one.key == other.first && one.value == other.second; };
+    for (uint64_t from = 0; from < 1010; from += 7)
+        for (uint64_t upto = 0; upto < 1010; upto += 13) {
+            const auto range = map.range(from, upto);
+            const auto first = plain.lower_bound(from), last = plain.lower_bound(std::max(from, upto));
+            if (!std::equal(range.begin(), range.end(), first, last, is_pair) ||
+                std::distance(range.begin(), range.end()) != std::distance(first, last))
+                wrong++;
+        }
+    EXPECT(std::equal(map.begin(), map.end(), plain.begin(), plain.end(), is_pair));
+    auto at = map.range(11).begin();
+    EXPECT(at->key == 15 && (at++)->key == 15 && at->key == 20 && (*++at).value == 75);
+    for (auto [key, value] : map) /* the loop may change the map */
+        EXPECT(map.erase(key) && value == key * 3);
+    EXPECT(map.empty());
+}
+
+/* A loop over all pairs beside a thread that changes every other key: the others are all shown, in order. */
+static void range_beside_changes() {
+    elltree::map map = few_cards();
+    std::atomic<bool> done = false;
+    for (uint64_t key = 0; key < 2000; key++)
+        map.put(key, key);
+    std::thread other([&] {
+        for (uint64_t i = 0; i < OPS; i++)
+            i % 4 < 2 ? (void)map.erase(i * 7 % 1000 * 2 + 1) : (void)map.put(i * 7 % 1000 * 2 + 1, i);
+        done = true;
+    });
+    do {
+        uint64_t steady = 0, last = 0;
+        for (auto [key, value] : map) {
+            wrong += steady && key <= last;
+            steady += key % 2 == 0 && value == key;
+            last = key;
+        }
+        EXPECT(steady == 1000);
+    } while (!done);
+    other.join();
+}
+
+/* What the guide shows. */
+static void guide() {
+    auto map = elltree::map::from_sorted({{1, 10}, {2, 20}, {5, 50}});
+    auto [there, is_new] = map.get_or_insert(7, 70);
+    for (auto [key, value] : map.range(2, 6)) // 2 is in it, and 6 is not
+        map.put(key, value + 1);
+    while (auto pair = map.pop_first())
+        std::printf("%ju: %ju\n", uintmax_t(pair->key), uintmax_t(pair->value));
+    EXPECT(there == 70 && is_new && map.empty());
+}
+
 int main() {
     members();
+    guide();
+    composed();
+    too_great();
+    ranges();
+    range_beside_changes();
     share(4);
     share(32);
     std::printf("%ld wrong\n", wrong);

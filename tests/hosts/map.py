@@ -1,5 +1,8 @@
-"""A Map of Python: each call of a dict and of its own beside a dict, then threads that share one map, which renews itself, with keys of their own and
-shared counters, iterations meanwhile, and values that are told once each; and a forked child, which is refused."""
+"""A Map of Python: each call of a dict and of its own beside a dict, also with keys that no map has; then threads that share one map, which renews
+itself, with keys of their own and shared counters, iterations meanwhile, and values that are told once each, as are pairs that threads pop; and a
+forked child, which is refused."""
+import decimal
+import fractions
 import os
 import random
 import threading
@@ -58,11 +61,61 @@ def answers():
     raises(KeyError, m.pop, 1)
     raises(KeyError, m.__getitem__, 1)
     raises(KeyError, m.__delitem__, 1)
-    raises(TypeError, m.get, "1")
     raises(OverflowError, m.put, -1, 0)
+    for call in (m.insert, m.put, m.get_or_insert, m.setdefault, m.__setitem__):
+        raises(TypeError, call, "1", 1)
+        raises(TypeError, call, 1.0, 1)
+        assert raises(elltree.Refused, call, elltree.KEY_MAX + 1, 0).code == elltree.BAD_KEY
+    for call in (m.remove, m.delete, lambda key: m.remove_if(key, 0)):
+        raises(TypeError, call, "1")
+        raises(OverflowError, call, 2**64)
+        assert raises(elltree.Refused, call, elltree.KEY_MAX + 1).code == elltree.BAD_KEY
     raises(OverflowError, m.put, 1, 2**64)
     raises(TypeError, m.__reduce_ex__, 4)
-    assert raises(elltree.Refused, m.put, elltree.KEY_MAX + 1, 0).code == elltree.BAD_KEY
+    assert not m
+
+
+def composed():
+    m = elltree.Map({2: 20, 4: 40, 6: 60})
+    assert (m.get_or_insert(2, 21), m.get_or_insert(3, 30), m.setdefault(3, 31), m.setdefault(1, 10)) == ((20, False), (30, True), 30, 10)
+    assert (list(reversed(m)), list(reversed(m.keys())), list(reversed(m.values()))) == ([6, 4, 3, 2, 1], [6, 4, 3, 2, 1], [60, 40, 30, 20, 10])
+    assert (m.remove_if(5, 50), m.insert(5, 50), m.remove_if(5, 51), m[5], m.remove_if(5, 50), 5 in m) == (None, True, 50, 50, 50, False)
+    assert list(reversed(m.items())) == [(6, 60), (4, 40), (3, 30), (2, 20), (1, 10)] == list(m.items())[::-1]
+    assert (m.pop_first(), m.pop_last(), m.popitem(), m.popitem()) == ((1, 10), (6, 60), (2, 20), (3, 30))
+    assert (m.pop_last(), m.pop_first(), m.pop_last()) == ((4, 40), None, None)
+    assert (list(reversed(m)), list(reversed(m.items())), len(m)) == ([], [], 0)
+    raises(KeyError, m.popitem)
+
+
+def told(call, *args):
+    """What a call answers, or its exception: of a KeyError also what it tells."""
+    try:
+        return call(*args)
+    except Exception as why:
+        return (type(why), why.args if isinstance(why, KeyError) else None)
+
+
+def keys_of_other_types():
+    """What a dict has answers as a dict does, if it is asked for something that is no key of a map."""
+    asked = ["1", "", b"1", None, 1.0, 2.5, -1.0, 1e30, float("nan"), float("inf"), 1 + 0j, 1 + 1j, True, False]
+    asked += [-1, 2**64, 2**64 - 1, elltree.KEY_MAX + 1, fractions.Fraction(2), fractions.Fraction(1, 2), object(), int, print]
+    asked += [decimal.Decimal(1), decimal.Decimal("1.5"), decimal.Decimal("NaN"), decimal.Decimal("sNaN"), (), (1,), frozenset(), [], {}, set(), [1]]
+    calls = {
+        "in": lambda m, key: key in m,
+        "get": lambda m, key: m.get(key),
+        "get, default": lambda m, key: m.get(key, "default"),
+        "[]": lambda m, key: m[key],
+        "pop, default": lambda m, key: m.pop(key, None),
+        "pop": lambda m, key: m.pop(key),
+        "del": lambda m, key: m.__delitem__(key),
+        "in keys": lambda m, key: key in m.keys(),
+        "in items": lambda m, key: (key, 10) in m.items(),
+    }
+    for name, call in calls.items():
+        for key in asked:
+            shared, plain = elltree.Map({1: 10, 2: 20}), {1: 10, 2: 20}
+            said, right = told(call, shared, key), told(call, plain, key)
+            assert said == right and shared == plain, (name, key, said, right)
 
 
 def work(number, m, faults, told):
@@ -102,24 +155,73 @@ def threads(faults):
     return m.counts()["renewals"]
 
 
+def take(m, from_end, taken):
+    while (pair := m.pop_last() if from_end else m.pop_first()) is not None:
+        taken.append(pair)
+
+
+def pops(faults):
+    """Threads that empty a map from both ends get each pair once."""
+    m, taken = elltree.Map({key: key * 3 for key in range(CALLS)}, cards=1000, renewal_percent=100), [[] for _ in range(THREADS)]
+    working = [threading.Thread(target=take, args=(m, number % 2, taken[number])) for number in range(THREADS)]
+    for thread in working:
+        thread.start()
+    for thread in working:
+        thread.join()
+    if sorted(sum(taken, [])) != [(key, key * 3) for key in range(CALLS)] or m:
+        faults.append("pairs were popped twice, or not at all")
+    faults += ["pops are not in order" for number, pairs in enumerate(taken) if pairs != sorted(pairs, reverse=bool(number % 2))]
+
+
+def refused_calls(m):
+    """Returns how many of these calls on a map of the parent process are refused as such, and how many calls they are."""
+    calls = [
+        lambda: m.get(1),
+        lambda: 1 in m,
+        lambda: len(m),
+        lambda: list(m),
+        lambda: m.put(1, 11),
+        lambda: m.insert(2, 20),
+        lambda: m.get_or_insert(1, 11),
+        lambda: m.remove(1),
+        lambda: m.remove_if(1, 10),
+        m.pop_first,
+        m.pop_last,
+        m.pairs,
+        m.clear,
+        m.renew,
+        m.counts,
+        lambda: m.modify(1, lambda value: value),
+    ]
+    refused = 0
+    for call in calls:
+        try:
+            call()
+        except elltree.Refused as why:
+            refused += why.code == elltree.FORKED and repr(m) == f"<elltree.Map: {why}>"
+    return refused, len(calls)
+
+
 def fork():
-    """A child that is forked is refused, and ends well."""
+    """Each call of a forked child on the map of its parent is refused, and the child ends well, with maps of its own."""
     m = elltree.Map({1: 10})
     child = os.fork()
     if child == 0:
-        try:
-            m.get(1)
-        except elltree.Refused as refused:
-            os._exit(0 if refused.code == elltree.NULL and repr(m) == f"<elltree.Map: {refused}>" else 1)
-        os._exit(2)
+        refused, calls = refused_calls(m)
+        del m
+        own = elltree.Map({1: 20})
+        os._exit(0 if refused == calls and own.pop_first() == (1, 20) else 1)
     assert os.waitpid(child, 0)[1] == 0 and m[1] == 10
 
 
 def main():
     faults = []
     answers()
+    composed()
+    keys_of_other_types()
     fork()
     as_dict(faults)
+    pops(faults)
     renewals = threads(faults)
     print(f"{THREADS} threads, {renewals} renewals, {len(faults)} faults", *faults[:10], sep="\n")
     raise SystemExit(1 if faults or renewals < 3 else 0)

@@ -1,8 +1,9 @@
 //! Threads of Rust, 2 to 64, that share one map, which renews itself every thousand changes: they get, insert, put, delete and exchange the same few
 //! keys and go over ranges of them. Each call is noted with its begin and its end by one clock, and the calls on each key are to be in order, by the
 //! check of shared.rs. A range is noted as a get of each of its keys, and so is a snapshot. All threads add to counters in each way that there is, and
-//! no addition is lost. With `--seconds=N` it makes rounds, with new seeds, for so long, and at the end the process has not much more memory than
-//! after a third of the time: the allocator takes some more for a while, but a tree that is lost at each renewal would be many times as much.
+//! no addition is lost. A forked child can't use the map. With `--seconds=N` it makes rounds, with new seeds, for so long, and at the end the process
+//! has not much more memory than after a third of the time: the allocator takes some more for a while, but a tree that is lost at each renewal would be
+//! many times as much.
 use elltree::{Map, MapError, MapSettings};
 use shared::{Call, Made, are_in_order, next, of_each};
 use std::sync::atomic::{AtomicU64, Ordering::SeqCst};
@@ -32,10 +33,17 @@ fn exchange(map: &Map, key: u64, seen: &mut u64, new: u64) -> Result<Call, MapEr
 
 /// Puts a value: this is an exchange of the value that was there, or an insert.
 fn put(map: &Map, key: u64, new: u64) -> Result<Call, MapError> {
-    Ok(match map.put(key, new)? {
+    Ok(match map.insert(key, new)? {
         Some(was) => Call::Exchange(was, new, Some(was)),
         None => Call::Insert(new, true),
     })
+}
+
+/// Gets or inserts a value: this is a get of the value that was there, or an insert.
+fn get_or_insert(map: &Map, key: u64, new: u64) -> Result<Call, MapError> {
+    let (there, is_added) = map.get_or_insert(key, new)?;
+    assert!(!is_added || there == new, "{new} was added, and {there} is there");
+    Ok(if is_added { Call::Insert(new, true) } else { Call::Find(Some(there)) })
 }
 
 /// What a range or a snapshot tells of each key.
@@ -61,7 +69,8 @@ fn work(map: &Map, worker: u32, keys: u64, calls: u64, mut seed: u64, clock: &At
         let (key, value) = ((random >> 20) % keys, u64::from(worker) << 32 | number);
         let begun = clock.fetch_add(1, SeqCst);
         let call = match random % 16 {
-            0..=3 => Call::Insert(value, map.insert(key, value)?),
+            0 | 1 => Call::Insert(value, map.try_insert(key, value)?),
+            2 | 3 => get_or_insert(map, key, value)?,
             4..=7 => Call::Delete(map.delete(key)?),
             8 | 9 => exchange(map, key, &mut seen[key as usize], value)?,
             10 => put(map, key, value)?,
@@ -161,7 +170,61 @@ fn rounds(seed: u64) -> Result<(usize, u64), MapError> {
     Ok(sums)
 }
 
+/// Returns whether a forked child can't use its parent's map: each call that changes keys is refused, also one that is made of others, and calls that
+/// read find no key.
+fn is_refused(map: &Map) -> bool {
+    let changes = [
+        map.insert(1, 11).err(),
+        map.try_insert(2, 20).err(),
+        map.get_or_insert(1, 11).err(),
+        map.update(1, |value| value + 1).err(),
+        map.remove(1).err(),
+        map.remove_if(1, 10).err(),
+        map.pop_first().err(),
+        map.pop_last().err(),
+        map.extend([(3, 30)]).err(),
+        map.clear().err(),
+        map.retain(|_, _| false).err(),
+        map.renew().err(),
+    ];
+    changes.iter().all(|why| *why == Some(MapError::Forked))
+        && map.get(1).is_none()
+        && map.is_empty()
+        && map.iter().next().is_none()
+        && map.pairs().is_empty()
+}
+
+/// Forks a child that calls a map of this process.
+fn fork() -> Result<(), MapError> {
+    unsafe extern "C" {
+        fn fork() -> i32;
+        fn waitpid(child: i32, status: &mut i32, options: i32) -> i32;
+        fn _exit(status: i32) -> !;
+    }
+    let (map, mut status) = (Map::try_from_iter([(1, 10)])?, 1);
+    // SAFETY: the child calls the map and nothing else before it ends.
+    unsafe {
+        let child = fork();
+        if child == 0 {
+            _exit(i32::from(!is_refused(&map)));
+        }
+        waitpid(child, &mut status, 0);
+    }
+    assert!(status == 0 && map.get(1) == Some(10), "a forked child ends with {status}");
+    Ok(())
+}
+
+/// What the guide shows of keys and values that have types of their own.
+fn typed() -> Result<(), MapError> {
+    let bids = elltree::TypedMap::<i64, u32>::try_from_iter([(-5, 50), (7, 70), (-20, 200)])?;
+    assert_eq!(bids.range(-10..).collect::<Vec<_>>(), [(-5, 50), (7, 70)]);
+    assert_eq!(bids.pop_first()?, Some((-20, 200)));
+    Ok(())
+}
+
 fn main() -> Result<(), MapError> {
+    fork()?;
+    typed()?;
     let seconds = std::env::args().nth(1).map_or(0, |word| word.strip_prefix("--seconds=").expect("--seconds=N").parse().expect("a number"));
     let begun = Instant::now();
     let (mut seed, mut calls, mut renewals, mut first_pages) = (0, 0, 0, 0);

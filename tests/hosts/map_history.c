@@ -6,9 +6,9 @@
 #include <stdio.h>
 
 enum { THREADS = 3, CALLS = 4, ALL = THREADS * CALLS, ROUNDS = 20000, KEY = 7, BESIDE = 40, CARDS = 60 };
-enum kind { GET, INSERT, PUT, REMOVE, EXCHANGE };
+enum kind { GET, INSERT, PUT, REMOVE, EXCHANGE, GET_OR_INSERT, REMOVE_IF, KINDS };
 
-/* A call: `other` is the value that an exchange expects. `said` and `told` are its answer. */
+/* A call: `other` is the value that an exchange or a conditional remove expects. `said` and `told` are its answer. */
 struct call {
     enum kind kind;
     uint64_t value, other, begun, ended, told;
@@ -27,8 +27,10 @@ static int answers(const struct call *it, int *there, uint64_t *value) {
     const int was_there = *there;
     const uint64_t was = *value;
     if (!was_there) {
-        *there = it->kind == INSERT || it->kind == PUT;
+        *there = it->kind == INSERT || it->kind == PUT || it->kind == GET_OR_INSERT;
         *value = *there ? it->value : 0;
+        if (it->kind == GET_OR_INSERT)
+            return it->said == ELLTREE_YES && it->told == it->value;
         return it->said == (it->kind == INSERT ? ELLTREE_YES : ELLTREE_NO);
     }
     switch (it->kind) {
@@ -42,9 +44,12 @@ static int answers(const struct call *it, int *there, uint64_t *value) {
     case REMOVE:
         *there = 0;
         return it->said == ELLTREE_YES && it->told == was;
+    case GET_OR_INSERT:
+        return it->said == ELLTREE_NO && it->told == was;
     default:
         if (was != it->other)
             return it->said == ELLTREE_OTHER_VALUE && it->told == was;
+        *there = it->kind != REMOVE_IF;
         *value = it->value;
         return it->said == ELLTREE_YES;
     }
@@ -93,6 +98,12 @@ static void make(struct call *it) {
     case REMOVE:
         it->said = elltree_map_remove(map, KEY, &it->told);
         break;
+    case GET_OR_INSERT:
+        it->said = elltree_map_get_or_insert(map, KEY, it->value, &it->told);
+        break;
+    case REMOVE_IF:
+        it->said = elltree_map_remove_if(map, KEY, it->other, &it->told);
+        break;
     default:
         it->said = elltree_map_compare_exchange(map, KEY, &it->told, it->value);
     }
@@ -108,7 +119,7 @@ static void *work(void *given) {
         pthread_barrier_wait(&barrier);
         for (int i = 0; i < CALLS; i++) {
             const uint64_t random = next(&seed) >> 20;
-            own[i] = (struct call){.kind = (enum kind)(random % 5), .value = random >> 8 & 3, .other = random >> 12 & 3};
+            own[i] = (struct call){.kind = (enum kind)(random % KINDS), .value = random >> 8 & 3, .other = random >> 12 & 3};
             make(&own[i]);
             if (elltree_map_put(map, 100 + random % BESIDE, random, &was) < 0)
                 own[i].said = ELLTREE_NULL; /* which no order answers */

@@ -1,6 +1,6 @@
 /* Each allocation of a map is refused in turn, when it is made and when it renews itself: the call is answered by ELLTREE_NO_MEMORY, and the map is as
-   it was and goes on; or, as the library can do without some memory, the call succeeds. No other call asks for memory. Linked with --wrap=malloc,
-   --wrap=realloc, --wrap=calloc and --wrap=aligned_alloc. */
+   it was and goes on; or, as the library can do without some memory, the call succeeds. No other call asks for memory. Linked with --wrap=malloc and
+   --wrap=realloc: it asks in no other way. */
 #include "elltree_map.h"
 #include <stdio.h>
 
@@ -8,12 +8,8 @@ static long asked, refuse_at = -1;
 
 void *__real_malloc(size_t size);
 void *__real_realloc(void *at, size_t size);
-void *__real_calloc(size_t count, size_t size);
-void *__real_aligned_alloc(size_t alignment, size_t size);
 void *__wrap_malloc(size_t size) { return ++asked == refuse_at ? NULL : __real_malloc(size); }
 void *__wrap_realloc(void *at, size_t size) { return ++asked == refuse_at ? NULL : __real_realloc(at, size); }
-void *__wrap_calloc(size_t count, size_t size) { return ++asked == refuse_at ? NULL : __real_calloc(count, size); }
-void *__wrap_aligned_alloc(size_t alignment, size_t size) { return ++asked == refuse_at ? NULL : __real_aligned_alloc(alignment, size); }
 
 enum { KEYS = 100, CARDS = 50 };
 static struct elltree_pair start[KEYS];

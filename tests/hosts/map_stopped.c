@@ -1,19 +1,22 @@
-/* A thread is stopped by a signal while it works on a map, most often inside a call. The other threads' calls go on meanwhile, on the same key too. Then a
-   renewal waits if the thread is inside a call, and only then; it ends once the thread goes on. The thread makes fewer calls after each renewal than there
-   are cards, so that it never renews by itself: all would wait for a thread that is stopped in a renewal. */
+/* A thread is stopped by a signal while it works on a map, most often inside a call.
+   If it only reads, nothing waits for it: the calls of other threads go on, on its key too, through any number of renewals, and so do snapshots.
+   If it changes a key, the others' calls go on too, also while a renewal waits for it. A renewal waits only if the thread is inside a call, and ends
+   once it goes on. A call that finds no card waits for that renewal, while calls that read go on. The thread makes fewer calls than there are
+   cards, so that it never renews by itself: calls that change keys would wait for a thread that is stopped while it has closed the gate. */
 #define _GNU_SOURCE
 #include "elltree_map.h"
 #include <pthread.h>
 #include <signal.h>
 #include <stdio.h>
 #include <time.h>
+#include <unistd.h>
 
-enum { ROUNDS = 100, CALLS = 1000, CARDS = 100000, BUDGET = 50000 };
+enum { ROUNDS = 60, CALLS = 1000, PUTS = 100000, FEW = 300, MANY = 100000, BUDGET = 50000, LIMIT = 200 };
 
 static struct elltree_map *map;
-static int is_stopped, may_go_on, is_over;
+static int is_stopped, may_go_on, is_over, reads;
 static uint64_t added;
-static long budget; /* how many calls the thread may make until the next renewal */
+static long budget; /* how many calls the thread may make */
 
 static void wait_a_while(void) {
     const struct timespec while_ = {0, 100000};
@@ -37,16 +40,13 @@ static void *work(void *given) {
     uint64_t was;
     long *wrong = given;
     while (!__atomic_load_n(&is_over, __ATOMIC_SEQ_CST)) {
-        if (__atomic_fetch_sub(&budget, 1, __ATOMIC_SEQ_CST) <= 0)
-            continue;
-        *wrong += elltree_map_fetch_add(map, 1, 1, &was) != ELLTREE_YES;
-        added++;
+        if (reads)
+            *wrong += elltree_map_get(map, 1, &was) != ELLTREE_YES;
+        else if (__atomic_fetch_sub(&budget, 1, __ATOMIC_SEQ_CST) > 0) {
+            *wrong += elltree_map_fetch_add(map, 1, 1, &was) != ELLTREE_YES;
+            added++;
+        }
     }
-    return NULL;
-}
-
-static void *renew(void *given) {
-    *(long *)given += elltree_map_renew(map) != ELLTREE_YES;
     return NULL;
 }
 
@@ -55,11 +55,41 @@ static uint64_t renewals(void) {
     return elltree_map_counts(map, &counts) == ELLTREE_YES ? counts.renewals : 0;
 }
 
-/* Calls on the key that the stopped thread may be at, and on others: there are cards enough. */
-static long call(uint64_t *own) {
+/* A map, and a thread that is stopped at work on it. */
+static long begin(uint64_t cards, pthread_t *worker, long *worker_wrong) {
+    struct elltree_map_settings settings = ELLTREE_MAP_SETTINGS;
+    const struct elltree_pair start = {1, 0};
+    long wrong;
+    settings.cards = cards;
+    settings.renewal_percent = 100;
+    settings.renewal_microseconds = 1;
+    is_over = may_go_on = 0;
+    added = 0;
+    budget = BUDGET;
+    wrong = elltree_map_from_sorted(&map, &start, 1, &settings) != ELLTREE_YES;
+    pthread_create(worker, NULL, work, worker_wrong);
+    wait_a_while();
+    pthread_kill(*worker, SIGUSR1);
+    wait_until(&is_stopped);
+    return wrong;
+}
+
+static void let_go_on(void) { __atomic_store_n(&may_go_on, 1, __ATOMIC_SEQ_CST); }
+
+static long end(pthread_t worker, uint64_t own) {
+    uint64_t value = 0;
+    long wrong;
+    __atomic_store_n(&is_over, 1, __ATOMIC_SEQ_CST);
+    pthread_join(worker, NULL);
+    wrong = elltree_map_get(map, 1, &value) != ELLTREE_YES || value != own + added;
+    return wrong + (elltree_map_free(map) != ELLTREE_YES);
+}
+
+/* Calls on the key that the stopped thread may be at, and on others. */
+static long call(uint64_t calls, uint64_t *own) {
     long wrong = 0;
     uint64_t was;
-    for (uint64_t i = 0; i < CALLS; i++) {
+    for (uint64_t i = 0; i < calls; i++) {
         wrong += elltree_map_fetch_add(map, 1, 1, &was) != ELLTREE_YES;
         wrong += elltree_map_put(map, 2 + i % 8, i, &was) < 0;
         wrong += elltree_map_get(map, 2 + i % 8, &was) != ELLTREE_YES || was != i;
@@ -68,46 +98,95 @@ static long call(uint64_t *own) {
     return wrong;
 }
 
-/* One stop: whether a renewal waited for it. */
-static long stop_once(pthread_t worker, long *wrong, uint64_t *own) {
-    pthread_t renewing;
-    uint64_t before;
-    long late = 0, waited;
-    __atomic_store_n(&budget, 0, __ATOMIC_SEQ_CST);
-    *wrong += elltree_map_renew(map) != ELLTREE_YES;
-    __atomic_store_n(&may_go_on, 0, __ATOMIC_SEQ_CST);
-    __atomic_store_n(&budget, BUDGET, __ATOMIC_SEQ_CST);
-    pthread_kill(worker, SIGUSR1);
-    wait_until(&is_stopped);
+/* The thread reads, and is stopped for as long as this takes. */
+static long stop_reader(void) {
+    struct elltree_pair out[16];
+    pthread_t worker;
+    uint64_t own = 0, before;
+    size_t count;
+    long worker_wrong = 0, wrong;
+    reads = 1;
+    wrong = begin(FEW, &worker, &worker_wrong);
     before = renewals();
-    *wrong += call(own) + (renewals() != before);
+    wrong += call(PUTS, &own) + (renewals() < before + 100);
+    wrong += elltree_map_pairs(map, out, 16, &count) != ELLTREE_YES || count != 9;
+    wrong += elltree_map_renew(map) != ELLTREE_YES;
+    let_go_on();
+    return wrong + end(worker, own) + worker_wrong;
+}
+
+static void *renew(void *given) {
+    *(long *)given += elltree_map_renew(map) != ELLTREE_YES;
+    return NULL;
+}
+
+/* The thread changes a key. Others' calls go on, and a renewal may wait. */
+static long stop_writer(long *waited) {
+    pthread_t worker, renewing;
+    uint64_t own = 0, before;
+    long worker_wrong = 0, late = 0, wrong;
+    reads = 0;
+    wrong = begin(MANY, &worker, &worker_wrong);
+    before = renewals();
+    wrong += call(CALLS, &own) + (renewals() != before);
     pthread_create(&renewing, NULL, renew, &late);
-    for (int i = 0; i < 50 && renewals() == before; i++)
-        wait_a_while();
-    waited = renewals() == before;
-    __atomic_store_n(&may_go_on, 1, __ATOMIC_SEQ_CST);
+    wait_a_while();
+    wrong += call(CALLS / 4, &own);
+    *waited += renewals() == before;
+    let_go_on();
     pthread_join(renewing, NULL);
-    *wrong += late + (renewals() == before);
-    return waited;
+    wrong += late + (renewals() == before);
+    return wrong + end(worker, own) + worker_wrong;
+}
+
+/* How many calls have ended of a thread that uses up all cards. */
+static uint64_t ended;
+
+static void *use_up(void *given) {
+    uint64_t was;
+    for (uint64_t i = 0; i < 3 * MANY; i++) {
+        *(long *)given += elltree_map_put(map, 2 + i % 8, i, &was) < 0;
+        __atomic_store_n(&ended, i, __ATOMIC_SEQ_CST);
+    }
+    return NULL;
+}
+
+/* The thread changes a key, and another one finds no card: if it waits, calls that read go on meanwhile. */
+static long stop_writer_at_the_end(long *waited) {
+    pthread_t worker, user;
+    uint64_t value, before;
+    long worker_wrong = 0, user_wrong = 0, wrong;
+    reads = 0;
+    wrong = begin(MANY, &worker, &worker_wrong);
+    pthread_create(&user, NULL, use_up, &user_wrong);
+    do {
+        before = __atomic_load_n(&ended, __ATOMIC_SEQ_CST);
+        for (int i = 0; i < 20; i++)
+            wait_a_while();
+    } while (before != __atomic_load_n(&ended, __ATOMIC_SEQ_CST));
+    *waited += before < 3 * MANY - 1;
+    for (int i = 0; i < CALLS; i++)
+        wrong += elltree_map_get(map, 1, &value) != ELLTREE_YES;
+    wrong += before != __atomic_load_n(&ended, __ATOMIC_SEQ_CST);
+    let_go_on();
+    pthread_join(user, NULL);
+    return wrong + end(worker, 0) + user_wrong + worker_wrong;
 }
 
 int main(void) {
-    struct elltree_map_settings settings = ELLTREE_MAP_SETTINGS;
-    const struct elltree_pair start = {1, 0};
     struct sigaction action = {0};
-    pthread_t worker;
-    uint64_t own = 0, value = 0;
-    long wrong = 0, worker_wrong = 0, waited = 0;
-    settings.cards = CARDS;
+    long wrong = 0, waited = 0, for_cards = 0;
     action.sa_handler = stop;
-    wrong += sigaction(SIGUSR1, &action, NULL) != 0 || elltree_map_from_sorted(&map, &start, 1, &settings) != ELLTREE_YES;
-    pthread_create(&worker, NULL, work, &worker_wrong);
+    alarm(LIMIT); /* if a call waits for ever */
+    wrong += sigaction(SIGUSR1, &action, NULL) != 0;
+    for (int i = 0; i < ROUNDS / 10; i++)
+        wrong += stop_reader();
     for (int i = 0; i < ROUNDS; i++)
-        waited += stop_once(worker, &wrong, &own);
-    __atomic_store_n(&is_over, 1, __ATOMIC_SEQ_CST);
-    pthread_join(worker, NULL);
-    wrong += worker_wrong + (elltree_map_get(map, 1, &value) != ELLTREE_YES || value != own + added) + (waited == 0);
-    printf("%d stops, in %ld of which a renewal waited, %ld wrong\n", ROUNDS, waited, wrong);
-    elltree_map_free(map);
+        wrong += stop_writer(&waited);
+    for (int i = 0; i < ROUNDS / 10; i++)
+        wrong += stop_writer_at_the_end(&for_cards);
+    wrong += (waited == 0) + (for_cards == 0);
+    printf("%d stops, in %ld of which a renewal waited, and in %ld a call without a card, %ld wrong\n", ROUNDS + 2 * (ROUNDS / 10), waited, for_cards,
+           wrong);
     return wrong != 0;
 }

@@ -81,6 +81,7 @@ static void closed(void) {
     IS(elltree_insert(&none, 1, 1, 1), ELLTREE_CLOSED);
     IS(elltree_delete(&none, 1, 1), ELLTREE_CLOSED);
     IS(elltree_compare_exchange(&none, 1, &value, 1, 1), ELLTREE_CLOSED);
+    IS(elltree_remove_if(&none, 1, &value, 1), ELLTREE_CLOSED);
     IS(elltree_put(&none, 1, 1, 1, &value), ELLTREE_CLOSED);
     IS(elltree_fetch_add(&none, 1, 1, 1, &value), ELLTREE_CLOSED);
     IS(elltree_update(&none, 1, same, NULL, 1, &value), ELLTREE_CLOSED);
@@ -114,6 +115,8 @@ static void nulls(struct elltree_handle *h) {
     IS(elltree_delete(NULL, 1, 1), ELLTREE_NULL);
     IS(elltree_compare_exchange(NULL, 1, &value, 1, 1), ELLTREE_NULL);
     IS(elltree_compare_exchange(h, 1, NULL, 1, 1), ELLTREE_NULL);
+    IS(elltree_remove_if(NULL, 1, &value, 1), ELLTREE_NULL);
+    IS(elltree_remove_if(h, 1, NULL, 1), ELLTREE_NULL);
     IS(elltree_put(NULL, 1, 1, 1, &value), ELLTREE_NULL);
     IS(elltree_put(h, 1, 1, 1, NULL), ELLTREE_NULL);
     IS(elltree_fetch_add(NULL, 1, 1, 1, &value), ELLTREE_NULL);
@@ -155,6 +158,7 @@ static void in_call(struct elltree_handle *h) {
     IS(elltree_insert(h, 1, 1, 1), ELLTREE_IN_CALL);
     IS(elltree_delete(h, 1, 1), ELLTREE_IN_CALL);
     IS(elltree_compare_exchange(h, 1, &value, 1, 1), ELLTREE_IN_CALL);
+    IS(elltree_remove_if(h, 1, &value, 1), ELLTREE_IN_CALL);
     IS(elltree_put(h, 1, 1, 1, &value), ELLTREE_IN_CALL);
     IS(elltree_fetch_add(h, 1, 1, 1, &value), ELLTREE_IN_CALL);
     IS(elltree_update(h, 1, same, NULL, 1, &value), ELLTREE_IN_CALL);
@@ -178,10 +182,12 @@ static void keys_and_tries(struct elltree_handle *low, struct elltree_handle *hi
     IS(elltree_insert(low, 4, 1, 9), ELLTREE_FOREIGN);
     IS(elltree_delete(low, 4, 9), ELLTREE_FOREIGN);
     IS(elltree_compare_exchange(low, 4, &value, 1, 9), ELLTREE_FOREIGN);
+    IS(elltree_remove_if(low, 4, &value, 9), ELLTREE_FOREIGN);
     IS(elltree_put(low, 4, 1, 9, &value), ELLTREE_FOREIGN);
     IS(elltree_fetch_add(low, 4, 1, 9, &value), ELLTREE_FOREIGN);
     IS(elltree_update(low, 4, same, NULL, 9, &value), ELLTREE_FOREIGN);
     IS(elltree_compare_exchange(low, 2, &value, 1, 0), ELLTREE_NO_TRIES);
+    IS(elltree_remove_if(low, 4, &value, 0), ELLTREE_NO_TRIES);
     IS(elltree_put(low, 2, 1, 0, &value), ELLTREE_NO_TRIES);
     IS(elltree_fetch_add(low, 4, 1, 0, &value), ELLTREE_NO_TRIES);
     IS(elltree_update(low, 4, same, NULL, 0, &value), ELLTREE_NO_TRIES);
@@ -228,6 +234,7 @@ static void spent_and_other_tree(struct elltree_handle *low) {
     IS(elltree_insert(&small, 2, 5, 9), ELLTREE_NO);
     IS(elltree_delete(&small, 3, 9), ELLTREE_NO);
     IS(elltree_compare_exchange(&small, 3, &value, 5, 9), ELLTREE_NO);
+    IS(elltree_remove_if(&small, 3, &value, 9), ELLTREE_NO);
     IS(elltree_fetch_add(&small, 3, 1, 9, &value), ELLTREE_NO);
     IS(elltree_update(&small, 3, same, NULL, 9, &value), ELLTREE_NO);
     IS(elltree_put(&small, 2, 5, 9, &value), ELLTREE_SPENT);
@@ -237,6 +244,10 @@ static void spent_and_other_tree(struct elltree_handle *low) {
     faults += value != 0;
     IS(elltree_compare_exchange(&small, 2, &value, 5, 9), ELLTREE_OTHER_VALUE);
     IS(elltree_compare_exchange(&small, 2, &value, 5, 9), ELLTREE_SPENT);
+    faults += value != 9;
+    value = 8;
+    IS(elltree_remove_if(&small, 2, &value, 9), ELLTREE_OTHER_VALUE);
+    IS(elltree_remove_if(&small, 2, &value, 9), ELLTREE_SPENT);
     faults += value != 9;
     IS(elltree_find(&small, 2, &value), ELLTREE_YES);
     faults += value != 9;
@@ -486,10 +497,10 @@ static void least_share(void) {
 /* Each code has a text of its own. It is cut off and ended by a 0 where there is no room for all, and what is behind the 0 stays. */
 static void texts(void) {
     char one[ELLTREE_TEXT_ROOM], two[ELLTREE_TEXT_ROOM], cut[] = ".....";
-    for (int32_t code = ELLTREE_SHARED_KEYS - 1; code <= ELLTREE_OTHER_VALUE + 1; code++)
+    for (int32_t code = ELLTREE_FORKED - 1; code <= ELLTREE_OTHER_VALUE + 1; code++)
         for (int32_t other = code + 1; other <= ELLTREE_OTHER_VALUE + 1; other++)
             faults += !strcmp(elltree_text(code, one, sizeof one), elltree_text(other, two, sizeof two)) &&
-                      (code != ELLTREE_SHARED_KEYS - 1 || other != ELLTREE_OTHER_VALUE + 1);
+                      (code != ELLTREE_FORKED - 1 || other != ELLTREE_OTHER_VALUE + 1);
     faults += strcmp(elltree_text(ELLTREE_SPENT, one, sizeof one), "all cards are given out") != 0;
     faults += strcmp(elltree_text(ELLTREE_OTHER_VALUE + 1, two, sizeof two), "no code of elltree") != 0;
     faults += elltree_code_text(ELLTREE_SPENT, cut, 4) != strlen(one) || memcmp(cut, "all\0.", sizeof cut);

@@ -5,12 +5,11 @@
 
 static void *count(void *given) {
     struct elltree_map *map = given;
-    uint64_t was;
     int32_t code = ELLTREE_YES;
     for (uint64_t i = 0; i < 100000 && code >= 0; i++) {
         code = elltree_map_insert(map, i % 10, 0); /* one of the threads adds the key */
         if (code >= 0)
-            code = elltree_map_fetch_add(map, i % 10, 1, &was); /* and all of them count */
+            code = elltree_map_fetch_add(map, i % 10, 1, NULL); /* and all of them count */
     }
     return code < 0 ? map : NULL;
 }
@@ -20,7 +19,7 @@ int main(void) {
     pthread_t threads[4];
     void *failed;
     uint64_t value = 0;
-    if (elltree_map_new(&map, 0) != ELLTREE_YES)
+    if (elltree_map_new(&map) != ELLTREE_YES)
         return 1;
     for (int t = 0; t < 4; t++)
         pthread_create(&threads[t], NULL, count, map);

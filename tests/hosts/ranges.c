@@ -1,8 +1,9 @@
 /* Ranges in C, and the next key above or below one. One thread first, which changes keys at random and after each change compares a random range,
-   upwards with little room and downwards, with a plain array. Then two threads that go over ranges beside three that insert, delete and exchange,
-   each its own of the keys, which lie between those of the others. Each change is noted with its begin and its end by one clock. Each key of a range
-   is to be told as it was at a moment between the begin and the end of the range: as its last change left it, if that had ended before and no
-   other was made meanwhile, and else as one of the changes at work left it. Last the edges, and what is refused. */
+   upwards with little room and downwards, with a plain array. So does it with keys that came ascending or descending. Then two threads that go over
+   ranges beside three that insert, delete and exchange, each its own of the keys, which lie between those of the others. Each change is noted with
+   its begin and its end by one clock. Each key of a range is to be told as it was at a moment between the begin and the end of the range: as its last
+   change left it, if that had ended before and no other was made meanwhile, and else as one of the changes at work left it. Last the edges, and what
+   is refused. */
 #include "elltree.h"
 #include <pthread.h>
 #include <stdio.h>
@@ -352,8 +353,36 @@ static long edges(void) {
     return wrong + (elltree_free(&h) != ELLTREE_YES);
 }
 
+/* Keys that came upwards or downwards make a list of the tree: the whole range, and the keys next to each, are those of the list. */
+static long deep(int upwards) {
+    enum { DEEP = 300 };
+    static struct elltree_pair pairs[2 * DEEP];
+    struct elltree_handle h = ELLTREE_EMPTY;
+    uint64_t at, key, value;
+    size_t count, all;
+    long wrong = elltree_open_shared(&h, NULL, 0, DEEP) != ELLTREE_YES;
+    for (uint64_t i = 0; i < DEEP; i++)
+        wrong += elltree_insert(&h, 3 * (upwards ? i : DEEP - 1 - i), i, 1) != ELLTREE_YES;
+    for (size_t room = 1; room <= DEEP; room = 7 * room) {
+        for (at = all = 0; at < UINT64_MAX; all += count)
+            wrong += elltree_range(&h, at, UINT64_MAX, pairs + all, room, &count, &at) != ELLTREE_YES;
+        wrong += all != DEEP;
+        for (uint64_t i = 0; i < DEEP; i++)
+            wrong += pairs[i].key != 3 * i || pairs[i].value != (upwards ? i : DEEP - 1 - i);
+    }
+    for (uint64_t i = 0; i < DEEP; i++) {
+        wrong += elltree_next_at_least(&h, 3 * i - (i > 0), &key, &value) != ELLTREE_YES || key != 3 * i;
+        wrong += elltree_last_at_most(&h, 3 * i + 2, &key, &value) != ELLTREE_YES || key != 3 * i;
+        if (i > 0)
+            wrong += elltree_last_before(&h, 3 * i, &key, &value) != ELLTREE_YES || key != 3 * (i - 1);
+        if (i + 1 < DEEP)
+            wrong += elltree_next_after(&h, 3 * i, &key, &value) != ELLTREE_YES || key != 3 * (i + 1);
+    }
+    return wrong + (elltree_free(&h) != ELLTREE_YES);
+}
+
 int main(void) {
-    long wrong = alone() + beside_threads() + edges();
+    long wrong = alone() + deep(0) + deep(1) + beside_threads() + edges();
     printf("%ld wrong\n", wrong);
     return wrong != 0;
 }

@@ -110,14 +110,20 @@ static void frugal(void) {
     faults += elltree_next_after(&a, 4, &key, &value) != ELLTREE_YES || key != 6 || value != 3;
     faults += elltree_last_before(&a, 4, &key, &value) != ELLTREE_YES || key != 2 || value != 1;
     faults += elltree_insert(&a, 1, 1, 5) != ELLTREE_YES;
+    faults += elltree_put(&a, 1, 2, 5, &value) != ELLTREE_YES || value != 1;
+    faults += elltree_fetch_add(&a, 1, 3, 5, &value) != ELLTREE_YES || value != 2;
+    faults += elltree_compare_exchange(&a, 1, &value, 6, 5) != ELLTREE_OTHER_VALUE || value != 5;
     faults += elltree_delete(&a, 1, 5) != ELLTREE_YES;
+    faults += elltree_take(&a, 0, 5, &value) != ELLTREE_YES || value != 0 || elltree_insert(&a, 0, 0, 5) != ELLTREE_YES;
     faults += elltree_owned(&a, &count) != ELLTREE_YES;
     faults += elltree_keys(&a, owned, KEYS, &count) != ELLTREE_YES;
     faults += elltree_pairs(&a, out, KEYS, &count) != ELLTREE_YES;
     faults += elltree_steps(&a, &steps) != ELLTREE_YES;
     faults += elltree_cards_left(&a, &left) != ELLTREE_YES;
     faults += elltree_text(ELLTREE_NO_MEMORY, text, sizeof text) != text;
-    printf("find, look, range, next_after, last_before, insert, delete, owned, keys, pairs, steps, cards_left, text: %ld allocations\n", asked);
+    printf("find, look, range, next_after, last_before, insert, put, fetch_add, compare_exchange, delete, take, owned, keys, pairs, steps, "
+           "cards_left, text: %ld allocations\n",
+           asked);
     faults += asked != 0;
 }
 

@@ -1,8 +1,8 @@
-//! Threads of Rust, 2 to 64, that find, insert, delete and exchange the same few keys of a tree of shared keys, and go over ranges of them, both
-//! ways. Each call is noted with its begin and its end by one clock, and the calls on each key are to be in order: each has a point between its
+//! Threads of Rust, 2 to 64, that find, insert, delete, take, put, add to, update and exchange the same few keys of a tree of shared keys, and go
+//! over ranges of them, both ways. Each call is noted with its begin and its end by one clock, and the calls on each key are to be in order: each has a point between its
 //! begin and its end, and one map gives their answers in the order of these points. A range is noted as a find of each of its keys. At the end of each round each key is as the last of them leave it. Then all threads at once insert one
 //! key, and delete it, again and again: each time one of them answers yes. All threads add to counters in each way that there is, and no addition
-//! is lost; beside a thread that puts ascending values, the others find one each time, and never a lower one than before. With `--seconds=N` it makes rounds, with new seeds, for so long. The
+//! is lost, and no sum is answered twice; beside a thread that puts ascending values, the others find one each time, and never a lower one than before. With `--seconds=N` it makes rounds, with new seeds, for so long. The
 //! check of the order is tried first, on histories that a person worked out.
 use elltree::{Handle, Refused};
 use std::collections::{BTreeSet, HashSet};
@@ -22,6 +22,8 @@ pub enum Call {
     Find(Option<u64>),
     Insert(u64, bool),
     Delete(bool),
+    /// A delete that answers the value that it took.
+    Take(Option<u64>),
     /// An exchange of one value for another, with the value that it found.
     Exchange(u64, u64, Option<u64>),
 }
@@ -34,6 +36,7 @@ impl Call {
             (Call::Insert(_, false), Some(_)) | (Call::Delete(false), None) => Some(value),
             (Call::Insert(new, true), None) => Some(Some(new)),
             (Call::Delete(true), Some(_)) => Some(None),
+            (Call::Take(said), _) if said == value => Some(None),
             (Call::Exchange(current, new, said), _) if said == value => Some(if said == Some(current) { Some(new) } else { value }),
             _ => None,
         }
@@ -75,7 +78,7 @@ fn explore(standing: Standing, going: &[Made], last: u32, seen: &mut HashSet<Sta
 
 /// The calls, where inserts whose values no call finds all add one value, which no call finds.
 fn with_found_values(calls: &[Made]) -> Vec<Made> {
-    let found_by = |call: Call| if let Call::Find(said) | Call::Exchange(_, _, said) = call { said } else { None };
+    let found_by = |call: Call| if let Call::Find(said) | Call::Take(said) | Call::Exchange(_, _, said) = call { said } else { None };
     let found: HashSet<u64> = calls.iter().filter_map(|made| found_by(made.call)).collect();
     let other = (0..).find(|value| !found.contains(value)).unwrap();
     let with_found = |call: Call| match call {
@@ -109,7 +112,7 @@ pub fn are_in_order(start: Option<u64>, calls: &[Made]) -> bool {
 /// Tries the check on histories of calls by workers 0, 1 and so on, each with its begin and its end, from the key absent.
 fn try_the_check() {
     use Call::*;
-    let wrong: [&[(Call, u64, u64)]; 12] = [
+    let wrong: [&[(Call, u64, u64)]; 15] = [
         &[(Insert(50, true), 1, 4), (Insert(51, true), 2, 3)],
         &[(Insert(50, false), 1, 2)],
         &[(Find(Some(50)), 1, 2), (Insert(50, true), 3, 4)],
@@ -122,8 +125,11 @@ fn try_the_check() {
         &[(Insert(50, true), 1, 2), (Exchange(50, 51, Some(50)), 3, 4), (Find(Some(50)), 5, 6)],
         &[(Insert(50, true), 1, 2), (Exchange(50, 51, Some(50)), 3, 6), (Exchange(50, 52, Some(50)), 4, 5)],
         &[(Insert(50, true), 1, 2), (Exchange(49, 51, Some(50)), 3, 4), (Find(Some(51)), 5, 6)],
+        &[(Insert(50, true), 1, 2), (Take(Some(50)), 3, 6), (Take(Some(50)), 4, 5)],
+        &[(Insert(50, true), 1, 2), (Exchange(50, 51, Some(50)), 3, 4), (Take(Some(50)), 5, 6)],
+        &[(Insert(50, true), 1, 2), (Delete(true), 3, 5), (Insert(51, true), 6, 7), (Take(Some(50)), 4, 8)],
     ];
-    let right: [&[(Call, u64, u64)]; 7] = [
+    let right: [&[(Call, u64, u64)]; 8] = [
         &[(Insert(50, false), 1, 4), (Insert(51, true), 2, 3)],
         &[(Insert(50, true), 1, 10), (Find(Some(50)), 2, 3), (Find(Some(50)), 4, 5)],
         &[(Insert(50, true), 1, 10), (Find(None), 2, 5), (Find(Some(50)), 3, 4)],
@@ -131,6 +137,7 @@ fn try_the_check() {
         &[(Insert(50, true), 1, 9), (Delete(true), 2, 8), (Find(Some(50)), 3, 7), (Insert(51, false), 4, 6), (Find(None), 10, 11)],
         &[(Insert(50, true), 1, 2), (Exchange(50, 51, Some(50)), 3, 8), (Find(Some(51)), 4, 5), (Exchange(50, 52, Some(51)), 6, 7)],
         &[(Insert(50, true), 1, 2), (Exchange(50, 51, Some(50)), 3, 6), (Delete(true), 4, 5), (Exchange(51, 52, None), 7, 8)],
+        &[(Insert(50, true), 1, 8), (Insert(51, true), 2, 7), (Take(Some(51)), 3, 6), (Take(Some(50)), 4, 5)],
     ];
     for (histories, is_right) in [(&wrong[..], false), (&right[..], true)] {
         for history in histories {
@@ -189,7 +196,24 @@ fn exchange(handle: &mut Handle, key: u64, seen: &mut u64, new: u64) -> Result<C
     Ok(Call::Exchange(current, new, found))
 }
 
-/// One worker makes so many calls on keys below a number. No two values that are to be stored are the same.
+/// Puts a value, adds to it, or updates it: what a history says of that, and what the worker has seen of the key, if it is there.
+fn replace(handle: &mut Handle, key: u64, seen: &mut u64, value: u64, way: u64) -> Result<Call, Refused> {
+    let (said, new_of): (_, &dyn Fn(u64) -> u64) = match way {
+        0 => (handle.put(key, value, TRIES)?, &|_| value),
+        1 => (handle.fetch_add(key, value, TRIES)?, &|was| was.wrapping_add(value)),
+        _ => (handle.update(key, |was| was.wrapping_add(value), TRIES)?, &|was| was.wrapping_add(value)),
+    };
+    match said {
+        Some(was) => {
+            *seen = new_of(was);
+            Ok(Call::Exchange(was, new_of(was), said))
+        }
+        None if way == 0 => Ok(Call::Insert(value, true)),
+        None => Ok(Call::Find(None)),
+    }
+}
+
+/// One worker makes so many calls on keys below a number. Hardly two values that are to be stored are the same.
 fn work(handle: &mut Handle, worker: u32, keys: u64, calls: u64, mut seed: u64, clock: &AtomicU64) -> Result<Vec<Made>, Refused> {
     let (mut all, mut seen) = (Vec::new(), vec![0; keys as usize]);
     for number in 0..calls {
@@ -197,10 +221,12 @@ fn work(handle: &mut Handle, worker: u32, keys: u64, calls: u64, mut seed: u64, 
         let (key, value) = ((random >> 20) % keys, u64::from(worker) << 32 | number);
         let begun = clock.fetch_add(1, SeqCst);
         let call = match random % 16 {
-            0..=4 => Call::Insert(value, handle.insert(key, value, TRIES)?),
-            5..=8 => Call::Delete(handle.delete(key, TRIES)?),
-            9 | 10 => exchange(handle, key, &mut seen[key as usize], value)?,
-            11 => {
+            0..=3 => Call::Insert(value, handle.insert(key, value, TRIES)?),
+            4..=6 => Call::Delete(handle.delete(key, TRIES)?),
+            7 => Call::Take(handle.take(key, TRIES)?),
+            8 | 9 => exchange(handle, key, &mut seen[key as usize], value)?,
+            10 | 11 => replace(handle, key, &mut seen[key as usize], value, (random >> 4) % 3)?,
+            12 => {
                 let told = go_over(handle, keys, random);
                 let ended = clock.fetch_add(1, SeqCst);
                 all.extend(told.into_iter().map(|(key, value)| Made { worker, key, call: Call::Find(value), begun, ended }));
@@ -250,7 +276,8 @@ fn round(threads: u32, keys: u64, calls: u64, seed: u64) -> Result<(usize, usize
         history.push(Made { worker: 63, key, call: Call::Find(left), begun: u64::MAX, ended: u64::MAX });
         let first = start.iter().find(|pair| pair.0 == key).map(|pair| pair.1);
         let changes = |is_so: fn(&Call) -> bool| history.iter().filter(|made| is_so(&made.call)).count();
-        let (came, went) = (changes(|call| matches!(call, Call::Insert(_, true))), changes(|call| *call == Call::Delete(true)));
+        let (came, went) =
+            (changes(|call| matches!(call, Call::Insert(_, true))), changes(|call| matches!(call, Call::Delete(true) | Call::Take(Some(_)))));
         assert_eq!(came + usize::from(first.is_some()), went + usize::from(left.is_some()), "key {key}, {threads} threads, {keys} keys, seed {seed}");
         assert!(are_in_order(first, &history), "out of order: key {key}, {threads} threads, {keys} keys, seed {seed}");
     }
@@ -293,26 +320,27 @@ fn exchange_one_more(handle: &mut Handle, key: u64) -> Result<(), Refused> {
     Ok(())
 }
 
-/// All threads add to three counters: each ends at the sum.
+/// All threads add to three counters: each ends at the sum, and of the first two no value is answered twice.
 fn count(threads: u32) -> Result<(), Refused> {
     let mut handles = open(threads, &[(1, 0), (2, 0), (3, 0)])?;
     let each = ADDITIONS / u64::from(threads);
-    let calls: u64 = in_threads(&mut handles, |handle, _| {
-        let mut calls = 0;
+    let all = in_threads(&mut handles, |handle, _| {
+        let (mut calls, mut found) = (0, Vec::new());
         for _ in 0..each {
-            handle.fetch_add(1, 1, TRIES)?.unwrap();
             let called = |value| {
                 calls += 1;
                 value + 1
             };
-            handle.update(2, called, TRIES)?.unwrap();
+            let first = handle.fetch_add(1, 1, TRIES)?.unwrap();
+            found.push((first, handle.update(2, called, TRIES)?.unwrap()));
             exchange_one_more(handle, 3)?;
         }
-        Ok(calls)
-    })
-    .into_iter()
-    .sum();
+        Ok((calls, found))
+    });
     let sum = each * u64::from(threads);
+    let calls: u64 = all.iter().map(|(calls, _)| calls).sum();
+    let (first, second): (BTreeSet<u64>, BTreeSet<u64>) = all.into_iter().flat_map(|(_, found)| found).unzip();
+    assert!(first.into_iter().eq(0..sum) && second.into_iter().eq(0..sum), "{threads} threads");
     for key in 1..=3 {
         assert_eq!(handles[0].find(key)?, Some(sum), "counter {key} of {threads} threads");
     }

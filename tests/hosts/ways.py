@@ -2,6 +2,8 @@
 and answer alike, exceptions and their texts too. Then calls of each kind, answered and refused, are made over and over, and no memory is lost and
 no object. The binding is found by PYTHONPATH."""
 
+import decimal
+import fractions
 import gc
 import os
 import subprocess
@@ -63,6 +65,12 @@ NUMBERS = {
     "Index ValueError": lambda: Index(ValueError("no index")),
     "Index OverflowError": lambda: Index(OverflowError("no index")),
     "1.0": lambda: 1.0,
+    "1.5": lambda: 1.5,
+    "nan": lambda: float("nan"),
+    "1e30": lambda: 1e30,
+    "1+0j": lambda: 1 + 0j,
+    "Decimal": lambda: decimal.Decimal(1),
+    "Fraction": lambda: fractions.Fraction(1),
     "'1'": lambda: "1",
     "None": lambda: None,
     "[]": lambda: [],
@@ -98,6 +106,7 @@ def numbers_of(kind, subject, calls):
 HANDLE_CALLS = {"find": 1, "look": 1, "insert": 3, "delete": 2, "take": 2, "put": 3, "fetch_add": 3, "compare_exchange": 4, "owned": 0, "keys": 0}
 HANDLE_CALLS |= {"pairs": 0, "steps": 0, "cards_left": 0}
 MAP_CALLS = {"get": 2, "insert": 2, "put": 2, "delete": 1, "remove": 1, "fetch_add": 2, "compare_exchange": 3, "setdefault": 2, "pop": 2, "renew": 0}
+MAP_CALLS |= {"remove_if": 2, "get_or_insert": 2, "pop_first": 0, "pop_last": 0}
 MAP_CALLS |= {"__getitem__": 1, "__setitem__": 2, "__delitem__": 1, "__contains__": 1, "pairs": 0, "popitem": 0, "__len__": 0}
 ORDERED = {"next_at_least": 1, "next_after": 1, "last_at_most": 1, "last_before": 1, "first": 0, "last": 0}
 
@@ -198,6 +207,8 @@ def use_maps():
         m.get(key), m.get(2**41 + key, m), m.insert(2**41, 5), key in m, m.modify(2**41, lambda value: value + 1)
         told(m.__getitem__, key), told(m.put, key, -1), told(m.put, 2**64 - 1, 1), told(m.get, "1"), m.compare_exchange(2**41, 5, 2**62)
         m.fetch_add(2**41, 1), m.next_after(2**41), m.last(), m.pop(2**41 + key), m.setdefault(2**42, 2**60)
+        m.get_or_insert(2**43 + key, 2**60), m.remove_if(2**43 + key, 2**61), m.remove_if(2**41, 2**60), m.pop_first(), m.pop_last()
+        m.get(1.5), m.pop("1", None), 1.0 in m, told(m.get, []), told(m.pop, [])
     m.pairs(), list(m), m.counts(), m.renew(), len(m), repr(m), m.delete(2**42), told(elltree.Map, {elltree.KEY_MAX + 1: 1})
 
 

@@ -1,0 +1,119 @@
+/* A map of many keys is emptied in five ways: its sections are joined as they lose their keys, so that few are left, and their memory is the allocator's
+   again. So a search for the first key doesn't walk over more and more sections. Then sections that were busy once give their cards back, as others
+   change, and by elltree_map_renew. And an empty map takes little memory, and is made soon. */
+#include "elltree_map.h"
+#include <malloc.h>
+#include <stdio.h>
+#include <time.h>
+
+enum { KEYS = 100000, SPREAD = 50, HOT = 2000, CHANGES = 300000, MAPS = 200 };
+enum way { POP_FIRST, POP_LAST, BY_KEY, BACKWARDS, SHUFFLED, WAYS };
+
+static struct elltree_map *map;
+
+/* Bytes that the allocator has given out. The library keeps up to four blocks for the next tree, of up to 2 MB each. */
+static long memory(void) {
+    const struct mallinfo2 info = mallinfo2();
+    return (long)(info.uordblks + info.hblkhd);
+}
+
+static uint64_t microseconds(void) {
+    struct timespec time;
+    clock_gettime(CLOCK_MONOTONIC, &time);
+    return (uint64_t)time.tv_sec * 1000000 + (uint64_t)time.tv_nsec / 1000;
+}
+
+static struct elltree_map_counters counts(void) {
+    struct elltree_map_counters counts = {0, 0, 0, 0, 0, 0, 0};
+    if (elltree_map_counts(map, &counts) != ELLTREE_YES)
+        counts.sections = 0;
+    return counts;
+}
+
+static uint64_t shuffled(uint64_t i) { return i * 7919 % KEYS; }
+
+static long fill(void) {
+    long wrong = 0;
+    for (uint64_t i = 0; i < KEYS; i++)
+        wrong += elltree_map_insert(map, SPREAD * shuffled(i), i) != ELLTREE_YES;
+    return wrong;
+}
+
+/* The key that is taken away next. */
+static uint64_t next_key(enum way way, uint64_t i) {
+    uint64_t key = 0, value;
+    switch (way) {
+    case POP_FIRST:
+        return elltree_map_first(map, &key, &value) == ELLTREE_YES ? key : UINT64_MAX;
+    case POP_LAST:
+        return elltree_map_last(map, &key, &value) == ELLTREE_YES ? key : UINT64_MAX;
+    case BY_KEY:
+        return SPREAD * i;
+    case BACKWARDS:
+        return SPREAD * (KEYS - 1 - i);
+    default:
+        return SPREAD * shuffled(i);
+    }
+}
+
+static long empty(enum way way) {
+    uint64_t was, sections;
+    long before = memory(), full, empty;
+    long wrong = elltree_map_new(&map) != ELLTREE_YES;
+    wrong += fill();
+    full = memory() - before;
+    sections = counts().sections;
+    for (uint64_t i = 0; i < KEYS; i++)
+        wrong += elltree_map_remove(map, next_key(way, i), &was) != ELLTREE_YES;
+    wrong += elltree_map_is_empty(map) != ELLTREE_YES;
+    empty = memory() - before;
+    printf("way %d: %llu sections and %ld kB full, %llu and %ld kB empty\n", way, (unsigned long long)sections, full / 1000,
+           (unsigned long long)counts().sections, empty / 1000);
+    wrong += sections < 20 || counts().sections > 4 || empty > full / 3;
+    return wrong + (elltree_map_free(map) != ELLTREE_YES);
+}
+
+/* A few keys of each section change until its tree has many cards, one section after the other, and then those of one section alone. */
+static long cool_down(void) {
+    uint64_t was, busy, cool;
+    long wrong = elltree_map_new(&map) != ELLTREE_YES;
+    wrong += fill();
+    for (uint64_t part = 0; part < KEYS; part += HOT)
+        for (uint64_t i = 0; i < CHANGES / 10; i++)
+            wrong += elltree_map_put(map, SPREAD * (part + i % HOT), i, &was) != ELLTREE_YES;
+    busy = counts().cards;
+    for (uint64_t i = 0; i < 4 * CHANGES; i++)
+        wrong += elltree_map_put(map, SPREAD * (i % HOT), i, &was) != ELLTREE_YES;
+    cool = counts().cards;
+    wrong += elltree_map_renew(map) != ELLTREE_YES || elltree_map_renew(map) != ELLTREE_YES;
+    printf("%llu cards of busy sections, %llu when they are no more, %llu after two renewals\n", (unsigned long long)busy, (unsigned long long)cool,
+           (unsigned long long)counts().cards);
+    wrong += cool > busy / 4 * 3 || counts().cards > KEYS;
+    return wrong + (elltree_map_free(map) != ELLTREE_YES);
+}
+
+/* What an empty map takes. */
+static long make_many(void) {
+    uint64_t least = UINT64_MAX;
+    long before, bytes = 0;
+    long wrong = 0;
+    for (int i = 0; i < MAPS; i++) {
+        const uint64_t began = microseconds();
+        before = memory();
+        wrong += elltree_map_new(&map) != ELLTREE_YES;
+        least = microseconds() - began < least ? microseconds() - began : least;
+        bytes = memory() - before;
+        wrong += elltree_map_free(map) != ELLTREE_YES;
+    }
+    printf("an empty map: %ld bytes, made in %llu us\n", bytes, (unsigned long long)least);
+    return wrong + (bytes > 100000 || least > 1000); /* on a busy machine too */
+}
+
+int main(void) {
+    long wrong = 0;
+    for (int way = 0; way < WAYS; way++)
+        wrong += empty((enum way)way);
+    wrong += cool_down() + make_many();
+    printf("%ld wrong\n", wrong);
+    return wrong != 0;
+}
