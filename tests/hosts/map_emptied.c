@@ -6,7 +6,7 @@
 #include <stdio.h>
 #include <time.h>
 
-enum { KEYS = 100000, SPREAD = 50, HOT = 2000, CHANGES = 300000, MAPS = 200 };
+enum { KEYS = 100000, SPREAD = 50, HOT = 2000, CHANGES = 300000, ROUNDS = 40, MAPS = 200 };
 enum way { POP_FIRST, POP_LAST, BY_KEY, BACKWARDS, SHUFFLED, WAYS };
 
 static struct elltree_map *map;
@@ -69,7 +69,7 @@ static long empty(enum way way) {
     empty = memory() - before;
     printf("way %d: %llu sections and %ld kB full, %llu and %ld kB empty\n", way, (unsigned long long)sections, full / 1000,
            (unsigned long long)counts().sections, empty / 1000);
-    wrong += sections < 20 || counts().sections > 4 || empty > full / 3;
+    wrong += sections < 10 || counts().sections > 4 || empty > full / 3;
     return wrong + (elltree_map_free(map) != ELLTREE_YES);
 }
 
@@ -82,13 +82,16 @@ static long cool_down(void) {
         for (uint64_t i = 0; i < CHANGES / 10; i++)
             wrong += elltree_map_put(map, SPREAD * (part + i % HOT), i, &was) != ELLTREE_YES;
     busy = counts().cards;
-    for (uint64_t i = 0; i < 4 * CHANGES; i++)
-        wrong += elltree_map_put(map, SPREAD * (i % HOT), i, &was) != ELLTREE_YES;
-    cool = counts().cards;
+    cool = busy;
+    for (int round = 0; round < ROUNDS && cool > busy / 2; round++) {
+        for (uint64_t i = 0; i < CHANGES; i++)
+            wrong += elltree_map_put(map, SPREAD * (i % HOT), i, &was) != ELLTREE_YES;
+        cool = counts().cards;
+    }
     wrong += elltree_map_renew(map) != ELLTREE_YES || elltree_map_renew(map) != ELLTREE_YES;
     printf("%llu cards of busy sections, %llu when they are no more, %llu after two renewals\n", (unsigned long long)busy, (unsigned long long)cool,
            (unsigned long long)counts().cards);
-    wrong += cool > busy / 4 * 3 || counts().cards > KEYS;
+    wrong += cool > busy / 2 || counts().cards > KEYS;
     return wrong + (elltree_map_free(map) != ELLTREE_YES);
 }
 
