@@ -8,7 +8,6 @@ all: ## prove and build the program and the library, and install them in build/
 
 test: ## compile without a proof, and run the quick tests and those of the library
 	tests/run quick
-	tests/hosts/run --unproved
 
 prove: ## prove the program and the library, and build them
 	./elltree --prove
