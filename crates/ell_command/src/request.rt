@@ -36,7 +36,7 @@ pub enum Request {
 static PARTINGS: [&str; 2] = ["stripe", "range"];
 
 // The version of elltree, as the file VERSION at the top says it: `tests/copies` compares them.
-const VERSION: &str = "0.2.0";
+const VERSION: &str = "0.3.0";
 
 const ABOUT: &str = "Finds, inserts and deletes on a map of keys and values, in bulk";
 

@@ -1,14 +1,14 @@
 -- a handle as a box, and its pointer and back
 pub mod AsBox
--- pairs that are written to an array
-pub mod Writing
--- slots whose handles are taken out and put in again
-pub mod Grouped
 -- the keys of a host's pairs
 pub mod HostPairs
+-- what a handle's pass may do, and that a call that does nothing keeps to its bounds
+pub mod May
+-- how a call that changes a key ends
+pub mod Ending
 -- calls on the handle of a slot
 pub mod Calling
--- splits, and further handles, that are refused
+-- further handles that are refused
 pub mod Parting
--- where a host is told to go on in a range
-pub mod Ending
+-- a handle that is put together again
+pub mod Rebuilt

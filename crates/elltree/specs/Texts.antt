@@ -1,6 +1,6 @@
 use Rattle.std.specs.Prelude.{◌≡◌, ◌-◌, ◌+◌, ◌<◌, ℕ, ℤ, min, Some, List, length, take, drop, slice_get, codes, if◌then◌else◌}
 use Rattle.std.specs.Ordering.{int_eq}
-use Rattle.elltree.specs.Codes.{said_bad_cards, said_bad_key, said_bad_start, said_busy, said_closed, said_foreign, said_forked, said_in_call, said_no, said_no_memory, said_no_room, said_no_tries, said_null, said_open, said_other_tree, said_other_value, said_same, said_shared_keys, said_spent, said_too_many, said_yes}
+use Rattle.elltree.specs.Codes.{said_bad_cards, said_bad_key, said_bad_start, said_busy, said_closed, said_forked, said_in_call, said_no, said_no_memory, said_no_room, said_no_tries, said_null, said_open, said_other_value, said_same, said_spent, said_too_many, said_yes}
 
 -- what a code says, as the bytes of a text
 abbrev pub text_of : ℤ → List ℕ
@@ -10,21 +10,18 @@ text_of code =
     if int_eq code said_other_value then codes "the key has another value" else
     if int_eq code said_busy then codes "something was in the way of each try" else
     if int_eq code said_spent then codes "all cards are given out" else
-    if int_eq code said_foreign then codes "the key is neither the handle's own nor shared" else
     if int_eq code said_no_tries then codes "the call allows no try" else
     if int_eq code said_bad_cards then codes "cards are not 1 to 1,000,000" else
     if int_eq code said_bad_key then codes "a key is above 18446744073709551613" else
     if int_eq code said_bad_start then codes "start keys do not ascend strictly, or are more than 1,000,000" else
-    if int_eq code said_no_room then codes "no room for all pairs or keys" else
+    if int_eq code said_no_room then codes "no room for all pairs" else
     if int_eq code said_no_memory then codes "out of memory" else
     if int_eq code said_closed then codes "the handle holds nothing" else
     if int_eq code said_open then codes "the handle holds something already" else
-    if int_eq code said_other_tree then codes "the handles are of two trees" else
     if int_eq code said_null then codes "a pointer is null" else
     if int_eq code said_same then codes "the same handle is given twice" else
     if int_eq code said_in_call then codes "the handle is in another call" else
     if int_eq code said_too_many then codes "the handle can make no more handles" else
-    if int_eq code said_shared_keys then codes "the keys of the tree are shared" else
     if int_eq code said_forked then codes "the map is of another process, of which this is a forked child" else
     codes "no code of elltree"
 

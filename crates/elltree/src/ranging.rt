@@ -1,19 +1,19 @@
 //! Scans of a range, and the next key above or below one.
-ghost use Rattle.std.specs.Prelude.{◌≡◌, ◌≢◌, ◌↔◌, [], ◌∷◌, None, Some};
-ghost use Rattle.elltree.specs.Codes.{IsOneOf, said_closed, said_no, said_yes};
-ghost use Rattle.elltree.specs.Maps.{handle_of};
-ghost use Rattle.elltree.specs.Ranges.{TellsLast, TellsNext, TellsRange};
-ghost use Rattle.elltree.specs.Slots.{OfHandlesIfAny};
+ghost use Rattle.std.specs.Prelude.{◌≡◌, ◌≢◌, ◌↔◌, None};
+ghost use Rattle.elltree.specs.Calls.{SeeksLast, SeeksNext};
+ghost use Rattle.elltree.specs.Codes.{code_of_found, said_closed};
+ghost use Rattle.elltree.specs.Slots.{OfHandlesIfAny, handle_of};
+ghost use Rattle.elltree.specs.Told.{SaysRange, SaysWith, pair_of};
 
 use crate::Pair;
 use crate::codes::{CLOSED, NO, YES};
+use crate::handle::Handle;
 use crate::slot::Slot;
-use ell_handle::Handle;
 use std::alloc::Global;
 
-/// Writes the pairs of the keys that are at least `from` and below `upto`, whichever slot owns them, ascending, as far
-/// as there is room, the number of pairs written, and the key at which to continue: `upto`, if the range is written to
-/// its end. Each key is reported as it was in one state of the tree during the call: two keys may be of two states.
+/// Writes the pairs of the keys that are at least `from` and below `upto`, ascending, as far as there is room, the
+/// number of pairs written, and the key at which to continue: `upto`, if the range is written to its end. Each key is
+/// reported as it was in one state of the tree during the call: two keys may be of two states.
 #[unsafe(no_mangle)]
 pub extern "C" fn elltree_slot_range(
     alloc: Global,
@@ -24,15 +24,13 @@ pub extern "C" fn elltree_slot_range(
     count: &mut usize,
     next: &mut u64,
 ) -> i32
-    // `CLOSED` is returned exactly if the slot has no handle.
+    // `CLOSED` is returned exactly if the slot has no handle, and then nothing is written.
     ensures closed { (result ≡ said_closed) ↔ (handle_of slot.old.raw.inside ≡ None) }
-    // The answer is that of the handle's `scan`, always with yes: the pairs, their number, and where to continue, which
-    // is the end of the range, or the array is full. The rest of the array is unchanged. Keys, map and tree stay the
-    // same, and it keeps to the handle's bound on steps.
-    ensures tells { OfHandlesIfAny (TellsRange from upto result count.new next.new out.old out.new)
+    ensures kept { result ≡ said_closed → (out.new ≡ out.old) × ((count.new ≡ count.old) × (next.new ≡ next.old)) }
+    // The answer is that of the tree's `scan`, always with yes: the pairs, their number, and where to continue, which is
+    // the end of the range, or the array is full. The rest of the array is unchanged.
+    ensures tells { OfHandlesIfAny (SaysRange from upto result count.new next.new out.old out.new)
         (handle_of slot.old.raw.inside) (handle_of slot.new.raw.inside) }
-    // Nothing is written except with yes.
-    ensures kept { result ≢ said_yes → (out.new ≡ out.old) × ((count.new ≡ count.old) × (next.new ≡ next.old)) }
 {
     let Some(mut place) = slot.take(alloc) else {
         return CLOSED;
@@ -54,7 +52,7 @@ fn range(
     count: &mut usize,
     next: &mut u64,
 ) -> i32
-    ensures tells { TellsRange from upto result count.new next.new out.old out.new handle.old handle.new }
+    ensures tells { SaysRange from upto result count.new next.new out.old out.new handle.old handle.new }
 {
     let scanned = handle.scan(from, upto, out);
     *count = scanned.count;
@@ -62,8 +60,8 @@ fn range(
     YES
 }
 
-/// Returns whether a key that is at least `key` is present, whichever slot owns it, and writes the least of them with
-/// its value: it was present in one state of the tree during the call, and each key before it was absent in one.
+/// Returns whether a key that is at least `key` is present, and writes the least of them with its value: it was present
+/// in one state of the tree during the call, and each key before it was absent in one.
 #[unsafe(no_mangle)]
 pub extern "C" fn elltree_slot_next_at_least(
     alloc: Global,
@@ -72,14 +70,13 @@ pub extern "C" fn elltree_slot_next_at_least(
     found: &mut u64,
     value: &mut u64,
 ) -> i32
-    // `CLOSED` is returned exactly if the slot has no handle.
+    // `CLOSED` is returned exactly if the slot has no handle, and then nothing is written.
     ensures closed { (result ≡ said_closed) ↔ (handle_of slot.old.raw.inside ≡ None) }
-    // The answer is that of the handle's call: yes, and the key and its value are written, or no. Keys, map and tree
-    // stay the same, and it keeps to the handle's bound on steps.
-    ensures tells { OfHandlesIfAny (TellsNext key result found.new value.new) (handle_of slot.old.raw.inside)
-        (handle_of slot.new.raw.inside) }
-    // Key and value are written only with yes.
-    ensures kept { result ≢ said_yes → (found.new ≡ found.old) × (value.new ≡ value.old) }
+    ensures kept { result ≡ said_closed → (found.new ≡ found.old) × (value.new ≡ value.old) }
+    // The answer is that of the tree's call: yes, and the key and its value are written, or no.
+    ensures tells { OfHandlesIfAny
+        (SaysWith (SeeksNext key) code_of_found pair_of result (found.old, value.old) (found.new, value.new))
+        (handle_of slot.old.raw.inside) (handle_of slot.new.raw.inside) }
 {
     let Some(there) = slot.with_handle(alloc, |handle| handle.next_at_least(key)) else {
         return CLOSED;
@@ -87,8 +84,8 @@ pub extern "C" fn elltree_slot_next_at_least(
     tell_pair(there, found, value)
 }
 
-/// Returns whether a key that is at most `key` is present, whichever slot owns it, and writes the greatest of them with
-/// its value: it was present in one state of the tree during the call, and each key after it was absent in one.
+/// Returns whether a key that is at most `key` is present, and writes the greatest of them with its value: it was
+/// present in one state of the tree during the call, and each key after it was absent in one.
 #[unsafe(no_mangle)]
 pub extern "C" fn elltree_slot_last_at_most(
     alloc: Global,
@@ -97,14 +94,13 @@ pub extern "C" fn elltree_slot_last_at_most(
     found: &mut u64,
     value: &mut u64,
 ) -> i32
-    // `CLOSED` is returned exactly if the slot has no handle.
+    // `CLOSED` is returned exactly if the slot has no handle, and then nothing is written.
     ensures closed { (result ≡ said_closed) ↔ (handle_of slot.old.raw.inside ≡ None) }
-    // The answer is that of the handle's call: yes, and the key and its value are written, or no. Keys, map and tree
-    // stay the same, and it keeps to the handle's bound on steps.
-    ensures tells { OfHandlesIfAny (TellsLast key result found.new value.new) (handle_of slot.old.raw.inside)
-        (handle_of slot.new.raw.inside) }
-    // Key and value are written only with yes.
-    ensures kept { result ≢ said_yes → (found.new ≡ found.old) × (value.new ≡ value.old) }
+    ensures kept { result ≡ said_closed → (found.new ≡ found.old) × (value.new ≡ value.old) }
+    // The answer is that of the tree's call: yes, and the key and its value are written, or no.
+    ensures tells { OfHandlesIfAny
+        (SaysWith (SeeksLast key) code_of_found pair_of result (found.old, value.old) (found.new, value.new))
+        (handle_of slot.old.raw.inside) (handle_of slot.new.raw.inside) }
 {
     let Some(there) = slot.with_handle(alloc, |handle| handle.last_at_most(key)) else {
         return CLOSED;
@@ -114,10 +110,9 @@ pub extern "C" fn elltree_slot_last_at_most(
 
 // What was found, as a code. It is written.
 fn tell_pair(there: Option<(u64, u64)>, found: &mut u64, value: &mut u64) -> i32
-    ensures codes { IsOneOf (said_yes ∷ said_no ∷ []) result }
-    ensures yes { result ≡ said_yes → there ≡ Some (found.new, value.new) }
-    ensures no { result ≡ said_no → there ≡ None }
-    ensures kept { result ≢ said_yes → (found.new ≡ found.old) × (value.new ≡ value.old) }
+    ensures code { result ≡ code_of_found there }
+    ensures closed { result ≢ said_closed }
+    ensures pair { (found.new, value.new) ≡ pair_of there (found.old, value.old) }
 {
     let Some(pair) = there else {
         return NO;

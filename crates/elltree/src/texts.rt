@@ -3,8 +3,8 @@ ghost use Rattle.std.specs.Prelude.{◌≡◌, ◌<◌, length};
 ghost use Rattle.elltree.specs.Texts.{WritesText, text_of};
 
 use crate::codes::{
-    BAD_CARDS, BAD_KEY, BAD_START, BUSY, CLOSED, FOREIGN, FORKED, IN_CALL, NO, NO_MEMORY, NO_ROOM,
-    NO_TRIES, NULL, OPEN, OTHER_TREE, OTHER_VALUE, SAME, SHARED_KEYS, SPENT, TOO_MANY_HANDLES, YES,
+    BAD_CARDS, BAD_KEY, BAD_START, BUSY, CLOSED, FORKED, IN_CALL, NO, NO_MEMORY, NO_ROOM, NO_TRIES,
+    NULL, OPEN, OTHER_VALUE, SAME, SPENT, TOO_MANY_HANDLES, YES,
 };
 
 /// Writes what a code says to the front of an array, with a 0 after it, and returns how many bytes the whole text has,
@@ -46,21 +46,18 @@ fn text_of(code: i32) -> &'static [u8]
         OTHER_VALUE => b"the key has another value",
         BUSY => b"something was in the way of each try",
         SPENT => b"all cards are given out",
-        FOREIGN => b"the key is neither the handle's own nor shared",
         NO_TRIES => b"the call allows no try",
         BAD_CARDS => b"cards are not 1 to 1,000,000",
         BAD_KEY => b"a key is above 18446744073709551613",
         BAD_START => b"start keys do not ascend strictly, or are more than 1,000,000",
-        NO_ROOM => b"no room for all pairs or keys",
+        NO_ROOM => b"no room for all pairs",
         NO_MEMORY => b"out of memory",
         CLOSED => b"the handle holds nothing",
         OPEN => b"the handle holds something already",
-        OTHER_TREE => b"the handles are of two trees",
         NULL => b"a pointer is null",
         SAME => b"the same handle is given twice",
         IN_CALL => b"the handle is in another call",
         TOO_MANY_HANDLES => b"the handle can make no more handles",
-        SHARED_KEYS => b"the keys of the tree are shared",
         FORKED => b"the map is of another process, of which this is a forked child",
         _ => b"no code of elltree",
     }

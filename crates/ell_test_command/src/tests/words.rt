@@ -8,7 +8,7 @@ use std::io::empty;
 use std::test::Fail;
 
 // What `--version` writes; `tests/copies` compares it with the file VERSION.
-const VERSION: &str = "elltree 0.2.0\n";
+const VERSION: &str = "elltree 0.3.0\n";
 
 #[test]
 fn shows_its_version(rt: HostRuntime) {

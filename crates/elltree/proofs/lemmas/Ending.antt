@@ -1,28 +1,24 @@
-use Rattle.std.proofs.Common.{◌≡◌, ◌+◌, ◌<◌, ◌≤◌, ℕ, Option, Some, None, IfSome, unwrap_or, refl, arith}
-use Rattle.std.proofs.Math.Nat.{min-eq_left, min-le_left, min-le_right}
-use Rattle.ell_ops.specs.Meaning.{greatest_key}
-use Rattle.ell_handle.specs.Ranges.{real_end}
+use Rattle.std.proofs.Common.{ℕ, Result, Err, refl}
+use Rattle.ell_tree.specs.declared.operations.NotDone.{NotDone}
+use Rattle.ell_tree.specs.declared.operations.NotDone.TheVariants as not_done
+use Rattle.elltree.specs.Calls.{MayTry, Outcome, TryRefuses}
+use Rattle.elltree.specs.Refusals.{of_not_done}
+use Rattle.elltree.specs.declared.handle.Handle.{Handle}
+use Rattle.elltree.specs.declared.refusal.Refusal.{Refusal}
+use Rattle.elltree.specs.declared.refusal.Refusal.TheVariants.{BadCards, BadKey, BadStart, Busy, NoMemory, NoTries, Spent, TooManyHandles}
 
--- where a scan is to go on, if there was no room for more
-abbrev pub GoesOn : ℕ → ℕ → ℕ → ℕ → Option ℕ → Type 0
-GoesOn from upto count room next = IfSome next (λ n. (from ≤ n) × (n < real_end upto) × (count ≡ room))
+-- a call that is refused before the tree's is made
+pub refused : {A : Type 0} (key tries : ℕ) (IsSo : Handle → Handle → Result A NotDone → Type 0) (h : Handle) (why : Refusal) → TryRefuses key tries why → Outcome key tries IsSo h h (Err why)
+refused key tries IsSo h NoTries none = (none, refl)
+refused key tries IsSo h BadKey bad = (bad.0, (bad.1, refl))
+refused key tries IsSo h Busy bad = absurd bad
+refused key tries IsSo h Spent bad = absurd bad
+refused key tries IsSo h BadCards bad = absurd bad
+refused key tries IsSo h BadStart bad = absurd bad
+refused key tries IsSo h TooManyHandles bad = absurd bad
+refused key tries IsSo h NoMemory bad = absurd bad
 
--- the key that is told to the host is where the scan came to, but for numbers that are no keys
-pub told_end : (from upto count room : ℕ) (next : Option ℕ) → GoesOn from upto count room next → real_end (unwrap_or next upto) ≡ unwrap_or next (real_end upto)
-told_end from upto count room None so = refl
-told_end from upto count room (Some n) so =
-    let below = min-le_right upto (greatest_key + 1) in
-    let before = so.1 in min-eq_left (omega arith)
-
--- it is not behind the end of the range
-pub told_within : (from upto count room : ℕ) (next : Option ℕ) → GoesOn from upto count room next → unwrap_or next upto ≤ upto
-told_within from upto count room None so = omega arith
-told_within from upto count room (Some n) so =
-    let below = min-le_left upto (greatest_key + 1) in
-    let before = so.1 in omega arith
-
--- and before it only if there was no room for more
-pub told_full : (from upto count room : ℕ) (next : Option ℕ) → GoesOn from upto count room next → unwrap_or next upto < upto
-    → (from ≤ unwrap_or next upto) × (count ≡ room)
-told_full from upto count room None so low = absurd (omega arith)
-told_full from upto count room (Some n) so low = (so.0, so.2)
+-- the tree's call was not done
+pub undone : {A : Type 0} (key tries : ℕ) (IsSo : Handle → Handle → Result A NotDone → Type 0) (old new : Handle) (why : NotDone) → MayTry key tries → IsSo old new (Err why) → Outcome key tries IsSo old new (Err (of_not_done why))
+undone key tries IsSo old new not_done.Busy may so = (may, so)
+undone key tries IsSo old new not_done.Spent may so = (may, so)

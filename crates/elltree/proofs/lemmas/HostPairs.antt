@@ -5,7 +5,7 @@ use Rattle.std.specs.List.Sorted.{IsStrictlyIncreasing}
 use Rattle.std.specs.Map.{keys_of}
 use Rattle.ell_ops.specs.Meaning.{greatest_key}
 use Rattle.ell_tree.specs.declared.scanning.Pair.{Pair}
-use Rattle.elltree.specs.Maps.{as_pairs}
+use Rattle.elltree.specs.Handles.{as_pairs}
 
 abbrev none : Pair
 none = record { key = 0; value = 0 }
@@ -26,3 +26,9 @@ pub host_ascends : (pairs : List Pair) → IsStrictlyIncreasing (map (λ (p : Pa
 host_ascends pairs =
     let same = map-map (λ (e : ℕ × ℕ). e.0) (λ (p : Pair). (p.key, p.value)) pairs in
     (λ rises. subst IsStrictlyIncreasing (sym same) rises, λ rises. subst IsStrictlyIncreasing same rises)
+
+-- the keys of pairs are real if the pairs are
+pub real_keys : (start : List (ℕ × ℕ)) → All (λ (e : ℕ × ℕ). e.0 ≤ greatest_key) start → All (λ k. k ≤ greatest_key) (keys_of start)
+real_keys start are i d low =
+    let inside : i < length start = subst (λ n. i < n) (length-map start (λ e. e.0)) low in
+    subst (λ k. k ≤ greatest_key) (sym (get_or-map (λ e. e.0) start i (0, 0) d inside)) (are i (0, 0) inside)

@@ -1,0 +1,148 @@
+use Rattle.std.specs.Prelude.{◌≡◌, ◌≢◌, ◌<◌, ◌≤◌, ◌+◌, ◌*◌, ℕ, Bool, Option, None, Result, Ok, Err, IfOk, IfErr, List, length, min, drop, IfSome}
+use Rattle.ell_ops.specs.declared.op.Op.{Op}
+use Rattle.ell_ops.specs.declared.op.Op.TheVariants.{Delete, Find, Insert, Swap}
+use Rattle.ell_ops.specs.declared.reply.Reply.{Reply}
+use Rattle.ell_ops.specs.Contents.{contents_of}
+use Rattle.ell_ops.specs.Meaning.{found, greatest_key, key_of}
+use Rattle.ell_tree.specs.CardsLeft.{AreLeftAtMost, ReadsCardsLeft}
+use Rattle.ell_tree.specs.CardsTaken.{TakesNoCard}
+use Rattle.ell_tree.specs.Computing.{AreTried, IsNotDone, IsSum, PutsValue, RemovesIf, UpdatesValue, update_steps, whether_put}
+use Rattle.ell_tree.specs.Counts.{Took}
+use Rattle.ell_tree.specs.Ends.{Answers, CountsTries, Ends, TakesValue, find_steps, found_or_not_done, replied, whether, whether_swapped}
+use Rattle.ell_tree.specs.Looks.{IsFoundIn, OnlyLooks, look_steps}
+use Rattle.ell_tree.specs.Promises.{IsOthersDoing, IsQuiet, IsWithin, SpendsCards}
+use Rattle.ell_tree.specs.Scans.{AreFoundIn, AreInOrder, IsLastIn, IsNextIn, end_of, scan_steps, written}
+use Rattle.ell_tree.specs.declared.operations.NotDone.{NotDone}
+use Rattle.ell_tree.specs.declared.operations.NotDone.TheVariants as not_done
+use Rattle.ell_tree.specs.declared.scanning.Pair.{Pair}
+use Rattle.ell_tree.specs.declared.scanning.Scanned.{Scanned}
+use Rattle.elltree.specs.Handles.{last_card_of, tree_of}
+use Rattle.elltree.specs.declared.handle.Handle.{Handle}
+use Rattle.elltree.specs.declared.refusal.Refusal.{Refusal}
+use Rattle.elltree.specs.declared.refusal.Refusal.TheVariants.{BadKey, Busy, NoTries, Spent}
+
+-- a find: the tree's, on its conditions; no key above the greatest is present
+pub record Finds (key : ℕ) (old new : Handle) (there : Option ℕ) : Type 0 where
+  pub answers : key ≤ greatest_key → Answers (tree_of old) (Find key) (found there) old.pass new.pass
+  pub quiet : IsQuiet (tree_of old) old.pass new.pass
+  pub steps : Took old.pass new.pass (find_steps (last_card_of old))
+  pub cards : TakesNoCard old.pass new.pass
+  pub beyond : greatest_key < key → (there ≡ None) × (new ≡ old)
+  pub tree : new.tree ≡ old.tree
+
+-- a look: the answer is what the tree had for the key in one state since this look began
+pub record LooksUp (key : ℕ) (old new : Handle) (there : Option ℕ) : Type 0 where
+  pub so : key ≤ greatest_key → IsFoundIn (tree_of old) new.pass.view key there
+  pub one : key ≤ greatest_key → new.pass.view.looks ≡ old.pass.view.looks + 1
+  pub only : OnlyLooks old.pass new.pass (look_steps (last_card_of old))
+  pub cards : TakesNoCard old.pass new.pass
+  pub beyond : greatest_key < key → (there ≡ None) × (new ≡ old)
+  pub tree : new.tree ≡ old.tree
+
+-- a call that only looks, once, and makes no more steps than a scan
+pub record OnlyScans (old new : Handle) : Type 0 where
+  pub only : OnlyLooks old.pass new.pass (scan_steps (last_card_of old))
+  pub cards : TakesNoCard old.pass new.pass
+  pub tree : new.tree ≡ old.tree
+
+-- the end of the keys of a range, of which none is above the greatest
+abbrev pub real_end : ℕ → ℕ
+real_end upto = min upto (greatest_key + 1)
+
+-- a scan of a range, which wrote pairs to an array: the tree's, on its conditions
+pub record Scans (from upto : ℕ) (before after : List Pair) (old new : Handle) (result : Scanned) : Type 0 where
+  pub found : AreFoundIn (tree_of old) new.pass.view from (end_of (real_end upto) result) (contents_of (written after result))
+  pub ordered : AreInOrder from (end_of (real_end upto) result) (written after result)
+  pub count : result.count ≤ length before
+  pub next : IfSome result.next (λ next. (from ≤ next) × (next < real_end upto) × (result.count ≡ length before))
+  pub others : drop result.count after ≡ drop result.count before
+  pub one : new.pass.view.looks ≡ old.pass.view.looks + 1
+  pub scans : OnlyScans old new
+
+-- a search for the next key from one on; none is present above the greatest
+pub record SeeksNext (key : ℕ) (old new : Handle) (there : Option (ℕ × ℕ)) : Type 0 where
+  pub so : IsNextIn (tree_of old) new.pass.view key there
+  pub one : key ≤ greatest_key → new.pass.view.looks ≡ old.pass.view.looks + 1
+  pub scans : OnlyScans old new
+
+-- a search for the last key up to one
+pub record SeeksLast (key : ℕ) (old new : Handle) (there : Option (ℕ × ℕ)) : Type 0 where
+  pub so : IsLastIn (tree_of old) new.pass.view (real_end (key + 1)) there
+  pub one : new.pass.view.looks ≡ old.pass.view.looks + 1
+  pub scans : OnlyScans old new
+
+-- a handle has read the claim word of its tree, by which so many cards were not given out then; in every run no more
+-- are left ever after
+pub record ReadsCards (old new : Handle) (left : ℕ) : Type 0 where
+  pub reads : ReadsCardsLeft (last_card_of old) old.pass new.pass left
+  pub most : AreLeftAtMost (tree_of old) new.pass.view left
+  pub limit : left ≤ last_card_of old
+  pub worker : new.pass.view.worker ≡ old.pass.view.worker
+  pub cards : TakesNoCard old.pass new.pass
+  pub tree : new.tree ≡ old.tree
+
+-- an insert, a delete or a swap: the tree's, in so many tries
+pub record Changes {A : Type 0} (op : Op) (tries : ℕ) (reply : Result A NotDone → Result Reply NotDone)
+    (made : Result A NotDone → Result Bool NotDone) (old new : Handle) (result : Result A NotDone) : Type 0 where
+  pub ends : Ends (tree_of old) tries op old.pass new.pass (reply result)
+  pub others : result ≡ Err not_done.Busy → IsOthersDoing (tree_of old) tries old.pass new.pass
+  pub steps : IsWithin (tree_of old) tries old.pass new.pass
+  pub cards : SpendsCards (key_of op) tries old.pass new.pass (made result)
+  pub enough : 2 * last_card_of old < tries → result ≢ Err not_done.Busy
+  pub tree : new.tree ≡ old.tree
+
+abbrev pub Inserts : ℕ → ℕ → ℕ → Handle → Handle → Result Bool NotDone → Type 0
+Inserts key value tries = Changes (Insert key value) tries replied (λ result. result)
+
+abbrev pub Deletes : ℕ → ℕ → Handle → Handle → Result Bool NotDone → Type 0
+Deletes key tries = Changes (Delete key) tries replied (λ result. result)
+
+-- a delete that tells which value it took
+pub record Takes (key tries : ℕ) (old new : Handle) (result : Result (Option ℕ) NotDone) : Type 0 where
+  pub deletes : Changes (Delete key) tries (λ result. replied (whether result)) whether old new result
+  pub took : IfOk result (TakesValue (tree_of old) key old.pass new.pass)
+
+-- a swap, which tells what the key had
+abbrev pub Swaps : ℕ → ℕ → ℕ → ℕ → Handle → Handle → Result (Option ℕ) NotDone → Type 0
+Swaps key current value tries = Changes (Swap key current value) tries found_or_not_done (whether_swapped current)
+
+-- a call that reads a key, and then tries to change it by what it has read: the tree's, in so many tries
+pub record Computes (key tries : ℕ) (Does : Handle → Handle → Option ℕ → Type 0)
+    (made : Result (Option ℕ) NotDone → Result Bool NotDone) (old new : Handle) (result : Result (Option ℕ) NotDone) : Type 0 where
+  pub does : IfOk result (Does old new)
+  pub unanswered : IfErr result (IsNotDone (tree_of old) key old.pass new.pass)
+  pub tried : result ≡ Err not_done.Busy → AreTried tries old.pass new.pass
+  pub steps : Took old.pass new.pass (update_steps (last_card_of old) tries)
+  pub counted : CountsTries tries old.pass new.pass
+  pub cards : SpendsCards key tries old.pass new.pass (made result)
+  pub tree : new.tree ≡ old.tree
+
+abbrev pub Puts : ℕ → ℕ → ℕ → Handle → Handle → Result (Option ℕ) NotDone → Type 0
+Puts key value tries = Computes key tries (λ old new. PutsValue (tree_of old) key value old.pass new.pass) whether_put
+
+abbrev pub Adds : ℕ → ℕ → ℕ → Handle → Handle → Result (Option ℕ) NotDone → Type 0
+Adds key addend tries = Computes key tries (λ old new. UpdatesValue (tree_of old) key (IsSum addend) old.pass new.pass) whether
+
+abbrev pub Removes : ℕ → ℕ → ℕ → Handle → Handle → Result (Option ℕ) NotDone → Type 0
+Removes key current tries = Computes key tries (λ old new. RemovesIf (tree_of old) key current old.pass new.pass) (whether_swapped current)
+
+-- a key may be changed in so many tries
+pub record MayTry (key tries : ℕ) : Type 0 where
+  pub some : 1 ≤ tries
+  pub real : key ≤ greatest_key
+
+-- why it may not: want of tries comes first
+abbrev pub TryRefuses : ℕ → ℕ → Refusal → Type 0
+TryRefuses key tries NoTries = tries ≡ 0
+TryRefuses key tries BadKey = (1 ≤ tries) × (greatest_key < key)
+TryRefuses key tries _ = ⊥
+
+-- how a call ends that changes a key: it is refused and leaves the handle as it was, exactly if it allows no try, or the
+-- key is above the greatest; otherwise the tree's call is made, and its outcome is told
+abbrev pub Outcome : {A : Type 0} → ℕ → ℕ → (Handle → Handle → Result A NotDone → Type 0) → Handle → Handle → Result A Refusal → Type 0
+Outcome key tries IsSo old new (Ok said) = MayTry key tries × IsSo old new (Ok said)
+Outcome key tries IsSo old new (Err NoTries) = (tries ≡ 0) × (new ≡ old)
+Outcome key tries IsSo old new (Err BadKey) = (1 ≤ tries) × ((greatest_key < key) × (new ≡ old))
+Outcome key tries IsSo old new (Err Busy) = MayTry key tries × IsSo old new (Err not_done.Busy)
+Outcome key tries IsSo old new (Err Spent) = MayTry key tries × IsSo old new (Err not_done.Spent)
+Outcome key tries IsSo old new (Err _) = ⊥

@@ -1,0 +1,74 @@
+use Rattle.std.specs.Prelude.{◌≡◌, ◌≤◌, true, ℕ, [], List, length, map}
+use Rattle.std.specs.Arc.{arc_value}
+use Rattle.std.specs.List.{All}
+use Rattle.std.specs.List.Sorted.{IsStrictlyIncreasing}
+use Rattle.std.specs.Map.{keys_of}
+use Rattle.ell_ops.specs.Meaning.{greatest_key}
+use Rattle.ell_core.specs.state.Opening.{last_card}
+use Rattle.ell_tree.specs.Node.{most_start}
+use Rattle.ell_cards.specs.Models.{IsCardCount, MayPart}
+use Rattle.ell_tree.specs.Ledgers.{TreeModel}
+use Rattle.ell_tree.specs.PassParts.{IsFirst, IsLeftPart, IsRightPart}
+use Rattle.ell_tree.specs.declared.scanning.Pair.{Pair}
+use Rattle.elltree.specs.declared.handle.Handle.{Handle}
+use Rattle.elltree.specs.declared.refusal.Refusal.{Refusal}
+use Rattle.elltree.specs.declared.refusal.Refusal.TheVariants.{BadCards, BadKey, BadStart, NoMemory, TooManyHandles}
+
+-- a handle's tree
+abbrev pub tree_of : Handle → TreeModel
+tree_of h = arc_value h.tree
+
+-- the number of the last card of a handle's tree
+abbrev pub last_card_of : Handle → ℕ
+last_card_of h = (arc_value h.tree).plan.last_card
+
+-- pairs of a host as the tree has them
+abbrev pub as_pairs : List Pair → List (ℕ × ℕ)
+as_pairs pairs = map (λ pair. (pair.key, pair.value)) pairs
+
+-- a handle is the first of a new tree in which every key is shared, with these start keys, and so many cards besides; it
+-- has the whole share of the tree
+pub record IsOpened (start : List (ℕ × ℕ)) (cards : ℕ) (h : Handle) : Type 0 where
+  pub plan : (tree_of h).plan ≡ record { keys = []; start = start; last_card = last_card start cards; shared = true }
+  pub first : IsFirst (tree_of h) h.pass
+
+-- a tree may begin with these start keys
+pub record IsStart (start : List (ℕ × ℕ)) : Type 0 where
+  pub ascending : IsStrictlyIncreasing (keys_of start)
+  pub few : length start ≤ most_start
+
+-- start keys are keys
+abbrev pub AreKeys : List (ℕ × ℕ) → Type 0
+AreKeys start = All (λ e. e.0 ≤ greatest_key) start
+
+-- a tree may be opened with these start keys and so many cards
+pub record MayOpen (start : List (ℕ × ℕ)) (cards : ℕ) : Type 0 where
+  pub begins : IsStart start
+  pub keys : AreKeys start
+  pub count : IsCardCount cards
+
+-- when a tree is refused, and why
+abbrev pub RefusesTree : List (ℕ × ℕ) → ℕ → Refusal → Type 0
+RefusesTree start cards BadStart = ¬ IsStart start
+RefusesTree start cards BadKey = IsStart start × (¬ AreKeys start)
+RefusesTree start cards BadCards = IsStart start × (AreKeys start × (¬ IsCardCount cards))
+RefusesTree start cards NoMemory = MayOpen start cards
+RefusesTree start cards _ = ⊥
+
+-- there is another handle of a handle's tree: the handle goes on as it was but for its share, of which the other has a
+-- piece
+pub record HasAnother (whole kept other : Handle) : Type 0 where
+  pub goes_on : IsLeftPart [] whole.pass kept.pass
+  pub piece : IsRightPart [] whole.pass other.pass
+  pub tree : kept.tree ≡ whole.tree
+  pub same : arc_value other.tree ≡ arc_value whole.tree
+
+-- a handle makes no more handles, as its share is the least one
+abbrev pub IsLeast : Handle → Type 0
+IsLeast h = ¬ MayPart h.pass.view
+
+-- when there is no other handle of a handle's tree, and why
+abbrev pub AnotherRefuses : Handle → Refusal → Type 0
+AnotherRefuses h TooManyHandles = IsLeast h
+AnotherRefuses h NoMemory = ¬ IsLeast h
+AnotherRefuses h _ = ⊥

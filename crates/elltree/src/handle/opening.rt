@@ -1,0 +1,118 @@
+//! How a handle is opened, and makes another.
+ghost use Rattle.std.specs.Prelude.{◌≡◌, ◌≢◌, ◌↔◌, IfOk, IfErr, IsTrue, OnOk};
+ghost use Rattle.elltree.specs.Handles.{AnotherRefuses, AreKeys, HasAnother, IsLeast, IsOpened, IsStart, MayOpen, RefusesTree, as_pairs};
+ghost use Rattle.elltree.specs.declared.refusal.Refusal.TheVariants.{NoMemory};
+
+use crate::handle::Handle;
+use crate::refusal::Refusal;
+use ell_cards::is_card_count;
+use ell_ops::{all_fit, ascend};
+use ell_tree::{Pair, START_MAX, Tree};
+use std::alloc::{AllocError, Global};
+use std::sync::Arc;
+
+impl Handle {
+    /// Opens a tree with the given number of cards that has the start keys with their values, and returns its first
+    /// handle. Returns `BadStart` if the start keys do not strictly ascend or there are more than `START_MAX`, then
+    /// `BadKey` if a start key is above `KEY_MAX`, then `BadCards` if the number of cards is not 1 to 1,000,000, and
+    /// only then `NoMemory` if an allocation fails.
+    pub fn open(alloc: Global, start: &[Pair], cards: u64) -> Result<Handle, Refusal>
+        // The handle is the first of a new tree with the start pairs and the cards asked for, and has the whole share.
+        ensures opened { IfOk result (IsOpened (as_pairs start.now) cards) }
+        // `BadStart` is returned exactly if the start keys do not strictly ascend or there are more than 1,000,000,
+        // then `BadKey` exactly for a key above the greatest one, then `BadCards` exactly if the number of cards is not
+        // 1 to 1,000,000, and otherwise only `NoMemory`.
+        ensures may { OnOk result (MayOpen (as_pairs start.now) cards) }
+        ensures refused { IfErr result (RefusesTree (as_pairs start.now) cards) }
+    {
+        may_open(start, cards)?;
+        let pairs = pairs_of(alloc, start)?;
+        let (tree, pass) = Tree::reserve_shared(alloc, &pairs, &[], cards)?;
+        let tree = Arc::new(alloc, tree)?;
+        Ok(Handle { tree, pass })
+    }
+
+    /// Returns this handle and another of its tree. Returns `TooManyHandles` if the handle has the least share: the
+    /// first handle of a tree gives more than a million others, and each of those gives fewer. Otherwise returns
+    /// `NoMemory` if an allocation fails. After either error the handle comes back as it was.
+    pub fn another(self) -> Result<(Handle, Handle), (Handle, Refusal)>
+        // The handle goes on as it was, but for its share, and the other one has a piece of that.
+        ensures another { IfOk result (λ both. HasAnother self both.0 both.1) }
+        // `TooManyHandles` is returned exactly if the share is the least one, and otherwise only `NoMemory`. After
+        // either error the handle comes back.
+        ensures may { OnOk result (¬ IsLeast self) }
+        ensures why { IfErr result (λ refused. AnotherRefuses self refused.1) }
+        ensures refused { IfErr result (λ refused. refused.0 ≡ self) }
+    {
+        if self.has_least_share() {
+            return Err((self, Refusal::TooManyHandles));
+        }
+        let Ok(also) = Arc::try_clone(&self.tree) else {
+            return Err((self, Refusal::NoMemory));
+        };
+        let Handle { tree, pass } = self;
+        match tree.split(pass, &[]) {
+            Ok((kept, other)) => {
+                let kept = Handle { tree, pass: kept };
+                let other = Handle {
+                    tree: also,
+                    pass: other,
+                };
+                Ok((kept, other))
+            }
+            Err((pass, _)) => {
+                let whole = Handle { tree, pass };
+                Err((whole, Refusal::NoMemory))
+            }
+        }
+    }
+
+    /// Returns whether the handle has the least share of its tree, and so can make no more handles.
+    pub fn has_least_share(&self) -> bool
+        // Returns `true` exactly if the handle's share is the least one.
+        ensures { IsTrue result ↔ IsLeast self.now }
+    {
+        !self.pass.may_part()
+    }
+}
+
+// Whether a tree may be opened with these start keys and the given number of cards, and if not, why.
+fn may_open(start: &[Pair], cards: u64) -> Result<(), Refusal>
+    ensures may { OnOk result (MayOpen (as_pairs start.now) cards) }
+    ensures refused { IfErr result (λ why. RefusesTree (as_pairs start.now) cards why × (why ≢ NoMemory)) }
+{
+    if !is_start(start) {
+        return Err(Refusal::BadStart);
+    }
+    if !are_keys(start) {
+        return Err(Refusal::BadKey);
+    }
+    if !is_card_count(cards) {
+        return Err(Refusal::BadCards);
+    }
+    Ok(())
+}
+
+// Whether a tree may begin with these start keys.
+fn is_start(start: &[Pair]) -> bool
+    ensures { IsTrue result ↔ IsStart (as_pairs start.now) }
+{
+    start.len() <= START_MAX && ascend(start)
+}
+
+// Whether these start keys are keys.
+fn are_keys(start: &[Pair]) -> bool
+    ensures { IsTrue result ↔ AreKeys (as_pairs start.now) }
+{
+    all_fit(start)
+}
+
+// The pairs of a host, as the tree has them.
+fn pairs_of(alloc: Global, pairs: &[Pair]) -> Result<Vec<(u64, u64)>, AllocError>
+    ensures { IfOk result (λ out. out.items ≡ as_pairs pairs.now) }
+{
+    pairs
+        .iter()
+        .map(|pair| (pair.key, pair.value))
+        .collect(alloc)
+}
