@@ -1,6 +1,5 @@
 /* The map of elltree_map.h: its calls. docs/GATE.md has the protocol, whose steps are numbered there, and the argument that it is right. */
 #define _GNU_SOURCE
-#include "elltree_map.h"
 #include "map/looks.h"
 #include <pthread.h>
 
@@ -21,11 +20,17 @@ struct request {
 
 /* The forks that lie between the first process and this one. A map is of the process that has made it. */
 static _Atomic uint32_t forks;
-static pthread_once_t watch = PTHREAD_ONCE_INIT;
+/* What is done before the first map is made. */
+static pthread_once_t once = PTHREAD_ONCE_INIT;
 static int watch_code;
+static uint32_t processors = 1;
 
 static void count_fork(void) { atomic_fetch_add(&forks, 1); }
-static void watch_forks(void) { watch_code = pthread_atfork(NULL, NULL, count_fork); }
+static void prepare(void) {
+    const long count = sysconf(_SC_NPROCESSORS_CONF); /* reads a file */
+    processors = count > 0 ? (uint32_t)at_most((uint64_t)count, PLACES_MOST) : 1;
+    watch_code = pthread_atfork(NULL, NULL, count_fork);
+}
 static bool is_of_parent(const struct elltree_map *map) { return map->forks != atomic_load_explicit(&forks, memory_order_relaxed); }
 
 /* Whether there is a map, and it is of this process. */
@@ -35,7 +40,7 @@ static inline int32_t check_map(const struct elltree_map *map) {
     return __builtin_expect(is_of_parent(map), 0) ? ELLTREE_FORKED : ELLTREE_YES;
 }
 
-/* The same, and whether the key is one that a map may have. */
+/* The same, and whether the key is one that a call may change. */
 static inline int32_t check(const struct elltree_map *map, uint64_t key) {
     const int32_t code = check_map(map);
     return code == ELLTREE_YES && key > ELLTREE_KEY_MAX ? ELLTREE_BAD_KEY : code;
@@ -85,7 +90,7 @@ static inline __attribute__((always_inline)) int32_t call(struct elltree_map *ma
     return code;
 }
 
-/* Notes that a call has given its key this value, or has taken it away, and how many keys more there are. The place's thread alone adds to its count. */
+/* Notes that a call has given its key this value, or has taken it away, and how many keys more there are. Only the place's thread adds them up. */
 static void note_change(struct place *place, struct request *request, int32_t there, uint64_t value, int32_t more) {
     const int64_t added = atomic_load_explicit(&place->added, memory_order_relaxed);
     atomic_store_explicit(&place->added, added + more, memory_order_relaxed);
@@ -145,15 +150,15 @@ static int32_t fetch_add_at(struct place *place, struct elltree_slot *slot, stru
 
 int32_t elltree_map_get(struct elltree_map *map, uint64_t key, uint64_t *value) {
     uint64_t found = 0;
-    int32_t code = check(map, key);
+    int32_t code = check_map(map);
     struct place *place;
     struct section *section;
     if (code != ELLTREE_YES)
-        return code == ELLTREE_BAD_KEY ? ELLTREE_NO : code; /* no map has such a key */
+        return code;
     place = take_place(&map->gate, READS);
     do {
         section = section_of(directory_of(map), key);
-        code = elltree_slot_find(slot_of(section, place), key, &found);
+        code = elltree_slot_look(slot_of(section, place), key, &found);
     } while (__builtin_expect(atomic_load(&section->replaced), 0)); /* else the section was the map's when it was read */
     if (__builtin_expect(is_weighed(place), 0))
         weigh_read(section, slot_of(section, place), key);
@@ -453,45 +458,47 @@ int32_t elltree_map_renew(struct elltree_map *map) {
     return code;
 }
 
-int32_t elltree_map_counts(struct elltree_map *map, struct elltree_map_counters *counts) {
+int32_t elltree_map_counts(struct elltree_map *map, struct elltree_map_counters *counts, size_t size) {
+    struct elltree_map_counters known;
     const int32_t code = check_map(map);
     if (code != ELLTREE_YES || !counts)
         return code;
-    counts->sections = map->sections;
-    counts->cards = map->cards;
-    counts->renewals = map->renewals;
-    counts->early_renewals = map->early_renewals;
-    counts->renewal_nanoseconds = map->all_effort;
-    counts->pause_nanoseconds = map->all_pauses;
-    counts->longest_nanoseconds = map->longest_pause;
-    return ELLTREE_YES;
+    known.sections = map->sections;
+    known.cards = map->cards;
+    known.renewals = map->renewals;
+    known.early_renewals = map->early_renewals;
+    known.renewal_nanoseconds = map->all_effort;
+    known.pause_nanoseconds = map->all_pauses;
+    known.longest_nanoseconds = map->longest_pause;
+    memset(counts, 0, size);
+    memcpy(counts, &known, at_most(size, sizeof known));
+    return code;
 }
 
 /* A power of two, so that a place is found by a mask. */
 static uint32_t number_of_places(uint32_t calls) {
-    const long processors = sysconf(_SC_NPROCESSORS_CONF);
     uint32_t places = 1;
     if (!calls)
-        calls = (uint32_t)at_least(PLACES_EACH * (uint64_t)(processors > 0 ? processors : 1), PLACES_LEAST);
+        calls = (uint32_t)at_least(PLACES_EACH * processors, PLACES_LEAST);
     while (places < calls && places < PLACES_MOST)
         places *= 2;
     return places;
 }
 
-static struct elltree_map_settings settings_of(const struct elltree_map_settings *asked) {
+/* The settings that the caller has asked for, as far as the program and the library both know them, and the map's choice of the others. */
+static struct elltree_map_settings settings_of(const struct elltree_map_settings *asked, size_t size) {
     struct elltree_map_settings settings = ELLTREE_MAP_SETTINGS;
     if (asked)
-        settings = *asked;
-    settings.cards = at_most(settings.cards ? settings.cards : CARDS_LEAST, ELLTREE_CARDS_MAX);
+        memcpy(&settings, asked, at_most(size, sizeof settings));
+    settings.cards = at_most(settings.cards, ELLTREE_CARDS_MAX);
     settings.renewal_percent = settings.renewal_percent ? settings.renewal_percent : RENEWAL_PERCENT;
     settings.renewal_microseconds = settings.renewal_microseconds ? settings.renewal_microseconds : RENEWAL_MICROSECONDS;
     return settings;
 }
 
 /* Memory for a map without sections, or null. */
-static struct elltree_map *new_map(const struct elltree_map_settings *asked) {
-    const struct elltree_map_settings settings = settings_of(asked);
-    const uint32_t places = number_of_places(settings.calls);
+static struct elltree_map *new_map(const struct elltree_map_settings *settings) {
+    const uint32_t places = number_of_places(settings->calls), chance = (uint32_t)now();
     struct elltree_map *map = new_lines(sizeof *map);
     struct place *all = new_lines(places * sizeof *all);
     if (!map || !all) {
@@ -500,8 +507,8 @@ static struct elltree_map *new_map(const struct elltree_map_settings *asked) {
         return NULL;
     }
     for (uint32_t i = 0; i < places; i++)
-        all[i] = (struct place){.number = i, .until = 1 + i % SAMPLE, .chance = (uint32_t)now() + i * UINT32_C(2654435769)};
-    map->settings = settings;
+        all[i] = (struct place){.number = i, .until = 1 + i % SAMPLE, .chance = chance + i * UINT32_C(2654435769)};
+    map->settings = *settings;
     map->forks = atomic_load(&forks);
     map->gate.mask = places - 1;
     map->gate.places = all;
@@ -544,7 +551,7 @@ static bool ascend(const struct elltree_pair *pairs, size_t count) {
 
 /* Gives a new map its first sections, with these pairs. */
 static int32_t fill(struct elltree_map *map, const struct elltree_pair *pairs, size_t count) {
-    const uint64_t began = time_at_work(), cards = part_of_cards(map->settings.cards, number_of_parts(&map->gate, count));
+    const uint64_t began = time_at_work(), cards = part_of_cards(first_cards(map, count), number_of_parts(&map->gate, count));
     struct heirs *heirs;
     struct directory *directory;
     int32_t code = make_heirs(&map->gate, &heirs, 0, UINT64_MAX, pairs, count, cards);
@@ -568,15 +575,16 @@ static int32_t fill(struct elltree_map *map, const struct elltree_pair *pairs, s
     return code;
 }
 
-int32_t elltree_map_from_sorted(struct elltree_map **map, const struct elltree_pair *pairs, size_t count,
-                                const struct elltree_map_settings *settings) {
+int32_t elltree_map_from_sorted(struct elltree_map **map, const struct elltree_pair *pairs, size_t count, const struct elltree_map_settings *asked,
+                                size_t size) {
+    const struct elltree_map_settings settings = settings_of(asked, size);
     struct elltree_map *made;
     int32_t code;
     if (!map || (!pairs && count))
         return ELLTREE_NULL;
     if (!ascend(pairs, count))
         return ELLTREE_BAD_START;
-    made = pthread_once(&watch, watch_forks) == 0 && watch_code == 0 ? new_map(settings) : NULL;
+    made = pthread_once(&once, prepare) == 0 && watch_code == 0 ? new_map(&settings) : NULL;
     code = made ? fill(made, pairs, count) : ELLTREE_NO_MEMORY;
     if (code == ELLTREE_YES)
         *map = made;
@@ -585,6 +593,6 @@ int32_t elltree_map_from_sorted(struct elltree_map **map, const struct elltree_p
     return code;
 }
 
-int32_t elltree_map_new(struct elltree_map **map) { return elltree_map_from_sorted(map, NULL, 0, NULL); }
+int32_t elltree_map_new(struct elltree_map **map) { return elltree_map_from_sorted(map, NULL, 0, NULL, 0); }
 
 #include "map/composed.h"

@@ -1,5 +1,5 @@
-/* elltree::map: elltree_map.h as a class, for C++17. Any thread may call any member at any time, but for the destructor, a move and swap. A refusal is
-   thrown as elltree::refused, which elltree.hpp has, and refused memory as std::bad_alloc.
+/* elltree::map: elltree_map.h as a class, for C++17. Any thread may call any member at any time, except the destructor, a move and swap. A refusal
+   is thrown as elltree::refused, and refused memory as std::bad_alloc.
 
        elltree::map map;
        .. any thread, at any time ..
@@ -7,32 +7,74 @@
        if (auto value = map.get(7))
            .. *value ..
        for (auto [key, value] : map.range(5, 10))
-           .. 5 is in it, and 10 is not ..
+           .. 5 is in the range, and 10 is not ..
 
    A call that reads finds no key above ELLTREE_KEY_MAX, and one that changes keys refuses such a key with ELLTREE_BAD_KEY. elltree_map.h says more
-   about each call. */
+   about each call, under the same name, except that erase is elltree_map_delete there, size elltree_map_len, and empty elltree_map_is_empty. */
 #ifndef ELLTREE_MAP_HPP
 #define ELLTREE_MAP_HPP
 #if __cplusplus < 201703L
 #error "elltree_map.hpp needs C++17 or later: compile with -std=c++17"
 #endif
-#include "elltree.hpp"
 #include "elltree_map.h"
 #include <algorithm>
 #include <array>
 #include <cstddef>
 #include <initializer_list>
 #include <iterator>
+#include <new>
 #include <optional>
+#include <stdexcept>
+#include <string>
 #include <utility>
 #include <vector>
 
 namespace elltree {
 
+/* Says why a call was refused: code() is one of the negative codes of elltree_map.h, and what() is its text. */
+class refused : public std::runtime_error {
+public:
+    explicit refused(int32_t code) : std::runtime_error(text(code)), code_(code) {}
+    int32_t code() const noexcept { return code_; }
+
+private:
+    static std::string text(int32_t code) {
+        char out[ELLTREE_TEXT_ROOM];
+        return elltree_text(code, out, sizeof out);
+    }
+    int32_t code_;
+};
+
+/* What a compare_exchange or a remove_if did: it has changed the key, or found another value, or found the key absent. */
+enum class exchanged { yes, other_value, absent };
+
+namespace detail {
+
+/* Returns whether a code is yes, and throws a refusal. */
+inline bool is_yes(int32_t code) {
+    if (code == ELLTREE_NO_MEMORY)
+        throw std::bad_alloc();
+    if (code < 0)
+        throw refused(code);
+    return code == ELLTREE_YES;
+}
+
+/* Returns the value that a call has written, if its code is yes. */
+inline std::optional<uint64_t> told(int32_t code, const uint64_t &value) { return is_yes(code) ? std::optional<uint64_t>(value) : std::nullopt; }
+
+/* Returns what an exchange did. */
+inline exchanged exchanged_by(int32_t code) {
+    if (code == ELLTREE_OTHER_VALUE)
+        return exchanged::other_value;
+    return is_yes(code) ? exchanged::yes : exchanged::absent;
+}
+
+} // namespace detail
+
 class map {
 public:
-    /* Goes over pairs in the ascending order of their keys, in one pass. It fetches some pairs at a time: each one was there at a moment since the
-       iterator was made. Other threads may change the map meanwhile, and so may the loop. An iterator must not outlive its map. */
+    /* Goes over pairs in the ascending order of their keys, in one pass. It fetches some pairs at a time: each one was there at one moment since
+       the iterator was made. Other threads may change the map meanwhile, and so may the loop. An iterator must not outlive its map. */
     class const_iterator {
     public:
         using iterator_category = std::input_iterator_tag;
@@ -80,7 +122,7 @@ public:
         std::array<elltree_pair, 32> found_ = {};
     };
 
-    /* The pairs of a range of keys. Each begin() goes over them anew. It must not outlive its map. */
+    /* The pairs of a range of keys. Each begin() goes over them anew. A range must not outlive its map. */
     class key_range {
     public:
         const_iterator begin() const { return {map_, from_, upto_}; }
@@ -94,80 +136,78 @@ public:
         uint64_t from_, upto_;
     };
 
-    /* An empty map. */
+    /* Makes an empty map. */
     map() { check(elltree_map_new(&map_)); }
 
-    /* A map with these pairs, whose keys ascend strictly. */
+    /* Makes a map with these pairs, whose keys ascend strictly. */
     explicit map(const std::vector<elltree_pair> &pairs, const elltree_map_settings &settings = {}) {
-        check(elltree_map_from_sorted(&map_, pairs.data(), pairs.size(), &settings));
+        check(elltree_map_from_sorted(&map_, pairs.data(), pairs.size(), &settings, sizeof settings));
     }
     [[nodiscard]] static map from_sorted(const std::vector<elltree_pair> &pairs, const elltree_map_settings &settings = {}) {
         return map(pairs, settings);
     }
 
+    /* A map that was moved from may only be destroyed or be given another map: calls on it are refused with ELLTREE_NULL. */
     map(map &&other) noexcept : map_(std::exchange(other.map_, nullptr)) {}
     map &operator=(map &&other) noexcept {
-        std::swap(map_, other.map_);
+        map(std::move(other)).swap(*this);
         return *this;
     }
     map(const map &) = delete;
     map &operator=(const map &) = delete;
     ~map() { (void)elltree_map_free(map_); }
 
-    /* The value of a key. */
+    void swap(map &other) noexcept { std::swap(map_, other.map_); }
+
+    /* Returns the map as elltree_map.h has it, for calls in C. */
+    elltree_map *native_handle() const noexcept { return map_; }
+
+    /* Returns the value of a key, if the key is present. */
     std::optional<uint64_t> get(uint64_t key) const {
         uint64_t value = 0;
         return told(elltree_map_get(map_, key, &value), value);
     }
     bool contains(uint64_t key) const { return get(key).has_value(); }
 
-    /* Adds a key that is absent: whether it was. */
+    /* Adds a key that is absent, and returns whether it was. A key that is present keeps its value. */
     bool insert(uint64_t key, uint64_t value) { return check(elltree_map_insert(map_, key, value)); }
 
-    /* Stores a value in one atomic step, whether the key is present or absent: the value that it had. */
+    /* Stores a value in one atomic step, whether the key is present or absent, and returns the value that it had. */
     std::optional<uint64_t> put(uint64_t key, uint64_t value) {
         uint64_t was = 0;
         return told(elltree_map_put(map_, key, value, &was), was);
     }
 
-    /* Adds a key if it is absent, in one atomic step: the value that the key has then, and whether it was added. */
+    /* Adds a key if it is absent, in one atomic step. Returns the value that the key has then, and whether it was added. */
     std::pair<uint64_t, bool> get_or_insert(uint64_t key, uint64_t value) {
         uint64_t there = 0;
         const bool is_added = check(elltree_map_get_or_insert(map_, key, value, &there));
         return {there, is_added};
     }
 
-    /* Takes a key away: the value that was taken. erase says whether the key was present. */
+    /* Removes a key and returns the value that it had. No other call removed that value. erase returns whether the key was present. */
     std::optional<uint64_t> remove(uint64_t key) {
         uint64_t was = 0;
         return told(elltree_map_remove(map_, key, &was), was);
     }
     bool erase(uint64_t key) { return check(elltree_map_delete(map_, key)); }
 
-    /* Stores the desired value of a key if its value is the expected one, in one atomic step; another value is written to expected. */
+    /* Stores the desired value of a key if its value is the expected one, in one atomic step. If it is another one, it is written to expected. */
     exchanged compare_exchange(uint64_t key, uint64_t &expected, uint64_t desired) {
-        const int32_t code = elltree_map_compare_exchange(map_, key, &expected, desired);
-        if (code == ELLTREE_OTHER_VALUE)
-            return exchanged::other_value;
-        return check(code) ? exchanged::yes : exchanged::absent;
+        return detail::exchanged_by(elltree_map_compare_exchange(map_, key, &expected, desired));
     }
 
-    /* Takes a key away if its value is the expected one, in one atomic step; another value is written to expected. */
-    exchanged remove_if(uint64_t key, uint64_t &expected) {
-        const int32_t code = elltree_map_remove_if(map_, key, expected, &expected);
-        if (code == ELLTREE_OTHER_VALUE)
-            return exchanged::other_value;
-        return check(code) ? exchanged::yes : exchanged::absent;
-    }
+    /* Removes a key if its value is the expected one, in one atomic step. If it is another one, it is written to expected. */
+    exchanged remove_if(uint64_t key, uint64_t &expected) { return detail::exchanged_by(elltree_map_remove_if(map_, key, expected, &expected)); }
 
-    /* Adds to the value of a key in one atomic step: the value that it had. An absent key is left so. */
+    /* Adds to the value of a key in one atomic step, and returns the value that it had. An absent key stays absent. */
     std::optional<uint64_t> fetch_add(uint64_t key, uint64_t addend) {
         uint64_t was = 0;
         return told(elltree_map_fetch_add(map_, key, addend, &was), was);
     }
 
-    /* Stores what f makes of the value of a key, in one atomic step: the value that it had. An absent key is left so. f is called again if another
-       thread has changed the value meanwhile; it may call the map, and throw. */
+    /* Stores what f makes of the value of a key, in one atomic step, and returns the value that it had. An absent key stays absent. f is called
+       again with the new value if another thread has changed it meanwhile. f may call the map, and it may throw, which ends the update. */
     template <class F> std::optional<uint64_t> update(uint64_t key, F f) {
         auto value = key > ELLTREE_KEY_MAX ? throw refused(ELLTREE_BAD_KEY) : get(key);
         auto said = exchanged::other_value;
@@ -176,8 +216,8 @@ public:
         return said == exchanged::absent ? std::nullopt : value;
     }
 
-    /* Calls f(key, value) for the keys from one on and below another, ascending. It is no snapshot: each key is told as it was at one moment of the
-       call. f may call the map. */
+    /* Calls f(key, value) for the keys from one on and below another, in ascending order. This is no snapshot: each key is shown as it was at one
+       moment of the call. f may call the map. */
     template <class F> void for_each(uint64_t from, uint64_t upto, F f) const {
         std::array<elltree_pair, 64> out;
         size_t count = 0;
@@ -188,13 +228,13 @@ public:
         }
     }
 
-    /* The pairs of the keys from one on and below another, ascending, for a loop: what for_each shows. Without an end the range goes up to the last
-       key. begin() and end() go over all pairs. */
+    /* Returns the pairs of the keys from one on and below another, ascending, for a loop: those that for_each shows. Without an end the range goes
+       up to the last key. begin() and end() go over all pairs. */
     key_range range(uint64_t from = 0, uint64_t upto = UINT64_MAX) const noexcept { return {map_, from, upto}; }
     const_iterator begin() const { return range().begin(); }
     const_iterator end() const noexcept { return {}; }
 
-    /* The pair of the least key from one on, or above one, and of the greatest up to one, or below one. */
+    /* Returns the pair of the least key from one on, or above one, or of the greatest key up to one, or below one. */
     std::optional<elltree_pair> next_at_least(uint64_t key) const { return found(elltree_map_next_at_least, key); }
     std::optional<elltree_pair> next_after(uint64_t key) const { return found(elltree_map_next_after, key); }
     std::optional<elltree_pair> last_at_most(uint64_t key) const { return found(elltree_map_last_at_most, key); }
@@ -202,12 +242,12 @@ public:
     std::optional<elltree_pair> first() const { return next_at_least(0); }
     std::optional<elltree_pair> last() const { return last_at_most(ELLTREE_KEY_MAX); }
 
-    /* Takes the pair of the least key away, or of the greatest, which no other call takes then. Each key that was passed over was absent at a moment
-       of the call. */
+    /* Removes the least key, or the greatest one, and returns its pair, which no other call removes. Each key that was passed over was absent at
+       one moment of the call. */
     std::optional<elltree_pair> pop_first() { return popped(elltree_map_pop_first); }
     std::optional<elltree_pair> pop_last() { return popped(elltree_map_pop_last); }
 
-    /* How many keys are present: exactly so if no change is under way, and else as many as the changes so far make. */
+    /* Returns how many keys are present: exactly, if no change is under way, and otherwise as many as the changes so far make. */
     size_t size() const {
         size_t count = 0;
         check(elltree_map_len(map_, &count));
@@ -215,21 +255,21 @@ public:
     }
     bool empty() const { return check(elltree_map_is_empty(map_)); }
 
-    /* Puts pairs one after the other, in any order: those of a list in braces, or of a container whose pairs have a key and a value, as a std::map.
-       If one is refused, those before it are put. */
+    /* Stores pairs one after the other, in any order: those of a list in braces, or of a container whose pairs have a key and a value, as a
+       std::map has. If one is refused, those before it are stored. */
     template <class Pairs> void extend(const Pairs &pairs) {
         for (const auto &[key, value] : pairs)
             put(key, value);
     }
     void extend(std::initializer_list<elltree_pair> pairs) { extend<std::initializer_list<elltree_pair>>(pairs); }
 
-    /* Takes all keys away, one after the other: other threads see some of them gone first. */
+    /* Removes all keys, one after the other: other threads see some of them gone first. */
     void clear() {
         for (const auto &pair : *this)
             erase(pair.key);
     }
 
-    /* All pairs, as they are at one moment. Calls that change keys wait meanwhile. */
+    /* Returns all pairs, ascending, as they are at one moment. Calls that change keys wait meanwhile. */
     std::vector<elltree_pair> pairs() const {
         std::vector<elltree_pair> out;
         size_t count = size();
@@ -243,12 +283,13 @@ public:
         return out;
     }
 
-    /* Renews all sections now, one after the other, so that a program has renewals at a moment of its choice. Those that were busy once give cards back. */
+    /* Renews all sections now, one after the other, so that a program has renewals at a moment of its choice. */
     void renew() { check(elltree_map_renew(map_)); }
 
+    /* Returns what has happened to the map so far. */
     elltree_map_counters counts() const {
-        elltree_map_counters counts = {0, 0, 0, 0, 0, 0, 0};
-        check(elltree_map_counts(map_, &counts));
+        elltree_map_counters counts = {};
+        check(elltree_map_counts(map_, &counts, sizeof counts));
         return counts;
     }
 
@@ -268,6 +309,8 @@ private:
 
     elltree_map *map_ = nullptr;
 };
+
+inline void swap(map &one, map &other) noexcept { one.swap(other); }
 
 } // namespace elltree
 #endif

@@ -1,6 +1,6 @@
-/* The memory of the library is the C library's. The kit's object calls the functions of this file in place of malloc, realloc and free: tools/library
-   renames the calls. They see to it that a tree is made soon, since most of the time would go to pages that are new. They call malloc, realloc and free
-   alone, and keep the size of a block in front of it, so that a program may replace these three. */
+/* The memory of the library is the C library's. The kit's object calls the functions of this file in place of malloc, realloc and free:
+   tools/library_of renames the calls. They see to it that a tree is made soon, since most of the time would go to pages that are new. They call
+   malloc, realloc and free alone, and keep the size of a block in front of it, so that a program may replace these three. */
 #define _GNU_SOURCE
 #include <stdatomic.h>
 #include <stdint.h>

@@ -20,8 +20,8 @@ static uint64_t renewals_since(const struct elltree_map *map, const struct secti
     return atomic_load(&map->renewals) - section->renewals;
 }
 
-/* As many cards as a section has now, or fewer, if that is more than twice what calls use up in two rounds of renewals, as they have done since the section
-   was made. */
+/* As many cards as a section has now, or fewer, if that is more than twice what calls use up in two rounds of renewals, as they have done since the
+   section was made. */
 static uint64_t cards_by_use(const struct elltree_map *map, const struct section *section, uint64_t left, uint64_t keys) {
     const uint64_t used = section->cards - at_most(left, section->cards), rounds = two_rounds(map);
     const uint64_t soon = used * rounds / at_least(renewals_since(map, section), rounds);
@@ -50,15 +50,23 @@ static uint64_t cards_of_all(struct elltree_map *map, const struct renewal *rene
     return cards;
 }
 
-/* How many each of them gets. If calls had to wait for cards, each gets twice as many as the section had, as calls may be about to change the keys of one
-   of them alone. */
+/* How many cards a new map has in all. */
+static uint64_t first_cards(const struct elltree_map *map, uint64_t keys) {
+    return map->settings.cards ? map->settings.cards : at_least(at_most(keys, CARDS_LEAST), CARDS_FIRST);
+}
+
+/* How many each of them gets. If calls had to wait for cards, each gets twice as many as the section had, as calls may be about to change the keys of
+   one of them alone. */
 static uint64_t cards_of_each(struct elltree_map *map, const struct renewal *renewal, uint32_t parts) {
     const struct section *section = renewal->sections[0];
     const uint64_t cards = section->cards, most = UINT64_C(1000) * map->settings.renewal_microseconds;
     const bool may_double = likely_effort(section, 2 * cards, renewal->there.count) <= most;
-    if (atomic_load(&section->spent_at))
-        return may_double && cards < at_least(weight(renewal->there.count), CARDS_USUAL) ? 2 * cards : cards;
-    return part_of_cards(cards_of_all(map, renewal, may_double), parts);
+    uint64_t each;
+    if (!atomic_load(&section->spent_at))
+        each = part_of_cards(cards_of_all(map, renewal, may_double), parts);
+    else
+        each = may_double && cards < at_least(weight(renewal->there.count), CARDS_USUAL) ? 2 * cards : cards;
+    return map->settings.cards ? each : at_least(each, CARDS_LEAST); /* a new map has fewer */
 }
 
 /* How few cards may be left of a section when its renewal begins: twice as many as calls have taken during the last one, if it is clear how many

@@ -1,7 +1,7 @@
 /* Calls of a map that are made of its other calls. They hold no place between those, so that no renewal waits for them. */
 #ifndef ELLTREE_MAP_COMPOSED_H
 #define ELLTREE_MAP_COMPOSED_H
-#include "../elltree_map.h"
+#include "elltree_map.h"
 
 /* The call takes effect at the get that finds the key, or at the insert that adds it: whatever came before has changed nothing. It begins anew only
    if another thread has added the key after the get, and taken it away before the next one. */

@@ -23,8 +23,8 @@ enum {
 /* What a thread does with a place: the last two bits of `busy`. Whoever reads doesn't look at the gate. */
 enum kind { FREE, READS, CHANGES };
 
-/* A place has lines of its own. A thread has it while its kind is not FREE, and then it alone touches the members below, but for `added`, which others
-   read. */
+/* A place has lines of its own. A thread has it while its kind is not FREE, and then it alone touches the members below, but for `added`, which
+   others read. */
 struct place {
     _Alignas(LINE) _Atomic uint64_t busy;
     uint32_t number;       /* of the place, from 0 */
@@ -160,8 +160,8 @@ static bool has_ended(struct place *place, uint64_t *busy, enum kind kind, uint6
     return true;
 }
 
-/* Waits for every call of this kind, or a later one, that was under way when the wait began, but not beyond a time: whether they have ended. Calls that
-   begin later see what the thread has stored before the wait, in a sequentially consistent way. */
+/* Waits for every call of this kind, or a later one, that was under way when the wait began, but not beyond a time: whether they have ended. Calls
+   that begin later see what the thread has stored before the wait, in a sequentially consistent way. */
 static bool await_calls(struct gate *gate, struct wait *wait, enum kind kind, uint64_t until) {
     for (; wait->number <= gate->mask; wait->number++, wait->busy = 0)
         if (!has_ended(&gate->places[wait->number], &wait->busy, kind, until))
@@ -174,8 +174,8 @@ static void open_gate(struct gate *gate) {
     advance(&gate->word);
 }
 
-/* Closes the gate, once it is open, and waits a while until no call is at work that changes keys. If one still is, the gate is opened again, and the wait
-   tells its place. */
+/* Closes the gate, once it is open, and waits a while until no call is at work that changes keys. If one still is, the gate is opened again, and the
+   wait tells its place. */
 static bool close_gate(struct gate *gate, struct wait *wait, uint64_t pause) {
     uint32_t word = atomic_load(&gate->word);
     while (is_closed(word) || !atomic_compare_exchange_strong(&gate->word, &word, word + 1)) {

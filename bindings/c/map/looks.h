@@ -1,11 +1,11 @@
-/* What calls find of the section that they are on, and what they do about it: renew it, join it, go on with renewals that were left, or leave a word for
-   later calls. */
+/* What calls find of the section that they are on, and what they do about it: renew it, join it, go on with renewals that were left, or leave a word
+   for later calls. */
 #ifndef ELLTREE_MAP_LOOKS_H
 #define ELLTREE_MAP_LOOKS_H
 #include "renewal.h"
 
-/* Whether this call is weighed: one in 64 of the calls on a place, by strides of 1 to 128 that follow no rule, so that no loop of calls has the same one
-   of them weighed each time. */
+/* Whether this call is weighed: one in 64 of the calls on a place, by strides of 1 to 128 that follow no rule, so that no loop of calls has the same
+   one of them weighed each time. */
 static inline bool is_weighed(struct place *place) {
     if (__builtin_expect(--place->until != 0, 1))
         return false;
@@ -14,8 +14,8 @@ static inline bool is_weighed(struct place *place) {
     return true;
 }
 
-/* Weighs a call by a find of its key, which nothing hinders: whether the steps beyond those of a tree that is not deep, of all calls since the section
-   was made, are worth a renewal. */
+/* Weighs a call by a find of its key, which nothing hinders: whether the steps beyond those of a tree that is not deep, of all calls since the
+   section was made, are worth a renewal. */
 static bool is_deep(struct section *section, struct elltree_slot *slot, uint64_t key) {
     uint64_t before = 0, after = 0, value, excess;
     if (elltree_slot_steps(slot, &before) != ELLTREE_YES || elltree_slot_find(slot, key, &value) < 0 ||
@@ -61,8 +61,8 @@ static bool has_many_cards(const struct elltree_map *map, const struct section *
     return section->cards >= 2 * cards_by_use(map, section, left, keys_about(section));
 }
 
-/* Looks at some section, and renews it if it has few keys, as a neighbor has, or has cards that it does not need. The multiples of this number are spread
-   evenly over the sections. */
+/* Looks at some section, and renews it if it has few keys, as a neighbor has, or has cards that it does not need. The multiples of this number are
+   spread evenly over the sections. */
 static void look_at_another(struct elltree_map *map) {
     const uint32_t at = UINT32_C(2654435769) * atomic_fetch_add(&map->swept, 1);
     struct place *place = take_place(&map->gate, READS);
@@ -130,8 +130,8 @@ static void join_passed(struct elltree_map *map) {
 
 /* What a call does that changes a key. */
 
-/* Gives the place back, and sees to what this call has found, if it was weighed, and to what others have left. If memory is refused, the map goes on as
-   it is. */
+/* Gives the place back, and sees to what this call has found, if it was weighed, and to what others have left. If memory is refused, the map goes on
+   as it is. */
 static __attribute__((noinline)) void give_back_and_renew(struct elltree_map *map, struct place *place, struct section *section, uint64_t key,
                                                           int32_t more, bool is_weighed) {
     enum reason reason = (enum reason)atomic_exchange(&section->due, NO_REASON);

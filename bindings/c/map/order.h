@@ -1,5 +1,5 @@
-/* The order of accesses, for the thread sanitizer. It doesn't see the order that this code and the library make where they were compiled without it. So
-   they tell it, where a program has it: `shown` that all that the thread has done so far is seen by whoever sees this word, and `seen` that this
+/* The order of accesses, for the thread sanitizer. It doesn't see the order that this code and the library make where they were compiled without it.
+   So they tell it, where a program has it: `shown` that all that the thread has done so far is seen by whoever sees this word, and `seen` that this
    thread has seen the word. */
 #ifndef ELLTREE_MAP_ORDER_H
 #define ELLTREE_MAP_ORDER_H

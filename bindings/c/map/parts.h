@@ -4,7 +4,8 @@
 #include "sections.h"
 
 enum {
-    CARDS_LEAST = 512,   /* of a section, and of a new map, if nobody asks for another number */
+    CARDS_FIRST = 128,   /* of an empty map, if nobody asks for another number: it is made the sooner */
+    CARDS_LEAST = 512,   /* of another section */
     CARDS_USUAL = 16384, /* up to so many are doubled at once where calls had to wait for some */
     RENEWAL_PERCENT = 5,
     RENEWAL_MICROSECONDS = 5000,

@@ -53,8 +53,8 @@ static void note_left(const struct elltree_map *map, struct renewal *renewal) {
     (void)!elltree_slot_cards_left(slot_to_renew(&map->gate, renewal->sections[0]), &renewal->left);
 }
 
-/* Takes a neighbor of the section along, the next one if that may be, and else the one before. Sections that are not replaced stand side by side as long
-   as this thread has them. */
+/* Takes a neighbor of the section along, the next one if that may be, and else the one before. Sections that are not replaced stand side by side as
+   long as this thread has them. */
 static void take_neighbor(struct elltree_map *map, struct renewal *renewal) {
     struct section *section = renewal->sections[0], *next, *before;
     struct place *place = take_place(&map->gate, READS);
@@ -377,8 +377,8 @@ static bool is_of(const struct renewal *renewal, const struct section *section) 
     return renewal->stage != AWAITS_READS && (renewal->sections[0] == section || (renewal->count > 1 && renewal->sections[1] == section));
 }
 
-/* Goes on with all renewals that were left, as far as each does not have to wait, but with that of a section to its end, if it is among them: whether it
-   is. */
+/* Goes on with all renewals that were left, as far as each does not have to wait, but with that of a section to its end, if it is among them: whether
+   it is. */
 static bool take_up(struct elltree_map *map, const struct section *section) {
     struct renewal *it = atomic_load(&map->left) ? atomic_exchange(&map->left, NULL) : NULL, *next, *wanted = NULL;
     seen(&map->left);
@@ -394,7 +394,7 @@ static bool take_up(struct elltree_map *map, const struct section *section) {
     return wanted != NULL;
 }
 
-/* Begins a renewal of a section that this thread has taken for that, and leaves it where it would have to wait, unless the caller has to wait for it. */
+/* Begins a renewal of a section that this thread has taken for that, and leaves it where it would have to wait, unless the caller has to wait. */
 static int32_t renew_section(struct elltree_map *map, struct section *section, enum reason reason, bool waits) {
     struct renewal *renewal = malloc(sizeof *renewal);
     if (!renewal) {

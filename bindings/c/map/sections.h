@@ -1,7 +1,7 @@
 /* The sections of a map: each has a range of keys and a tree of its own. The directory tells them in the order of their keys. */
 #ifndef ELLTREE_MAP_SECTIONS_H
 #define ELLTREE_MAP_SECTIONS_H
-#include "../elltree_map.h"
+#include "elltree.h"
 #include "gate.h"
 
 enum {
@@ -94,9 +94,7 @@ static struct elltree_slot *slot_to_renew(const struct gate *gate, struct sectio
 /* Opens a tree with these pairs, with a slot for each seat. If it is refused, no slot holds anything. */
 static int32_t open_seats(struct seat *seats, uint64_t seat_count, const struct elltree_pair *pairs, size_t count, uint64_t cards) {
     static const struct elltree_pair no_pair[1] = {{0, 0}};
-    const uint64_t number = __atomic_add_fetch(&elltree_trees, 1, __ATOMIC_SEQ_CST);
-    int32_t code;
-    code = elltree_slot_open_shared(&seats[0].slot, count ? pairs : no_pair, count, cards, number);
+    int32_t code = elltree_slot_open(&seats[0].slot, count ? pairs : no_pair, count, cards);
     for (uint64_t i = 1; i < seat_count && code == ELLTREE_YES; i++)
         code = elltree_slot_another(&seats[0].slot, &seats[i].slot);
     for (uint64_t i = 0; i < seat_count && code != ELLTREE_YES; i++)
