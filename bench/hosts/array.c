@@ -1,5 +1,6 @@
-// The library as a program in C has it: a tree of shared keys, of which a call fills an array with a range.
+// The library as a program in C has it: a tree, of which a call fills an array with a range.
 #include <elltree.h>
+#include <stdlib.h>
 
 // A call is never refused here.
 static int32_t answered(int32_t code) {
@@ -17,7 +18,7 @@ static struct elltree_handle *new_handle(void) {
 
 struct elltree_handle *array_open(const struct elltree_pair *start, size_t count, uint64_t cards) {
     struct elltree_handle *handle = new_handle();
-    answered(elltree_open_shared(handle, start, count, cards));
+    answered(elltree_open(handle, start, count, cards));
     return handle;
 }
 
@@ -44,14 +45,14 @@ bool array_insert(struct elltree_handle *handle, uint64_t key, uint64_t value, u
 // Whether the key was present.
 bool array_delete(struct elltree_handle *handle, uint64_t key, uint32_t tries) { return answered(elltree_delete(handle, key, tries)); }
 
-static uint64_t given(uint64_t value, void *given) {
-    (void)value;
-    return *(uint64_t *)given;
-}
-
 // Whether the key was present: then it had this value, and has the other.
 bool array_swap(struct elltree_handle *handle, uint64_t key, uint64_t value, uint32_t tries, uint64_t *was) {
-    return answered(elltree_update(handle, key, given, &value, tries, was));
+    int32_t code = answered(elltree_find(handle, key, was));
+    if (code == ELLTREE_YES)
+        do
+            code = answered(elltree_compare_exchange(handle, key, was, value, tries));
+        while (code == ELLTREE_OTHER_VALUE);
+    return code == ELLTREE_YES;
 }
 
 // How many pairs of a range are in the array, which has room for all.

@@ -35,8 +35,8 @@ pub struct ArrayHandle {
 unsafe impl Send for ArrayHandle {}
 
 impl ArrayHandle {
-    /// A tree of shared keys, with these start pairs and so many cards.
-    pub fn open_shared(start: &[(u64, u64)], cards: u64) -> ArrayHandle {
+    /// A tree with these start pairs and so many cards.
+    pub fn open(start: &[(u64, u64)], cards: u64) -> ArrayHandle {
         let start: Vec<Pair> = start.iter().map(|&(key, value)| Pair { key, value }).collect();
         // SAFETY: the array is as long as said.
         ArrayHandle { handle: unsafe { array_open(start.as_ptr(), start.len(), cards) }, room: Vec::new() }

@@ -40,30 +40,30 @@ impl Order {
 }
 
 /// Inserts the next block of these keys that no thread has taken, again and again, and returns how long it took.
-fn insert_blocks(owner: &mut dyn View, keys: &[u64], next: &AtomicUsize, begin: &Barrier) -> Duration {
+fn insert_blocks(writer: &mut dyn View, keys: &[u64], next: &AtomicUsize, begin: &Barrier) -> Duration {
     begin.wait();
     let begun = Instant::now();
     while let Some(block) = keys.chunks(BLOCK).nth(next.fetch_add(1, Ordering::Relaxed)) {
         for &key in block {
-            assert!(owner.insert(key, key + 7), "{key} was absent");
+            assert!(writer.insert(key, key + 7), "{key} was absent");
         }
     }
     begun.elapsed()
 }
 
-/// Has all owners of a new map without keys insert all of them, in this order: how long an insert took, in nanoseconds of the time of all
+/// Has all writers of a new map without keys insert all of them, in this order: how long an insert took, in nanoseconds of the time of all
 /// threads together, and how often and how long the map paused, if it renews itself.
 pub fn inserts(peer: Peer, sizes: Sizes, order: Order) -> Vec<(Figure, f64)> {
     let keys = &order.keys(sizes.keys);
     let mut crew = peer.crew(Sizes { keys: 0, ..sizes });
     let (next, begin) = (&AtomicUsize::new(0), &Barrier::new(crew.threads()));
     let took: Vec<Duration> = thread::scope(|scope| {
-        let insert_all = |owner| scope.spawn(move || insert_blocks(owner, keys, next, begin));
-        let threads: Vec<_> = crew.owners.iter_mut().map(|owner| insert_all(&mut **owner)).collect();
+        let insert_all = |writer| scope.spawn(move || insert_blocks(writer, keys, next, begin));
+        let threads: Vec<_> = crew.writers.iter_mut().map(|writer| insert_all(&mut **writer)).collect();
         threads.into_iter().map(|thread| thread.join().unwrap()).collect()
     });
     for &key in keys.iter().step_by(BLOCK) {
-        assert_eq!(crew.owners[0].find(key), Some(key + 7), "{key} is there in {}", peer.name());
+        assert_eq!(crew.writers[0].find(key), Some(key + 7), "{key} is there in {}", peer.name());
     }
     let mean = took.iter().sum::<Duration>().as_nanos() as f64 / keys.len() as f64;
     let longest = took.into_iter().max().expect("a thread");

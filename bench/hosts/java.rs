@@ -50,17 +50,17 @@ pub struct SkipList;
 
 impl SkipList {
     pub fn start(sizes: Sizes) -> SkipList {
-        ask(&format!("start {} {}", sizes.keys, sizes.owners));
+        ask(&format!("start {} {}", sizes.keys, sizes.writers));
         SkipList
     }
 
     /// As `work::scans`, of a new map.
     pub fn scans(sizes: Sizes, span: Span, interval: Duration) -> Speeds {
-        let Sizes { keys, owners, readers, .. } = sizes;
-        let line = format!("measure {keys} {owners} {readers} {} {}", span.width(keys), interval.as_nanos());
+        let Sizes { keys, writers, readers, .. } = sizes;
+        let line = format!("measure {keys} {writers} {readers} {} {}", span.width(keys), interval.as_nanos());
         let took = ask(&line).expect("what they took");
         let mean = |nanoseconds, answers| (answers > 0).then(|| nanoseconds as f64 / answers as f64);
-        Speeds { owners: mean(took[0], took[1]), readers: mean(took[2], took[3]) }
+        Speeds { writers: mean(took[0], took[1]), readers: mean(took[2], took[3]) }
     }
 }
 

@@ -3,21 +3,46 @@
 
 use crate::peers::{Counters, Crew, Sizes, TRIES, View, boxed};
 use crate::ranges::{Ranges, Told, told};
+use ::elltree::Tree;
+
+/// What a find answers: of a library before 0.3.0 it may be an error.
+trait Found {
+    fn found(self) -> Option<u64>;
+}
+
+impl Found for Option<u64> {
+    fn found(self) -> Option<u64> {
+        self
+    }
+}
+
+#[cfg(before)]
+impl Found for ::before::Result<Option<u64>> {
+    fn found(self) -> Option<u64> {
+        self.unwrap()
+    }
+}
+
+/// So many handles of a tree with these pairs. `run` gives a library that was built before a function that does so too.
+fn handles(start: &[(u64, u64)], cards: u64, count: u64) -> ::elltree::Result<Vec<::elltree::Handle>> {
+    let tree = Tree::open(start, cards)?;
+    (0..count).map(|_| tree.handle()).collect()
+}
 
 /// A module for a library: what a thread does with a handle, and new trees.
 macro_rules! library {
-    ($library:ident) => {
+    ($library:ident, $handles:path) => {
         pub mod $library {
             use super::*;
-            use ::$library::{CARDS_MAX, Handle, Refused, Result, Tree};
+            use ::$library::{CARDS_MAX, Handle, Refused, Result};
 
             impl View for Handle {
                 fn find(&mut self, key: u64) -> Option<u64> {
-                    Handle::find(self, key).unwrap()
+                    Handle::find(self, key).found()
                 }
 
                 fn look(&mut self, key: u64) -> Option<u64> {
-                    Handle::look(self, key).unwrap()
+                    Handle::look(self, key).found()
                 }
 
                 fn insert(&mut self, key: u64, value: u64) -> bool {
@@ -49,49 +74,45 @@ macro_rules! library {
                 }
 
                 fn swap(&mut self, key: u64, value: u64) -> Option<u64> {
-                    self.update(key, |_| value, TRIES).unwrap()
+                    let mut there = View::find(self, key)?;
+                    loop {
+                        match self.compare_exchange(key, there, value, TRIES).unwrap() {
+                            Ok(was) => return Some(was),
+                            Err(other) => there = other?,
+                        }
+                    }
                 }
             }
 
-            /// The handles of a tree of keys that have owners. Those of the readers own none.
-            pub fn owning(sizes: Sizes) -> Result<Crew> {
-                let keys: Vec<u64> = sizes.all().keys().collect();
-                let mut tree = Tree::open(&keys, &sizes.start().collect::<Vec<_>>(), CARDS_MAX)?;
-                let mut handle = |keys: Vec<u64>| tree.handle(&keys);
-                let owners = sizes.stripes().map(|stripe| handle(stripe.keys().collect())).collect::<Result<Vec<_>>>()?;
-                let readers = (0..sizes.readers).map(|_| handle(Vec::new())).collect::<Result<Vec<_>>>()?;
-                Ok(Crew::of(boxed(owners), boxed(readers)))
+            /// The handles of a tree.
+            fn of_sizes(sizes: Sizes) -> Result<[Vec<Handle>; 2]> {
+                let mut writers = $handles(&sizes.start().collect::<Vec<_>>(), CARDS_MAX, sizes.writers + sizes.readers)?;
+                let readers = writers.split_off(sizes.writers as usize);
+                Ok([writers, readers])
             }
 
-            /// So many handles of a tree in which all keys are shared, with these pairs.
-            fn handles(pairs: &[(u64, u64)], count: u64) -> Result<Vec<Handle>> {
-                let mut first = Handle::open_shared(pairs, CARDS_MAX)?;
-                (0..count).map(|_| first.another()).collect()
-            }
-
-            /// The handles of a tree in which all keys are shared.
+            /// The threads of a tree.
             pub fn sharing(sizes: Sizes) -> Result<Crew> {
-                let mut owners = handles(&sizes.start().collect::<Vec<_>>(), sizes.owners + sizes.readers)?;
-                let readers = owners.split_off(sizes.owners as usize);
-                Ok(Crew::of(boxed(owners), boxed(readers)))
+                let [writers, readers] = of_sizes(sizes)?.map(boxed);
+                Ok(Crew::of(writers, readers))
             }
 
             /// The same, of which ranges are told.
             pub fn ranging(sizes: Sizes) -> Result<Crew<dyn Ranges>> {
-                let mut handles = handles(&sizes.start().collect::<Vec<_>>(), sizes.owners + sizes.readers)?.into_iter();
-                let mut boxed = |count: u64| handles.by_ref().take(count as usize).map(|it| Box::new(it) as Box<dyn Ranges>).collect();
-                Ok(Crew::of(boxed(sizes.owners), boxed(sizes.readers)))
+                let boxed = |handles: Vec<Handle>| handles.into_iter().map(|it| Box::new(it) as Box<dyn Ranges>).collect();
+                let [writers, readers] = of_sizes(sizes)?.map(boxed);
+                Ok(Crew::of(writers, readers))
             }
 
-            /// The handles of a tree of counters.
+            /// The threads of a tree of counters.
             pub fn counters(sizes: Sizes) -> Result<Crew<dyn Counters>> {
-                let handles = handles(&sizes.zeros(), sizes.owners)?;
+                let handles = $handles(&sizes.zeros(), CARDS_MAX, sizes.writers)?;
                 Ok(Crew::of(handles.into_iter().map(|it| Box::new(it) as Box<dyn Counters>).collect(), Vec::new()))
             }
         }
     };
 }
 
-library!(elltree);
+library!(elltree, handles);
 #[cfg(before)]
-library!(before);
+library!(before, ::before::handles);

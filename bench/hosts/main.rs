@@ -1,7 +1,7 @@
-//! Measures elltree, as a program in Rust has it, with shared keys, through handles and as one map, and with owned ones, beside the same
-//! tree over bare atomic words and as libcds has it, `BTreeMap`s behind locks, one or 16 of them, and a private `BTreeMap` for each owner;
-//! of ranges also as a program in C has it, beside Java's skip list. A library that was built before a change may be one more.
-//! `bench/hosts/run` builds it, and says what its words are; the tables go to standard output.
+//! Measures elltree, as a program in Rust has it, as one map and through the handles of a tree, beside the same tree over bare atomic words and as
+//! libcds has it, `BTreeMap`s behind locks, one or 16 of them, and a private `BTreeMap` for each thread; of ranges also as a program in C has it,
+//! beside Java's skip list. A library that was built before a change may be one more. `bench/hosts/run` builds it, and says what its words are; the
+//! tables go to standard output.
 
 mod array;
 #[path = "../plain/bare_tree.rs"]
@@ -59,17 +59,13 @@ pub enum Kind {
     Shared,
     /// Looks of readers, and changes of threads, each of all keys.
     SharedLooks,
-    /// The operations of owners, each on keys of its own, without readers.
-    Operations,
-    /// Looks of readers, and changes of owners.
-    Looks,
-    /// Latencies beside an owner without pause.
+    /// Latencies beside a writer without pause. Each writer has keys of its own.
     Running,
-    /// Latencies beside an owner that is stopped at times.
+    /// Latencies beside a writer that is stopped at times. Each writer has keys of its own.
     Stopped,
-    /// Adds to the values of keys that all owners share.
+    /// Adds to the values of keys that all threads share.
     Counters,
-    /// Ranges told to readers, and writes of owners, each on all keys.
+    /// Ranges told to readers, and writes of writers, each on all keys.
     Ranges,
     /// Inserts of all keys into a map without keys.
     Inserts,
@@ -85,25 +81,12 @@ pub struct Case {
 }
 
 impl Kind {
-    const ALL: [Kind; 10] = [
-        Kind::Shared,
-        Kind::SharedLooks,
-        Kind::Operations,
-        Kind::Looks,
-        Kind::Running,
-        Kind::Stopped,
-        Kind::Counters,
-        Kind::Ranges,
-        Kind::Inserts,
-        Kind::Pauses,
-    ];
+    const ALL: [Kind; 8] = [Kind::Shared, Kind::SharedLooks, Kind::Running, Kind::Stopped, Kind::Counters, Kind::Ranges, Kind::Inserts, Kind::Pauses];
 
     pub fn name(self) -> &'static str {
         match self {
             Kind::Shared => "shared",
             Kind::SharedLooks => "shared-looks",
-            Kind::Operations => "operations",
-            Kind::Looks => "looks",
             Kind::Running => "running",
             Kind::Stopped => "stopped",
             Kind::Counters => "counters",
@@ -115,14 +98,10 @@ impl Kind {
 
     pub fn peers(self) -> Vec<Peer> {
         let all = Peer::ALL.iter().copied();
-        let operating = |peer: &Peer| !matches!(peer, Peer::RwLock | Peer::RwLocks);
-        let parted = |peer: &Peer| *peer != Peer::OneMap;
         match self {
-            Kind::Shared => all.filter(operating).filter(|peer| peer.can_share()).collect(),
-            Kind::SharedLooks => Peer::LOOKING_SHARED.to_vec(),
-            Kind::Operations => all.filter(operating).filter(parted).collect(),
-            Kind::Looks => Peer::LOOKING.to_vec(),
-            Kind::Running | Kind::Stopped => all.filter(parted).collect(),
+            Kind::Shared => all.filter(|peer| peer.can_share() && !matches!(peer, Peer::RwLock | Peer::RwLocks)).collect(),
+            Kind::SharedLooks => all.filter(|peer| peer.can_share() && !matches!(peer, Peer::Mutex | Peer::Mutexes)).collect(),
+            Kind::Running | Kind::Stopped => all.collect(),
             Kind::Counters => Peer::COUNTING.to_vec(),
             Kind::Ranges => Way::ALL.iter().copied().map(Peer::Ranging).collect(),
             Kind::Inserts => vec![Peer::OneMap, Peer::Mutex, Peer::Mutexes],
@@ -133,8 +112,7 @@ impl Kind {
     /// The peer that is compared with others.
     pub fn ours(self) -> Peer {
         match self {
-            Kind::Shared | Kind::SharedLooks | Kind::Counters => Peer::SharedElltree,
-            Kind::Operations | Kind::Looks | Kind::Running | Kind::Stopped => Peer::Elltree,
+            Kind::Shared | Kind::SharedLooks | Kind::Counters | Kind::Running | Kind::Stopped => Peer::Elltree,
             Kind::Ranges => Peer::Ranging(Way::Elltree),
             Kind::Inserts | Kind::Pauses => Peer::OneMap,
         }
@@ -143,17 +121,17 @@ impl Kind {
     /// The peer to whose times in the same round those of the others are compared.
     pub fn reference(self) -> Option<Peer> {
         match self {
-            Kind::Shared | Kind::Operations | Kind::Counters | Kind::Inserts => Some(Peer::Mutexes),
-            Kind::SharedLooks | Kind::Looks => Some(Peer::RwLocks),
+            Kind::Shared | Kind::Counters | Kind::Inserts => Some(Peer::Mutexes),
+            Kind::SharedLooks => Some(Peer::RwLocks),
             Kind::Running | Kind::Stopped | Kind::Ranges | Kind::Pauses => None,
         }
     }
 
-    /// The numbers of owners and readers: no more than 4 threads.
+    /// The numbers of writers and readers: no more than 4 threads.
     fn crews(self) -> Vec<(u64, u64)> {
         match self {
-            Kind::Shared | Kind::Operations => vec![(1, 0), (2, 0), (4, 0)],
-            Kind::SharedLooks | Kind::Looks => vec![(0, 1), (0, 4), (1, 2), (3, 1)],
+            Kind::Shared => vec![(1, 0), (2, 0), (4, 0)],
+            Kind::SharedLooks => vec![(0, 1), (0, 4), (1, 2), (3, 1)],
             Kind::Running | Kind::Stopped => vec![(2, 1)],
             Kind::Counters | Kind::Inserts => vec![(1, 0), (4, 0)],
             Kind::Ranges => vec![(0, 1), (3, 0), (3, 1)],
@@ -172,9 +150,9 @@ impl Kind {
         }
     }
 
-    /// Whether all owners change the same keys.
+    /// Whether all writers change the same keys.
     fn is_of_shared_keys(self) -> bool {
-        !matches!(self, Kind::Operations | Kind::Looks | Kind::Running | Kind::Stopped)
+        !matches!(self, Kind::Running | Kind::Stopped)
     }
 
     /// Whether an interval may take seconds. Then its threads are in the normal class, since those of the real-time class lose their
@@ -183,11 +161,11 @@ impl Kind {
         matches!(self, Kind::Inserts | Kind::Pauses)
     }
 
-    /// What owners do, if a map is kept from round to round.
+    /// What writers do, if a map is kept from round to round.
     fn work(self) -> Option<Work> {
         match self {
-            Kind::Shared | Kind::Operations => Some(Work::Mixed),
-            Kind::SharedLooks | Kind::Looks => Some(Work::Changes),
+            Kind::Shared => Some(Work::Mixed),
+            Kind::SharedLooks => Some(Work::Changes),
             _ => None,
         }
     }
@@ -207,7 +185,7 @@ impl Kind {
     /// The cases of this kind with so many keys.
     fn cases(self, keys: u64) -> impl Iterator<Item = Case> {
         let shared = self.is_of_shared_keys();
-        let sizes = self.crews().into_iter().map(move |(owners, readers)| Sizes { keys, owners, readers, shared });
+        let sizes = self.crews().into_iter().map(move |(writers, readers)| Sizes { keys, writers, readers, shared });
         sizes.map(move |sizes| Case { kind: self, sizes })
     }
 }
@@ -246,9 +224,9 @@ impl Measured {
         let Some(kept) = &mut self.kept else {
             return measure_anew(self.case, self.peer, interval);
         };
-        let Speeds { owners, readers } = kept.next(interval);
-        let of_owners = if sizes.readers == 0 { Figure::Operation } else { Figure::Change };
-        readers.map(|it| (Figure::Look, it)).into_iter().chain(owners.map(|it| (of_owners, it))).collect()
+        let Speeds { writers, readers } = kept.next(interval);
+        let of_writers = if sizes.readers == 0 { Figure::Operation } else { Figure::Change };
+        readers.map(|it| (Figure::Look, it)).into_iter().chain(writers.map(|it| (of_writers, it))).collect()
     }
 }
 
@@ -257,8 +235,8 @@ fn measure_anew(case: Case, peer: Peer, interval: Duration) -> Vec<(Figure, f64)
     let Case { kind, sizes } = case;
     match (kind, peer) {
         (Kind::Running | Kind::Stopped, _) => {
-            let Latencies { owners, readers } = latencies(peer, sizes, kind == Kind::Stopped, interval);
-            [spread(readers, Figure::OF_LOOKS), spread(owners, Figure::OF_OPERATIONS)].concat()
+            let Latencies { writers, readers } = latencies(peer, sizes, kind == Kind::Stopped, interval);
+            [spread(readers, Figure::OF_LOOKS), spread(writers, Figure::OF_OPERATIONS)].concat()
         }
         (Kind::Counters, _) => adds(peer, sizes, interval).map(|it| (Figure::Add, it)).into_iter().collect(),
         (Kind::Ranges, Peer::Ranging(way)) => measure_ranges(way, sizes, interval),
@@ -276,24 +254,24 @@ fn measure_ranges(way: Way, sizes: Sizes, interval: Duration) -> Vec<(Figure, f6
         _ => scans(way, sizes, span, interval),
     };
     if sizes.readers == 0 {
-        return took(Span::Next).owners.map(|it| (Figure::Write, it)).into_iter().collect();
+        return took(Span::Next).writers.map(|it| (Figure::Write, it)).into_iter().collect();
     }
     let figures = |span| {
-        let Speeds { owners, readers } = took(span);
-        [readers.map(|it| (Figure::Told(span), it)), owners.map(|it| (Figure::WriteBeside(span), it))]
+        let Speeds { writers, readers } = took(span);
+        [readers.map(|it| (Figure::Told(span), it)), writers.map(|it| (Figure::WriteBeside(span), it))]
     };
     Span::ALL.into_iter().flat_map(figures).flatten().collect()
 }
 
-/// What the owners of a map answer to a fixed sequence of operations, in turn, and what its readers say of a key after each.
+/// What the writers of a map answer to a fixed sequence of operations, in turn, and what its readers say of a key after each.
 fn answers(peer: Peer, sizes: Sizes) -> [Vec<Option<u64>>; 2] {
-    let Crew { mut owners, mut readers, .. } = peer.crew(sizes);
+    let Crew { mut writers, mut readers, .. } = peer.crew(sizes);
     let stripes: Vec<_> = sizes.stripes().collect();
     let mut random = Random::new(1);
     let [mut operations, mut looks] = [Vec::new(), Vec::new()];
     for turn in 0..100_000 {
-        let at = turn % owners.len();
-        operations.push(Work::Mixed.act(&mut *owners[at], stripes[at], random.next()));
+        let at = turn % writers.len();
+        operations.push(Work::Mixed.act(&mut *writers[at], stripes[at], random.next()));
         let key = sizes.all().random_key(random.next());
         looks.extend(readers.iter_mut().map(|reader| reader.look(key)));
     }
@@ -302,7 +280,7 @@ fn answers(peer: Peer, sizes: Sizes) -> [Vec<Option<u64>>; 2] {
 
 /// Whether all peers answer alike, on keys of their own and on shared ones. Private maps have no readers.
 fn agree() -> bool {
-    let parted = KEYS.map(|keys| Sizes { keys, owners: 4, readers: 2, shared: false });
+    let parted = KEYS.map(|keys| Sizes { keys, writers: 4, readers: 2, shared: false });
     let shared = parted.map(|sizes| Sizes { shared: true, ..sizes });
     parted.into_iter().chain(shared).all(|sizes| {
         let expected = answers(Peer::Mutex, sizes);
@@ -321,15 +299,15 @@ struct Answers {
     next_keys: Vec<Option<(u64, u64)>>,
 }
 
-/// What the owners of a map answer to a fixed sequence of writes, in turn, and what its readers are told of a range and a next key after
+/// What the writers of a map answer to a fixed sequence of writes, in turn, and what its readers are told of a range and a next key after
 /// each.
 fn answers_of_ranges(way: Way, sizes: Sizes) -> Answers {
-    let Crew { mut owners, mut readers, .. } = way.crew(sizes);
+    let Crew { mut writers, mut readers, .. } = way.crew(sizes);
     let (mut random, mut answers) = (Random::new(3), Answers::default());
     for turn in 0..20_000 {
-        let (at, reader_at) = (turn % owners.len(), turn % readers.len());
-        let (owner, reader) = (&mut *owners[at], &mut *readers[reader_at]);
-        answers.writes.push(write(owner, sizes.all(), random.next()));
+        let (at, reader_at) = (turn % writers.len(), turn % readers.len());
+        let (writer, reader) = (&mut *writers[at], &mut *readers[reader_at]);
+        answers.writes.push(write(writer, sizes.all(), random.next()));
         let span = if turn % 5_000 == 0 { Span::All } else { [Span::Of10, Span::Of100][turn / 2 % 2] };
         answers.ranges.push(span.range(reader, sizes, random.next()));
         answers.next_keys.push(reader.next_at_least(sizes.all().random_key(random.next())));
@@ -339,7 +317,7 @@ fn answers_of_ranges(way: Way, sizes: Sizes) -> Answers {
 
 /// Whether all maps of which ranges are told answer alike.
 fn ranges_agree() -> bool {
-    RANGED.map(|keys| Sizes { keys, owners: 4, readers: 2, shared: true }).into_iter().all(|sizes| {
+    RANGED.map(|keys| Sizes { keys, writers: 4, readers: 2, shared: true }).into_iter().all(|sizes| {
         let expected = answers_of_ranges(Way::Mutex(Hold::Range), sizes);
         Way::ALL.iter().all(|way| answers_of_ranges(*way, sizes) == expected)
     })

@@ -55,8 +55,8 @@ impl Ranges for Arc<Map> {
 fn crew<V: ?Sized>(pairs: &[(u64, u64)], sizes: Sizes, view: impl Fn(Arc<Map>) -> Box<V>) -> MapResult<Crew<V>> {
     let map = Arc::new(Map::from_sorted(pairs, MapSettings::default())?);
     let views = |count| (0..count).map(|_| view(map.clone())).collect();
-    let (owners, readers) = (views(sizes.owners), views(sizes.readers));
-    Ok(Crew { owners, readers, renewing: (sizes.owners > 0).then_some(map) })
+    let (writers, readers) = (views(sizes.writers), views(sizes.readers));
+    Ok(Crew { writers, readers, renewing: (sizes.writers > 0).then_some(map) })
 }
 
 /// A new map.

@@ -87,23 +87,23 @@ pub fn figures(load: Load, counts: MapCounts, time: Duration) -> Vec<(Figure, f6
 }
 
 /// Works without pause until the stage is over, and returns how many changes it made.
-fn count_changes(stage: &Stage, seed: u64, owner: &mut dyn View, keys: Stripe, work: Work) -> u64 {
+fn count_changes(stage: &Stage, seed: u64, writer: &mut dyn View, keys: Stripe, work: Work) -> u64 {
     let mut changes = 0;
     stage.drive(seed, u64::MAX, |random| {
         changes += u64::from(work.is_change(random));
-        work.act(owner, keys, random)
+        work.act(writer, keys, random)
     });
     changes
 }
 
-/// Has all owners of a new map that renews itself do this work without pause for so long.
+/// Has all writers of a new map that renews itself do this work without pause for so long.
 fn pauses_of(peer: Peer, sizes: Sizes, work: Work, interval: Duration) -> Vec<(Figure, f64)> {
-    let Crew { owners, renewing, .. } = peer.crew(sizes);
+    let Crew { writers, renewing, .. } = peer.crew(sizes);
     let map = renewing.expect("a map that renews itself");
-    let stage = &Stage::of(owners.len());
+    let stage = &Stage::of(writers.len());
     let (changes, took) = thread::scope(|scope| {
-        let count = |(mut owner, seed): (Box<dyn View>, u64)| scope.spawn(move || count_changes(stage, seed, &mut *owner, sizes.all(), work));
-        let threads: Vec<_> = owners.into_iter().zip(0..).map(count).collect();
+        let count = |(mut writer, seed): (Box<dyn View>, u64)| scope.spawn(move || count_changes(stage, seed, &mut *writer, sizes.all(), work));
+        let threads: Vec<_> = writers.into_iter().zip(0..).map(count).collect();
         stage.begin_to_count();
         let begun = Instant::now();
         thread::sleep(interval);

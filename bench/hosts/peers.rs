@@ -1,5 +1,5 @@
-//! The maps that are measured. Each is parted among owners, which find, insert and delete keys of their own, or all keys if these are
-//! shared, and readers of any key. Or its values are counters, and all owners add to any. Those of which ranges are told are in `ranges`.
+//! The maps that are measured. Each has writers, which find, insert and delete all keys, or each of them keys of its own, and readers of any key. Or
+//! its values are counters, and all writers add to any. Those of which ranges are told are in `ranges`.
 
 use crate::bare_tree::BareTree;
 #[cfg(libcds)]
@@ -20,16 +20,16 @@ pub const SHARDS: usize = 16;
 /// How many tries a change has: enough that something is never in the way of all.
 pub const TRIES: u32 = 1_000_000;
 
-/// How many keys a map has, the numbers below this, how many owners and readers, and whether all owners share all keys.
+/// How many keys a map has, the numbers below this, how many writers and readers, and whether all writers share all keys.
 #[derive(Clone, Copy)]
 pub struct Sizes {
     pub keys: u64,
-    pub owners: u64,
+    pub writers: u64,
     pub readers: u64,
     pub shared: bool,
 }
 
-/// The keys of one owner: its neighbors have the keys next to them.
+/// The keys of one writer: its neighbors have the keys next to them.
 #[derive(Clone, Copy)]
 pub struct Stripe {
     first: u64,
@@ -58,17 +58,17 @@ impl Sizes {
         Stripe { first: 0, step: 1, count: self.keys }
     }
 
-    /// The keys of each owner.
+    /// The keys of each writer.
     pub fn stripes(self) -> impl Iterator<Item = Stripe> {
-        let step = self.owners;
+        let step = self.writers;
         let own = move |first| Stripe { first, step, count: (self.keys - first).div_ceil(step) };
         (0..step).map(move |first| if self.shared { self.all() } else { own(first) })
     }
 
-    /// The keys that are present at first, ascending, with their values: every other one of each owner.
+    /// The keys that are present at first, ascending, with their values: every other one of each writer.
     pub fn start(self) -> impl Iterator<Item = (u64, u64)> {
-        let owners = self.owners.max(1);
-        (0..self.keys).filter(move |key| (key / owners).is_multiple_of(2)).map(|key| (key, key + 7))
+        let writers = self.writers.max(1);
+        (0..self.keys).filter(move |key| (key / writers).is_multiple_of(2)).map(|key| (key, key + 7))
     }
 
     /// All keys, each with the value 0.
@@ -77,8 +77,7 @@ impl Sizes {
     }
 }
 
-/// What one thread has of a map: it alone finds and changes keys of its own, and it looks at any key. A key that is present keeps its
-/// value.
+/// What one thread has of a map. A key that is present keeps its value.
 pub trait View: Send {
     fn find(&mut self, key: u64) -> Option<u64>;
 
@@ -228,22 +227,22 @@ impl<L: Lock, const COUNT: usize> Counters for Arc<Shards<L, COUNT>> {
     }
 }
 
-/// The owners of a map, in the order of their stripes, and its readers: one for each thread.
+/// The writers of a map, in the order of their stripes, and its readers: one for each thread.
 pub struct Crew<V: ?Sized = dyn View> {
-    pub owners: Vec<Box<V>>,
+    pub writers: Vec<Box<V>>,
     pub readers: Vec<Box<V>>,
-    /// The map, if it renews itself while the owners change it.
+    /// The map, if it renews itself while the writers change it.
     pub renewing: Option<Arc<elltree::Map>>,
 }
 
 impl<V: ?Sized> Crew<V> {
     /// Those of a map that never renews itself.
-    pub fn of(owners: Vec<Box<V>>, readers: Vec<Box<V>>) -> Crew<V> {
-        Crew { owners, readers, renewing: None }
+    pub fn of(writers: Vec<Box<V>>, readers: Vec<Box<V>>) -> Crew<V> {
+        Crew { writers, readers, renewing: None }
     }
 
     pub fn threads(&self) -> usize {
-        self.owners.len() + self.readers.len()
+        self.writers.len() + self.readers.len()
     }
 }
 
@@ -270,34 +269,32 @@ impl Crew {
 
     fn sharing<V: View + Clone + 'static>(map: V, sizes: Sizes) -> Crew {
         let views = |count| boxed((0..count).map(|_| map.clone()));
-        Crew::of(views(sizes.owners), views(sizes.readers))
+        Crew::of(views(sizes.writers), views(sizes.readers))
     }
 
-    /// A map for each owner, and none for a reader.
+    /// A map for each writer, and none for a reader.
     fn of_private_maps(sizes: Sizes) -> Crew {
-        let own = |first| sizes.start().filter(move |pair| pair.0 % sizes.owners == first);
-        let owners = (0..sizes.owners).map(|first| own(first).collect::<Map>());
-        Crew::of(boxed(owners), Vec::new())
+        let own = |first| sizes.start().filter(move |pair| pair.0 % sizes.writers == first);
+        let writers = (0..sizes.writers).map(|first| own(first).collect::<Map>());
+        Crew::of(boxed(writers), Vec::new())
     }
 }
 
 fn counters_in_locks<L: Lock + 'static, const COUNT: usize>(sizes: Sizes) -> Crew<dyn Counters> {
     let map = Arc::new(Shards::<L, COUNT>::start(&sizes.zeros()));
-    Crew::of((0..sizes.owners).map(|_| Box::new(map.clone()) as Box<dyn Counters>).collect(), Vec::new())
+    Crew::of((0..sizes.writers).map(|_| Box::new(map.clone()) as Box<dyn Counters>).collect(), Vec::new())
 }
 
 /// What is measured.
 #[derive(Clone, Copy, PartialEq)]
 pub enum Peer {
+    /// The handles of a tree.
     Elltree,
-    SharedElltree,
     /// The one map that all threads share, without handles, which renews itself.
     OneMap,
-    /// As these two, of the library that was built before a change.
+    /// The handles of a tree, of the library that was built before a change.
     #[cfg(before)]
     Before,
-    #[cfg(before)]
-    SharedBefore,
     Bare,
     #[cfg(libcds)]
     Libcds(Reclaim),
@@ -313,12 +310,9 @@ pub enum Peer {
 impl Peer {
     pub const ALL: &[Peer] = &[
         Peer::Elltree,
-        Peer::SharedElltree,
         Peer::OneMap,
         #[cfg(before)]
         Peer::Before,
-        #[cfg(before)]
-        Peer::SharedBefore,
         Peer::Bare,
         #[cfg(libcds)]
         Peer::Libcds(Reclaim::HazardPointers),
@@ -333,48 +327,20 @@ impl Peer {
 
     /// Those of which values are counters.
     pub const COUNTING: &[Peer] = &[
-        Peer::SharedElltree,
-        Peer::OneMap,
-        #[cfg(before)]
-        Peer::SharedBefore,
-        Peer::Mutex,
-        Peer::Mutexes,
-    ];
-
-    /// Those at whose keys readers look beside owners that change their own.
-    pub const LOOKING: &[Peer] = &[
         Peer::Elltree,
+        Peer::OneMap,
         #[cfg(before)]
         Peer::Before,
-        Peer::Bare,
-        Peer::RwLock,
-        Peer::RwLocks,
-    ];
-
-    /// Those at whose keys readers look beside owners that change any.
-    pub const LOOKING_SHARED: &[Peer] = &[
-        Peer::SharedElltree,
-        Peer::OneMap,
-        #[cfg(before)]
-        Peer::SharedBefore,
-        Peer::Bare,
-        #[cfg(libcds)]
-        Peer::Libcds(Reclaim::HazardPointers),
-        #[cfg(libcds)]
-        Peer::Libcds(Reclaim::Rcu),
-        Peer::RwLock,
-        Peer::RwLocks,
+        Peer::Mutex,
+        Peer::Mutexes,
     ];
 
     pub fn name(self) -> &'static str {
         match self {
             Peer::Elltree => "elltree",
-            Peer::SharedElltree => "shared elltree",
             Peer::OneMap => "elltree map",
             #[cfg(before)]
             Peer::Before => "before",
-            #[cfg(before)]
-            Peer::SharedBefore => "shared before",
             Peer::Bare => "bare atomics",
             #[cfg(libcds)]
             Peer::Libcds(Reclaim::HazardPointers) => "libcds HP",
@@ -395,21 +361,14 @@ impl Peer {
             #[cfg(before)]
             Peer::Elltree => Some(Peer::Before),
             #[cfg(before)]
-            Peer::SharedElltree => Some(Peer::SharedBefore),
-            #[cfg(before)]
             Peer::Ranging(Way::Elltree) => Some(Peer::Ranging(Way::Before)),
             _ => None,
         }
     }
 
-    /// Whether all owners may change the same keys.
+    /// Whether all writers may change the same keys.
     pub fn can_share(self) -> bool {
-        match self {
-            Peer::Elltree | Peer::Private => false,
-            #[cfg(before)]
-            Peer::Before => false,
-            _ => true,
-        }
+        self != Peer::Private
     }
 
     /// How many changes may be asked of a map in all: half of them change it, and take a card each if there are cards. The other cards
@@ -417,24 +376,21 @@ impl Peer {
     pub fn most_changes(self) -> u64 {
         let takes_cards = match self {
             Peer::Ranging(way) => way.takes_cards(),
-            Peer::Elltree | Peer::SharedElltree | Peer::Bare => true,
+            Peer::Elltree | Peer::Bare => true,
             #[cfg(before)]
-            Peer::Before | Peer::SharedBefore => true,
+            Peer::Before => true,
             _ => false,
         };
         if takes_cards { 1_400_000 } else { u64::MAX / 2 }
     }
 
-    /// A new map of this kind, parted.
+    /// A new map of this kind.
     pub fn crew(self, sizes: Sizes) -> Crew {
         match self {
-            Peer::Elltree => library::elltree::owning(sizes).expect("a tree"),
-            Peer::SharedElltree => library::elltree::sharing(sizes).expect("a tree"),
+            Peer::Elltree => library::elltree::sharing(sizes).expect("a tree"),
             Peer::OneMap => one_map::sharing(sizes).expect("a map"),
             #[cfg(before)]
-            Peer::Before => library::before::owning(sizes).expect("a tree"),
-            #[cfg(before)]
-            Peer::SharedBefore => library::before::sharing(sizes).expect("a tree"),
+            Peer::Before => library::before::sharing(sizes).expect("a tree"),
             Peer::Bare => Crew::sharing(bare_tree(sizes), sizes),
             #[cfg(libcds)]
             Peer::Libcds(reclaim) => Crew::of_libcds(reclaim, sizes),
@@ -450,10 +406,10 @@ impl Peer {
     /// A new map of this kind, of counters that are 0. Only the `COUNTING` have them.
     pub fn counters(self, sizes: Sizes) -> Crew<dyn Counters> {
         match self {
-            Peer::SharedElltree => library::elltree::counters(sizes).expect("a tree"),
+            Peer::Elltree => library::elltree::counters(sizes).expect("a tree"),
             Peer::OneMap => one_map::counters(sizes).expect("a map"),
             #[cfg(before)]
-            Peer::SharedBefore => library::before::counters(sizes).expect("a tree"),
+            Peer::Before => library::before::counters(sizes).expect("a tree"),
             Peer::Mutex => counters_in_locks::<Mutex<Map>, 1>(sizes),
             Peer::Mutexes => counters_in_locks::<Mutex<Map>, SHARDS>(sizes),
             _ => unreachable!("{} has no counters", self.name()),

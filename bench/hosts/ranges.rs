@@ -261,10 +261,10 @@ impl Way {
 
     pub fn name(self) -> &'static str {
         match self {
-            Way::Elltree => "shared elltree",
+            Way::Elltree => "elltree",
             #[cfg(before)]
-            Way::Before => "shared before",
-            Way::Array => "shared elltree array",
+            Way::Before => "before",
+            Way::Array => "elltree array",
             Way::OneMap => "elltree map",
             Way::Bare => "bare atomics",
             Way::Mutex(Hold::Key) => "Mutex by key",
@@ -292,7 +292,7 @@ impl Way {
     /// A new map, with so many writes before that its nodes lie as those of a map in use.
     pub fn worn_crew(self, sizes: Sizes) -> Crew<dyn Ranges> {
         let mut crew = self.crew(sizes);
-        let first = crew.owners.iter_mut().chain(&mut crew.readers).next().expect("a thread");
+        let first = crew.writers.iter_mut().chain(&mut crew.readers).next().expect("a thread");
         let mut random = Random::new(50);
         for _ in 0..WORN * sizes.keys {
             black_box(write(&mut **first, sizes.all(), random.next()));
@@ -326,11 +326,11 @@ impl Way {
 /// What each thread has of a map.
 fn crew<R: Ranges + 'static>(sizes: Sizes, mut another: impl FnMut() -> R) -> Crew<dyn Ranges> {
     let mut views = |count| (0..count).map(|_| Box::new(another()) as Box<dyn Ranges>).collect::<Vec<_>>();
-    Crew::of(views(sizes.owners), views(sizes.readers))
+    Crew::of(views(sizes.writers), views(sizes.readers))
 }
 
 fn of_array_handles(sizes: Sizes) -> Crew<dyn Ranges> {
-    let mut first = ArrayHandle::open_shared(&sizes.start().collect::<Vec<_>>(), CARDS_MAX);
+    let mut first = ArrayHandle::open(&sizes.start().collect::<Vec<_>>(), CARDS_MAX);
     crew(sizes, || first.another())
 }
 

@@ -99,11 +99,9 @@ struct Form {
 }
 
 /// The kinds of which each case is a row of a table, and the titles of these.
-const TABLES_OF_CASES: [(Kind, &str); 5] = [
+const TABLES_OF_CASES: [(Kind, &str); 3] = [
     (Kind::Shared, "An operation on shared keys, in nanoseconds."),
     (Kind::SharedLooks, "A look at a shared key; a change beside it, in nanoseconds."),
-    (Kind::Operations, "An operation on a key of its own, in nanoseconds."),
-    (Kind::Looks, "A look at any key; a change by an owner beside it, in nanoseconds."),
     (Kind::Counters, "An add to a counter, in nanoseconds."),
 ];
 
@@ -146,7 +144,7 @@ impl Record {
     /// One row for each figure of each peer in each case: the least and the median of its rounds, the medians of its ratios within a round,
     /// to the reference, and to the library before if that was measured, and the times of all rounds.
     pub fn rows(&self) -> String {
-        let mut rows = String::from("kind,keys,owners,readers,peer,figure,least,median,reference,to reference,to before,rounds\n");
+        let mut rows = String::from("kind,keys,writers,readers,peer,figure,least,median,reference,to reference,to before,rounds\n");
         for ((at, figure, peer), rounds) in &self.times {
             let Case { kind, sizes } = self.cases[*at];
             let reference = kind.reference().map_or("", Peer::name);
@@ -161,7 +159,7 @@ impl Record {
                 "{},{},{},{},{peer},{},{least:.digits$},{median:.digits$},{reference},{},{},{all}",
                 kind.name(),
                 sizes.keys,
-                sizes.owners,
+                sizes.writers,
                 sizes.readers,
                 figure.name(),
                 ratio(reference),
@@ -206,13 +204,13 @@ impl Record {
     /// A table of a kind in which each case is a row.
     fn table_of_cases(&self, kind: Kind, title: &'static str, file: &str) -> String {
         let (labels, figures): (&'static [&'static str], &[Figure]) = match kind {
-            Kind::SharedLooks | Kind::Looks => (&["Keys", "Readers", "Writers"], &[Figure::Look, Figure::Change]),
+            Kind::SharedLooks => (&["Keys", "Readers", "Writers"], &[Figure::Look, Figure::Change]),
             Kind::Counters => (&["Keys", "Threads"], &[Figure::Add]),
             _ => (&["Keys", "Threads"], &[Figure::Operation]),
         };
         let row = |(at, Case { sizes, .. }): (usize, Case)| {
             let readers = labels.contains(&"Readers").then_some(sizes.readers);
-            let threads = [Some(sizes.keys), readers, Some(sizes.owners)];
+            let threads = [Some(sizes.keys), readers, Some(sizes.writers)];
             Row { labels: threads.into_iter().flatten().map(counted).collect(), shown: figures.iter().map(|figure| (at, *figure)).collect() }
         };
         let rows = self.cases_of(kind).map(row).collect();
@@ -277,7 +275,7 @@ impl Record {
 
     fn table_of_inserts(&self, file: &str) -> String {
         let row = |(at, Case { sizes, .. }): (usize, Case), order: Order| Row {
-            labels: vec![counted(sizes.keys), counted(sizes.owners), order.name().to_string()],
+            labels: vec![counted(sizes.keys), counted(sizes.writers), order.name().to_string()],
             shown: vec![(at, Figure::Insert(order))],
         };
         let rows = self.cases_of(Kind::Inserts).flat_map(|case| Order::ALL.map(|order| row(case, order))).collect();
@@ -297,7 +295,7 @@ impl Record {
         let mut lines = String::new();
         for ((at, Case { sizes, .. }), load) in cases.filter(|((at, _), load)| told(*at, *load, Said::Renewals).is_some()) {
             let cells = columns.iter().map(|said| told(at, load, *said).map_or(String::new(), |it| said.shown(it)));
-            let labels = [counted(sizes.keys), counted(sizes.owners), load.name().to_string()];
+            let labels = [counted(sizes.keys), counted(sizes.writers), load.name().to_string()];
             let _ = writeln!(lines, "|{}|", labels.into_iter().chain(cells).collect::<Vec<_>>().join("|"));
         }
         if lines.is_empty() {
@@ -378,9 +376,6 @@ impl Kind {
             Peer::OneMap | Peer::Ranging(Way::OneMap) => "One map",
             _ if peer == ours => "elltree",
             _ if Some(peer) == ours.before() => "Before",
-            Peer::SharedElltree => "Shared",
-            #[cfg(before)]
-            Peer::SharedBefore => "Shared before",
             Peer::Ranging(Way::Array) => "Array",
             Peer::Bare | Peer::Ranging(Way::Bare) => "Bare atomics",
             Peer::Private => "Private maps",

@@ -54,7 +54,7 @@ impl Random {
     }
 }
 
-/// What an owner does: operations on random keys.
+/// What an writer does: operations on random keys.
 #[derive(Clone, Copy, PartialEq, Eq, PartialOrd, Ord)]
 pub enum Work {
     /// A half are finds, a quarter inserts, and a quarter deletes.
@@ -81,16 +81,16 @@ impl Work {
     }
 
     /// The operation that a random number stands for.
-    pub fn act(self, owner: &mut dyn View, stripe: Stripe, random: u64) -> Option<u64> {
+    pub fn act(self, writer: &mut dyn View, stripe: Stripe, random: u64) -> Option<u64> {
         let key = stripe.random_key(random);
         match random % self.one_in() {
-            0 => Some(owner.insert(key, random).into()),
-            1 => Some(owner.delete(key).into()),
-            _ => owner.find(key),
+            0 => Some(writer.insert(key, random).into()),
+            1 => Some(writer.delete(key).into()),
+            _ => writer.find(key),
         }
     }
 
-    /// How many operations all owners of a map may make.
+    /// How many operations all writers of a map may make.
     fn most(self, peer: Peer) -> u64 {
         peer.most_changes().saturating_mul(self.one_in() / 2)
     }
@@ -183,9 +183,9 @@ impl Stage {
 
     /// Adds to random ones of these keys without pause until the interval is over, and ends it if no card is left: what it did, and how many
     /// adds were answered.
-    fn add(&self, seed: u64, owner: &mut dyn Counters, keys: Stripe) -> (Done, u64) {
+    fn add(&self, seed: u64, writer: &mut dyn Counters, keys: Stripe) -> (Done, u64) {
         let mut added = 0;
-        let done = self.drive(seed, u64::MAX, |random| match owner.add(keys.random_key(random)) {
+        let done = self.drive(seed, u64::MAX, |random| match writer.add(keys.random_key(random)) {
             Some(was) => {
                 added += 1;
                 was
@@ -272,20 +272,20 @@ impl Done {
 
 /// How long operations take: none if nobody makes them.
 pub struct Speeds {
-    /// Nanoseconds an operation of an owner.
-    pub owners: Option<f64>,
+    /// Nanoseconds an operation of an writer.
+    pub writers: Option<f64>,
     /// Nanoseconds a look of a reader.
     pub readers: Option<f64>,
 }
 
-/// A map that goes through bursts, one after the other, in which all owners do this work without pause, and all readers look at any key. If
+/// A map that goes through bursts, one after the other, in which all writers do this work without pause, and all readers look at any key. If
 /// it could have too few cards for the next burst, another takes its place, unless it renews itself.
 pub struct Bursts {
     peer: Peer,
     sizes: Sizes,
     work: Work,
     crew: Crew,
-    /// How many operations its owners may make yet, and how many they made in the last burst.
+    /// How many operations its writers may make yet, and how many they made in the last burst.
     left: u64,
     last: u64,
     count: u64,
@@ -316,62 +316,62 @@ impl Bursts {
         self.forget_turns();
         let Bursts { sizes, work, .. } = *self;
         let stage = &Stage::of(self.crew.threads());
-        let most = self.left / sizes.owners.max(1);
+        let most = self.left / sizes.writers.max(1);
         let (mut places, seed) = (0.., PLACES * self.count);
-        let (owners, readers) = thread::scope(|scope| {
-            let owners = self.crew.owners.iter_mut().zip(sizes.stripes()).zip(&mut places).map(|((owner, stripe), place)| {
-                let act = move |random| work.act(&mut **owner, stripe, random);
+        let (writers, readers) = thread::scope(|scope| {
+            let writers = self.crew.writers.iter_mut().zip(sizes.stripes()).zip(&mut places).map(|((writer, stripe), place)| {
+                let act = move |random| work.act(&mut **writer, stripe, random);
                 realtime::spawn(scope, place, move || stage.drive(seed + place as u64, most, act))
             });
-            let owners = owners.collect();
+            let writers = writers.collect();
             let readers = self.crew.readers.iter_mut().zip(places).map(|(reader, place)| {
                 let look = move |random| reader.look(sizes.all().random_key(random));
                 realtime::spawn(scope, place, move || stage.drive(seed + place as u64, u64::MAX, look))
             });
             let readers = readers.collect();
             stage.conduct(interval, self.crew.renewing.as_deref());
-            (total(owners), total(readers))
+            (total(writers), total(readers))
         });
-        (self.last, self.left, self.count) = (owners.all, self.left.saturating_sub(owners.all), self.count + 1);
-        Speeds { owners: owners.mean(), readers: readers.mean() }
+        (self.last, self.left, self.count) = (writers.all, self.left.saturating_sub(writers.all), self.count + 1);
+        Speeds { writers: writers.mean(), readers: readers.mean() }
     }
 }
 
-/// Has all owners add to any counters without pause for so long, or until no card is left: nanoseconds an add. The sum of the counters
+/// Has all writers add to any counters without pause for so long, or until no card is left: nanoseconds an add. The sum of the counters
 /// has to be the number of adds that were answered.
 pub fn adds(peer: Peer, sizes: Sizes, interval: Duration) -> Option<f64> {
-    let Crew { mut owners, renewing, .. } = peer.counters(sizes);
-    let stage = &Stage::of(owners.len());
+    let Crew { mut writers, renewing, .. } = peer.counters(sizes);
+    let stage = &Stage::of(writers.len());
     let keys = sizes.all();
     let (done, added) = thread::scope(|scope| {
         let threads =
-            owners.iter_mut().zip(0..).map(|(owner, place)| realtime::spawn(scope, place, move || stage.add(place as u64, &mut **owner, keys)));
+            writers.iter_mut().zip(0..).map(|(writer, place)| realtime::spawn(scope, place, move || stage.add(place as u64, &mut **writer, keys)));
         let threads: Vec<_> = threads.collect();
         stage.conduct(interval, renewing.as_deref());
         let ended = threads.into_iter().map(|thread| thread.join().unwrap());
         ended.fold((Done::default(), 0), |(done, added), it| (done.and(it.0), added + it.1))
     });
-    let counted: u64 = keys.keys().map(|key| owners[0].find(key).expect("a counter")).sum();
+    let counted: u64 = keys.keys().map(|key| writers[0].find(key).expect("a counter")).sum();
     assert_eq!(counted, added, "the counters of {} and its answers", peer.name());
     done.mean()
 }
 
-/// Has all owners write at random without pause, and all readers ask for such ranges, for so long. Then the owners go on until each reader
-/// has its last answer. If the owners have made as many writes as they may, all end early. The map is a worn one.
+/// Has all writers write at random without pause, and all readers ask for such ranges, for so long. Then the writers go on until each reader
+/// has its last answer. If the writers have made as many writes as they may, all end early. The map is a worn one.
 pub fn scans(way: Way, sizes: Sizes, span: Span, interval: Duration) -> Speeds {
-    let Crew { owners, readers, renewing } = way.worn_crew(sizes);
-    let (writing, reading) = (&Stage::of(owners.len()), &Stage::of(readers.len()));
-    let most = way.most_writes(sizes) / sizes.owners.max(1);
+    let Crew { writers, readers, renewing } = way.worn_crew(sizes);
+    let (writing, reading) = (&Stage::of(writers.len()), &Stage::of(readers.len()));
+    let most = way.most_writes(sizes) / sizes.writers.max(1);
     let mut places = 0..;
     thread::scope(|scope| {
-        let owners = owners.into_iter().zip(&mut places).map(|(mut owner, place)| {
+        let writers = writers.into_iter().zip(&mut places).map(|(mut writer, place)| {
             realtime::spawn(scope, place, move || {
-                let done = writing.drive(place as u64, most, |random| write(&mut *owner, sizes.all(), random));
+                let done = writing.drive(place as u64, most, |random| write(&mut *writer, sizes.all(), random));
                 reading.end();
                 done
             })
         });
-        let owners = owners.collect();
+        let writers = writers.collect();
         let readers = readers.into_iter().zip(places).map(|(mut reader, place)| {
             let ask = move |random| span.ask(&mut *reader, sizes, random);
             realtime::spawn(scope, place, move || reading.ask(place as u64, ask))
@@ -383,7 +383,7 @@ pub fn scans(way: Way, sizes: Sizes, span: Span, interval: Duration) -> Speeds {
         reading.end();
         let readers = total(readers).mean();
         writing.end();
-        Speeds { owners: total(owners).mean(), readers }
+        Speeds { writers: total(writers).mean(), readers }
     })
 }
 
@@ -424,18 +424,18 @@ fn all_of(threads: Vec<ScopedJoinHandle<Vec<u64>>>) -> Vec<u64> {
 
 /// Latencies in nanoseconds.
 pub struct Latencies {
-    pub owners: Vec<u64>,
+    pub writers: Vec<u64>,
     pub readers: Vec<u64>,
 }
 
-/// Has the first owner change keys without pause for so long, and be stopped at times if so asked; and has the others and the readers
+/// Has the first writer change keys without pause for so long, and be stopped at times if so asked; and has the others and the readers
 /// make an operation each `PACE`.
 pub fn latencies(peer: Peer, sizes: Sizes, is_stopped: bool, interval: Duration) -> Latencies {
     let crew = peer.crew(sizes);
     let stage = &Stage::of(crew.threads());
     let first_thread = &AtomicUsize::new(0);
-    let mut owners = crew.owners.into_iter().zip(sizes.stripes());
-    let (mut first, first_stripe) = owners.next().expect("an owner");
+    let mut writers = crew.writers.into_iter().zip(sizes.stripes());
+    let (mut first, first_stripe) = writers.next().expect("an writer");
     thread::scope(|scope| {
         let changing = realtime::spawn(scope, 0, move || {
             // SAFETY: it asks nothing.
@@ -443,11 +443,11 @@ pub fn latencies(peer: Peer, sizes: Sizes, is_stopped: bool, interval: Duration)
             stage.drive(0, Work::Changes.most(peer), |random| Work::Changes.act(&mut *first, first_stripe, random))
         });
         let mut places = 1..;
-        let owners = owners.zip(&mut places).map(|((mut owner, stripe), place)| {
-            let act = move |random| Work::Mixed.act(&mut *owner, stripe, random);
+        let writers = writers.zip(&mut places).map(|((mut writer, stripe), place)| {
+            let act = move |random| Work::Mixed.act(&mut *writer, stripe, random);
             realtime::spawn(scope, place, move || stage.pace(place as u64, act))
         });
-        let owners = owners.collect();
+        let writers = writers.collect();
         let readers = crew.readers.into_iter().zip(places).map(|(mut reader, place)| {
             let look = move |random| reader.look(sizes.all().random_key(random));
             realtime::spawn(scope, place, move || stage.pace(place as u64, look))
@@ -463,6 +463,6 @@ pub fn latencies(peer: Peer, sizes: Sizes, is_stopped: bool, interval: Duration)
         }
         stage.end();
         changing.join().unwrap();
-        Latencies { owners: all_of(owners), readers: all_of(readers) }
+        Latencies { writers: all_of(writers), readers: all_of(readers) }
     })
 }

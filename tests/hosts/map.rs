@@ -1,11 +1,12 @@
-//! Threads of Rust, 2 to 64, that share one map, which renews itself every thousand changes: they get, insert, put, delete and exchange the same few
-//! keys and go over ranges of them. Each call is noted with its begin and its end by one clock, and the calls on each key are to be in order, by the
-//! check of shared.rs. A range is noted as a get of each of its keys, and so is a snapshot. All threads add to counters in each way that there is, and
-//! no addition is lost. A forked child can't use the map. With `--seconds=N` it makes rounds, with new seeds, for so long, and at the end the process
-//! has not much more memory than after a third of the time: the allocator takes some more for a while, but a tree that is lost at each renewal would be
-//! many times as much.
+//! Threads of Rust, 2 to 64, that share one map, which renews itself every thousand changes: they get, insert, put, remove and exchange the same
+//! few keys and go over ranges of them. Each call is noted with its begin and its end by one clock, and the calls on each key are to be in order,
+//! by the check of shared.rs. A range is noted as a get of each of its keys, and so is a snapshot. All threads add to counters in each way that
+//! there is, and no addition is lost. A forked child can't use the map, and a closure that panics leaves it as it is. With `--seconds=N` it makes
+//! rounds, with new seeds, for so long, and at the end the process has not much more memory than after a third of the time: the allocator takes
+//! some more for a while, but a tree that is lost at each renewal would be many times as much.
 use elltree::{Map, MapError, MapSettings};
 use shared::{Call, Made, are_in_order, next, of_each};
+use std::panic::{catch_unwind, resume_unwind};
 use std::sync::atomic::{AtomicU64, Ordering::SeqCst};
 use std::time::{Duration, Instant};
 
@@ -29,6 +30,14 @@ fn exchange(map: &Map, key: u64, seen: &mut u64, new: u64) -> Result<Call, MapEr
     let found = said.map_or_else(|there| there, Some);
     *seen = if said.is_ok() { new } else { found.unwrap_or(current) };
     Ok(Call::Exchange(current, new, found))
+}
+
+/// Removes the key if it has the value that the worker has seen last.
+fn remove_seen(map: &Map, key: u64, seen: u64) -> Result<Call, MapError> {
+    Ok(match map.remove_if(key, seen)? {
+        Ok(was) => Call::Take(Some(was)),
+        Err(there) => Call::Find(there),
+    })
 }
 
 /// Puts a value: this is an exchange of the value that was there, or an insert.
@@ -71,7 +80,9 @@ fn work(map: &Map, worker: u32, keys: u64, calls: u64, mut seed: u64, clock: &At
         let call = match random % 16 {
             0 | 1 => Call::Insert(value, map.try_insert(key, value)?),
             2 | 3 => get_or_insert(map, key, value)?,
-            4..=7 => Call::Delete(map.delete(key)?),
+            4 | 5 => Call::Delete(map.delete(key)?),
+            6 => Call::Take(map.remove(key)?),
+            7 => remove_seen(map, key, seen[key as usize])?,
             8 | 9 => exchange(map, key, &mut seen[key as usize], value)?,
             10 => put(map, key, value)?,
             11 => {
@@ -214,6 +225,19 @@ fn fork() -> Result<(), MapError> {
     Ok(())
 }
 
+/// A closure of the caller's that panics ends its call, and the map goes on with what it had.
+fn panics() -> Result<(), MapError> {
+    fn end<T>() -> T {
+        resume_unwind(Box::new("a closure"))
+    }
+    let map = Map::try_from_iter([(1, 10), (2, 20), (3, 30)])?;
+    assert!(catch_unwind(|| map.update(1, |_| end())).is_err() && map.pairs() == [(1, 10), (2, 20), (3, 30)]);
+    assert!(catch_unwind(|| map.retain(|key, _| if key < 3 { key == 2 } else { end() })).is_err() && map.pairs() == [(2, 20), (3, 30)]);
+    map.renew()?; // waits for calls under way
+    assert_eq!((map.insert(1, 11)?, map.update(1, |value| value + 1)?, map.get(1)), (None, Some(11), Some(12)));
+    Ok(())
+}
+
 /// What the guide shows of keys and values that have types of their own.
 fn typed() -> Result<(), MapError> {
     let bids = elltree::TypedMap::<i64, u32>::try_from_iter([(-5, 50), (7, 70), (-20, 200)])?;
@@ -224,6 +248,7 @@ fn typed() -> Result<(), MapError> {
 
 fn main() -> Result<(), MapError> {
     fork()?;
+    panics()?;
     typed()?;
     let seconds = std::env::args().nth(1).map_or(0, |word| word.strip_prefix("--seconds=").expect("--seconds=N").parse().expect("a number"));
     let begun = Instant::now();

@@ -1,10 +1,11 @@
-//! Threads of Rust, 2 to 64, that find, insert, delete, take, put, add to, update and exchange the same few keys of a tree of shared keys, and go
-//! over ranges of them, both ways. Each call is noted with its begin and its end by one clock, and the calls on each key are to be in order: each has a point between its
-//! begin and its end, and one map gives their answers in the order of these points. A range is noted as a find of each of its keys. At the end of each round each key is as the last of them leave it. Then all threads at once insert one
-//! key, and delete it, again and again: each time one of them answers yes. All threads add to counters in each way that there is, and no addition
-//! is lost, and no sum is answered twice; beside a thread that puts ascending values, the others find one each time, and never a lower one than before. With `--seconds=N` it makes rounds, with new seeds, for so long. The
-//! check of the order is tried first, on histories that a person worked out.
-use elltree::{Handle, Refused};
+//! Threads of Rust, 2 to 64, each with a handle of one tree, that find, insert, delete, take, put, add to, exchange and remove by their values the
+//! same few keys, and go over ranges of them, both ways. Each call is noted with its begin and its end by one clock, and the calls on each key are
+//! to be in order: each has a point between its begin and its end, and one map gives their answers in the order of these points. A range is noted
+//! as a find of each of its keys. At the end of each round each key is as the last of them leave it. Then all threads at once insert one key, and
+//! delete it, again and again: each time one of them answers yes. All threads add to counters in each way that there is, and no addition is lost,
+//! and no sum is answered twice; beside a thread that puts ascending values, the others find one each time, and never a lower one than before. With
+//! `--seconds=N` it makes rounds, with new seeds, for so long. The check of the order is tried first, on histories that a person worked out.
+use elltree::{Handle, Refused, Tree};
 use std::collections::{BTreeSet, HashSet};
 use std::sync::Barrier;
 use std::sync::atomic::{AtomicU64, Ordering::SeqCst};
@@ -169,7 +170,7 @@ fn go_over(handle: &mut Handle, keys: u64, random: u64) -> Vec<(u64, Option<u64>
             Some(pair) => of_each(from..pair.0 + 1, &[pair]),
             None => of_each(from..keys, &[]),
         },
-        1 => match handle.last_before(upto) {
+        1 => match handle.last_at_most(upto - 1) {
             Some(pair) => of_each(pair.0..upto, &[pair]),
             None => of_each(0..upto, &[]),
         },
@@ -196,19 +197,23 @@ fn exchange(handle: &mut Handle, key: u64, seen: &mut u64, new: u64) -> Result<C
     Ok(Call::Exchange(current, new, found))
 }
 
-/// Puts a value, adds to it, or updates it: what a history says of that, and what the worker has seen of the key, if it is there.
-fn replace(handle: &mut Handle, key: u64, seen: &mut u64, value: u64, way: u64) -> Result<Call, Refused> {
-    let (said, new_of): (_, &dyn Fn(u64) -> u64) = match way {
-        0 => (handle.put(key, value, TRIES)?, &|_| value),
-        1 => (handle.fetch_add(key, value, TRIES)?, &|was| was.wrapping_add(value)),
-        _ => (handle.update(key, |was| was.wrapping_add(value), TRIES)?, &|was| was.wrapping_add(value)),
-    };
+/// Removes the key if it has the value that the worker has seen last: what a history says of that.
+fn remove_seen(handle: &mut Handle, key: u64, seen: u64) -> Result<Call, Refused> {
+    Ok(match handle.remove_if(key, seen, TRIES)? {
+        Ok(was) => Call::Take(Some(was)),
+        Err(there) => Call::Find(there),
+    })
+}
+
+/// Puts a value, or adds to it: what a history says of that, and what the worker has seen of the key, if it is there.
+fn replace(handle: &mut Handle, key: u64, seen: &mut u64, value: u64, is_put: bool) -> Result<Call, Refused> {
+    let said = if is_put { handle.put(key, value, TRIES)? } else { handle.fetch_add(key, value, TRIES)? };
     match said {
         Some(was) => {
-            *seen = new_of(was);
-            Ok(Call::Exchange(was, new_of(was), said))
+            *seen = if is_put { value } else { was.wrapping_add(value) };
+            Ok(Call::Exchange(was, *seen, said))
         }
-        None if way == 0 => Ok(Call::Insert(value, true)),
+        None if is_put => Ok(Call::Insert(value, true)),
         None => Ok(Call::Find(None)),
     }
 }
@@ -222,18 +227,19 @@ fn work(handle: &mut Handle, worker: u32, keys: u64, calls: u64, mut seed: u64, 
         let begun = clock.fetch_add(1, SeqCst);
         let call = match random % 16 {
             0..=3 => Call::Insert(value, handle.insert(key, value, TRIES)?),
-            4..=6 => Call::Delete(handle.delete(key, TRIES)?),
-            7 => Call::Take(handle.take(key, TRIES)?),
+            4 | 5 => Call::Delete(handle.delete(key, TRIES)?),
+            6 => Call::Take(handle.take(key, TRIES)?),
+            7 => remove_seen(handle, key, seen[key as usize])?,
             8 | 9 => exchange(handle, key, &mut seen[key as usize], value)?,
-            10 | 11 => replace(handle, key, &mut seen[key as usize], value, (random >> 4) % 3)?,
+            10 | 11 => replace(handle, key, &mut seen[key as usize], value, random & 16 == 0)?,
             12 => {
                 let told = go_over(handle, keys, random);
                 let ended = clock.fetch_add(1, SeqCst);
                 all.extend(told.into_iter().map(|(key, value)| Made { worker, key, call: Call::Find(value), begun, ended }));
                 continue;
             }
-            _ if random & 1024 == 0 => Call::Find(handle.find(key)?),
-            _ => Call::Find(handle.look(key)?),
+            _ if random & 1024 == 0 => Call::Find(handle.find(key)),
+            _ => Call::Find(handle.look(key)),
         };
         let ended = clock.fetch_add(1, SeqCst);
         if let Call::Find(Some(there)) = call {
@@ -254,12 +260,8 @@ fn in_threads<T: Send>(handles: &mut [Handle], of_one: impl Fn(&mut Handle, u32)
 }
 
 fn open(threads: u32, start: &[(u64, u64)]) -> Result<Vec<Handle>, Refused> {
-    let mut handles = vec![Handle::open_shared(start, CARDS)?];
-    for _ in 1..threads {
-        let other = handles[0].another()?;
-        handles.push(other);
-    }
-    Ok(handles)
+    let tree = Tree::open(start, CARDS)?;
+    (0..threads).map(|_| tree.handle()).collect()
 }
 
 /// One round of so many threads on keys below a number: how many calls they made, and how many keys are there at the end.
@@ -270,7 +272,7 @@ fn round(threads: u32, keys: u64, calls: u64, seed: u64) -> Result<(usize, usize
     let made = in_threads(&mut handles, |handle, worker| work(handle, worker, keys, calls, seed_of(worker), &clock)).concat();
     let mut there = BTreeSet::new();
     for key in 0..keys {
-        let left = handles[0].find(key)?;
+        let left = handles[0].find(key);
         there.extend(left.map(|_| key));
         let mut history: Vec<Made> = made.iter().filter(|made| made.key == key).copied().collect();
         history.push(Made { worker: 63, key, call: Call::Find(left), begun: u64::MAX, ended: u64::MAX });
@@ -280,10 +282,6 @@ fn round(threads: u32, keys: u64, calls: u64, seed: u64) -> Result<(usize, usize
             (changes(|call| matches!(call, Call::Insert(_, true))), changes(|call| matches!(call, Call::Delete(true) | Call::Take(Some(_)))));
         assert_eq!(came + usize::from(first.is_some()), went + usize::from(left.is_some()), "key {key}, {threads} threads, {keys} keys, seed {seed}");
         assert!(are_in_order(first, &history), "out of order: key {key}, {threads} threads, {keys} keys, seed {seed}");
-    }
-    let mut first = handles.remove(0);
-    for other in handles {
-        first.join(other)?;
     }
     Ok((made.len(), there.len()))
 }
@@ -297,7 +295,7 @@ fn race(threads: u32) -> Result<(), Refused> {
             barrier.wait();
             let inserted = handle.insert(7, u64::from(worker), TRIES)?;
             barrier.wait();
-            assert!(handle.find(7)?.is_some_and(|value| !inserted || value == u64::from(worker)));
+            assert!(handle.find(7).is_some_and(|value| !inserted || value == u64::from(worker)));
             barrier.wait();
             said.push((inserted, handle.delete(7, TRIES)?));
         }
@@ -307,44 +305,30 @@ fn race(threads: u32) -> Result<(), Refused> {
         let yes = |of: fn(&(bool, bool)) -> bool| said.iter().filter(|said| of(&said[race])).count();
         assert_eq!((yes(|said| said.0), yes(|said| said.1)), (1, 1), "race {race} of {threads} threads");
     }
-    assert_eq!((handles[0].find(6)?, handles[0].find(7)?, handles[0].find(8)?), (Some(60), None, Some(80)));
+    assert_eq!((handles[0].find(6), handles[0].find(7), handles[0].find(8)), (Some(60), None, Some(80)));
     Ok(())
 }
 
-/// Adds one by a find and as many exchanges as it takes.
-fn exchange_one_more(handle: &mut Handle, key: u64) -> Result<(), Refused> {
-    let mut value = handle.find(key)?.unwrap();
+/// Adds one by a find and as many exchanges as it takes: the value that was there.
+fn exchange_one_more(handle: &mut Handle, key: u64) -> Result<u64, Refused> {
+    let mut value = handle.find(key).unwrap();
     while let Err(there) = handle.compare_exchange(key, value, value + 1, TRIES)? {
         value = there.unwrap();
     }
-    Ok(())
+    Ok(value)
 }
 
-/// All threads add to three counters: each ends at the sum, and of the first two no value is answered twice.
+/// All threads add to two counters: each ends at the sum, and no value is answered twice.
 fn count(threads: u32) -> Result<(), Refused> {
-    let mut handles = open(threads, &[(1, 0), (2, 0), (3, 0)])?;
+    let mut handles = open(threads, &[(1, 0), (2, 0)])?;
     let each = ADDITIONS / u64::from(threads);
-    let all = in_threads(&mut handles, |handle, _| {
-        let (mut calls, mut found) = (0, Vec::new());
-        for _ in 0..each {
-            let called = |value| {
-                calls += 1;
-                value + 1
-            };
-            let first = handle.fetch_add(1, 1, TRIES)?.unwrap();
-            found.push((first, handle.update(2, called, TRIES)?.unwrap()));
-            exchange_one_more(handle, 3)?;
-        }
-        Ok((calls, found))
+    let found = in_threads(&mut handles, |handle, _| {
+        (0..each).map(|_| Ok((handle.fetch_add(1, 1, TRIES)?.unwrap(), exchange_one_more(handle, 2)?))).collect::<Result<Vec<_>, _>>()
     });
     let sum = each * u64::from(threads);
-    let calls: u64 = all.iter().map(|(calls, _)| calls).sum();
-    let (first, second): (BTreeSet<u64>, BTreeSet<u64>) = all.into_iter().flat_map(|(_, found)| found).unzip();
+    let (first, second): (BTreeSet<u64>, BTreeSet<u64>) = found.into_iter().flatten().unzip();
     assert!(first.into_iter().eq(0..sum) && second.into_iter().eq(0..sum), "{threads} threads");
-    for key in 1..=3 {
-        assert_eq!(handles[0].find(key)?, Some(sum), "counter {key} of {threads} threads");
-    }
-    assert!(calls >= sum);
+    assert_eq!((handles[0].find(1), handles[0].find(2)), (Some(sum), Some(sum)), "{threads} threads");
     Ok(())
 }
 
@@ -358,13 +342,13 @@ fn put_and_find(threads: u32) -> Result<(), Refused> {
                 assert_eq!(handle.put(5, value, TRIES)?, Some(value - 1));
                 continue;
             }
-            let there = if value % 2 == 0 { handle.find(5)? } else { handle.look(5)? };
+            let there = if value % 2 == 0 { handle.find(5) } else { handle.look(5) };
             assert!(there.is_some_and(|there| there >= last), "{there:?} after {last}");
             last = there.unwrap();
         }
         Ok(())
     });
-    assert_eq!((handles[0].find(5)?, handles[0].put(6, 1, TRIES)?, handles[0].fetch_add(7, 1, TRIES)?), (Some(ADDITIONS), None, None));
+    assert_eq!((handles[0].find(5), handles[0].put(6, 1, TRIES)?, handles[0].fetch_add(7, 1, TRIES)?), (Some(ADDITIONS), None, None));
     Ok(())
 }
 

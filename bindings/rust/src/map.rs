@@ -1,15 +1,17 @@
 //! One map object that all threads share, over `elltree_map.c`.
 use std::fmt;
 use std::ops::{self, RangeBounds};
+use std::panic::{RefUnwindSafe, UnwindSafe};
 use std::ptr::{self, NonNull};
 use std::time::Duration;
 
-use crate::KEY_MAX;
-use crate::error::{MapError, MapResult, NO_ROOM, OTHER_VALUE, YES, map_answer};
+use crate::error::{MapError, MapResult, NO_ROOM, OTHER_VALUE, map_answer};
 use crate::range::{MapRange, Source};
-use crate::raw::{self, Pair, RawCounts, RawMap, RawSettings};
+use crate::raw::{self, KEY_MAX, Pair, RawCounts, RawMap, RawSettings};
 
 /// How a [`Map`] is set up. A field that is 0 leaves the choice to the map.
+///
+/// # Examples
 ///
 /// ```
 /// let settings = elltree::MapSettings { cards: 100_000, ..Default::default() };
@@ -19,13 +21,13 @@ use crate::raw::{self, Pair, RawCounts, RawMap, RawSettings};
 /// ```
 #[derive(Clone, Copy, Debug, Default, PartialEq, Eq)]
 pub struct MapSettings {
-    /// The cards of the map when it is made; 512 if it is 0.
+    /// The cards of the new map; 128 if this is 0.
     pub cards: u64,
-    /// Sections get more cards while renewals take more than this part of the time, in percent; 5 if it is 0.
+    /// Sections get more cards while renewals take more than this part of the time, in percent; 5 if this is 0.
     pub renewal_percent: u32,
-    /// But no more than a renewal of this length allows, in microseconds; 5,000 if it is 0.
+    /// But no more than a renewal of this length allows, in microseconds; 5,000 if this is 0.
     pub renewal_microseconds: u32,
-    /// How many calls may be under way at once; 8 for each processor, and at least 64, if it is 0.
+    /// How many calls may be under way at once, up to 4,096; 8 for each processor, and at least 64, if this is 0.
     pub calls: u32,
 }
 
@@ -49,20 +51,24 @@ pub struct MapCounts {
     pub longest_pause: Duration,
 }
 
-/// A map from `u64` to `u64` that all threads share: no handles, no cards to count, no tries.
+/// An ordered map from `u64` to `u64` that all threads share.
 ///
-/// All calls take `&self`, and any thread makes any of them at any time. The calls that find or change one key answer as if they were made one after
-/// the other. The map is made of sections, each with a tree of shared keys for its range of keys, as
-/// [`Handle::open_shared`](crate::Handle::open_shared) makes it. A call that finds few cards left renews its section, while other calls go on; that
-/// takes about a millisecond. At its end all calls that change keys pause until those of them under way have ended, and [`Map::counts`] tells how
-/// long. A call that only reads waits for no other thread. `docs/GATE.md` says how calls and renewals keep out of each other's way. That part is
-/// tested and not proved; the trees below it are proved.
+/// All calls take `&self`, and any thread makes any of them at any time. All calls that read or change a key answer as if they were made one after
+/// the other, each at one moment between its begin and its end. What a thread did before it stored a value happened before what another thread does
+/// after it has read that value.
 ///
-/// A forked child can't use the map of its parent: calls that change it return [`MapError::Forked`], and others find no key. What a thread did before
-/// it stored a value has happened before what another does after it read that value.
+/// The map consists of sections, each with a tree for its range of keys. Each change takes one of the *cards* of a tree. A change that finds few
+/// cards left *renews* its section: it makes a new tree with fresh cards, while other calls go on, and takes about a millisecond longer. At the end
+/// of a renewal all changes pause, until those of them that are under way have ended, and [`Map::counts`] returns how long. A call that only reads
+/// does not pause, and waits for no other thread, unless more calls are under way than [`MapSettings::calls`] allows. `docs/GATE.md` describes how
+/// calls and renewals keep out of each other's way. That part is tested and not proved; the trees below it are proved.
 ///
 /// A key above [`KEY_MAX`] is absent to calls that read, and [`MapError::BadKey`] to calls that change keys. [`TypedMap`](crate::TypedMap) has keys
 /// and values of other types, and [`boxed_values`](crate::boxed_values) shows how a map has values of any type.
+///
+/// A forked child can't use the map of its parent: calls that change it return [`MapError::Forked`], and others find no key.
+///
+/// # Examples
 ///
 /// ```
 /// let map = elltree::Map::new()?;
@@ -91,22 +97,34 @@ pub struct Map(NonNull<RawMap>);
 unsafe impl Send for Map {}
 unsafe impl Sync for Map {}
 
+// A map is whole whenever a call on it has ended, even if that was by a panic.
+impl UnwindSafe for Map {}
+impl RefUnwindSafe for Map {}
+
 impl Map {
     /// Makes an empty map.
     ///
     /// # Errors
     ///
     /// Returns [`MapError::NoMemory`] if memory is refused.
+    ///
+    /// # Examples
+    ///
+    /// ```
+    /// let map = elltree::Map::new()?;
+    /// assert!(map.is_empty());
+    /// # Ok::<(), elltree::MapError>(())
+    /// ```
     pub fn new() -> MapResult<Map> {
         Map::from_sorted(&[], MapSettings::default())
     }
 
-    /// Makes a map with these pairs, whose keys ascend strictly.
+    /// Makes a map of pairs whose keys ascend strictly.
     ///
     /// # Errors
     ///
     /// Returns [`MapError::BadStart`] if the keys do not ascend strictly, [`MapError::BadKey`] if one is above [`KEY_MAX`], and
-    /// [`MapError::NoMemory`].
+    /// [`MapError::NoMemory`] if memory is refused.
     ///
     /// # Examples
     ///
@@ -119,14 +137,14 @@ impl Map {
     /// ```
     pub fn from_sorted(pairs: &[(u64, u64)], settings: MapSettings) -> MapResult<Map> {
         let MapSettings { cards, renewal_percent, renewal_microseconds, calls } = settings;
-        let settings = RawSettings { cards, renewal_percent, renewal_microseconds, calls };
+        let settings = RawSettings { cards, renewal_percent, renewal_microseconds, calls, unused: 0 };
         let (pairs, mut map) = (Pair::all_of(pairs), ptr::null_mut());
-        // SAFETY: the array is as long as said.
-        map_answer(unsafe { raw::elltree_map_from_sorted(&mut map, pairs.as_ptr(), pairs.len(), &settings) })?;
+        // SAFETY: the array is as long as said, and the settings are as great.
+        map_answer(unsafe { raw::elltree_map_from_sorted(&mut map, pairs.as_ptr(), pairs.len(), &settings, size_of::<RawSettings>()) })?;
         NonNull::new(map).map(Map).ok_or(MapError::NoMemory)
     }
 
-    /// Makes a map with these pairs, in any order. If a key comes more than once, the map has its last value, as a `BTreeMap` has that is collected.
+    /// Makes a map of pairs in any order. If a key comes more than once, the map has its last value, as a `BTreeMap` that is collected has.
     ///
     /// # Errors
     ///
@@ -152,12 +170,44 @@ impl Map {
         Map::from_sorted(&pairs, MapSettings::default())
     }
 
+    // The map of the library.
+    fn raw(&self) -> &RawMap {
+        // SAFETY: it lives until the drop.
+        unsafe { self.0.as_ref() }
+    }
+
+    // Returns the value that a function of the library tells, if it says yes.
+    fn told(&self, call: impl FnOnce(&RawMap, &mut u64) -> i32) -> MapResult<Option<u64>> {
+        let mut value = 0;
+        let there = map_answer(call(self.raw(), &mut value))?;
+        Ok(there.then_some(value))
+    }
+
+    // Returns the pair that a function of the library tells, if it says yes.
+    fn pair(&self, call: impl FnOnce(&RawMap, &mut u64, &mut u64) -> i32) -> MapResult<Option<(u64, u64)>> {
+        let (mut key, mut value) = (0, 0);
+        let there = map_answer(call(self.raw(), &mut key, &mut value))?;
+        Ok(there.then_some((key, value)))
+    }
+
+    // Returns the current value if a function of the library has found it, and otherwise what is there.
+    fn compared(&self, current: u64, call: impl FnOnce(&RawMap, &mut u64) -> i32) -> MapResult<Result<u64, Option<u64>>> {
+        let mut found = current;
+        match call(self.raw(), &mut found) {
+            OTHER_VALUE => Ok(Err(Some(found))),
+            code => Ok(if map_answer(code)? { Ok(current) } else { Err(None) }),
+        }
+    }
+}
+
+/// Calls that read.
+impl Map {
     /// Returns the value of the key, if it is present. No key above [`KEY_MAX`] is.
     ///
     /// # Examples
     ///
     /// ```
-    /// let map = elltree::Map::from_sorted(&[(1, 10)], Default::default())?;
+    /// let map = elltree::Map::try_from_iter([(1, 10)])?;
     /// assert_eq!((map.get(1), map.get(2), map.get(u64::MAX)), (Some(10), None, None));
     /// # Ok::<(), elltree::MapError>(())
     /// ```
@@ -166,22 +216,135 @@ impl Map {
         self.try_get(key).unwrap_or(None)
     }
 
-    /// Returns the value of the key, as [`Map::get`] does, and in a forked child [`MapError::Forked`].
+    // Returns the value of the key, as `get` does, and in a forked child that it is one.
     fn try_get(&self, key: u64) -> MapResult<Option<u64>> {
-        let mut value = 0;
-        // SAFETY: the map lives.
-        let there = map_answer(unsafe { raw::elltree_map_get(self.0.as_ptr(), key, &mut value) })?;
-        Ok(there.then_some(value))
+        self.told(|map, value| raw::elltree_map_get(map, key, value))
     }
 
     /// Returns whether the key is present.
+    ///
+    /// # Examples
+    ///
+    /// ```
+    /// let map = elltree::Map::try_from_iter([(1, 10)])?;
+    /// assert!(map.contains_key(1) && !map.contains_key(2));
+    /// # Ok::<(), elltree::MapError>(())
+    /// ```
     #[must_use]
     pub fn contains_key(&self, key: u64) -> bool {
         self.get(key).is_some()
     }
 
-    /// Stores the value of a key, present or not, in one atomic step. Returns the value that it had, or `None` if it was absent, as `insert` of a
-    /// `BTreeMap` does. No other call returns that value. [`Map::try_insert`] keeps the value of a key that is present.
+    /// Returns an iterator over the pairs of a range of keys, in ascending order, from both ends. Other threads go on meanwhile.
+    ///
+    /// It is no snapshot, but each key is as it was at one moment since the iterator was made: a key that was present all along is among the
+    /// pairs, one that was absent all along is not, and each pair was there. [`Map::pairs`] returns a snapshot.
+    ///
+    /// A range that ends before it begins has no keys, while [`BTreeMap::range`](std::collections::BTreeMap::range) panics on it.
+    ///
+    /// # Examples
+    ///
+    /// ```
+    /// let map = elltree::Map::try_from_iter([(1, 10), (2, 20), (3, 30), (5, 50)])?;
+    /// assert_eq!(map.range(2..5).collect::<Vec<_>>(), [(2, 20), (3, 30)]);
+    /// assert_eq!(map.range(..=3).rev().map(|pair| pair.0).collect::<Vec<_>>(), [3, 2, 1]);
+    /// # Ok::<(), elltree::MapError>(())
+    /// ```
+    #[must_use]
+    pub fn range(&self, range: impl RangeBounds<u64>) -> MapRange<'_> {
+        MapRange::new(self, range)
+    }
+
+    /// Returns an iterator over all pairs, as [`Map::range`] does.
+    #[must_use]
+    pub fn iter(&self) -> MapRange<'_> {
+        self.range(..)
+    }
+
+    /// Returns the least key from `key` on that is present, with its value. It was present at one moment of the call, and each key before it was
+    /// absent at one.
+    ///
+    /// # Examples
+    ///
+    /// ```
+    /// let map = elltree::Map::try_from_iter([(2, 20), (4, 40)])?;
+    /// assert_eq!((map.next_at_least(2), map.next_at_least(3), map.next_at_least(5)), (Some((2, 20)), Some((4, 40)), None));
+    /// # Ok::<(), elltree::MapError>(())
+    /// ```
+    #[must_use]
+    pub fn next_at_least(&self, key: u64) -> Option<(u64, u64)> {
+        self.pair(|map, found, value| raw::elltree_map_next_at_least(map, key, found, value)).unwrap_or(None)
+    }
+
+    /// Returns the least key above `key` that is present, with its value, as [`Map::next_at_least`] does.
+    #[must_use]
+    pub fn next_after(&self, key: u64) -> Option<(u64, u64)> {
+        self.next_at_least(key.checked_add(1)?)
+    }
+
+    /// Returns the greatest key up to `key` that is present, with its value. It was present at one moment of the call, and each key after it was
+    /// absent at one.
+    ///
+    /// # Examples
+    ///
+    /// ```
+    /// let map = elltree::Map::try_from_iter([(2, 20), (4, 40)])?;
+    /// assert_eq!((map.last_at_most(1), map.last_at_most(3), map.last_at_most(4)), (None, Some((2, 20)), Some((4, 40))));
+    /// # Ok::<(), elltree::MapError>(())
+    /// ```
+    #[must_use]
+    pub fn last_at_most(&self, key: u64) -> Option<(u64, u64)> {
+        self.pair(|map, found, value| raw::elltree_map_last_at_most(map, key, found, value)).unwrap_or(None)
+    }
+
+    /// Returns the greatest key below `key` that is present, with its value, as [`Map::last_at_most`] does.
+    #[must_use]
+    pub fn last_before(&self, key: u64) -> Option<(u64, u64)> {
+        self.last_at_most(key.checked_sub(1)?)
+    }
+
+    /// Returns the least key that is present, with its value, as [`Map::next_at_least`] does.
+    ///
+    /// # Examples
+    ///
+    /// ```
+    /// let map = elltree::Map::try_from_iter([(2, 20), (4, 40)])?;
+    /// assert_eq!((map.first_key_value(), map.last_key_value()), (Some((2, 20)), Some((4, 40))));
+    /// assert_eq!((map.next_after(2), map.last_before(2)), (Some((4, 40)), None));
+    /// # Ok::<(), elltree::MapError>(())
+    /// ```
+    #[must_use]
+    pub fn first_key_value(&self) -> Option<(u64, u64)> {
+        self.next_at_least(0)
+    }
+
+    /// Returns the greatest key that is present, with its value, as [`Map::last_at_most`] does.
+    #[must_use]
+    pub fn last_key_value(&self) -> Option<(u64, u64)> {
+        self.last_at_most(KEY_MAX)
+    }
+
+    /// Returns how many keys are present. The number is exact if no change is under way. While others write, it is a sum of what each has done so
+    /// far, which the map may never have had at any one moment.
+    #[must_use]
+    pub fn len(&self) -> usize {
+        let mut count = 0;
+        raw::elltree_map_len(self.raw(), &mut count);
+        count
+    }
+
+    /// Returns whether a search for the least key finds none. While others write, `true` means that each key was absent at a moment of the call, and
+    /// `false` that one was present.
+    #[must_use]
+    pub fn is_empty(&self) -> bool {
+        self.first_key_value().is_none()
+    }
+}
+
+/// Calls that change one key, each in one atomic step.
+impl Map {
+    /// Stores the value of a key, present or not. Returns the value that it had, or `None` if it was absent, as `insert` of a `BTreeMap` does. No
+    /// other call replaces or removes that value. [`Map::try_insert`] keeps the value of a key that is present.
     ///
     /// # Errors
     ///
@@ -196,7 +359,16 @@ impl Map {
     /// # Ok::<(), elltree::MapError>(())
     /// ```
     pub fn insert(&self, key: u64, value: u64) -> MapResult<Option<u64>> {
-        self.put(key, value)
+        self.told(|map, was| raw::elltree_map_put(map, key, value, was))
+    }
+
+    /// Does the same as [`Map::insert`], by the name that the call has in C, C++ and Python.
+    ///
+    /// # Errors
+    ///
+    /// Returns what [`Map::insert`] returns.
+    pub fn put(&self, key: u64, value: u64) -> MapResult<Option<u64>> {
+        self.insert(key, value)
     }
 
     /// Adds a key that is absent, and returns whether it was. A key that is present keeps its value: [`Map::insert`] replaces it, and
@@ -204,7 +376,7 @@ impl Map {
     ///
     /// # Errors
     ///
-    /// Returns [`MapError::BadKey`] if the key is above [`KEY_MAX`], and [`MapError::NoMemory`] if memory is refused.
+    /// Returns what [`Map::insert`] returns.
     ///
     /// # Examples
     ///
@@ -214,15 +386,14 @@ impl Map {
     /// # Ok::<(), elltree::MapError>(())
     /// ```
     pub fn try_insert(&self, key: u64, value: u64) -> MapResult<bool> {
-        // SAFETY: the map lives.
-        map_answer(unsafe { raw::elltree_map_insert(self.0.as_ptr(), key, value) })
+        map_answer(raw::elltree_map_insert(self.raw(), key, value))
     }
 
-    /// Adds a key if it is absent, in one atomic step. Returns the value that the key has then, and whether it was added.
+    /// Adds a key if it is absent. Returns the value that the key has then, and whether it was added.
     ///
     /// # Errors
     ///
-    /// Returns [`MapError::BadKey`] if the key is above [`KEY_MAX`], and [`MapError::NoMemory`] if memory is refused.
+    /// Returns what [`Map::insert`] returns.
     ///
     /// # Examples
     ///
@@ -233,144 +404,112 @@ impl Map {
     /// ```
     pub fn get_or_insert(&self, key: u64, value: u64) -> MapResult<(u64, bool)> {
         let mut there = 0;
-        // SAFETY: the map lives.
-        let is_added = map_answer(unsafe { raw::elltree_map_get_or_insert(self.0.as_ptr(), key, value, &mut there) })?;
+        let is_added = map_answer(raw::elltree_map_get_or_insert(self.raw(), key, value, &mut there))?;
         Ok((there, is_added))
     }
 
-    /// Does the same as [`Map::insert`], by the name that the call has in C, C++ and Python.
+    /// Removes a key, and returns the value that it had, or `None` if it was absent. No other call returns that value as removed.
     ///
     /// # Errors
     ///
-    /// Returns [`MapError::BadKey`] if the key is above [`KEY_MAX`], and [`MapError::NoMemory`] if memory is refused.
-    pub fn put(&self, key: u64, value: u64) -> MapResult<Option<u64>> {
-        let mut was = 0;
-        // SAFETY: the map lives.
-        let there = map_answer(unsafe { raw::elltree_map_put(self.0.as_ptr(), key, value, &mut was) })?;
-        Ok(there.then_some(was))
-    }
-
-    /// Takes a key away, and returns the value that was taken, or `None` if the key was absent. No other thread took that value.
-    ///
-    /// # Errors
-    ///
-    /// Returns [`MapError::BadKey`] if the key is above [`KEY_MAX`], and [`MapError::NoMemory`] if memory is refused.
+    /// Returns what [`Map::insert`] returns.
     ///
     /// # Examples
     ///
     /// ```
-    /// let map = elltree::Map::from_sorted(&[(1, 10)], Default::default())?;
+    /// let map = elltree::Map::try_from_iter([(1, 10)])?;
     /// assert_eq!((map.remove(1)?, map.remove(1)?), (Some(10), None));
     /// # Ok::<(), elltree::MapError>(())
     /// ```
     pub fn remove(&self, key: u64) -> MapResult<Option<u64>> {
-        let mut was = 0;
-        // SAFETY: the map lives.
-        let there = map_answer(unsafe { raw::elltree_map_remove(self.0.as_ptr(), key, &mut was) })?;
-        Ok(there.then_some(was))
+        self.told(|map, was| raw::elltree_map_remove(map, key, was))
     }
 
-    /// Takes a key away, and returns whether it was present.
+    /// Removes a key, and returns whether it was present.
     ///
     /// # Errors
     ///
-    /// Returns [`MapError::BadKey`] if the key is above [`KEY_MAX`], and [`MapError::NoMemory`] if memory is refused.
+    /// Returns what [`Map::insert`] returns.
     pub fn delete(&self, key: u64) -> MapResult<bool> {
-        // SAFETY: the map lives.
-        map_answer(unsafe { raw::elltree_map_delete(self.0.as_ptr(), key) })
+        map_answer(raw::elltree_map_delete(self.raw(), key))
     }
 
-    /// Takes a key away if its value is `current`, in one atomic step. Returns `Ok(current)` if it did, and else what is there: `Err(Some(value))` if the
-    /// key has another value, and `Err(None)` if it is absent. So a thread that has read a value, and found that it is to go, takes away no value that
-    /// another one has stored since.
+    /// Removes a key if its value is `current`. Returns `Ok(current)` if it did, and otherwise what is there: `Err(Some(value))` if the key has
+    /// another value, and `Err(None)` if it is absent. So no value is removed that another thread has stored since this one read `current`.
     ///
     /// # Errors
     ///
-    /// Returns [`MapError::BadKey`] if the key is above [`KEY_MAX`], and [`MapError::NoMemory`] if memory is refused.
+    /// The outer result has the errors of [`Map::insert`].
     ///
     /// # Examples
     ///
     /// ```
-    /// let map = elltree::Map::from_sorted(&[(1, 10)], Default::default())?;
+    /// let map = elltree::Map::try_from_iter([(1, 10)])?;
     /// assert_eq!((map.remove_if(1, 9)?, map.remove_if(1, 10)?, map.remove_if(1, 10)?), (Err(Some(10)), Ok(10), Err(None)));
     /// # Ok::<(), elltree::MapError>(())
     /// ```
     pub fn remove_if(&self, key: u64, current: u64) -> MapResult<Result<u64, Option<u64>>> {
-        let mut found = current;
-        // SAFETY: the map lives.
-        let code = unsafe { raw::elltree_map_remove_if(self.0.as_ptr(), key, current, &mut found) };
-        if code == OTHER_VALUE {
-            return Ok(Err(Some(found)));
-        }
-        Ok(if map_answer(code)? { Ok(found) } else { Err(None) })
+        self.compared(current, |map, found| raw::elltree_map_remove_if(map, key, current, found))
     }
 
-    /// Stores `new` as the value of a key if its value is `current`, in one atomic step. Returns `Ok(current)` if it was exchanged, and else what is
-    /// there: `Err(Some(value))` if the key has another value, and `Err(None)` if it is absent.
+    /// Stores `new` as the value of a key if its value is `current`. Returns `Ok(current)` if it did, and otherwise what is there, as
+    /// [`Map::remove_if`] does.
     ///
     /// # Errors
     ///
-    /// Returns [`MapError::BadKey`] if the key is above [`KEY_MAX`], and [`MapError::NoMemory`] if memory is refused.
+    /// The outer result has the errors of [`Map::insert`].
     ///
     /// # Examples
     ///
     /// ```
-    /// let map = elltree::Map::from_sorted(&[(1, 10)], Default::default())?;
+    /// let map = elltree::Map::try_from_iter([(1, 10)])?;
     /// assert_eq!(map.compare_exchange(1, 10, 11)?, Ok(10));
     /// assert_eq!(map.compare_exchange(1, 10, 12)?, Err(Some(11)));
     /// assert_eq!(map.compare_exchange(2, 10, 12)?, Err(None));
     /// # Ok::<(), elltree::MapError>(())
     /// ```
     pub fn compare_exchange(&self, key: u64, current: u64, new: u64) -> MapResult<Result<u64, Option<u64>>> {
-        let mut found = current;
-        // SAFETY: the map lives.
-        let code = unsafe { raw::elltree_map_compare_exchange(self.0.as_ptr(), key, &mut found, new) };
-        if code == OTHER_VALUE {
-            return Ok(Err(Some(found)));
-        }
-        Ok(if map_answer(code)? { Ok(found) } else { Err(None) })
+        self.compared(current, |map, expected| raw::elltree_map_compare_exchange(map, key, expected, new))
     }
 
-    /// Adds to the value of a key in one atomic step. Returns the value that it had, or `None` if the key is absent, which is left so. A sum past
-    /// `u64::MAX` wraps around.
+    /// Adds to the value of a key. Returns the value that it had, or `None` if the key is absent, and then it stays absent. A sum above `u64::MAX`
+    /// wraps around.
     ///
     /// # Errors
     ///
-    /// Returns [`MapError::BadKey`] if the key is above [`KEY_MAX`], and [`MapError::NoMemory`] if memory is refused.
+    /// Returns what [`Map::insert`] returns.
     ///
     /// # Examples
     ///
     /// ```
-    /// let map = elltree::Map::from_sorted(&[(1, 10)], Default::default())?;
+    /// let map = elltree::Map::try_from_iter([(1, 10)])?;
     /// assert_eq!((map.fetch_add(1, 5)?, map.fetch_add(2, 5)?, map.get(1)), (Some(10), None, Some(15)));
     /// # Ok::<(), elltree::MapError>(())
     /// ```
     pub fn fetch_add(&self, key: u64, addend: u64) -> MapResult<Option<u64>> {
-        let mut was = 0;
-        // SAFETY: the map lives.
-        let there = map_answer(unsafe { raw::elltree_map_fetch_add(self.0.as_ptr(), key, addend, &mut was) })?;
-        Ok(there.then_some(was))
+        self.told(|map, was| raw::elltree_map_fetch_add(map, key, addend, was))
     }
 
-    /// Stores what `f` makes of the value of a key, in one atomic step. Returns the value that it had, or `None` if the key is absent, which is left
-    /// so. `f` is called again if another thread has changed the value meanwhile. It may take its time and call the map: nothing waits for it.
-    ///
-    /// # Panics
-    ///
-    /// Panics if `f` does. The key then has the value that it had, and the map goes on.
+    /// Stores what `f` makes of the value of a key. Returns the value that it had, or `None` if the key is absent, and then it stays absent. `f` is
+    /// called again if another thread has changed the value meanwhile. It may take its time and call the map: nothing waits for it.
     ///
     /// # Errors
     ///
-    /// Returns [`MapError::BadKey`] if the key is above [`KEY_MAX`], and [`MapError::NoMemory`] if memory is refused.
+    /// Returns what [`Map::insert`] returns.
+    ///
+    /// # Panics
+    ///
+    /// Panics if `f` does. The key then keeps its value, and the map goes on.
     ///
     /// # Examples
     ///
     /// ```
-    /// let map = elltree::Map::from_sorted(&[(1, 10)], Default::default())?;
+    /// let map = elltree::Map::try_from_iter([(1, 10)])?;
     /// assert_eq!((map.update(1, |value| value * 2)?, map.update(2, |value| value * 2)?, map.get(1)), (Some(10), None, Some(20)));
     /// # Ok::<(), elltree::MapError>(())
     /// ```
     pub fn update<F: FnMut(u64) -> u64>(&self, key: u64, mut f: F) -> MapResult<Option<u64>> {
+        // `elltree_map_update` would call `f` from C, through which no panic may go.
         if key > KEY_MAX {
             return Err(MapError::BadKey);
         }
@@ -386,84 +525,8 @@ impl Map {
         }
     }
 
-    /// Goes over the pairs of a range of keys, ascending: from the other end too, as by [`Iterator::rev`]. Other threads go on meanwhile. It is no
-    /// snapshot, but each key is told as it was at one moment since the iterator was made: a key that was present all along is among the pairs, one
-    /// that was absent all along is not, and each pair was there. A range that ends before it begins has no keys.
-    ///
-    /// # Examples
-    ///
-    /// ```
-    /// let map = elltree::Map::from_sorted(&[(1, 10), (2, 20), (3, 30), (5, 50)], Default::default())?;
-    /// assert_eq!(map.range(2..5).collect::<Vec<_>>(), [(2, 20), (3, 30)]);
-    /// assert_eq!(map.range(..=3).rev().map(|pair| pair.0).collect::<Vec<_>>(), [3, 2, 1]);
-    /// # Ok::<(), elltree::MapError>(())
-    /// ```
-    #[must_use]
-    pub fn range(&self, range: impl RangeBounds<u64>) -> MapRange<'_> {
-        MapRange::new(self, range)
-    }
-
-    /// Goes over all pairs, as [`Map::range`] does.
-    #[must_use]
-    pub fn iter(&self) -> MapRange<'_> {
-        self.range(..)
-    }
-
-    /// Returns the least key from `key` on that is present, with its value: it was present at one moment of the call, and each key before it was
-    /// absent at one.
-    #[must_use]
-    pub fn next_at_least(&self, key: u64) -> Option<(u64, u64)> {
-        let (mut found, mut value) = (0, 0);
-        // SAFETY: the map lives.
-        let code = unsafe { raw::elltree_map_next_at_least(self.0.as_ptr(), key, &mut found, &mut value) };
-        (code == YES).then_some((found, value))
-    }
-
-    /// Returns the least key above `key` that is present, with its value, as [`Map::next_at_least`] finds it.
-    #[must_use]
-    pub fn next_after(&self, key: u64) -> Option<(u64, u64)> {
-        self.next_at_least(key.checked_add(1)?)
-    }
-
-    /// Returns the greatest key up to `key` that is present, with its value: it was present at one moment of the call, and each key after it was
-    /// absent at one.
-    #[must_use]
-    pub fn last_at_most(&self, key: u64) -> Option<(u64, u64)> {
-        let (mut found, mut value) = (0, 0);
-        // SAFETY: the map lives.
-        let code = unsafe { raw::elltree_map_last_at_most(self.0.as_ptr(), key, &mut found, &mut value) };
-        (code == YES).then_some((found, value))
-    }
-
-    /// Returns the greatest key below `key` that is present, with its value, as [`Map::last_at_most`] finds it.
-    #[must_use]
-    pub fn last_before(&self, key: u64) -> Option<(u64, u64)> {
-        self.last_at_most(key.checked_sub(1)?)
-    }
-
-    /// Returns the least key that is present, with its value, as [`Map::next_at_least`] finds it.
-    ///
-    /// # Examples
-    ///
-    /// ```
-    /// let map = elltree::Map::from_sorted(&[(2, 20), (4, 40)], Default::default())?;
-    /// assert_eq!((map.first_key_value(), map.last_key_value()), (Some((2, 20)), Some((4, 40))));
-    /// assert_eq!((map.next_after(2), map.last_before(2)), (Some((4, 40)), None));
-    /// # Ok::<(), elltree::MapError>(())
-    /// ```
-    #[must_use]
-    pub fn first_key_value(&self) -> Option<(u64, u64)> {
-        self.next_at_least(0)
-    }
-
-    /// Returns the greatest key that is present, with its value, as [`Map::last_at_most`] finds it.
-    #[must_use]
-    pub fn last_key_value(&self) -> Option<(u64, u64)> {
-        self.last_at_most(KEY_MAX)
-    }
-
-    /// Takes the least key away, and returns it with its value, or `None` if there is none. No other call returns this pair, so that threads that
-    /// empty a map get each pair once. Each smaller key was absent at a moment of the call: so the key was the least one when it was taken, unless
+    /// Removes the least key, and returns it with its value, or `None` if there is none. No other call returns this pair, so threads that empty a
+    /// map get each pair once. Each smaller key was absent at a moment of the call: so the key was the least one when it was removed, unless
     /// another thread has added a smaller one during the call.
     ///
     /// # Errors
@@ -473,48 +536,28 @@ impl Map {
     /// # Examples
     ///
     /// ```
-    /// let map = elltree::Map::from_sorted(&[(1, 10), (2, 20), (3, 30)], Default::default())?;
+    /// let map = elltree::Map::try_from_iter([(1, 10), (2, 20), (3, 30)])?;
     /// assert_eq!((map.pop_first()?, map.pop_last()?), (Some((1, 10)), Some((3, 30))));
     /// assert_eq!((map.pop_first()?, map.pop_first()?), (Some((2, 20)), None));
     /// # Ok::<(), elltree::MapError>(())
     /// ```
     pub fn pop_first(&self) -> MapResult<Option<(u64, u64)>> {
-        let (mut key, mut value) = (0, 0);
-        // SAFETY: the map lives.
-        let is_there = map_answer(unsafe { raw::elltree_map_pop_first(self.0.as_ptr(), &mut key, &mut value) })?;
-        Ok(is_there.then_some((key, value)))
+        self.pair(|map, key, value| raw::elltree_map_pop_first(map, key, value))
     }
 
-    /// Takes the greatest key away, and returns it with its value, as [`Map::pop_first`] does with the least one.
+    /// Removes the greatest key, and returns it with its value, as [`Map::pop_first`] does with the least one.
     ///
     /// # Errors
     ///
     /// Returns [`MapError::NoMemory`] if memory is refused.
     pub fn pop_last(&self) -> MapResult<Option<(u64, u64)>> {
-        let (mut key, mut value) = (0, 0);
-        // SAFETY: the map lives.
-        let is_there = map_answer(unsafe { raw::elltree_map_pop_last(self.0.as_ptr(), &mut key, &mut value) })?;
-        Ok(is_there.then_some((key, value)))
+        self.pair(|map, key, value| raw::elltree_map_pop_last(map, key, value))
     }
+}
 
-    /// Returns how many keys are present. The number is exact if no change is under way. While others write it is a sum of what each has done so
-    /// far, which the map may never have had at any one moment.
-    #[must_use]
-    pub fn len(&self) -> usize {
-        let mut count = 0;
-        // SAFETY: the map lives.
-        unsafe { raw::elltree_map_len(self.0.as_ptr(), &mut count) };
-        count
-    }
-
-    /// Returns whether a search for the least key finds none. While others write, `true` means that each key was absent at a moment of the call, and
-    /// `false` that one was present.
-    #[must_use]
-    pub fn is_empty(&self) -> bool {
-        self.first_key_value().is_none()
-    }
-
-    /// Inserts these pairs one after the other, in any order. It is not one atomic step.
+/// Calls on many keys, and on the map itself.
+impl Map {
+    /// Inserts pairs in any order, one after the other. It is not one atomic step: other threads see some of them first.
     ///
     /// # Errors
     ///
@@ -533,11 +576,11 @@ impl Map {
         pairs.into_iter().try_for_each(|(key, value)| self.insert(key, value).map(drop))
     }
 
-    /// Takes all keys away, one after the other. It is not one atomic step: a key that another thread adds meanwhile may stay.
+    /// Removes all keys, one after the other. It is not one atomic step: a key that another thread adds meanwhile may stay.
     ///
     /// # Errors
     ///
-    /// Returns [`MapError::NoMemory`] if memory is refused. Some keys may be taken away then.
+    /// Returns [`MapError::NoMemory`] if memory is refused. Some keys may be removed then.
     ///
     /// # Examples
     ///
@@ -552,16 +595,16 @@ impl Map {
         self.iter().try_for_each(|(key, _)| self.delete(key).map(drop))
     }
 
-    /// Takes away each pair for which `f` returns `false`, one after the other. It is not one atomic step, but a pair that `f` has not seen stays: `f` is
-    /// called again if another thread has changed the value meanwhile. It may call the map.
+    /// Removes each pair for which `f` returns `false`, one after the other. It is not one atomic step, but a pair that `f` has not seen stays: `f`
+    /// is called again if another thread has changed the value meanwhile. It may call the map.
     ///
     /// # Errors
     ///
-    /// Returns [`MapError::NoMemory`] if memory is refused. Some pairs may be taken away then.
+    /// Returns [`MapError::NoMemory`] if memory is refused. Some pairs may be removed then.
     ///
     /// # Panics
     ///
-    /// Panics if `f` does. The map goes on, without the pairs that were taken away.
+    /// Panics if `f` does. The map goes on, without the pairs that were removed.
     ///
     /// # Examples
     ///
@@ -584,14 +627,22 @@ impl Map {
         Ok(())
     }
 
-    /// Returns all pairs, ascending, as they are at one moment: a snapshot. Calls that change keys wait meanwhile, as at a renewal.
+    /// Returns all pairs, in ascending order, as they are at one moment: a snapshot. Calls that change keys wait meanwhile, as at a renewal.
+    ///
+    /// # Examples
+    ///
+    /// ```
+    /// let map = elltree::Map::try_from_iter([(2, 20), (1, 10)])?;
+    /// assert_eq!(map.pairs(), [(1, 10), (2, 20)]);
+    /// # Ok::<(), elltree::MapError>(())
+    /// ```
     #[must_use]
     pub fn pairs(&self) -> Vec<(u64, u64)> {
         let (mut out, mut count) = (Vec::new(), self.len());
         loop {
             out.resize(count + count / 8, Pair::ZERO); // others may add some before the moment comes
-            // SAFETY: the map lives, and the array is as long as said.
-            let code = unsafe { raw::elltree_map_pairs(self.0.as_ptr(), out.as_mut_ptr(), out.len(), &mut count) };
+            // SAFETY: the array is as long as said.
+            let code = unsafe { raw::elltree_map_pairs(self.raw(), out.as_mut_ptr(), out.len(), &mut count) };
             if code != NO_ROOM {
                 return out[..count].iter().map(|&pair| pair.into()).collect();
             }
@@ -604,9 +655,7 @@ impl Map {
     ///
     /// Returns [`MapError::NoMemory`] if memory is refused. Those of the least keys may be renewed then.
     pub fn renew(&self) -> MapResult<()> {
-        // SAFETY: the map lives.
-        map_answer(unsafe { raw::elltree_map_renew(self.0.as_ptr()) })?;
-        Ok(())
+        map_answer(raw::elltree_map_renew(self.raw())).map(drop)
     }
 
     /// Returns what has happened to the map so far.
@@ -624,8 +673,8 @@ impl Map {
     #[must_use]
     pub fn counts(&self) -> MapCounts {
         let mut counts = RawCounts::default();
-        // SAFETY: the map lives.
-        unsafe { raw::elltree_map_counts(self.0.as_ptr(), &mut counts) };
+        // SAFETY: the struct is as great as said.
+        unsafe { raw::elltree_map_counts(self.raw(), &mut counts, size_of::<RawCounts>()) };
         MapCounts {
             sections: counts.sections,
             cards: counts.cards,
@@ -645,6 +694,7 @@ impl Drop for Map {
     }
 }
 
+/// Shows the pairs, as [`Map::iter`] returns them.
 impl fmt::Debug for Map {
     fn fmt(&self, f: &mut fmt::Formatter<'_>) -> fmt::Result {
         f.debug_map().entries(self).finish()
@@ -663,8 +713,8 @@ impl<'a> IntoIterator for &'a Map {
 impl Source for &Map {
     fn fill(&mut self, keys: ops::Range<u64>, out: &mut [Pair]) -> (usize, u64) {
         let (mut count, mut next) = (0, keys.end);
-        // SAFETY: the map lives, and the array is as long as said.
-        unsafe { raw::elltree_map_range(self.0.as_ptr(), keys.start, keys.end, out.as_mut_ptr(), out.len(), &mut count, &mut next) };
+        // SAFETY: the array is as long as said.
+        unsafe { raw::elltree_map_range(self.raw(), keys.start, keys.end, out.as_mut_ptr(), out.len(), &mut count, &mut next) };
         (count, next)
     }
 

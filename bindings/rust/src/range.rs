@@ -1,4 +1,4 @@
-//! The pairs of a range of keys, from either end: of a handle's tree, or of a map.
+//! The pairs of a range of keys, from either end: of a map, or of a handle's tree.
 use std::fmt;
 use std::iter::FusedIterator;
 use std::ops::{self, Bound, RangeBounds};
@@ -80,49 +80,10 @@ fn keys_of(range: impl RangeBounds<u64>) -> ops::Range<u64> {
     from.unwrap_or(upto)..upto
 }
 
-/// The pairs of a range of keys, from either end: what [`Handle::range`] makes. Pairs that were found together wait here, so a pair may be from
-/// before the call that gives it, but not from before the iterator was made.
-pub struct Range<'a>(Pairs<&'a mut Handle>);
-
-impl<'a> Range<'a> {
-    pub(crate) fn new(handle: &'a mut Handle, range: impl RangeBounds<u64>) -> Range<'a> {
-        Range(Pairs::new(handle, range))
-    }
-}
-
-impl Iterator for Range<'_> {
-    type Item = (u64, u64);
-
-    fn next(&mut self) -> Option<(u64, u64)> {
-        self.0.next()
-    }
-}
-
-impl DoubleEndedIterator for Range<'_> {
-    fn next_back(&mut self) -> Option<(u64, u64)> {
-        self.0.next_back()
-    }
-}
-
-impl FusedIterator for Range<'_> {}
-
-/// Shows the pairs that wait, and the keys behind them.
+/// An iterator over the pairs of a range of keys of a [`Map`], from both ends: it is made by [`Map::range`].
 ///
-/// ```
-/// let mut handle = elltree::Handle::open_shared(&[(2, 20), (4, 40)], 9)?;
-/// let mut range = handle.range(..9);
-/// assert_eq!(range.next(), Some((2, 20)));
-/// assert_eq!(format!("{range:?}"), "Range { found: [(4, 40)], keys: 9..9, .. }");
-/// # Ok::<(), elltree::Refused>(())
-/// ```
-impl fmt::Debug for Range<'_> {
-    fn fmt(&self, f: &mut fmt::Formatter<'_>) -> fmt::Result {
-        self.0.show("Range", f)
-    }
-}
-
-/// The pairs of a range of keys, from either end: what [`Map::range`] makes. Pairs that were found together wait here, so a pair may be from
-/// before the call that gives it, but not from before the iterator was made.
+/// Pairs that were found together wait in the iterator. So a pair may be from before the call that returns it, but not from before the iterator was
+/// made.
 pub struct MapRange<'a>(Pairs<&'a Map>);
 
 impl<'a> MapRange<'a> {
@@ -131,25 +92,43 @@ impl<'a> MapRange<'a> {
     }
 }
 
-impl Iterator for MapRange<'_> {
-    type Item = (u64, u64);
+/// An iterator over the pairs of a range of keys of a tree, from both ends: it is made by [`Handle::range`].
+///
+/// Pairs that were found together wait in the iterator, as in a [`MapRange`].
+pub struct Range<'a>(Pairs<&'a mut Handle>);
 
-    fn next(&mut self) -> Option<(u64, u64)> {
-        self.0.next()
+impl<'a> Range<'a> {
+    pub(crate) fn new(handle: &'a mut Handle, range: impl RangeBounds<u64>) -> Range<'a> {
+        Range(Pairs::new(handle, range))
     }
 }
 
-impl DoubleEndedIterator for MapRange<'_> {
-    fn next_back(&mut self) -> Option<(u64, u64)> {
-        self.0.next_back()
-    }
+macro_rules! iterator {
+    ($type:ident) => {
+        impl Iterator for $type<'_> {
+            type Item = (u64, u64);
+
+            fn next(&mut self) -> Option<(u64, u64)> {
+                self.0.next()
+            }
+        }
+
+        impl DoubleEndedIterator for $type<'_> {
+            fn next_back(&mut self) -> Option<(u64, u64)> {
+                self.0.next_back()
+            }
+        }
+
+        impl FusedIterator for $type<'_> {}
+
+        /// Shows the pairs that wait, and the keys that were not asked for yet.
+        impl fmt::Debug for $type<'_> {
+            fn fmt(&self, f: &mut fmt::Formatter<'_>) -> fmt::Result {
+                self.0.show(stringify!($type), f)
+            }
+        }
+    };
 }
 
-impl FusedIterator for MapRange<'_> {}
-
-/// Shows the pairs that wait, and the keys behind them.
-impl fmt::Debug for MapRange<'_> {
-    fn fmt(&self, f: &mut fmt::Formatter<'_>) -> fmt::Result {
-        self.0.show("MapRange", f)
-    }
-}
+iterator!(MapRange);
+iterator!(Range);

@@ -1,152 +1,98 @@
-//! A tree whose keys have owners, and readers, which own none.
-use std::ops::RangeBounds;
+//! Trees, of which handles are made.
+use std::fmt;
+use std::sync::{Mutex, PoisonError};
 
-use crate::error::{JoinError, Result};
+use crate::error::Result;
 use crate::handle::Handle;
-use crate::range::Range;
 
-/// Looks at any key of a tree, and owns none.
-#[derive(Debug)]
-pub struct Reader(Handle);
-
-impl Reader {
-    // Makes a reader of a handle without keys.
-    pub(crate) fn new(handle: Handle) -> Reader {
-        Reader(handle)
-    }
-
-    pub(crate) fn inner(&mut self) -> &mut Handle {
-        &mut self.0
-    }
-
-    /// Returns the value of any key of the tree, if it is present: as it was at one moment of the call.
-    ///
-    /// # Errors
-    ///
-    /// Returns [`Refused::BadKey`](crate::Refused::BadKey) if the key is above [`KEY_MAX`](crate::KEY_MAX).
-    pub fn look(&mut self, key: u64) -> Result<Option<u64>> {
-        self.0.look(key)
-    }
-
-    /// Goes over the pairs of a range of keys, as [`Handle::range`] does.
-    ///
-    /// # Examples
-    ///
-    /// ```
-    /// let mut tree = elltree::Tree::open(&[1, 2, 3], &[(2, 20)], 9)?;
-    /// let (mut owner, mut reader) = (tree.handle(&[1])?, tree.reader()?);
-    /// owner.insert(1, 10, 9)?;
-    /// assert_eq!(reader.range(..).collect::<Vec<_>>(), [(1, 10), (2, 20)]);
-    /// # Ok::<(), elltree::Refused>(())
-    /// ```
-    pub fn range(&mut self, range: impl RangeBounds<u64>) -> Range<'_> {
-        self.0.range(range)
-    }
-
-    /// Returns how many cards of the tree are not given out yet, as [`Handle::cards_left`] tells it.
-    pub fn cards_left(&self) -> u64 {
-        self.0.cards_left()
-    }
-
-    /// Makes another reader of the same tree.
-    ///
-    /// # Errors
-    ///
-    /// As of [`Handle::reader`].
-    pub fn reader(&mut self) -> Result<Reader> {
-        self.0.reader()
-    }
-}
-
-/// A tree, with the keys that it has not given to a handle.
-#[derive(Debug)]
-pub struct Tree {
-    rest: Handle,
-}
+/// A tree with a fixed number of cards, of which threads have [`Handle`]s: for a program that counts its cards itself. A [`Map`](crate::Map) has no
+/// cards to count.
+///
+/// All handles of a tree find and change the same keys, and none of them ever waits for another. Each change takes a card, and so may a try that
+/// another thread hinders. No card is given back, and [`Handle::cards_left`] returns how many are left.
+///
+/// Threads may share a tree, and make handles at any time. The tree ends when it and all its handles are dropped, in any order.
+///
+/// # Examples
+///
+/// ```
+/// let tree = elltree::Tree::open(&[(2, 20)], 1_000)?; // pairs to start with, cards
+/// std::thread::scope(|threads| {
+///     for value in [30, 31] {
+///         let tree = &tree;
+///         threads.spawn(move || {
+///             let mut handle = tree.handle().unwrap();
+///             handle.insert(3, value, 1_000).unwrap(); // in at most 1,000 tries: one of the two adds the key
+///         });
+///     }
+/// });
+/// assert!(matches!(tree.handle()?.find(3), Some(30 | 31)));
+/// # Ok::<(), elltree::Refused>(())
+/// ```
+///
+/// A tree whose cards are used up goes on as a new one, with the pairs of the old one:
+///
+/// ```
+/// use elltree::{Refused, Tree};
+/// let mut handle = Tree::open(&[(2, 20)], 1)?.handle()?;
+/// handle.insert(3, 30, 9)?;
+/// assert_eq!(handle.insert(4, 40, 9), Err(Refused::Spent));
+/// let pairs: Vec<_> = handle.range(..).collect(); // while no handle changes keys
+/// let mut handle = Tree::open(&pairs, 1_000)?.handle()?;
+/// assert_eq!((handle.insert(4, 40, 9)?, handle.range(..).count()), (true, 3));
+/// # Ok::<(), Refused>(())
+/// ```
+///
+/// ```
+/// fn shared<T: Send + Sync>(_: &T) {}
+/// shared(&elltree::Tree::open(&[], 9).unwrap());
+/// ```
+pub struct Tree(Mutex<Handle>);
 
 impl Tree {
-    pub(crate) fn rest(&mut self) -> &mut Handle {
-        &mut self.rest
-    }
-
-    /// Opens a tree over these keys and the start keys, which are present with their values.
+    /// Opens a tree with these pairs, whose keys ascend strictly, and with so many cards.
     ///
     /// # Errors
     ///
-    /// As of [`Handle::open`].
-    pub fn open(keys: &[u64], start: &[(u64, u64)], cards: u64) -> Result<Tree> {
-        Ok(Tree { rest: Handle::open(keys, start, cards)? })
-    }
-
-    /// Makes a handle with these keys.
+    /// Returns [`Refused::BadStart`] if the keys do not ascend strictly or are more than [`START_MAX`], else [`Refused::BadKey`] if one is above
+    /// [`KEY_MAX`], else [`Refused::BadCards`] if the cards are not 1 to [`CARDS_MAX`], and [`Refused::NoMemory`] if memory is refused.
     ///
-    /// # Errors
-    ///
-    /// Returns [`Refused::Foreign`] if a key is not the tree's, or another handle has it, and [`Refused::NoMemory`].
-    ///
-    /// [`Refused::Foreign`]: crate::Refused::Foreign
+    /// [`Refused::BadStart`]: crate::Refused::BadStart
+    /// [`Refused::BadKey`]: crate::Refused::BadKey
+    /// [`Refused::BadCards`]: crate::Refused::BadCards
     /// [`Refused::NoMemory`]: crate::Refused::NoMemory
-    pub fn handle(&mut self, keys: &[u64]) -> Result<Handle> {
-        self.rest.split(keys)
-    }
-
-    /// Makes a reader.
-    ///
-    /// # Errors
-    ///
-    /// Returns [`Refused::NoMemory`](crate::Refused::NoMemory).
-    pub fn reader(&mut self) -> Result<Reader> {
-        self.rest.reader()
-    }
-
-    /// Takes the keys of a handle back.
-    ///
-    /// # Errors
-    ///
-    /// Returns the handle in a [`JoinError`], as [`Handle::join`] does.
-    pub fn take_back(&mut self, handle: Handle) -> std::result::Result<(), JoinError> {
-        self.rest.join(handle)
-    }
-
-    /// Makes the cards fresh: the tree is a new one, with the keys that no handle has. A handle that is out stays with the old tree, and so
-    /// does a reader: give the handles back first, or call [`renew_all`](crate::renew_all).
-    ///
-    /// # Errors
-    ///
-    /// As of [`Handle::renew`].
+    /// [`START_MAX`]: crate::START_MAX
+    /// [`KEY_MAX`]: crate::KEY_MAX
+    /// [`CARDS_MAX`]: crate::CARDS_MAX
     ///
     /// # Examples
     ///
     /// ```
-    /// let mut tree = elltree::Tree::open(&[1, 2, 3, 4], &[], 100)?;
-    /// let mut high = tree.handle(&[3, 4])?;
-    /// high.insert(3, 30, 9)?;
-    /// tree.take_back(high)?;
-    /// tree.renew(100)?;
-    /// let mut high = tree.handle(&[3, 4])?;
-    /// assert_eq!(high.find(3)?, Some(30));
-    /// # Ok::<(), elltree::Refused>(())
+    /// use elltree::{Refused, Tree};
+    /// assert_eq!(Tree::open(&[(2, 0), (1, 0)], 1).err(), Some(Refused::BadStart));
+    /// assert_eq!(Tree::open(&[(u64::MAX, 0)], 1).err(), Some(Refused::BadKey));
+    /// assert_eq!(Tree::open(&[], 0).err(), Some(Refused::BadCards));
     /// ```
-    pub fn renew(&mut self, cards: u64) -> Result<()> {
-        self.rest.renew(cards)
+    pub fn open(start: &[(u64, u64)], cards: u64) -> Result<Tree> {
+        Handle::open(start, cards).map(|first| Tree(Mutex::new(first)))
     }
 
-    /// Returns how many cards are not given out yet, as [`Handle::cards_left`] tells it.
-    pub fn cards_left(&self) -> u64 {
-        self.rest.cards_left()
-    }
-
-    /// Returns how many keys no handle has.
-    pub fn left(&self) -> usize {
-        self.rest.owned()
-    }
-
-    /// Returns the keys that no handle has and that are present, ascending, with their values.
+    /// Makes a handle, for one thread. Threads that make handles at the same moment wait for one another, while no call on a handle waits.
+    ///
+    /// A tree makes more than 1,300,000 handles in all. One that is dropped makes no room for another.
     ///
     /// # Errors
     ///
-    /// As of [`Handle::pairs`].
-    pub fn pairs(&self) -> Result<Vec<(u64, u64)>> {
-        self.rest.pairs()
+    /// Returns [`Refused::TooManyHandles`](crate::Refused::TooManyHandles) if the tree has made so many, and
+    /// [`Refused::NoMemory`](crate::Refused::NoMemory) if memory is refused.
+    pub fn handle(&self) -> Result<Handle> {
+        // A handle is whole whenever a call on it has ended, even if that was by a panic.
+        self.0.lock().unwrap_or_else(PoisonError::into_inner).another()
+    }
+}
+
+impl fmt::Debug for Tree {
+    fn fmt(&self, f: &mut fmt::Formatter<'_>) -> fmt::Result {
+        f.debug_struct("Tree").finish_non_exhaustive()
     }
 }

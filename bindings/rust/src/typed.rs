@@ -172,7 +172,7 @@ impl<K: Key, V: Value> TypedMap<K, V> {
         Map::new().map(TypedMap::of_map)
     }
 
-    /// Makes a map with these pairs, whose keys ascend strictly.
+    /// Makes a map of pairs whose keys ascend strictly.
     ///
     /// # Errors
     ///
@@ -182,7 +182,7 @@ impl<K: Key, V: Value> TypedMap<K, V> {
         Map::from_sorted(&numbers, settings).map(TypedMap::of_map)
     }
 
-    /// Makes a map with these pairs, in any order. If a key comes more than once, the map has its last value.
+    /// Makes a map of pairs in any order. If a key comes more than once, the map has its last value.
     ///
     /// # Errors
     ///
@@ -207,7 +207,7 @@ impl<K: Key, V: Value> TypedMap<K, V> {
         self.map.contains_key(key.into_key())
     }
 
-    /// Stores the value of a key, present or not, and returns the value that it had, or `None` if it was absent, as [`Map::insert`] does.
+    /// Stores the value of a key, present or not. Returns the value that it had, or `None` if it was absent, as [`Map::insert`] does.
     ///
     /// # Errors
     ///
@@ -216,7 +216,7 @@ impl<K: Key, V: Value> TypedMap<K, V> {
         Ok(self.map.insert(key.into_key(), value.into_value())?.map(V::from_value))
     }
 
-    /// Adds a key that is absent, and returns whether it was. A key that is present keeps its value.
+    /// Adds a key that is absent, and returns whether it was. A key that is present keeps its value, as by [`Map::try_insert`].
     ///
     /// # Errors
     ///
@@ -225,7 +225,7 @@ impl<K: Key, V: Value> TypedMap<K, V> {
         self.map.try_insert(key.into_key(), value.into_value())
     }
 
-    /// Adds a key if it is absent, and returns the value that the key has then, and whether it was added, as [`Map::get_or_insert`] does.
+    /// Adds a key if it is absent. Returns the value that the key has then, and whether it was added, as [`Map::get_or_insert`] does.
     ///
     /// # Errors
     ///
@@ -235,7 +235,7 @@ impl<K: Key, V: Value> TypedMap<K, V> {
         Ok((V::from_value(there), is_added))
     }
 
-    /// Takes a key away, and returns the value that was taken, or `None` if the key was absent.
+    /// Removes a key, and returns the value that it had, or `None` if it was absent, as [`Map::remove`] does.
     ///
     /// # Errors
     ///
@@ -244,7 +244,7 @@ impl<K: Key, V: Value> TypedMap<K, V> {
         Ok(self.map.remove(key.into_key())?.map(V::from_value))
     }
 
-    /// Takes a key away if its value is `current`, as [`Map::remove_if`] does.
+    /// Removes a key if its value is `current`, as [`Map::remove_if`] does.
     ///
     /// # Errors
     ///
@@ -264,7 +264,7 @@ impl<K: Key, V: Value> TypedMap<K, V> {
         Ok(said.map(V::from_value).map_err(|there| there.map(V::from_value)))
     }
 
-    /// Stores what `f` makes of the value of a key, and returns the value that it had, or `None` if the key is absent, as [`Map::update`] does.
+    /// Stores what `f` makes of the value of a key. Returns the value that it had, or `None` if the key is absent, as [`Map::update`] does.
     ///
     /// # Errors
     ///
@@ -272,19 +272,19 @@ impl<K: Key, V: Value> TypedMap<K, V> {
     ///
     /// # Panics
     ///
-    /// Panics if `f` does. The key then has the value that it had, and the map goes on.
+    /// Panics if `f` does. The key then keeps its value, and the map goes on.
     pub fn update<F: FnMut(V) -> V>(&self, key: K, mut f: F) -> MapResult<Option<V>> {
         Ok(self.map.update(key.into_key(), |value| f(V::from_value(value)).into_value())?.map(V::from_value))
     }
 
-    /// Goes over the pairs of a range of keys, ascending, and from the other end too, as [`Map::range`] does.
+    /// Returns an iterator over the pairs of a range of keys, in ascending order, from both ends, as [`Map::range`] does.
     #[must_use]
     pub fn range(&self, range: impl RangeBounds<K>) -> TypedRange<'_, K, V> {
         let bounds = (range.start_bound().map(|key| key.into_key()), range.end_bound().map(|key| key.into_key()));
         TypedRange { pairs: self.map.range(bounds), types: PhantomData }
     }
 
-    /// Goes over all pairs, as [`TypedMap::range`] does.
+    /// Returns an iterator over all pairs, as [`TypedMap::range`] does.
     #[must_use]
     pub fn iter(&self) -> TypedRange<'_, K, V> {
         self.range(..)
@@ -326,7 +326,7 @@ impl<K: Key, V: Value> TypedMap<K, V> {
         self.map.last_key_value().map(pair_of)
     }
 
-    /// Takes the least key away, and returns it with its value, as [`Map::pop_first`] does.
+    /// Removes the least key, and returns it with its value, as [`Map::pop_first`] does.
     ///
     /// # Errors
     ///
@@ -335,7 +335,7 @@ impl<K: Key, V: Value> TypedMap<K, V> {
         Ok(self.map.pop_first()?.map(pair_of))
     }
 
-    /// Takes the greatest key away, and returns it with its value, as [`Map::pop_last`] does.
+    /// Removes the greatest key, and returns it with its value, as [`Map::pop_last`] does.
     ///
     /// # Errors
     ///
@@ -344,7 +344,7 @@ impl<K: Key, V: Value> TypedMap<K, V> {
         Ok(self.map.pop_last()?.map(pair_of))
     }
 
-    /// Inserts these pairs one after the other, in any order, as [`Map::extend`] does.
+    /// Inserts pairs in any order, one after the other, as [`Map::extend`] does.
     ///
     /// # Errors
     ///
@@ -353,7 +353,7 @@ impl<K: Key, V: Value> TypedMap<K, V> {
         self.map.extend(pairs.into_iter().map(numbers_of))
     }
 
-    /// Takes all keys away, one after the other, as [`Map::clear`] does.
+    /// Removes all keys, one after the other, as [`Map::clear`] does.
     ///
     /// # Errors
     ///
@@ -362,7 +362,7 @@ impl<K: Key, V: Value> TypedMap<K, V> {
         self.map.clear()
     }
 
-    /// Takes away each pair for which `f` returns `false`, as [`Map::retain`] does.
+    /// Removes each pair for which `f` returns `false`, as [`Map::retain`] does.
     ///
     /// # Errors
     ///
@@ -370,12 +370,13 @@ impl<K: Key, V: Value> TypedMap<K, V> {
     ///
     /// # Panics
     ///
-    /// Panics if `f` does. The map goes on, without the pairs that were taken away.
+    /// Panics if `f` does. The map goes on, without the pairs that were removed.
     pub fn retain<F: FnMut(K, V) -> bool>(&self, mut f: F) -> MapResult<()> {
         self.map.retain(|key, value| f(K::from_key(key), V::from_value(value)))
     }
 
-    /// Returns all pairs, ascending, as they are at one moment, as [`Map::pairs`] does: calls that change keys wait meanwhile.
+    /// Returns all pairs, in ascending order, as they are at one moment: a snapshot, as [`Map::pairs`] returns. Calls that change keys wait
+    /// meanwhile.
     #[must_use]
     pub fn pairs(&self) -> Vec<(K, V)> {
         self.map.pairs().into_iter().map(pair_of).collect()
@@ -414,7 +415,7 @@ impl<K, V> TypedMap<K, V> {
 macro_rules! adding {
     ($($type:ty)*) => {$(
         impl<K: Key> TypedMap<K, $type> {
-            /// Adds to the value of a key, and returns the value that it had, or `None` if the key is absent, as [`Map::fetch_add`] does. The sum
+            /// Adds to the value of a key. Returns the value that it had, or `None` if the key is absent, as [`Map::fetch_add`] does. The sum
             /// wraps around.
             ///
             /// # Errors
@@ -445,7 +446,7 @@ impl<'a, K: Key, V: Value> IntoIterator for &'a TypedMap<K, V> {
     }
 }
 
-/// The pairs of a range of keys, from either end: what [`TypedMap::range`] makes.
+/// An iterator over the pairs of a range of keys of a [`TypedMap`], from both ends: it is made by [`TypedMap::range`].
 pub struct TypedRange<'a, K, V> {
     pairs: MapRange<'a>,
     types: PhantomData<(K, V)>,
