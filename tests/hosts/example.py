@@ -1,18 +1,27 @@
-"""The program in Python of docs/GUIDE.md: two handles of one tree, and a thread."""
+"""The program in Python of docs/GUIDE.md for trees: two threads with a handle each."""
 
 import threading
 
 import elltree
 
-with elltree.open(range(1000), {2: 20}, cards=100_000) as low:  # start keys have values
-    high = low.split(range(500, 1000))
-    thread = threading.Thread(target=high.insert, args=(700, 7))
+tree = elltree.Tree({2: 20}, cards=100_000)  # pairs to start with, and cards
+
+
+def work(value):
+    with tree.handle() as handle:
+        handle.insert(3, value)  # one of the threads adds the key
+        handle.fetch_add(2, 1)  # and both of them count
+
+
+threads = [threading.Thread(target=work, args=(value,)) for value in (30, 31)]
+for thread in threads:
     thread.start()
-    low.insert(3, 30)
+for thread in threads:
     thread.join()
-    print(low.look(700), low.pairs())
+with tree.handle() as handle:
+    print(list(handle.range()), handle.cards_left())
     try:
-        low.insert(700, 8)
+        handle.insert(elltree.KEY_MAX + 1, 0)
     except elltree.Refused as refused:
-        print(refused, refused.code == elltree.FOREIGN)
-    low.join(high)
+        print(refused, refused.code == elltree.BAD_KEY)
+    assert handle.find(2) == 22 and handle.find(3) in (30, 31)

@@ -1,5 +1,5 @@
-"""Thousands of exceptions from signals at chance moments of calls, on one handle, on two and on all of a tree, and of a handle's end. After
-each of them every handle takes the next call, and no key and no pair is lost. The binding is found by PYTHONPATH."""
+"""Thousands of exceptions from signals at chance moments of calls, on a handle, on handles and trees that are made and end, and on a map. After each
+of them each handle, the tree and the map take the next call, and no pair is lost. The binding is found by PYTHONPATH."""
 
 import random
 import signal
@@ -8,8 +8,7 @@ import warnings
 
 import elltree
 
-CUTS, KEYS = 5000, 8
-EVEN, ODD = range(0, KEYS, 2), range(1, KEYS, 2)
+CUTS, PAIRS = 5000, [(key, key) for key in range(8)]
 
 
 class Cut(Exception):
@@ -25,37 +24,40 @@ def arm(delay):
 
 
 class Calls:
-    """A handle of the even keys, one of the odd keys, and a reader. All keys are present."""
+    """Calls that leave all pairs as they are. Those of a tree take no card, so that there are always some."""
 
     def __init__(self):
-        self.even = elltree.open(EVEN, {key: key for key in range(KEYS)})
-        self.odd = self.even.split(ODD)
-        self.reader = self.even.split()
+        self.tree = elltree.Tree(PAIRS, cards=9)
+        self.handles = [self.tree.handle(), self.tree.handle()]
+        self.map = elltree.Map(PAIRS)
 
-    def on_one(self):
-        self.even.look(3)
-        self.even.find(2)
-        self.odd.insert(3, 3)
+    def on_a_handle(self):
+        for handle in self.handles:
+            handle.look(3)
+            handle.find(2)
+            handle.insert(3, 4)
+            handle.compare_exchange(3, 4, 5)
+            handle.next_at_least(1)
 
-    def on_two(self):
-        self.even.join(self.odd)
-        self.odd = self.even.split(ODD)
-
-    def on_all(self):
-        elltree.renew_all([self.even, self.odd, self.reader], cards=9)
-
-    def at_an_end(self):
-        with self.even.split() as reader:
+    def on_new_handles(self):
+        with self.tree.handle() as reader:
             reader.look(1)
             reader.close()
 
+    def on_new_trees(self):
+        elltree.Tree(PAIRS, cards=9).handle().find(1)
+
+    def on_a_map(self):
+        self.map.put(3, 3)
+        self.map.get(2)
+        self.map.fetch_add(4, 0)
+        self.map.pairs()
+
     def are_whole(self):
-        """Whether each handle takes a call, and has what it had. Where a join was made, and not the split behind it, that is made here."""
-        if self.even.owned() == KEYS:
-            self.odd.close()
-            self.odd = self.even.split(ODD)
-        looks = [self.even.look(1), self.odd.look(1), self.reader.look(1)]
-        return looks == [1, 1, 1] and self.even.pairs() + self.odd.pairs() == [(key, key) for key in (*EVEN, *ODD)]
+        """Whether each of them takes a call, and has what it had."""
+        with self.tree.handle() as another:
+            looks = [handle.look(1) for handle in (*self.handles, another)]
+            return looks == [1, 1, 1] and list(another.range()) == self.map.pairs() == PAIRS and another.cards_left() == 9
 
 
 def is_fine(check):
@@ -71,7 +73,7 @@ def is_fine(check):
 
 
 def faults_by(calls, step, chance):
-    """Cuts these calls off by signals, until a handle is not whole any more: how often that is."""
+    """Cuts these calls off by signals, until something is not whole any more: how often that is."""
     for number in range(CUTS):
         try:
             arm(chance.uniform(0.00001, 0.0002))
@@ -83,7 +85,7 @@ def faults_by(calls, step, chance):
         except elltree.Refused as why:
             print(why)
         if not is_fine(calls.are_whole):
-            print(f"{step.__name__}: after {number + 1} signals a handle is not whole")
+            print(f"{step.__name__}: after {number + 1} signals something is not whole")
             return 1
     return 0
 
@@ -94,10 +96,8 @@ def main():
     # Python tells of an exception in a __del__, and goes on.
     sys.unraisablehook = lambda it: it.exc_type is Cut or print(it.exc_value)
     calls, chance, faults = Calls(), random.Random(1), 0
-    for step in (calls.on_one, calls.on_two, calls.on_all, calls.at_an_end):
+    for step in (calls.on_a_handle, calls.on_new_handles, calls.on_new_trees, calls.on_a_map):
         faults += faults_by(calls, step, chance)
-    for handle in (calls.even, calls.odd, calls.reader):
-        handle.close()
     print(f"{CUTS} signals in calls of each kind, {faults} faults")
     sys.exit(faults != 0)
 

@@ -1,6 +1,6 @@
 """The two ways in which Python calls the library, the compiled module and ctypes: the same calls, many of them wrong, are made in a process of each
-and answer alike, exceptions and their texts too. Then calls of each kind, answered and refused, are made over and over, and no memory is lost and
-no object. The binding is found by PYTHONPATH."""
+and answer alike, exceptions and their texts too. The methods of the module have the signatures of the package's list. Then calls of each kind,
+answered and refused, are made over and over, and no memory is lost and no object. The binding is found by PYTHONPATH."""
 
 import decimal
 import fractions
@@ -13,6 +13,8 @@ import tracemalloc
 
 import elltree
 from elltree import _library
+from elltree._arguments import NUMBERS as LETTERS
+from elltree._arguments import OF_MAPS, OF_SLOTS
 
 WARM, ROUNDS, CALLS = 30, 300, 40
 MOST_LOST = 30_000  # bytes
@@ -85,7 +87,7 @@ def told(call, *args, **named):
         answer = call(*args, **named)
     except Exception as why:
         return f"{type(why).__module__}.{type(why).__name__}: {why}"
-    return f"a {type(answer).__name__}" + ("" if isinstance(answer, (elltree.Handle, elltree.Map)) else f" {answer!r}")
+    return f"a {type(answer).__name__}" + ("" if isinstance(answer, (elltree.Handle, elltree.Map, elltree.Tree)) else f" {answer!r}")
 
 
 def tell(what, *answers):
@@ -103,57 +105,52 @@ def numbers_of(kind, subject, calls):
         tell(kind, name, told(getattr(subject, name), *[1] * (places + 4)), told(getattr(subject, name), nonsense=1))
 
 
-HANDLE_CALLS = {"find": 1, "look": 1, "insert": 3, "delete": 2, "take": 2, "put": 3, "fetch_add": 3, "compare_exchange": 4, "owned": 0, "keys": 0}
-HANDLE_CALLS |= {"pairs": 0, "steps": 0, "cards_left": 0}
-MAP_CALLS = {"get": 2, "insert": 2, "put": 2, "delete": 1, "remove": 1, "fetch_add": 2, "compare_exchange": 3, "setdefault": 2, "pop": 2, "renew": 0}
-MAP_CALLS |= {"remove_if": 2, "get_or_insert": 2, "pop_first": 0, "pop_last": 0}
-MAP_CALLS |= {"__getitem__": 1, "__setitem__": 2, "__delitem__": 1, "__contains__": 1, "pairs": 0, "popitem": 0, "__len__": 0}
-ORDERED = {"next_at_least": 1, "next_after": 1, "last_at_most": 1, "last_before": 1, "first": 0, "last": 0}
+def listed(of, kind):
+    """The calls of the package's list that a class has, and how many numbers each takes."""
+    return {name: sum(letter in LETTERS for letter in takes) for name, takes in of.items() if hasattr(kind, name) and name != "range"}
+
+
+MORE_OF_MAPS = {"get": 2, "setdefault": 2, "pop": 2, "popitem": 0, "next_after": 1, "last_before": 1, "first": 0, "last": 0}
+MORE_OF_MAPS |= {"__getitem__": 1, "__setitem__": 2, "__delitem__": 1, "__contains__": 1, "__len__": 0}
 
 
 def tell_all():
     """Makes all calls, and prints what they say."""
-    for kind, subject in (
-        ("shared", elltree.open_shared({1: 10, 2: 20}, cards=1000)),
-        ("owned", elltree.open([1, 2, 5], {2: 20}, cards=1000)),
-        ("spent", elltree.open([1, 2], cards=1)),
-        ("closed", elltree.Handle()),
-    ):
-        numbers_of(kind, subject, ORDERED | HANDLE_CALLS)
+    spent = elltree.Tree({1: 10}, cards=1).handle()
+    spent.insert(2, 20)
+    closed = elltree.Tree().handle()
+    closed.close()
+    for kind, subject in (("handle", elltree.Tree({1: 10, 2: 20}, cards=1000).handle()), ("spent", spent), ("closed", closed)):
+        numbers_of(kind, subject, listed(OF_SLOTS, elltree.Handle))
         for called, make in NUMBERS.items():
             tell(kind, "range", called, told(lambda: list(subject.range(make()))), told(lambda: list(subject.range(0, make()))))
-            tell(kind, "split", called, told(subject.split, [make()]))
-            tell(kind, "update", called, told(subject.update, make(), abs), told(subject.update, 1, abs, make()))
-            tell(kind, "update", called, told(subject.update, 1, lambda _: make()))
-            tell(kind, "renew", called, told(subject.renew, make()))
-        for wrong in (None, 5, subject, elltree.Handle(), elltree.open_shared(cards=9)):
-            tell(kind, "join", told(subject.join, wrong))
-        for wrong in (5, lambda: 5, lambda _: 1 // 0, lambda _: subject.find(1)):
-            tell(kind, "update", told(subject.update, 1, wrong), told(subject.update, 99, wrong), told(subject.find, 1))
-        tell(kind, "ends", told(subject.another), told(subject.close), told(subject.close))
-    tell_openings()
-    numbers_of("map", elltree.Map({1: 10, 2: 20}), ORDERED | MAP_CALLS)
+        tell(kind, "ends", told(repr, subject), told(subject.close), told(subject.close), told(repr, subject))
+    for number, pairs in enumerate(PAIRS):
+        tell("pairs", number, told(elltree.Tree, pairs, 9), told(elltree.Map, pairs))
+    for called, make in NUMBERS.items():
+        tell("tree", called, told(elltree.Tree, (), make()), told(elltree.Tree, make()), told(elltree.Handle, make()))
+    numbers_of("map", elltree.Map({1: 10, 2: 20}), listed(OF_MAPS, elltree.Map) | MORE_OF_MAPS)
     m = elltree.Map({1: 10})
     for called, make in NUMBERS.items():
         tell("map", "modify", called, told(m.modify, make(), abs), told(m.modify, 1, lambda _: make()))
         tell("map", "range", called, told(lambda: list(m.range(make()))), told(lambda: list(m.range(0, make()))))
         tell("map", "settings", called, [told(elltree.Map, (), *[0] * place, make()) for place in range(4)])
-    tell("map", sorted(m.counts()), told(m.get, 7, m), told(m.setdefault, 7, 70), told(repr, m), told(m.clear), told(len, m))
+    tell("map", m.counts(), told(m.get, 7, m), told(m.setdefault, 7, 70), told(repr, m), told(m.clear), told(len, m))
     for code in (*elltree.Code, 7, -99, 2**31 - 1, -(2**31)):
         tell("text", code, elltree.text(code), told(elltree.Refused, code))
 
 
-def tell_openings():
-    for number, pairs in enumerate(PAIRS):
-        tell("pairs", number, told(elltree.open_shared, pairs, 9), told(elltree.open, [1], pairs, 9), told(elltree.Map, pairs))
-    for called, make in NUMBERS.items():
-        tell("open", called, told(elltree.open_shared, (), make()) if called != "2**32" else None, told(elltree.open, [make()], (), 9))
-        tell("renew_all", called, told(elltree.renew_all, [], make()), told(elltree.renew_all_shared, [elltree.Handle()], make()))
-    first, other = elltree.open_shared(cards=9), elltree.open([1], cards=9)
-    for handles in ([first], [other], [first, first], [first, other], [first, None], [5], None, [elltree.Handle()], (first,), iter([first])):
-        tell("renew_all", told(elltree.renew_all, handles, 9), told(elltree.renew_all_shared, handles, 9))
-    for handle in (first, other):
-        handle.close()
+def unlike_the_list():
+    """The methods of the module whose signature is another than that of the list, or that only one of the two has."""
+    if _library.compiled is None:
+        return []
+    faults = ["the module is there, and ctypes too"] if "elltree._functions" in sys.modules else []
+    for core, of in ((_library.compiled.HandleCore, OF_SLOTS), (_library.compiled.MapCore, OF_MAPS)):
+        methods = {name: method.__doc__ for name, method in vars(core).items() if not name.startswith("_") and name != "answer"}
+        for name in sorted(methods.keys() | of.keys() - {"open", "from_sorted", "free"}):
+            if methods.get(name, "no method") not in (of.get(name, "nothing"), None):
+                faults.append(f"{core.__name__}.{name} has {methods.get(name)}, and the list {of.get(name)}")
+    return faults
 
 
 def differing():
@@ -172,32 +169,22 @@ def differing():
 
 def use_handles():
     keys = range(CALLS)
-    first = elltree.open_shared({key + 2**40: key + 2**50 for key in keys}, cards=500)
-    second = first.another()
+    tree = elltree.Tree({key + 2**40: key + 2**50 for key in keys}, cards=500)
+    first, second = tree.handle(), tree.handle()
     for key in keys:
         first.insert(key, key + 2**60)
         second.put(key, key + 2**61)
         second.fetch_add(key, 1)
-        second.update(key, lambda value: value + 1)
-        told(second.update, key, lambda _: None)
         told(second.find, 1.5)
         told(second.put, key, 2**64)
         told(second.put, Index(ValueError()), 1)
-        second.compare_exchange(key, 0, 1)
-        second.look(key), second.find(key), second.next_after(key), second.last_before(key)
-    list(first.items()), first.keys(), first.pairs(), first.steps(), first.owned(), repr(first)
-    told(elltree.renew_all_shared, [first, second, second], 9)
-    elltree.renew_all_shared([first, second], 500)
-    second.take(2**40), second.delete(1)
-    first.join(second)
+        told(second.put, 2**64 - 1, 1)
+        second.compare_exchange(key, 0, 1), second.remove_if(key, 0)
+        second.look(key), second.find(key), second.next_at_least(key), second.last_at_most(key)
+    list(first.range()), first.steps(), first.cards_left(), repr(first), first.take(2**40), first.delete(1)
     first.close()
-    owner = elltree.open(range(2**40, 2**40 + CALLS), {2**40: 2**60}, cards=9)
-    part = owner.split(range(2**40, 2**40 + 10))
-    told(owner.split, [1]), told(owner.split, [2**40 + 11, "1"]), told(elltree.open, [1, 2], [(1, 1), (2, None)])
-    told(elltree.open, [1], (), 0), part.keys(), part.pairs(), owner.renew(9)
-    elltree.renew_all([owner], 9)
-    part.close(), owner.close()
-    elltree.open_shared(cards=9)  # which is dropped
+    told(first.find, 1), told(elltree.Tree, [(1, 1), (2, None)]), told(elltree.Tree, [(2, 1), (1, 1)]), told(elltree.Tree, (), 0)
+    elltree.Tree(cards=9)  # which is dropped, as is the second handle
 
 
 def use_maps():
@@ -219,14 +206,15 @@ def resident():
 
 
 def held(cores):
-    """How many objects there are, and how often those are held that all calls share."""
+    """How many objects there are, and how often those are held that all calls share. Python 3.12 and later don't count that of None and such."""
     gc.collect()
-    return [len(gc.get_objects()), *(sys.getrefcount(it) for it in (None, True, False, *cores))]
+    shared = [*cores] if sys.version_info >= (3, 12) else [None, True, False, *cores]
+    return [len(gc.get_objects()), *map(sys.getrefcount, shared)]
 
 
 def lost(use):
     """What is lost by calls that are made over and over: memory of Python or of the process, and objects."""
-    cores = [type(elltree.Handle()._core), type(elltree.Map()._core)]
+    cores = [_library.HandleCore, _library.MapCore]
     for _ in range(WARM):
         use()
     tracemalloc.start()
@@ -269,7 +257,7 @@ def main():
         tell_all()
         return
     way = "ctypes" if _library.compiled is None else "the compiled module"
-    faults = differing() + lost(use_handles) + lost(use_maps) + lets_others_run()
+    faults = unlike_the_list() + differing() + lost(use_handles) + lost(use_maps) + lets_others_run()
     print(*faults, f"by {way}, {len(faults)} faults", sep="\n")
     sys.exit(bool(faults))
 

@@ -7,25 +7,15 @@
     m.pop(3)             # 30
     list(m.items())      # [(2, 21)]: the pairs of all keys, ascending
 
-A Map renews its cards by itself, while other threads go on. The tree below it can also be used directly, without renewals, through handles, one for
-each thread:
+A Map renews its cards by itself, while other threads go on. A program that counts cards itself, and never waits, has a Tree instead, and a handle of
+it for each thread:
 
-    first = elltree.open_shared({2: 20}, cards=100_000)   # every key is shared
-    second = first.another()                              # for another thread
-    first.insert(3, 30)   # True
-    second.insert(3, 31)  # False: the key is there
-    second.delete(2)      # True: any handle changes any key
-    list(first.items())   # [(3, 30)]: the pairs of all keys, ascending
-    first.next_after(3)   # None: no key above 3 is there
-
-    first = elltree.open(range(1000), {2: 20}, cards=100_000)   # keys that have owners
-    second = first.split(range(500, 1000))
-    first.insert(3, 30)
-    second.look(3)        # 30: any handle looks at any key
-    second.find(3)        # Refused: elltree.FOREIGN, another handle owns the key
-
-With shared keys, all finds, inserts and deletes together answer as if they had been made one after the other. renew_all_shared gives all handles
-of such a tree fresh cards together.
+    tree = elltree.Tree({2: 20}, cards=100_000)
+    with tree.handle() as handle:   # for one thread
+        handle.insert(3, 30)        # True
+        handle.compare_exchange(2, 20, 21)   # 20: the value that it had, and so it is 21 now
+        list(handle.range())        # [(2, 21), (3, 30)]: the pairs of all keys, ascending
+        handle.cards_left()         # 99998
 
 A handle can be in one call at a time: a second call is refused meanwhile. If the exception of a signal, such as KeyboardInterrupt, interrupts a call,
 the handle is free for the next one, but you can't tell whether the interrupted call took effect.
@@ -35,8 +25,8 @@ Refused, whose code is a Code. What a Map has from a dict finds such a key absen
 
 The package needs Python 3.10 or later. If the headers of Python were there when it was installed, a compiled module in it contains the library. If
 not, or if the environment variable ELLTREE_PURE or ELLTREE_LIBRARY is not empty, each call goes through ctypes, which takes many times as long. The
-library is then the file named in ELLTREE_LIBRARY, or else libelltree.so in the package, as in a wheel, or else lib/libelltree.so of the prefix in
-which the package is installed, or else the one that the system finds.
+library is then the file named in ELLTREE_LIBRARY, or else libelltree.so in the package, as in a wheel, or else lib/libelltree.so.0 of the prefix in
+which the package is installed, or else libelltree.so.0 as the system finds it.
 """
 
 from ._arguments import KEY_MAX
@@ -46,7 +36,6 @@ from ._codes import (
     BAD_START,
     BUSY,
     CLOSED,
-    FOREIGN,
     FORKED,
     IN_CALL,
     NO,
@@ -55,10 +44,8 @@ from ._codes import (
     NO_TRIES,
     NULL,
     OPEN,
-    OTHER_TREE,
     OTHER_VALUE,
     SAME,
-    SHARED_KEYS,
     SPENT,
     TOO_MANY_HANDLES,
     YES,
@@ -68,10 +55,10 @@ from ._codes import (
     Spent,
     text,
 )
-from ._handle import Handle, open, open_shared, renew_all, renew_all_shared
 from ._map import Map
+from ._tree import Handle, Tree
 
-__version__ = "0.2.0"
+__version__ = "0.3.0"
 
 __all__ = [
     "BAD_CARDS",
@@ -79,7 +66,6 @@ __all__ = [
     "BAD_START",
     "BUSY",
     "CLOSED",
-    "FOREIGN",
     "FORKED",
     "IN_CALL",
     "KEY_MAX",
@@ -89,10 +75,8 @@ __all__ = [
     "NO_TRIES",
     "NULL",
     "OPEN",
-    "OTHER_TREE",
     "OTHER_VALUE",
     "SAME",
-    "SHARED_KEYS",
     "SPENT",
     "TOO_MANY_HANDLES",
     "YES",
@@ -102,15 +86,12 @@ __all__ = [
     "Map",
     "Refused",
     "Spent",
+    "Tree",
     "__version__",
-    "open",
-    "open_shared",
-    "renew_all",
-    "renew_all_shared",
     "text",
 ]
 
 # Tracebacks and pickles name the package, and not the module in it.
-for _public in (Busy, Code, Handle, Map, Refused, Spent):
+for _public in (Busy, Code, Handle, Map, Refused, Spent, Tree):
     _public.__module__ = __name__
 del _public

@@ -1,4 +1,4 @@
-"""What programs give to calls, checked and as the library takes it."""
+"""What calls take: the one list of the library's functions, and what programs give, checked and as the library takes it."""
 
 from __future__ import annotations
 
@@ -11,6 +11,68 @@ KEY_MAX = 2**64 - 3
 
 # The end of a range that has none: no key is so great.
 NO_END = 2**64 - 1
+
+# The functions of the library, by their names without elltree_slot_ or elltree_map_, and their signatures: a letter for each thing that they take.
+# Small letters are numbers, and capital ones are pointers:
+#   k, v, a, c, t    a key, a value, an addend, the number of cards, the number of tries
+#   n                how many items an array has, or how many bytes a struct
+#   V, N             to a value or a key, and to a number of items, which the function writes unless it answers no
+#   W                to a value that it writes whatever it answers
+#   E                to the expected value, in place of which it writes the one that it found
+#   S, M             to what the library keeps of a handle, and of a map
+#   P, A, O, C       to pairs, to where a new map is written, to the settings and to the counters of a map
+# From these _functions makes what ctypes has to know, and its methods. The methods of the compiled module have their signatures as __doc__.
+OF_SLOTS = {
+    "open": "SPnc",
+    "another": "SS",
+    "free": "S",
+    "find": "SkV",
+    "look": "SkV",
+    "insert": "Skvt",
+    "put": "SkvtV",
+    "delete": "Skt",
+    "take": "SktV",
+    "compare_exchange": "SkvvtV",
+    "remove_if": "SkvtV",
+    "fetch_add": "SkatV",
+    "range": "SkkPnNV",
+    "next_at_least": "SkVV",
+    "last_at_most": "SkVV",
+    "cards_left": "SV",
+    "steps": "SV",
+}
+OF_MAPS = {
+    "from_sorted": "APnOn",
+    "free": "M",
+    "get": "MkV",
+    "insert": "Mkv",
+    "put": "MkvV",
+    "get_or_insert": "MkvW",
+    "remove": "MkV",
+    "delete": "Mk",
+    "remove_if": "MkvV",
+    "compare_exchange": "MkEv",
+    "fetch_add": "MkaV",
+    "pop_first": "MVV",
+    "pop_last": "MVV",
+    "range": "MkkPnNV",
+    "next_at_least": "MkVV",
+    "last_at_most": "MkVV",
+    "len": "MN",
+    "pairs": "MPnN",
+    "renew": "M",
+    "counts": "MCn",
+}
+
+# The numbers that programs give, by their letters: how many bits each has, and what it is called.
+NUMBERS = {
+    "k": (64, "a key"),
+    "v": (64, "a value"),
+    "E": (64, "a value"),
+    "a": (64, "an addend"),
+    "c": (64, "the number of cards"),
+    "t": (32, "the number of tries"),
+}
 
 # Keys with their values. Those of a mapping may have any order.
 Pairs = Mapping[int, int] | Iterable[tuple[SupportsIndex, SupportsIndex]]
@@ -28,7 +90,7 @@ def whole(number: SupportsIndex, bits: int, what: str) -> int:
 
 
 def as_key(key: SupportsIndex) -> int:
-    return whole(key, 64, "a key")
+    return whole(key, *NUMBERS["k"])
 
 
 def like_key(given: object) -> int:
@@ -53,22 +115,6 @@ def _equal_int(given: object) -> int:
     except (TypeError, ValueError, OverflowError):
         return NO_END
     return number if number == given else NO_END
-
-
-def as_value(value: SupportsIndex) -> int:
-    return whole(value, 64, "a value")
-
-
-def as_addend(addend: SupportsIndex) -> int:
-    return whole(addend, 64, "an addend")
-
-
-def as_cards(cards: SupportsIndex) -> int:
-    return whole(cards, 64, "the number of cards")
-
-
-def as_tries(tries: SupportsIndex) -> int:
-    return whole(tries, 32, "the number of tries")
 
 
 def pair_list(pairs: Pairs) -> list[tuple[SupportsIndex, SupportsIndex]]:

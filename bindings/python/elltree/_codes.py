@@ -4,8 +4,6 @@ from __future__ import annotations
 
 import enum
 
-from ._library import code_text
-
 
 class Code(enum.IntEnum):
     """What a call of the library returns: an answer, or a negative code that says why the call was refused. text(code) describes each."""
@@ -15,7 +13,6 @@ class Code(enum.IntEnum):
     OTHER_VALUE = 2
     BUSY = -1
     SPENT = -2
-    FOREIGN = -3
     NO_TRIES = -4
     BAD_CARDS = -5
     BAD_KEY = -6
@@ -24,12 +21,10 @@ class Code(enum.IntEnum):
     NO_MEMORY = -9
     CLOSED = -10
     OPEN = -11
-    OTHER_TREE = -12
     NULL = -13
     SAME = -14
     IN_CALL = -15
     TOO_MANY_HANDLES = -16
-    SHARED_KEYS = -17
     FORKED = -18
 
     # Codes are written as numbers, in Python 3.10 too.
@@ -42,7 +37,6 @@ YES = Code.YES
 OTHER_VALUE = Code.OTHER_VALUE
 BUSY = Code.BUSY
 SPENT = Code.SPENT
-FOREIGN = Code.FOREIGN
 NO_TRIES = Code.NO_TRIES
 BAD_CARDS = Code.BAD_CARDS
 BAD_KEY = Code.BAD_KEY
@@ -51,12 +45,10 @@ NO_ROOM = Code.NO_ROOM
 NO_MEMORY = Code.NO_MEMORY
 CLOSED = Code.CLOSED
 OPEN = Code.OPEN
-OTHER_TREE = Code.OTHER_TREE
 NULL = Code.NULL
 SAME = Code.SAME
 IN_CALL = Code.IN_CALL
 TOO_MANY_HANDLES = Code.TOO_MANY_HANDLES
-SHARED_KEYS = Code.SHARED_KEYS
 FORKED = Code.FORKED
 
 _NUMBERS = frozenset(Code)
@@ -64,6 +56,8 @@ _NUMBERS = frozenset(Code)
 
 def text(code: int) -> str:
     """Returns a text that describes a code."""
+    from ._library import code_text  # which needs this module
+
     return code_text(code)
 
 
@@ -92,7 +86,7 @@ class Busy(Refused):
 
 
 class Spent(Refused):
-    """A change needs a card, and all cards are given out. renew_all and renew_all_shared make fresh ones; cards_left tells how many are left."""
+    """A change needs a card, and all cards of the tree are given out. Calls that read go on, and so does the program with a new Tree of the pairs."""
 
     def __init__(self, code: int = SPENT) -> None:
         super().__init__(code)

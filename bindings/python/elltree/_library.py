@@ -1,4 +1,4 @@
-"""The library, as one of two modules offers it: the compiled one, _elltree, if it is there, and else _by_ctypes. They have the same names.
+"""The library, as one of two modules offers it, by the same names: the compiled one, _elltree, if it is there, and else _functions, by ctypes.
 
 ELLTREE_PURE has the second be taken, if it is not empty, and so has ELLTREE_LIBRARY, which says where that finds the library.
 """
@@ -6,8 +6,10 @@ ELLTREE_PURE has the second be taken, if it is not empty, and so has ELLTREE_LIB
 from __future__ import annotations
 
 import os
-from collections.abc import Callable
 from types import ModuleType
+from typing import TYPE_CHECKING
+
+from ._codes import answer
 
 
 def _find_compiled() -> ModuleType | None:
@@ -22,8 +24,11 @@ def _find_compiled() -> ModuleType | None:
 
 
 compiled = _find_compiled()
-code_text: Callable[[int], str]
-if compiled is None:
-    from ._functions import code_text
+if TYPE_CHECKING or compiled is None:
+    from ._functions import HandleCore, MapCore, code_text
 else:
-    code_text = compiled.code_text
+    HandleCore, MapCore, code_text = compiled.HandleCore, compiled.MapCore, compiled.code_text
+    # What raises the exceptions of codes.
+    HandleCore.answer = MapCore.answer = staticmethod(answer)
+
+__all__ = ["HandleCore", "MapCore", "code_text", "compiled"]

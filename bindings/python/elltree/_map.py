@@ -6,9 +6,9 @@ import collections.abc
 from collections.abc import Callable, Iterator
 from typing import Any, NoReturn, SupportsIndex, TypeVar, overload
 
-from ._arguments import Pairs, as_cards, pair_list, whole
+from ._arguments import KEY_MAX, NO_END, NUMBERS, Pairs, as_key, like_key, pair_list, whole
 from ._codes import Refused
-from ._cores import MapCore
+from ._library import MapCore
 from ._ordered import Ordered
 
 _Default = TypeVar("_Default")
@@ -71,9 +71,7 @@ class Map(Ordered, collections.abc.MutableMapping[int, int]):
     A map can't be copied or pickled, and a forked child can't use it: calls are refused there (FORKED).
     """
 
-    __slots__ = ("_core", "__weakref__")
-
-    _core: MapCore
+    __slots__ = ()
 
     def __init__(
         self,
@@ -85,13 +83,13 @@ class Map(Ordered, collections.abc.MutableMapping[int, int]):
     ) -> None:
         """Makes a map with the pairs of start, a dict or pairs in any order.
 
-        cards is how many cards the map has when it is made (512). Sections of the map get more cards while renewals take more than renewal_percent of
+        cards is how many cards the map has when it is made (128). Sections of the map get more cards while renewals take more than renewal_percent of
         the time (5), but no more than a renewal of renewal_microseconds allows (5,000). calls is how many calls may be under way at once. What is 0
         is left to the map.
         """
         self._core = MapCore(
             pair_list(dict(start)),
-            as_cards(cards),
+            whole(cards, *NUMBERS["c"]),
             whole(renewal_percent, 32, "renewal_percent"),
             whole(renewal_microseconds, 32, "renewal_microseconds"),
             whole(calls, 32, "calls"),
@@ -108,22 +106,36 @@ class Map(Ordered, collections.abc.MutableMapping[int, int]):
 
     def get(self, key: object, default: Any = None) -> Any:
         """Returns the value of the key, or the default if the key is absent."""
-        return self._core.get(key, default)
+        value = self._found(key)
+        return default if value is None else value
+
+    def _found(self, key: Any) -> int | None:
+        """Returns the value of the key that a dict would find, or None if there is none."""
+        try:
+            return self._core.get(key)
+        except (TypeError, OverflowError):
+            pass  # It is no key of 64 bits, but it may be equal to one.
+        return self._core.get(like_key(key))
+
+    def _taken(self, key: Any) -> int | None:
+        """Removes the key that a dict would find, and returns the value that it had, or None if there is none."""
+        key = like_key(key)
+        return self._core.remove(key) if key <= KEY_MAX else None
 
     def __getitem__(self, key: object) -> int:
-        value = self._core.get(key, None)
+        value = self._found(key)
         if value is None:
             raise KeyError(key)
         return value
 
     def __contains__(self, key: object) -> bool:
-        return self._core.get(key, None) is not None
+        return self._found(key) is not None
 
     def __setitem__(self, key: SupportsIndex, value: SupportsIndex) -> None:
         self._core.put(key, value)
 
     def __delitem__(self, key: object) -> None:
-        if self._core.take(key, None) is None:
+        if self._taken(key) is None:
             raise KeyError(key)
 
     def __len__(self) -> int:
@@ -196,7 +208,7 @@ class Map(Ordered, collections.abc.MutableMapping[int, int]):
         """Removes a key, and returns the value that it had, or the default if it was absent. Without a default an absent key raises KeyError."""
         if len(default) > 1:
             raise TypeError(f"pop takes one default, not {len(default)}")
-        value = self._core.take(key, None)
+        value = self._taken(key)
         if value is not None:
             return value
         if not default:
@@ -242,15 +254,32 @@ class Map(Ordered, collections.abc.MutableMapping[int, int]):
 
     def modify(self, key: SupportsIndex, f: Callable[[int], SupportsIndex]) -> int | None:
         """Stores f(value) in place of the value of a key, in one atomic step. Returns the value that it had, or None if the key is absent: then it
-        stays absent. f is called again if another thread has changed the value meanwhile, and it may call the map. For a handle this is update, while
-        the update of a map is that of a dict."""
-        value = self._core.find(key)
+        stays absent. f is called again if another thread has changed the value meanwhile, and it may call the map. (update is that of a dict.)"""
+        value = self._core.get(key)
         while value is not None:
             there = self.compare_exchange(key, value, f(value))
             if there == value:
                 break
             value = there
         return value
+
+    def next_after(self, key: SupportsIndex) -> tuple[int, int] | None:
+        """Returns the smallest key that is present and above this one, with its value, or None, as next_at_least does."""
+        return self._core.next_at_least(min(as_key(key) + 1, NO_END))
+
+    def last_before(self, key: SupportsIndex) -> tuple[int, int] | None:
+        """Returns the greatest key that is present and below this one, with its value, or None, as last_at_most does."""
+        key = as_key(key)
+        # None is below 0, nor is any from NO_END on.
+        return self._core.last_at_most(key - 1) if key else self._core.next_at_least(NO_END)
+
+    def first(self) -> tuple[int, int] | None:
+        """Returns the smallest key that is present, with its value, or None, as next_at_least does."""
+        return self._core.next_at_least(0)
+
+    def last(self) -> tuple[int, int] | None:
+        """Returns the greatest key that is present, with its value, or None, as last_at_most does."""
+        return self._core.last_at_most(KEY_MAX)
 
     def pairs(self) -> list[tuple[int, int]]:
         """Returns a list of all pairs in the ascending order of their keys, as they are at one moment: a snapshot. Calls that change keys wait

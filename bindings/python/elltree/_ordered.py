@@ -1,12 +1,11 @@
-"""The keys in their order, of a handle's tree or of a map."""
+"""The keys in their order, of a tree or of a map."""
 
 from __future__ import annotations
 
 from collections.abc import Iterator
-from typing import SupportsIndex
+from typing import Any, SupportsIndex
 
-from ._arguments import KEY_MAX, NO_END, as_key
-from ._cores import HandleCore, MapCore
+from ._arguments import NO_END, as_key
 
 # How many pairs of a range are asked for first, and at most: it doubles in between, so that a short range is cheap.
 _FIRST_FILL = 8
@@ -14,11 +13,12 @@ _MOST_FILL = 256
 
 
 class Ordered:
-    """Goes over keys in their order. A handle sees all keys of its tree, whoever owns them."""
+    """Goes over keys in their order."""
 
-    __slots__ = ()
+    __slots__ = ("_core", "__weakref__")
 
-    _core: HandleCore | MapCore
+    # What the library keeps, a HandleCore or a MapCore.
+    _core: Any
 
     def range(self, start: SupportsIndex = 0, stop: SupportsIndex | None = None) -> Iterator[tuple[int, int]]:
         """Returns a generator of the pairs whose keys are at least start and below stop, in ascending order. Without stop the range goes up to the
@@ -42,25 +42,7 @@ class Ordered:
         each key that was passed over was absent at one."""
         return self._core.next_at_least(key)
 
-    def next_after(self, key: SupportsIndex) -> tuple[int, int] | None:
-        """Returns the smallest key that is present and above this one, with its value, or None, as next_at_least does."""
-        return self._core.next_at_least(min(as_key(key) + 1, NO_END))
-
     def last_at_most(self, key: SupportsIndex) -> tuple[int, int] | None:
         """Returns the greatest key that is present and at most this one, with its value, or None. It was present at one moment of the call, and each
         key that was passed over was absent at one."""
         return self._core.last_at_most(key)
-
-    def last_before(self, key: SupportsIndex) -> tuple[int, int] | None:
-        """Returns the greatest key that is present and below this one, with its value, or None, as last_at_most does."""
-        key = as_key(key)
-        # None is below 0, nor is any from NO_END on.
-        return self._core.last_at_most(key - 1) if key else self._core.next_at_least(NO_END)
-
-    def first(self) -> tuple[int, int] | None:
-        """Returns the smallest key that is present, with its value, or None, as next_at_least does."""
-        return self._core.next_at_least(0)
-
-    def last(self) -> tuple[int, int] | None:
-        """Returns the greatest key that is present, with its value, or None, as last_at_most does."""
-        return self._core.last_at_most(KEY_MAX)
