@@ -1,6 +1,5 @@
-/* What the library keeps of a handle has cache lines of its own, with 128 bytes on each side that no call writes to, in a tree of shared keys and
-   in one of owned keys. It looks at the block that malloc gave for a handle, with 16 bytes in front of what the library
-   uses, which no program may do. */
+/* What the library keeps of a handle has cache lines of its own, with 128 bytes on each side that no call writes to. It looks at the block that
+   malloc gave for a handle, with 16 bytes in front of what the library uses, which no program may do. */
 #include "elltree.h"
 #include <malloc.h>
 #include <stdio.h>
@@ -47,34 +46,22 @@ static struct written calls_write(struct elltree_handle *handle, uint64_t key, l
     return (struct written){(uintptr_t)block + first, (uintptr_t)block + last};
 }
 
-/* No two handles have a line that calls on both write to. */
-static long try_all(const char *name, struct elltree_handle *handles) {
+int main(void) {
+    /* As the header says for handles of several threads. */
+    static struct { _Alignas(LINE) struct elltree_handle handle; } line[2];
+    struct elltree_handle handles[HANDLES] = {ELLTREE_EMPTY};
     struct written written[HANDLES];
-    long wrong = 0;
+    long wrong = sizeof line[0] != LINE || (uintptr_t)&line[0] % LINE != 0;
+    wrong += elltree_open(&handles[0], NULL, 0, CARDS) != ELLTREE_YES;
+    for (int i = 1; i < HANDLES; i++)
+        wrong += elltree_another(&handles[0], &handles[i]) != ELLTREE_YES;
     for (int i = 0; i < HANDLES; i++)
         written[i] = calls_write(&handles[i], (uint64_t)i, &wrong);
-    for (int i = 0; i < HANDLES; i++)
+    for (int i = 0; i < HANDLES; i++) /* no two handles have a line that calls on both write to */
         for (int other = 0; other < i; other++)
             wrong += written[other].first / LINE <= written[i].last / LINE && written[i].first / LINE <= written[other].last / LINE;
     for (int i = 0; i < HANDLES; i++)
         wrong += elltree_free(&handles[i]) != ELLTREE_YES;
-    printf("%s: %ld wrong\n", name, wrong);
-    return wrong;
-}
-
-int main(void) {
-    /* As the header says for handles of several threads. */
-    static struct { _Alignas(LINE) struct elltree_handle handle; } line[2];
-    struct elltree_handle shared[HANDLES] = {ELLTREE_EMPTY}, owned[HANDLES] = {ELLTREE_EMPTY};
-    const uint64_t keys[HANDLES] = {0, 1, 2, 3};
-    long wrong = sizeof line[0] != LINE || (uintptr_t)&line[0] % LINE != 0;
-    wrong += elltree_open_shared(&shared[0], NULL, 0, CARDS) != ELLTREE_YES;
-    wrong += elltree_open(&owned[0], keys, HANDLES, NULL, 0, CARDS) != ELLTREE_YES;
-    for (int i = 1; i < HANDLES; i++) {
-        wrong += elltree_another(&shared[0], &shared[i]) != ELLTREE_YES;
-        wrong += elltree_split(&owned[0], &owned[i], keys + i, 1) != ELLTREE_YES;
-    }
-    wrong += try_all("shared keys", shared) + try_all("owned keys", owned);
     printf("%ld wrong\n", wrong);
     return wrong != 0;
 }

@@ -6,7 +6,7 @@
 
 int main() {
     std::vector<elltree::handle> handles;
-    handles.push_back(elltree::handle::open_shared({{7, 0}}, 100000)); // pairs to start with, cards
+    handles.push_back(elltree::handle::open({{7, 0}}, 100000)); // pairs to start with, cards
     while (handles.size() < 4)
         handles.push_back(handles.front().another());
     std::vector<std::thread> threads;

@@ -36,13 +36,13 @@ static long make_map(uint64_t cards, uint32_t calls, const struct elltree_pair *
     settings.renewal_percent = 100;
     settings.renewal_microseconds = 1;
     settings.calls = calls;
-    return elltree_map_from_sorted(&map, pairs, count, &settings) != ELLTREE_YES;
+    return elltree_map_from_sorted(&map, pairs, count, &settings, sizeof settings) != ELLTREE_YES;
 }
 
 /* Ends the map, and tells how often it was renewed, which is to be this often at least. */
 static long end_map(const char *what, long wrong, uint64_t renewals) {
     struct elltree_map_counters counts = {0, 0, 0, 0, 0, 0, 0};
-    wrong += elltree_map_counts(map, &counts) != ELLTREE_YES || counts.renewals < renewals;
+    wrong += elltree_map_counts(map, &counts, sizeof counts) != ELLTREE_YES || counts.renewals < renewals;
     printf("%s: %llu sections, %llu renewals, %llu early, the longest pause %.2f ms, %ld wrong\n", what, (unsigned long long)counts.sections,
            (unsigned long long)counts.renewals, (unsigned long long)counts.early_renewals, (double)counts.longest_nanoseconds / 1e6, wrong);
     elltree_map_free(map);
@@ -153,9 +153,9 @@ static void *sleep_between(void *given) {
     struct elltree_map_counters before = {0, 0, 0, 0, 0, 0, 0}, after = before;
     const struct timespec while_ = {1, 0};
     change(w, 0, 1);
-    w->wrong += elltree_map_counts(map, &before) != ELLTREE_YES;
+    w->wrong += elltree_map_counts(map, &before, sizeof before) != ELLTREE_YES;
     nanosleep(&while_, NULL);
-    w->wrong += elltree_map_counts(map, &after) != ELLTREE_YES || after.renewals == before.renewals;
+    w->wrong += elltree_map_counts(map, &after, sizeof after) != ELLTREE_YES || after.renewals == before.renewals;
     look(w, 0);
     return NULL;
 }
@@ -299,7 +299,8 @@ static long snapshots(void) {
     return end_map("snapshots", wrong + t[0].wrong + t[1].wrong + t[2].wrong, 1);
 }
 
-/* Threads fill a map whose keys are those of one thread and another in turn, change it, and empty it: its sections are parted and joined meanwhile. */
+/* Threads fill a map whose keys are those of one thread and another in turn, change it, and empty it: its sections are parted and joined
+   meanwhile. */
 
 struct filler {
     uint64_t number, seed, *value; /* 0 for a key that is absent */
@@ -383,9 +384,9 @@ static long sections(void) {
         wrong += elltree_map_insert(map, MANY * CROWD + i, i) != ELLTREE_YES;
         wrong += i >= MANY && (elltree_map_remove(map, MANY * (CROWD - 1) + i, &was) != ELLTREE_YES || was != i - MANY);
         if (i == MANY)
-            wrong += elltree_map_counts(map, &counts) != ELLTREE_YES || counts.sections < 3;
+            wrong += elltree_map_counts(map, &counts, sizeof counts) != ELLTREE_YES || counts.sections < 3;
     }
-    wrong += elltree_map_counts(map, &counts) != ELLTREE_YES || counts.sections < 3 || counts.sections > 40;
+    wrong += elltree_map_counts(map, &counts, sizeof counts) != ELLTREE_YES || counts.sections < 3 || counts.sections > 40;
     return end_map("sections", wrong, 20);
 }
 
@@ -409,7 +410,7 @@ static long add_many(const char *what, uint64_t (*key)(uint64_t i), uint64_t lea
     for (uint64_t i = 0; i < MANY; i++)
         wrong += elltree_map_get(map, key(i), &value) != ELLTREE_YES || value != i;
     wrong += elltree_map_len(map, &length) != ELLTREE_YES || length != MANY;
-    wrong += elltree_map_counts(map, &counts) != ELLTREE_YES || counts.early_renewals < least || counts.early_renewals > most;
+    wrong += elltree_map_counts(map, &counts, sizeof counts) != ELLTREE_YES || counts.early_renewals < least || counts.early_renewals > most;
     return end_map(what, wrong, 0);
 }
 
@@ -477,8 +478,9 @@ static long refusals(void) {
     struct elltree_map *none = NULL;
     uint64_t value = 7;
     size_t count;
-    long wrong = elltree_map_from_sorted(&none, twice, 2, NULL) != ELLTREE_BAD_START || none;
-    wrong += elltree_map_from_sorted(&none, &above, 1, NULL) != ELLTREE_BAD_KEY || elltree_map_from_sorted(&none, NULL, 1, NULL) != ELLTREE_NULL;
+    long wrong = elltree_map_from_sorted(&none, twice, 2, NULL, 0) != ELLTREE_BAD_START || none;
+    wrong += elltree_map_from_sorted(&none, &above, 1, NULL, 0) != ELLTREE_BAD_KEY ||
+             elltree_map_from_sorted(&none, NULL, 1, NULL, 0) != ELLTREE_NULL;
     wrong += elltree_map_new(NULL) != ELLTREE_NULL || elltree_map_get(NULL, 1, &value) != ELLTREE_NULL;
     wrong += make_map(0, 0, NULL, 0);
     wrong += elltree_map_compare_exchange(map, 1, NULL, 1) != ELLTREE_NULL || elltree_map_update(map, 1, NULL, NULL, &value) != ELLTREE_NULL;

@@ -6,6 +6,7 @@
 #include <cstdio>
 #include <map>
 #include <thread>
+#include <type_traits>
 
 #ifndef OPS
 #define OPS 40000
@@ -108,6 +109,36 @@ static void members() {
     EXPECT(std::string(elltree::refused(ELLTREE_NO_MEMORY).what()) == "out of memory");
 }
 
+/* A function that update calls may throw, and may change the key itself, after which it is called again. */
+static void updates() {
+    auto map = elltree::map::from_sorted({{1, 10}});
+    int calls = 0;
+    bool is_thrown = false;
+    try {
+        map.update(1, [](uint64_t) -> uint64_t { throw std::runtime_error("no"); });
+    } catch (const std::runtime_error &) {
+        is_thrown = true;
+    }
+    EXPECT(is_thrown && map.get(1) == 10u);
+    EXPECT(map.update(1, [&](uint64_t was) { return calls++ || !map.put(1, 20) ? was + 1 : was; }) == 20u && map.get(1) == 21u && calls == 2);
+    EXPECT(!map.update(1, [&](uint64_t) { return map.erase(1) ? 1u : 0u; }) && !map.get(1));
+}
+
+static void moves() {
+    static_assert(std::is_nothrow_move_constructible_v<elltree::map> && std::is_nothrow_move_assignable_v<elltree::map>);
+    static_assert(!std::is_copy_constructible_v<elltree::map> && !std::is_copy_assignable_v<elltree::map>);
+    auto one = elltree::map::from_sorted({{1, 10}}), other = elltree::map::from_sorted({{2, 20}});
+    swap(one, other);
+    EXPECT(one.get(2) == 20u && other.get(1) == 10u);
+    one = std::move(other);
+    EXPECT(one.get(1) == 10u && one.size() == 1 && !other.native_handle() && code_of([&] { other.get(1); }) == ELLTREE_NULL);
+    elltree::map &same = one;
+    one = std::move(same);
+    EXPECT(elltree_map_put(one.native_handle(), 3, 30, nullptr) == ELLTREE_NO && one.get(3) == 30u);
+    other = elltree::map();
+    EXPECT(other.empty() && other.insert(2, 20) && one.size() == 2);
+}
+
 static void composed() {
     elltree::map map;
     EXPECT(map.get_or_insert(2, 20) == std::make_pair(uint64_t(20), true) && map.get_or_insert(2, 21) == std::make_pair(uint64_t(20), false));
@@ -200,6 +231,8 @@ static void guide() {
 
 int main() {
     members();
+    updates();
+    moves();
     guide();
     composed();
     too_great();

@@ -1,5 +1,6 @@
-/* A program with an allocator of its own, which has malloc, calloc, realloc and free and nothing else, and keeps a number in front of each block: the library
-   asks for no block and for no size in another way. Maps are filled, changed, emptied and freed, and no block comes back that was not given out. */
+/* A program with an allocator of its own, which has malloc, calloc, realloc and free and nothing else, and keeps a number in front of each block:
+   the library asks for no block and for no size in another way. Maps are filled, changed, emptied and freed, and no block comes back that was not
+   given out. */
 #define _GNU_SOURCE
 #include "elltree_map.h"
 #include <stdio.h>

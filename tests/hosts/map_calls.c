@@ -1,11 +1,13 @@
 /* Calls of a map that are made of others, and what all calls do without a pointer to write to, and with keys that are too great. Threads that get or
    insert the same keys agree on the value of each, and one of them adds it; beside threads that take keys away, each value that is told was inserted.
    Threads that take a key away with their own value alone exclude each other by it. Threads that empty a map from both ends get each pair once, in
-   order, and threads that empty one while another fills it get each pair once. The map renews itself meanwhile. */
+   order, and threads that empty one while another fills it get each pair once. The map renews itself meanwhile. Callers may know fewer settings and
+   counters than the library, or more. */
 #define _GNU_SOURCE
 #include "elltree_map.h"
 #include <pthread.h>
 #include <stdio.h>
+#include <stdlib.h>
 #include <string.h>
 
 #ifndef KEYS
@@ -29,12 +31,12 @@ static long make_map(const struct elltree_pair *pairs, size_t count) {
     settings.cards = CARDS;
     settings.renewal_percent = 100;
     settings.renewal_microseconds = 1;
-    return elltree_map_from_sorted(&map, pairs, count, &settings) != ELLTREE_YES;
+    return elltree_map_from_sorted(&map, pairs, count, &settings, sizeof settings) != ELLTREE_YES;
 }
 
 static long end_map(const char *what, long wrong) {
     struct elltree_map_counters counts = {0, 0, 0, 0, 0, 0, 0};
-    wrong += elltree_map_counts(map, &counts) != ELLTREE_YES;
+    wrong += elltree_map_counts(map, &counts, sizeof counts) != ELLTREE_YES;
     printf("%s: %llu sections, %llu renewals, %ld wrong\n", what, (unsigned long long)counts.sections, (unsigned long long)counts.renewals, wrong);
     elltree_map_free(map);
     return wrong;
@@ -260,9 +262,9 @@ static long unwanted(void) {
     wrong += elltree_map_last_at_most(map, 3, NULL, &value) != ELLTREE_YES || value != 24;
     wrong += elltree_map_last_before(map, 4, &value, NULL) != ELLTREE_YES || value != 2 || elltree_map_last_before(map, 2, NULL, NULL) != ELLTREE_NO;
     wrong += elltree_map_first(map, NULL, NULL) != ELLTREE_YES || elltree_map_last(map, NULL, NULL) != ELLTREE_YES;
-    wrong += elltree_map_len(map, NULL) != ELLTREE_YES || elltree_map_counts(map, NULL) != ELLTREE_YES;
+    wrong += elltree_map_len(map, NULL) != ELLTREE_YES || elltree_map_counts(map, NULL, 0) != ELLTREE_YES;
     wrong += elltree_map_pairs(map, out, 4, NULL) != ELLTREE_YES || elltree_map_pairs(map, out, 1, NULL) != ELLTREE_NO_ROOM;
-    wrong += elltree_map_len(NULL, NULL) != ELLTREE_NULL || elltree_map_counts(NULL, NULL) != ELLTREE_NULL;
+    wrong += elltree_map_len(NULL, NULL) != ELLTREE_NULL || elltree_map_counts(NULL, NULL, 0) != ELLTREE_NULL;
     return end_map("what nobody wants", wrong);
 }
 
@@ -287,8 +289,70 @@ static long above(uint64_t key) {
     return end_map("a key that is too great", wrong);
 }
 
+/* Where a caller's counters are: the library writes to no byte in front of them or behind them. */
+enum { KNOWN = sizeof(struct elltree_map_counters), MORE = 32, GUARD = 0xA5 };
+
+/* How many bytes are not as they should be, after a call with counters of this size: members that both know are those of the map, those that the
+   library does not know are 0, and nothing is written to what surrounds them. A size may end within a member. */
+static long miscounted(const struct elltree_map_counters *counts, size_t size) {
+    static _Alignas(16) unsigned char out[MORE + KNOWN + MORE + MORE];
+    const unsigned char *right = (const unsigned char *)counts;
+    long wrong;
+    memset(out, GUARD, sizeof out);
+    wrong = elltree_map_counts(map, (void *)(out + MORE), size) != ELLTREE_YES;
+    for (size_t i = 0; i < sizeof out; i++) {
+        const size_t at = i - MORE; /* a great number in front of the counters */
+        if (at >= size)
+            wrong += out[i] != GUARD;
+        else if (at < size / sizeof(uint64_t) * sizeof(uint64_t))
+            wrong += out[i] != (at < KNOWN ? right[at] : 0);
+    }
+    return wrong;
+}
+
+/* Makes a map by the first bytes of settings, with others behind them if there are more, and writes how many cards it has. The block ends with
+   them, or has more that are not the caller's settings. */
+static long made_by(const struct elltree_map_settings *settings, size_t size, size_t behind, uint64_t *cards) {
+    struct elltree_map_counters counts = {0, 0, 0, 0, 0, 0, 0};
+    void *given = malloc(size + behind);
+    long wrong = !given;
+    if (wrong)
+        return wrong;
+    memset(given, 0xFF, size + behind);
+    memcpy(given, settings, size < sizeof *settings ? size : sizeof *settings);
+    wrong += elltree_map_from_sorted(&map, NULL, 0, given, size) != ELLTREE_YES;
+    wrong += elltree_map_counts(map, &counts, sizeof counts) != ELLTREE_YES;
+    *cards = counts.cards;
+    wrong += elltree_map_put(map, 1, 10, NULL) != ELLTREE_NO || elltree_map_free(map) != ELLTREE_YES;
+    free(given);
+    return wrong;
+}
+
+/* A caller's header may know fewer settings and counters than the library, or more. */
+static long sizes(void) {
+    struct elltree_map_settings settings = ELLTREE_MAP_SETTINGS;
+    struct elltree_map_counters counts;
+    uint64_t usual = 0, cards = 0;
+    long wrong = made_by(&settings, sizeof settings, 0, &usual) + (usual == CARDS || usual == 0);
+    settings.cards = CARDS;
+    settings.renewal_percent = 100;
+    settings.calls = 64;
+    for (size_t size = 0; size <= sizeof settings + MORE; size += 4) {
+        if (size == 4) /* half of a number */
+            continue;
+        for (size_t behind = 0; behind <= MORE; behind += MORE)
+            wrong += made_by(&settings, size, behind, &cards) || cards != (size ? CARDS : usual);
+    }
+    wrong += make_map(NULL, 0) + (elltree_map_renew(map) != ELLTREE_YES);
+    wrong += elltree_map_counts(map, &counts, sizeof counts) != ELLTREE_YES || counts.renewals == 0 || counts.cards == 0;
+    for (size_t size = 0; size <= KNOWN + MORE; size++)
+        wrong += miscounted(&counts, size);
+    wrong += elltree_map_counts(map, NULL, sizeof counts) != ELLTREE_YES;
+    return end_map("other sizes of settings and counters", wrong);
+}
+
 int main(void) {
-    long wrong = answers() + unwanted() + above(ELLTREE_KEY_MAX + 1) + above(UINT64_MAX);
+    long wrong = answers() + unwanted() + sizes() + above(ELLTREE_KEY_MAX + 1) + above(UINT64_MAX);
     wrong += agree() + come_and_go() + locks() + from_both_ends() + queue();
     printf("%ld wrong\n", wrong);
     return wrong != 0;

@@ -1,5 +1,5 @@
-/* Threads that change a map, or renew it, are cancelled with the default type, one after the other, beside threads that go on. No function of the map is
-   a cancellation point: each thread ends between two calls, and the calls of the others go on. The test hangs if one ends inside. */
+/* Threads that change a map, or renew it, are cancelled with the default type, one after the other, beside threads that go on. No function of the
+   map is a cancellation point: each thread ends between two calls, and the calls of the others go on. The test hangs if one ends inside. */
 #include "elltree_map.h"
 #include <pthread.h>
 #include <stdio.h>
@@ -82,7 +82,7 @@ int main(void) {
     settings.cards = CARDS;
     settings.renewal_percent = 100;
     settings.renewal_microseconds = 1;
-    wrong += elltree_map_from_sorted(&map, NULL, 0, &settings) != ELLTREE_YES;
+    wrong += elltree_map_from_sorted(&map, NULL, 0, &settings, sizeof settings) != ELLTREE_YES;
     for (uint64_t i = 0; i < WORKERS; i++) {
         workers[i].number = i;
         pthread_create(&threads[i], NULL, work, &workers[i]);

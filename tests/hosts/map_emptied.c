@@ -1,6 +1,6 @@
-/* A map of many keys is emptied in five ways: its sections are joined as they lose their keys, so that few are left, and their memory is the allocator's
-   again. So a search for the first key doesn't walk over more and more sections. Then sections that were busy once give their cards back, as others
-   change, and by elltree_map_renew. And an empty map takes little memory, and is made soon. */
+/* A map of many keys is emptied in five ways: its sections are joined as they lose their keys, so that few are left, and their memory is the
+   allocator's again. So a search for the first key doesn't walk over more and more sections. Then sections that were busy once give their cards
+   back, as others change, and by elltree_map_renew. And an empty map takes little memory, and is made soon. */
 #include "elltree_map.h"
 #include <malloc.h>
 #include <stdio.h>
@@ -25,7 +25,7 @@ static uint64_t microseconds(void) {
 
 static struct elltree_map_counters counts(void) {
     struct elltree_map_counters counts = {0, 0, 0, 0, 0, 0, 0};
-    if (elltree_map_counts(map, &counts) != ELLTREE_YES)
+    if (elltree_map_counts(map, &counts, sizeof counts) != ELLTREE_YES)
         counts.sections = 0;
     return counts;
 }

@@ -1,5 +1,5 @@
-/* A forked child calls the map of its parent, whose threads are in the middle of calls and renewals: each call, the one that frees too, is refused at once,
-   and a map of the child's own works. So it is in the child of a child. */
+/* A forked child calls the map of its parent, whose threads are in the middle of calls and renewals: each call, the one that frees too, is refused
+   at once, and a map of the child's own works. So it is in the child of a child. */
 #include "elltree_map.h"
 #include <pthread.h>
 #include <stdio.h>
@@ -51,8 +51,8 @@ static long all_refused(void) {
                              elltree_map_extend(map, &pair, 1, &count),
                              elltree_map_pairs(map, &pair, 1, &count),
                              elltree_map_renew(map),
-                             elltree_map_counts(map, &counts),
-                             elltree_map_counts(map, NULL),
+                             elltree_map_counts(map, &counts, sizeof counts),
+                             elltree_map_counts(map, NULL, 0),
                              elltree_map_get(map, ELLTREE_KEY_MAX + 1, NULL),
                              elltree_map_put(map, ELLTREE_KEY_MAX + 1, 1, NULL),
                              elltree_map_get_or_insert(map, 1, 1, &value),
@@ -94,7 +94,7 @@ int main(void) {
     settings.cards = CARDS;
     settings.renewal_percent = 100;
     settings.renewal_microseconds = 1;
-    wrong += elltree_map_from_sorted(&map, NULL, 0, &settings) != ELLTREE_YES;
+    wrong += elltree_map_from_sorted(&map, NULL, 0, &settings, sizeof settings) != ELLTREE_YES;
     for (int i = 0; i < WORKERS; i++)
         pthread_create(&threads[i], NULL, work, &work_wrong[i]);
     for (int i = 0; i < FORKS && failed < 3; i++)

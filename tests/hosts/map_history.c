@@ -1,6 +1,6 @@
-/* Histories of one map object: in each round three threads make a few calls on the same key, beside renewals, and note when each began and ended. For
-   each round there is an order of the calls in which one map answers them so, each call between its begin and its end. The check of that is tried first on
-   histories that are right and wrong. */
+/* Histories of one map object: in each round three threads make a few calls on the same key, beside renewals, and note when each began and ended.
+   For each round there is an order of the calls in which one map answers them so, each call between its begin and its end. The check of that is
+   tried first on histories that are right and wrong. */
 #include "elltree_map.h"
 #include <pthread.h>
 #include <stdio.h>
@@ -55,7 +55,8 @@ static int answers(const struct call *it, int *there, uint64_t *value) {
     }
 }
 
-/* Whether there is an order of the calls that are not done yet, from this state on. A call comes next only if none of the others ended before it began. */
+/* Whether there is an order of the calls that are not done yet, from this state on. A call comes next only if none of the others ended before it
+   began. */
 static int are_in_order(const struct call *calls, int count, unsigned done, int there, uint64_t value) {
     uint64_t first_end = UINT64_MAX;
     if (done == (1u << count) - 1)
@@ -110,8 +111,8 @@ static void make(struct call *it) {
     it->ended = __atomic_fetch_add(&clock_, 1, __ATOMIC_SEQ_CST);
 }
 
-/* The calls of one thread in all rounds. Values are few, so that a key often has one that it had before. Between its calls it changes other keys, so that
-   renewals go on. */
+/* The calls of one thread in all rounds. Values are few, so that a key often has one that it had before. Between its calls it changes other keys,
+   so that renewals go on. */
 static void *work(void *given) {
     struct call *own = given;
     uint64_t seed = 88172645463325252u + (uint64_t)(own - history), was;
@@ -138,7 +139,7 @@ int main(void) {
     settings.cards = CARDS;
     settings.renewal_percent = 100;
     settings.renewal_microseconds = 1;
-    wrong += elltree_map_from_sorted(&map, NULL, 0, &settings) != ELLTREE_YES;
+    wrong += elltree_map_from_sorted(&map, NULL, 0, &settings, sizeof settings) != ELLTREE_YES;
     pthread_barrier_init(&barrier, NULL, THREADS + 1);
     for (int t = 0; t < THREADS; t++)
         pthread_create(&threads[t], NULL, work, history + t * CALLS);
@@ -150,7 +151,7 @@ int main(void) {
     }
     for (int t = 0; t < THREADS; t++)
         pthread_join(threads[t], NULL);
-    wrong += elltree_map_counts(map, &counts) != ELLTREE_YES || counts.renewals < ROUNDS / 100;
+    wrong += elltree_map_counts(map, &counts, sizeof counts) != ELLTREE_YES || counts.renewals < ROUNDS / 100;
     printf("%d histories of %d calls, %llu renewals, %ld out of order, %ld wrong\n", ROUNDS, ALL, (unsigned long long)counts.renewals, out_of_order,
            wrong);
     elltree_map_free(map);

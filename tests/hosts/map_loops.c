@@ -1,6 +1,6 @@
-/* Loops of a few calls, each of which has one kind of call that makes the tree deep and others that find nothing of it: whatever the length of the loop and
-   the order of its calls, the map finds that the tree is deep, and renews it before its cards are spent. Then a map from which keys are only read is
-   not renewed at all, however deep it is, and the first call that changes a key afterwards renews it. */
+/* Loops of a few calls, each of which has one kind of call that makes the tree deep and others that find nothing of it: whatever the length of the
+   loop and the order of its calls, the map finds that the tree is deep, and renews it before its cards are spent. Then a map from which keys are
+   only read is not renewed at all, however deep it is, and the first call that changes a key afterwards renews it. */
 #include "elltree_map.h"
 #include <stdio.h>
 
@@ -15,12 +15,12 @@ static long make_map(void) {
     settings.cards = CARDS;
     settings.renewal_percent = 1;
     settings.renewal_microseconds = 100000;
-    return elltree_map_from_sorted(&map, &start, 1, &settings) != ELLTREE_YES;
+    return elltree_map_from_sorted(&map, &start, 1, &settings, sizeof settings) != ELLTREE_YES;
 }
 
 static uint64_t renewals(uint64_t *early) {
     struct elltree_map_counters counts = {0, 0, 0, 0, 0, 0, 0};
-    if (elltree_map_counts(map, &counts) != ELLTREE_YES)
+    if (elltree_map_counts(map, &counts, sizeof counts) != ELLTREE_YES)
         return 0;
     *early = counts.early_renewals;
     return counts.renewals;

@@ -1,6 +1,7 @@
-/* Threads hand objects to each other through a map: one writes to an object and stores its address as the value of a key, and another one gets the value, or
-   takes it, and reads the object, by each call that tells a value. What a thread did before it stored a value has happened before what another does after
-   it read that value: the thread sanitizer finds nothing, also where a renewal lies between the two, though the library was compiled without it. */
+/* Threads hand objects to each other through a map: one writes to an object and stores its address as the value of a key, and another one gets the
+   value, or takes it, and reads the object, by each call that tells a value. What a thread did before it stored a value has happened before what
+   another does after it read that value: the thread sanitizer finds nothing, also where a renewal lies between the two, though the library was
+   compiled without it. */
 #include "elltree_map.h"
 #include <pthread.h>
 #include <stdio.h>
@@ -73,12 +74,12 @@ int main(void) {
     settings.cards = CARDS;
     settings.renewal_percent = 100;
     settings.renewal_microseconds = 1;
-    all += elltree_map_from_sorted(&map, NULL, 0, &settings) != ELLTREE_YES;
+    all += elltree_map_from_sorted(&map, NULL, 0, &settings, sizeof settings) != ELLTREE_YES;
     pthread_create(&threads[0], NULL, store, &wrong[0]);
     pthread_create(&threads[1], NULL, take, &wrong[1]);
     pthread_join(threads[0], NULL);
     pthread_join(threads[1], NULL);
-    all += wrong[0] + wrong[1] + (elltree_map_counts(map, &counts) != ELLTREE_YES || counts.renewals < 10);
+    all += wrong[0] + wrong[1] + (elltree_map_counts(map, &counts, sizeof counts) != ELLTREE_YES || counts.renewals < 10);
     all += elltree_map_free(map) != ELLTREE_YES;
     printf("%d objects, %llu renewals, %ld wrong\n", OBJECTS, (unsigned long long)counts.renewals, all);
     return all != 0;

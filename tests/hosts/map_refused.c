@@ -1,6 +1,6 @@
-/* Each allocation of a map is refused in turn, when it is made and when it renews itself: the call is answered by ELLTREE_NO_MEMORY, and the map is as
-   it was and goes on; or, as the library can do without some memory, the call succeeds. No other call asks for memory. Linked with --wrap=malloc and
-   --wrap=realloc: it asks in no other way. */
+/* Each allocation of a map is refused in turn, when it is made and when it renews itself: the call is answered by ELLTREE_NO_MEMORY, and the map
+   is as it was and goes on; or, as the library can do without some memory, the call succeeds. No other call asks for memory. Linked with
+   --wrap=malloc and --wrap=realloc: it asks in no other way. */
 #include "elltree_map.h"
 #include <stdio.h>
 
@@ -20,7 +20,7 @@ static int32_t make(void) {
     settings.cards = CARDS;
     settings.renewal_percent = 100;
     settings.calls = 4;
-    return elltree_map_from_sorted(&map, start, KEYS, &settings);
+    return elltree_map_from_sorted(&map, start, KEYS, &settings, sizeof settings);
 }
 
 static long lacks(void) {

@@ -11,7 +11,7 @@
 #include <time.h>
 #include <unistd.h>
 
-enum { ROUNDS = 60, CALLS = 1000, PUTS = 100000, FEW = 300, MANY = 100000, BUDGET = 50000, LIMIT = 200 };
+enum { ROUNDS = 60, CALLS = 1000, PUTS = 100000, FEW = 300, MANY = 100000, BUDGET = 50000, STILL = 3000, LIMIT = 200 };
 
 static struct elltree_map *map;
 static int is_stopped, may_go_on, is_over, reads;
@@ -52,7 +52,7 @@ static void *work(void *given) {
 
 static uint64_t renewals(void) {
     struct elltree_map_counters counts = {0, 0, 0, 0, 0, 0, 0};
-    return elltree_map_counts(map, &counts) == ELLTREE_YES ? counts.renewals : 0;
+    return elltree_map_counts(map, &counts, sizeof counts) == ELLTREE_YES ? counts.renewals : 0;
 }
 
 /* A map, and a thread that is stopped at work on it. */
@@ -66,7 +66,7 @@ static long begin(uint64_t cards, pthread_t *worker, long *worker_wrong) {
     is_over = may_go_on = 0;
     added = 0;
     budget = BUDGET;
-    wrong = elltree_map_from_sorted(&map, &start, 1, &settings) != ELLTREE_YES;
+    wrong = elltree_map_from_sorted(&map, &start, 1, &settings, sizeof settings) != ELLTREE_YES;
     pthread_create(worker, NULL, work, worker_wrong);
     wait_a_while();
     pthread_kill(*worker, SIGUSR1);
@@ -139,7 +139,7 @@ static long stop_writer(long *waited) {
     return wrong + end(worker, own) + worker_wrong;
 }
 
-/* How many calls have ended of a thread that uses up all cards. */
+/* How many calls have ended of a thread that uses up all cards. On a busy machine it may be kept from work for a while too. */
 static uint64_t ended;
 
 static void *use_up(void *given) {
@@ -161,7 +161,7 @@ static long stop_writer_at_the_end(long *waited) {
     pthread_create(&user, NULL, use_up, &user_wrong);
     do {
         before = __atomic_load_n(&ended, __ATOMIC_SEQ_CST);
-        for (int i = 0; i < 20; i++)
+        for (int i = 0; i < STILL; i++)
             wait_a_while();
     } while (before != __atomic_load_n(&ended, __ATOMIC_SEQ_CST));
     *waited += before < 3 * MANY - 1;

@@ -1,10 +1,10 @@
-/* Two threads call on one handle at once, which nobody ordered: each call is answered rightly, or by ELLTREE_IN_CALL. Then four threads
-   try each change once, on neighboring keys: an answer is right, or ELLTREE_BUSY, after which the map is as it was. */
+/* Two threads call on one handle at once, which nobody ordered: each call is answered rightly, or by ELLTREE_IN_CALL. Then four threads, each with a
+   handle, try each change once, on neighboring keys of their own: an answer is right, or ELLTREE_BUSY, after which the key is as it was. */
 #include "elltree.h"
 #include <pthread.h>
 #include <stdio.h>
 
-enum { CALLS = 300000, THREADS = 4, KEYS = 8, CHANGES = 20000 };
+enum { CALLS = 300000, THREADS = 4, CHANGES = 20000, ROUNDS = 200 };
 static struct elltree_handle one = ELLTREE_EMPTY, parts[THREADS];
 static long in_call, busy, wrong;
 
@@ -41,31 +41,29 @@ static void *change(void *given) {
     return NULL;
 }
 
-int main(void) {
-    uint64_t keys[KEYS];
-    struct elltree_pair start = {1, 5};
+/* Runs so many threads. */
+static void run(void *(*work)(void *), long count) {
     pthread_t threads[THREADS];
-    for (uint64_t i = 0; i < KEYS; i++)
-        keys[i] = i;
-    wrong += elltree_open(&one, keys, KEYS, &start, 1, 100) != ELLTREE_YES;
-    for (int t = 0; t < 2; t++)
-        pthread_create(&threads[t], NULL, find, NULL);
-    for (int t = 0; t < 2; t++)
+    for (long t = 0; t < count; t++)
+        pthread_create(&threads[t], NULL, work, (void *)t);
+    for (long t = 0; t < count; t++)
         pthread_join(threads[t], NULL);
+}
+
+int main(void) {
+    const struct elltree_pair start = {1, 5};
+    wrong += elltree_open(&one, &start, 1, 100) != ELLTREE_YES;
+    for (int round = 0; round < ROUNDS && !in_call; round++)
+        run(find, 2);
     wrong += elltree_free(&one) != ELLTREE_YES;
-    for (int round = 0; round < 20 && !busy; round++) {
-        wrong += elltree_open(&parts[0], keys, KEYS, NULL, 0, ELLTREE_CARDS_MAX) != ELLTREE_YES;
-        for (uint64_t t = 1; t < THREADS; t++) {
-            uint64_t own[2] = {t, t + THREADS};
-            wrong += elltree_split(&parts[0], &parts[t], own, 2) != ELLTREE_YES;
-        }
-        for (long t = 0; t < THREADS; t++)
-            pthread_create(&threads[t], NULL, change, (void *)t);
-        for (int t = 0; t < THREADS; t++)
-            pthread_join(threads[t], NULL);
+    for (int round = 0; round < ROUNDS && !busy; round++) {
+        wrong += elltree_open(&parts[0], NULL, 0, ELLTREE_CARDS_MAX) != ELLTREE_YES;
+        for (int t = 1; t < THREADS; t++)
+            wrong += elltree_another(&parts[0], &parts[t]) != ELLTREE_YES;
+        run(change, THREADS);
         for (int t = 0; t < THREADS; t++)
             wrong += elltree_free(&parts[t]) != ELLTREE_YES;
     }
     printf("%ld calls met another on their handle, %ld changes were hindered, %ld wrong\n", in_call, busy, wrong);
-    return wrong != 0;
+    return wrong != 0 || !in_call || !busy;
 }

@@ -2,8 +2,7 @@
    upwards with little room and downwards, with a plain array. So does it with keys that came ascending or descending. Then two threads that go over
    ranges beside three that insert, delete and exchange, each its own of the keys, which lie between those of the others. Each change is noted with
    its begin and its end by one clock. Each key of a range is to be told as it was at a moment between the begin and the end of the range: as its last
-   change left it, if that had ended before and no other was made meanwhile, and else as one of the changes at work left it. Last the edges, and what
-   is refused. */
+   change left it, if that had ended before and no other was made meanwhile, and else as one of the changes at work left it. Last the edges. */
 #include "elltree.h"
 #include <pthread.h>
 #include <stdio.h>
@@ -38,11 +37,16 @@ static long pairs_up(struct elltree_handle *handle, uint64_t from, uint64_t upto
     return all;
 }
 
+/* The greatest key below this one. */
+static int32_t last_before(struct elltree_handle *handle, uint64_t upto, uint64_t *key, uint64_t *value) {
+    return upto ? elltree_last_at_most(handle, upto - 1, key, value) : ELLTREE_NO;
+}
+
 /* The same by a search for each pair, from the last one to the first. */
 static long pairs_down(struct elltree_handle *handle, uint64_t from, uint64_t upto, struct elltree_pair *out) {
     struct elltree_pair pair, swapped;
     long all = 0;
-    for (; elltree_last_before(handle, upto, &pair.key, &pair.value) == ELLTREE_YES && from <= pair.key; upto = pair.key) {
+    for (; last_before(handle, upto, &pair.key, &pair.value) == ELLTREE_YES && from <= pair.key; upto = pair.key) {
         if (all > PLACES)
             return -1;
         out[all++] = pair;
@@ -94,16 +98,8 @@ static long compare_next(struct elltree_handle *h, const struct model *m, uint64
     uint64_t key = 0, value = 0, above = at < UINT64_MAX ? at + 1 : at;
     int32_t said = elltree_next_at_least(h, at, &key, &value);
     long wrong = missed(m, place_from(m, at), said, key, value);
-    said = elltree_next_after(h, at, &key, &value);
-    wrong += missed(m, place_from(m, above), said, key, value);
-    said = elltree_first(h, &key, &value);
-    wrong += missed(m, place_from(m, 0), said, key, value);
     said = elltree_last_at_most(h, at, &key, &value);
-    wrong += missed(m, place_below(m, above), said, key, value);
-    said = elltree_last_before(h, at, &key, &value);
-    wrong += missed(m, place_below(m, at), said, key, value);
-    said = elltree_last(h, &key, &value);
-    return wrong + missed(m, place_below(m, UINT64_MAX), said, key, value);
+    return wrong + missed(m, place_below(m, above), said, key, value);
 }
 
 /* A number that is a key, or lies beside one. */
@@ -114,7 +110,7 @@ static long alone(void) {
     struct elltree_handle h = ELLTREE_EMPTY;
     struct model m = {{0}, {0}};
     uint64_t seed = 88172645463325252u, was = 0;
-    long wrong = elltree_open_shared(&h, NULL, 0, 4 * CALLS) != ELLTREE_YES;
+    long wrong = elltree_open(&h, NULL, 0, 4 * CALLS) != ELLTREE_YES;
     for (uint64_t i = 0; i < CALLS; i++) {
         uint64_t place = next(&seed) % PLACES, from = number(next(&seed)), upto = number(next(&seed)), room = 1 + next(&seed) % PLACES;
         if (next(&seed) & 1)
@@ -200,8 +196,7 @@ static void *write_keys(void *given) {
 static void seek(struct elltree_handle *handle, struct scan *scan, int is_up) {
     struct elltree_pair *pair = scan->pairs;
     uint64_t from = key_at(scan->from), upto = key_at(scan->upto);
-    int32_t said = is_up ? elltree_next_at_least(handle, from, &pair->key, &pair->value)
-                         : elltree_last_before(handle, upto, &pair->key, &pair->value);
+    int32_t said = is_up ? elltree_next_at_least(handle, from, &pair->key, &pair->value) : last_before(handle, upto, &pair->key, &pair->value);
     scan->count = said == ELLTREE_YES ? 1 : said == ELLTREE_NO ? 0 : -1;
     if (is_up)
         scan->upto = said == ELLTREE_YES ? place_of(pair->key) + 1 : PLACES;
@@ -272,7 +267,7 @@ static long open_all(void) {
         if (place % 2)
             start[place / 2] = (struct elltree_pair){key_at(place), place};
     }
-    wrong += elltree_open_shared(&workers[0].handle, start, PLACES / 2, CARDS) != ELLTREE_YES;
+    wrong += elltree_open(&workers[0].handle, start, PLACES / 2, CARDS) != ELLTREE_YES;
     for (uint64_t t = 0; t < WRITERS + READERS; t++) {
         workers[t].number = t;
         wrong += t != 0 && elltree_another(&workers[0].handle, &workers[t].handle) != ELLTREE_YES;
@@ -301,48 +296,13 @@ static long beside_threads(void) {
     return wrong + (still == 0);
 }
 
-/* Each call that seeks a key is refused by this code, and has written nothing. */
-static long refuses(struct elltree_handle *h, int32_t code) {
-    struct elltree_pair pair = {7, 7};
-    uint64_t next_key = 7;
-    size_t count = 7;
-    long wrong = elltree_range(h, 0, 9, &pair, 1, &count, &next_key) != code;
-    wrong += elltree_range(h, 9, 0, NULL, 0, &count, &next_key) != code;
-    wrong += elltree_next_at_least(h, 1, &pair.key, &pair.value) != code;
-    wrong += elltree_next_after(h, 1, &pair.key, &pair.value) != code;
-    wrong += elltree_last_at_most(h, 1, &pair.key, &pair.value) != code;
-    wrong += elltree_last_before(h, 1, &pair.key, &pair.value) != code;
-    wrong += elltree_last_before(h, 0, &pair.key, &pair.value) != code;
-    wrong += elltree_first(h, &pair.key, &pair.value) != code;
-    wrong += elltree_last(h, &pair.key, &pair.value) != code;
-    return wrong + (pair.key != 7 || pair.value != 7 || next_key != 7 || count != 7);
-}
-
-static long nulls(struct elltree_handle *h) {
-    struct elltree_pair pair = {7, 7};
-    uint64_t value = 7;
-    size_t count = 7;
-    long wrong = elltree_range(h, 0, 9, NULL, 1, &count, &value) != ELLTREE_NULL;
-    wrong += elltree_range(h, 0, 9, &pair, 1, NULL, &value) != ELLTREE_NULL;
-    wrong += elltree_range(h, 0, 9, &pair, 1, &count, NULL) != ELLTREE_NULL;
-    wrong += elltree_next_at_least(h, 1, NULL, &value) != ELLTREE_NULL;
-    wrong += elltree_next_at_least(h, 1, &value, NULL) != ELLTREE_NULL;
-    wrong += elltree_last_at_most(h, 1, NULL, &value) != ELLTREE_NULL;
-    wrong += elltree_last_at_most(h, 1, &value, NULL) != ELLTREE_NULL;
-    return wrong + (pair.key != 7 || value != 7 || count != 7);
-}
-
 static long edges(void) {
     struct elltree_handle h = ELLTREE_EMPTY;
     struct elltree_pair pairs[3] = {{7, 7}, {7, 7}, {7, 7}};
     const struct elltree_pair start[2] = {{0, 1}, {ELLTREE_KEY_MAX, 2}};
-    uint64_t at = 5;
+    uint64_t at = 5, key = 5, value = 5;
     size_t count = 5;
-    long wrong = refuses(&h, ELLTREE_CLOSED) + refuses(NULL, ELLTREE_NULL);
-    wrong += elltree_open_shared(&h, start, 2, 9) != ELLTREE_YES || nulls(&h);
-    h.in_call = 1;
-    wrong += refuses(&h, ELLTREE_IN_CALL);
-    h.in_call = 0;
+    long wrong = elltree_open(&h, start, 2, 9) != ELLTREE_YES;
     wrong += elltree_range(&h, 0, UINT64_MAX, pairs, 3, &count, &at) != ELLTREE_YES || count != 2 || at != UINT64_MAX;
     wrong += pairs[0].value != 1 || pairs[1].key != ELLTREE_KEY_MAX || pairs[1].value != 2 || pairs[2].key != 7;
     wrong += elltree_range(&h, 0, ELLTREE_KEY_MAX, pairs + 2, 1, &count, &at) != ELLTREE_YES || count != 1 || pairs[2].key != 0;
@@ -350,6 +310,11 @@ static long edges(void) {
     wrong += elltree_range(&h, 9, 3, pairs, 3, &count, &at) != ELLTREE_YES || count != 0 || at != 3;
     wrong += elltree_range(&h, 0, 9, NULL, 0, &count, &at) != ELLTREE_YES || count != 0 || at != 0;
     wrong += elltree_range(&h, UINT64_MAX, UINT64_MAX, NULL, 0, &count, &at) != ELLTREE_YES || count != 0 || at != UINT64_MAX;
+    wrong += elltree_next_at_least(&h, UINT64_MAX, &key, &value) != ELLTREE_NO || key != 5 || value != 5;
+    wrong += elltree_next_at_least(&h, 1, &key, &value) != ELLTREE_YES || key != ELLTREE_KEY_MAX || value != 2;
+    wrong += elltree_last_at_most(&h, ELLTREE_KEY_MAX - 1, &key, &value) != ELLTREE_YES || key != 0 || value != 1;
+    wrong += elltree_last_at_most(&h, UINT64_MAX, &key, &value) != ELLTREE_YES || key != ELLTREE_KEY_MAX || value != 2;
+    wrong += elltree_delete(&h, 0, 9) != ELLTREE_YES || elltree_last_at_most(&h, 0, &key, &value) != ELLTREE_NO || key != ELLTREE_KEY_MAX;
     return wrong + (elltree_free(&h) != ELLTREE_YES);
 }
 
@@ -360,7 +325,7 @@ static long deep(int upwards) {
     struct elltree_handle h = ELLTREE_EMPTY;
     uint64_t at, key, value;
     size_t count, all;
-    long wrong = elltree_open_shared(&h, NULL, 0, DEEP) != ELLTREE_YES;
+    long wrong = elltree_open(&h, NULL, 0, DEEP) != ELLTREE_YES;
     for (uint64_t i = 0; i < DEEP; i++)
         wrong += elltree_insert(&h, 3 * (upwards ? i : DEEP - 1 - i), i, 1) != ELLTREE_YES;
     for (size_t room = 1; room <= DEEP; room = 7 * room) {
@@ -374,9 +339,9 @@ static long deep(int upwards) {
         wrong += elltree_next_at_least(&h, 3 * i - (i > 0), &key, &value) != ELLTREE_YES || key != 3 * i;
         wrong += elltree_last_at_most(&h, 3 * i + 2, &key, &value) != ELLTREE_YES || key != 3 * i;
         if (i > 0)
-            wrong += elltree_last_before(&h, 3 * i, &key, &value) != ELLTREE_YES || key != 3 * (i - 1);
+            wrong += elltree_last_at_most(&h, 3 * i - 1, &key, &value) != ELLTREE_YES || key != 3 * (i - 1);
         if (i + 1 < DEEP)
-            wrong += elltree_next_after(&h, 3 * i, &key, &value) != ELLTREE_YES || key != 3 * (i + 1);
+            wrong += elltree_next_at_least(&h, 3 * i + 1, &key, &value) != ELLTREE_YES || key != 3 * (i + 1);
     }
     return wrong + (elltree_free(&h) != ELLTREE_YES);
 }

@@ -1,6 +1,6 @@
-// Ranges in C++. One thread first, which changes keys at random and compares ranges, upwards and downwards, with a std::map. Then two threads that go
-// over ranges beside three that insert, delete and exchange, each its own of the keys. Each key of a range is to be told as it was at a moment between
-// the begin and the end of the range, by the begins and the ends of the changes.
+// Ranges in C++. One thread first, which changes keys at random and compares ranges, upwards and downwards, with a std::map. Then two threads that
+// go over ranges beside three that insert, delete and exchange, each its own of the keys. Each key of a range is to be told as it was at a moment
+// between the begin and the end of the range, by the begins and the ends of the changes.
 #include "elltree.hpp"
 #include <algorithm>
 #include <array>
@@ -32,14 +32,19 @@ Map pairs_up(elltree::handle &handle, std::uint64_t from, std::uint64_t upto) {
 
 Map pairs_down(elltree::handle &handle, std::uint64_t from, std::uint64_t upto) {
     Map all;
-    for (auto pair = handle.last_before(upto); pair && pair->key >= from; pair = handle.last_before(pair->key))
+    while (upto > from) {
+        const auto pair = handle.last_at_most(upto - 1);
+        if (!pair || pair->key < from)
+            break;
         all.emplace(pair->key, pair->value);
+        upto = pair->key;
+    }
     return all;
 }
 
 long alone() {
     Random random(1);
-    auto handle = elltree::handle::open_shared({}, 4 * CALLS);
+    auto handle = elltree::handle::open({}, 4 * CALLS);
     Map model;
     long wrong = 0;
     for (std::uint64_t i = 0; i < CALLS; i++) {
@@ -114,7 +119,8 @@ std::vector<Scan> go_over(elltree::handle &handle, std::uint64_t id) {
     return scans;
 }
 
-// Whether a key was so at a moment of a scan: some change left it so that had begun before the scan ended, and the next had not ended before it began.
+// Whether a key was so at a moment of a scan: some change left it so that had begun before the scan ended, and the next had not ended before it
+// began.
 bool may_be(std::uint64_t key, std::optional<std::uint64_t> told, const Scan &scan) {
     const auto &all = changes[key];
     auto change = std::partition_point(all.begin(), all.end(), [&](const Change &one) { return one.ended <= scan.begun; });
@@ -146,7 +152,7 @@ long beside_threads(std::size_t readers) {
     std::vector<std::vector<Scan>> scans(readers);
     std::vector<std::thread> threads;
     long wrong = 0, number = 0;
-    handles.push_back(elltree::handle::open_shared(start, 400000));
+    handles.push_back(elltree::handle::open(start, 400000));
     while (handles.size() < WRITERS + readers)
         handles.push_back(handles[0].another());
     writing = WRITERS;

@@ -1,7 +1,7 @@
-/* Two threads of a host, and then four, that insert and delete the same few keys of a tree of shared keys. Each yes is matched: of each key,
+/* Two threads of a host, and then four, that insert and delete the same few keys of a tree. Each yes is matched: of each key,
    the inserts that answered yes are as many as the deletes that did, or one more where the key is present at the end, counting a start key as
    an insert. Then four threads insert one absent key at once, and delete it at once, again and again: each time just one of them answers yes. Four
-   threads add to counters in each way that there is, and no addition is lost. While a thread puts ascending values, the others find one each time,
+   threads add to counters in both ways that there are, and no addition is lost. While a thread puts ascending values, the others find one each time,
    and never a lower one than before. */
 #include "elltree.h"
 #include <pthread.h>
@@ -73,7 +73,7 @@ static long run(int threads) {
     const struct elltree_pair start[2] = {{key_at(1), value_of(1, 0)}, {key_at(4), value_of(4, 0)}};
     const long began[KEYS] = {0, 1, 0, 0, 1, 0};
     pthread_t running[MOST];
-    long wrong = elltree_open_shared(&w[0].handle, start, 2, CARDS) != ELLTREE_YES;
+    long wrong = elltree_open(&w[0].handle, start, 2, CARDS) != ELLTREE_YES;
     for (int t = 1; t < threads; t++)
         wrong += elltree_another(&w[0].handle, &w[t].handle) != ELLTREE_YES;
     for (int t = 0; t < threads; t++) {
@@ -91,7 +91,7 @@ static long run(int threads) {
         wrong += w[t].wrong + (w[t].found == 0);
     }
     for (int t = 1; t < threads; t++)
-        wrong += elltree_join(&w[0].handle, &w[t].handle) != ELLTREE_YES;
+        wrong += elltree_free(&w[t].handle) != ELLTREE_YES;
     return wrong + unmatched(w, threads, began) + (elltree_free(&w[0].handle) != ELLTREE_YES);
 }
 
@@ -116,7 +116,7 @@ static void *hurry(void *given) {
 static long race(void) {
     static struct racer r[MOST];
     pthread_t running[MOST];
-    long wrong = elltree_open_shared(&r[0].handle, NULL, 0, CARDS) != ELLTREE_YES;
+    long wrong = elltree_open(&r[0].handle, NULL, 0, CARDS) != ELLTREE_YES;
     for (int t = 1; t < MOST; t++)
         wrong += elltree_another(&r[0].handle, &r[t].handle) != ELLTREE_YES;
     pthread_barrier_init(&line, NULL, MOST);
@@ -139,19 +139,13 @@ static long race(void) {
     return wrong;
 }
 
-enum { ADDED, UPDATED, EXCHANGED, COUNTERS, ADDITIONS = 4000, PUTS = 20000 };
+enum { ADDED, EXCHANGED, COUNTERS, ADDITIONS = 4000, PUTS = 20000 };
 
 struct counting {
     struct elltree_handle handle;
     int number;
-    long calls, wrong;
+    long wrong;
 };
-
-/* What elltree_update calls: it counts its calls. */
-static uint64_t one_more(uint64_t value, void *calls) {
-    ++*(long *)calls;
-    return value + 1;
-}
 
 /* Adds one by a find and as many exchanges as it takes. */
 static int32_t exchange_one_more(struct elltree_handle *handle, uint64_t key) {
@@ -170,7 +164,6 @@ static void *add(void *given) {
     uint64_t was = 0;
     for (int i = 0; i < ADDITIONS; i++) {
         c->wrong += elltree_fetch_add(&c->handle, key_at(ADDED), 1, TRIES, &was) != ELLTREE_YES;
-        c->wrong += elltree_update(&c->handle, key_at(UPDATED), one_more, &c->calls, TRIES, &was) != ELLTREE_YES;
         c->wrong += exchange_one_more(&c->handle, key_at(EXCHANGED)) != ELLTREE_YES;
     }
     return NULL;
@@ -193,13 +186,13 @@ static void *put_or_find(void *given) {
 /* Four threads work on counters that are 0 at the start; at the end these have the values. */
 static long count(void *(*work_on)(void *), const uint64_t *values) {
     static struct counting c[MOST];
-    const struct elltree_pair start[COUNTERS] = {{key_at(ADDED), 0}, {key_at(UPDATED), 0}, {key_at(EXCHANGED), 0}};
+    const struct elltree_pair start[COUNTERS] = {{key_at(ADDED), 0}, {key_at(EXCHANGED), 0}};
     pthread_t running[MOST];
     uint64_t got = 0;
-    long wrong = elltree_open_shared(&c[0].handle, start, COUNTERS, CARDS) != ELLTREE_YES, calls = 0;
+    long wrong = elltree_open(&c[0].handle, start, COUNTERS, CARDS) != ELLTREE_YES;
     for (int t = 0; t < MOST; t++) {
         c[t].number = t;
-        c[t].calls = c[t].wrong = 0;
+        c[t].wrong = 0;
         wrong += t != 0 && elltree_another(&c[0].handle, &c[t].handle) != ELLTREE_YES;
     }
     for (int t = 0; t < MOST; t++)
@@ -208,12 +201,10 @@ static long count(void *(*work_on)(void *), const uint64_t *values) {
         pthread_join(running[t], NULL);
     for (uint64_t place = 0; place < COUNTERS; place++)
         wrong += elltree_find(&c[0].handle, key_at(place), &got) != ELLTREE_YES || got != values[place];
-    for (int t = 0; t < MOST; t++) {
+    for (int t = 0; t < MOST; t++)
         wrong += c[t].wrong + (elltree_free(&c[t].handle) != ELLTREE_YES);
-        calls += c[t].calls;
-    }
     printf("%d threads, the last value %llu, %ld wrong\n", MOST, (unsigned long long)got, wrong);
-    return wrong + (calls < (long)values[UPDATED]);
+    return wrong;
 }
 
 /* What is answered of values in place: the old value, or the other one; and an absent key is left so, but by a put. */
@@ -221,7 +212,7 @@ static long answers(void) {
     struct elltree_handle h = ELLTREE_EMPTY;
     const struct elltree_pair start = {2, 20};
     uint64_t value = 19;
-    long calls = 0, wrong = elltree_open_shared(&h, &start, 1, 9) != ELLTREE_YES;
+    long wrong = elltree_open(&h, &start, 1, 9) != ELLTREE_YES;
     wrong += elltree_compare_exchange(&h, 2, &value, 21, 9) != ELLTREE_OTHER_VALUE || value != 20;
     wrong += elltree_compare_exchange(&h, 2, &value, 21, 9) != ELLTREE_YES || value != 20;
     wrong += elltree_compare_exchange(&h, 3, &value, 31, 9) != ELLTREE_NO || value != 20;
@@ -229,17 +220,15 @@ static long answers(void) {
     wrong += elltree_put(&h, 3, 30, 9, &value) != ELLTREE_NO || value != 21;
     wrong += elltree_fetch_add(&h, 3, UINT64_MAX, 9, &value) != ELLTREE_YES || value != 30;
     wrong += elltree_fetch_add(&h, 4, 1, 9, &value) != ELLTREE_NO || value != 30;
-    wrong += elltree_update(&h, 3, one_more, &calls, 9, &value) != ELLTREE_YES || value != 29 || calls != 1;
-    wrong += elltree_update(&h, 4, one_more, &calls, 9, &value) != ELLTREE_NO || calls != 1;
-    wrong += elltree_update(&h, 3, one_more, &calls, 0, &value) != ELLTREE_NO_TRIES;
-    wrong += elltree_update(&h, ELLTREE_KEY_MAX + 1, one_more, &calls, 9, &value) != ELLTREE_FOREIGN || value != 29 || calls != 1;
-    wrong += elltree_find(&h, 3, &value) != ELLTREE_YES || value != 30;
-    wrong += elltree_take(&h, 3, 9, &value) != ELLTREE_YES || value != 30 || elltree_take(&h, 3, 9, &value) != ELLTREE_NO;
+    wrong += elltree_find(&h, 3, &value) != ELLTREE_YES || value != 29;
+    wrong += elltree_remove_if(&h, 2, &value, 9) != ELLTREE_OTHER_VALUE || value != 22 || elltree_remove_if(&h, 4, &value, 9) != ELLTREE_NO;
+    wrong += elltree_remove_if(&h, 2, &value, 9) != ELLTREE_YES || value != 22 || elltree_find(&h, 2, &value) != ELLTREE_NO;
+    wrong += elltree_take(&h, 3, 9, &value) != ELLTREE_YES || value != 29 || elltree_take(&h, 3, 9, &value) != ELLTREE_NO;
     return wrong + (elltree_free(&h) != ELLTREE_YES);
 }
 
 int main(void) {
-    const uint64_t sums[COUNTERS] = {MOST * ADDITIONS, MOST * ADDITIONS, MOST * ADDITIONS}, last[COUNTERS] = {PUTS, 0, 0};
+    const uint64_t sums[COUNTERS] = {MOST * ADDITIONS, MOST * ADDITIONS}, last[COUNTERS] = {PUTS, 0};
     long wrong = run(2) + run(MOST) + race() + count(add, sums) + count(put_or_find, last) + answers();
     printf("%ld wrong\n", wrong);
     return wrong != 0;

@@ -1,4 +1,4 @@
-// Two threads of C++, and then four, that insert and delete the same few keys of a tree of shared keys: of each key, the inserts that answered
+// Two threads of C++, and then four, that insert and delete the same few keys of a tree: of each key, the inserts that answered
 // yes are as many as the deletes that did, or one more where the key is present at the end. Then four threads add to one counter in each way that
 // there is, beside one that puts a value: no addition is lost, and the put value is there each time.
 #include "elltree.hpp"
@@ -21,7 +21,7 @@ struct Count {
 
 std::vector<elltree::handle> open(std::size_t number, const std::vector<elltree_pair> &start) {
     std::vector<elltree::handle> handles;
-    handles.push_back(elltree::handle::open_shared(start, 400000));
+    handles.push_back(elltree::handle::open(start, 400000));
     while (handles.size() < number)
         handles.push_back(handles[0].another());
     return handles;
@@ -77,14 +77,12 @@ bool exchange_one_more(elltree::handle &handle, std::uint64_t key) {
     return said == elltree::exchanged::yes;
 }
 
-// Adds to the counter 0 by a sum, an update and an exchange, and puts and finds the key 1.
+// Adds to the counter 0 by a sum and an exchange, and puts and finds the key 1.
 long add(elltree::handle &handle, int additions) {
     long wrong = 0;
     for (int i = 0; i < additions; i++) {
         const auto was = handle.fetch_add(0, 1, TRIES);
-        const auto later = handle.update(
-            0, [](std::uint64_t value) { return value + 1; }, TRIES);
-        wrong += !was || later <= was || !exchange_one_more(handle, 0);
+        wrong += !was || !exchange_one_more(handle, 0) || handle.find(0) <= was;
         wrong += !handle.put(1, *was, TRIES) || !handle.look(1);
     }
     return wrong;
@@ -102,7 +100,7 @@ long count(std::size_t number, int additions) {
     for (const long fault : faults)
         wrong += fault;
     const auto sum = handles[0].find(0);
-    wrong += sum != 3 * number * static_cast<std::uint64_t>(additions);
+    wrong += sum != 2 * number * static_cast<std::uint64_t>(additions);
     std::printf("%zu threads, the sum %llu, %ld wrong\n", number, static_cast<unsigned long long>(sum.value_or(0)), wrong);
     return wrong;
 }

@@ -11,7 +11,7 @@
 enum { KEYS = 48, CALLS = 300, WANTED = 30, MOST = 4000, TRIES = 100000 };
 enum { NOTHING, INSERT, DELETE };
 
-static struct elltree_handle victim = ELLTREE_EMPTY, owners[2] = {ELLTREE_EMPTY, ELLTREE_EMPTY}, reader = ELLTREE_EMPTY;
+static struct elltree_handle victim = ELLTREE_EMPTY, changers[2] = {ELLTREE_EMPTY, ELLTREE_EMPTY}, reader = ELLTREE_EMPTY;
 static volatile int doing, over;
 static sem_t stopped, released;
 static long wrong;
@@ -52,7 +52,7 @@ static void *change(void *given) {
     static uint64_t seeds[3] = {0, 998877, 445566};
     for (int i = 0; i < CALLS; i++) {
         uint64_t random = next(&seeds[id]), key = (random >> 20) % (KEYS / 3) * 3 + (uint64_t)id;
-        int32_t said = random & 1 ? elltree_insert(&owners[id - 1], key, key, TRIES) : elltree_delete(&owners[id - 1], key, TRIES);
+        int32_t said = random & 1 ? elltree_insert(&changers[id - 1], key, key, TRIES) : elltree_delete(&changers[id - 1], key, TRIES);
         if (said == ELLTREE_SPENT)
             over = 1;
         else {
@@ -86,20 +86,13 @@ static void all_but_the_stopped(void) {
 }
 
 int main(void) {
-    static uint64_t keys[KEYS];
+    struct elltree_handle *all[4] = {&victim, &changers[0], &changers[1], &reader};
     struct sigaction action = {.sa_handler = stop};
     pthread_t thread;
     long stops[3] = {0}, rounds = 0;
-    for (uint64_t i = 0; i < KEYS; i++)
-        keys[i] = i;
-    wrong += elltree_open(&victim, keys, KEYS, NULL, 0, ELLTREE_CARDS_MAX) != ELLTREE_YES;
-    for (uint64_t t = 1; t < 3; t++) {
-        size_t count = 0;
-        for (uint64_t key = t; key < KEYS; key += 3)
-            keys[count++] = key;
-        wrong += elltree_split(&victim, &owners[t - 1], keys, count) != ELLTREE_YES;
-    }
-    wrong += elltree_split(&victim, &reader, NULL, 0) != ELLTREE_YES;
+    wrong += elltree_open(all[0], NULL, 0, ELLTREE_CARDS_MAX) != ELLTREE_YES;
+    for (int i = 1; i < 4; i++)
+        wrong += elltree_another(all[0], all[i]) != ELLTREE_YES;
     sem_init(&stopped, 0, 0);
     sem_init(&released, 0, 0);
     sigaction(SIGUSR1, &action, NULL);
@@ -118,8 +111,8 @@ int main(void) {
     }
     over = 1;
     pthread_join(thread, NULL);
-    wrong += (elltree_free(&victim) != ELLTREE_YES) + (elltree_free(&owners[0]) != ELLTREE_YES) + (elltree_free(&owners[1]) != ELLTREE_YES) +
-             (elltree_free(&reader) != ELLTREE_YES);
+    for (int i = 0; i < 4; i++)
+        wrong += elltree_free(all[i]) != ELLTREE_YES;
     printf("stopped in %ld inserts and %ld deletes, %ld wrong\n", stops[INSERT], stops[DELETE], wrong);
     return wrong != 0 || stops[INSERT] < WANTED || stops[DELETE] < WANTED;
 }

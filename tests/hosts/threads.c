@@ -1,5 +1,5 @@
-/* Four threads of a host on one map, each with the keys of its own remainder: each answer is compared with a plain table of the thread's,
-   and each look at a neighbor's key has to find a value that was made for that key. */
+/* Four threads of a host in one tree, each of which changes the keys of its own remainder: each answer is compared with a plain table of the
+   thread's, and each find of a neighbor's key, and each look at one, has to tell a value that was made for that key. */
 #include "elltree.h"
 #include <pthread.h>
 #include <stdio.h>
@@ -44,27 +44,26 @@ static void *work(void *given) {
         if (seed & 1) {
             change(w, key, seed);
         } else if (seed & 2) {
-            int32_t said = elltree_find(&w->handle, key, &got);
+            int32_t said = seed & 4 ? elltree_find(&w->handle, key, &got) : elltree_look(&w->handle, key, &got);
             w->wrong += said != (w->has[key] ? ELLTREE_YES : ELLTREE_NO) || (said == ELLTREE_YES && got != w->has[key]);
         } else {
-            int32_t said = elltree_look(&w->handle, any, &got);
-            w->wrong += said < 0 || (said == ELLTREE_YES && got % KEYS != any) || (any == key && said != (w->has[key] ? ELLTREE_YES : ELLTREE_NO));
+            int32_t said = seed & 4 ? elltree_find(&w->handle, any, &got) : elltree_look(&w->handle, any, &got);
+            w->wrong += said < 0 || (said == ELLTREE_YES && got % KEYS != any);
             w->looked += said == ELLTREE_YES;
         }
-        if (i % 1000 == 0)
-            w->wrong += elltree_find(&w->handle, key ^ 1, &got) != ELLTREE_FOREIGN;
     }
     return NULL;
 }
 
-/* Whether the handle has what the table has. */
-static long differs(struct worker *w) {
-    static struct elltree_pair out[KEYS];
+/* Whether a range by a handle has what the tables of all threads have. */
+static long differs(struct elltree_handle *handle, const struct worker *w) {
+    static struct elltree_pair out[KEYS + 1];
     size_t count = 0, at = 0;
-    long wrong = elltree_pairs(&w->handle, out, KEYS, &count) != ELLTREE_YES;
+    uint64_t end = 0;
+    long wrong = elltree_range(handle, 0, UINT64_MAX, out, KEYS + 1, &count, &end) != ELLTREE_YES || end != UINT64_MAX;
     for (uint64_t key = 0; key < KEYS; key++)
-        if (w->has[key]) {
-            wrong += at >= count || out[at].key != key || out[at].value != w->has[key];
+        if (w[key % THREADS].has[key]) {
+            wrong += at >= count || out[at].key != key || out[at].value != w[key % THREADS].has[key];
             at++;
         }
     return wrong + (at != count);
@@ -72,23 +71,16 @@ static long differs(struct worker *w) {
 
 int main(void) {
     static struct worker w[THREADS];
-    static uint64_t keys[KEYS];
     static struct elltree_pair start[KEYS / 8];
     pthread_t threads[THREADS];
     long wrong = 0;
-    for (uint64_t i = 0; i < KEYS; i++)
-        keys[i] = KEYS - 1 - i;
     for (uint64_t i = 0; i < KEYS / 8; i++) {
         start[i].key = 8 * i + 3;
         start[i].value = w[3].has[8 * i + 3] = value_of(8 * i + 3, i);
     }
-    wrong += elltree_open(&w[0].handle, keys, KEYS, start, KEYS / 8, CARDS) != ELLTREE_YES;
-    for (int t = 1; t < THREADS; t++) {
-        size_t count = 0;
-        for (uint64_t key = (uint64_t)t; key < KEYS; key += THREADS)
-            keys[count++] = key;
-        wrong += elltree_split(&w[0].handle, &w[t].handle, keys, count) != ELLTREE_YES;
-    }
+    wrong += elltree_open(&w[0].handle, start, KEYS / 8, CARDS) != ELLTREE_YES;
+    for (int t = 1; t < THREADS; t++)
+        wrong += elltree_another(&w[0].handle, &w[t].handle) != ELLTREE_YES;
     for (int t = 0; t < THREADS; t++) {
         w[t].id = t;
         pthread_create(&threads[t], NULL, work, &w[t]);
@@ -97,17 +89,11 @@ int main(void) {
         pthread_join(threads[t], NULL);
     for (int t = 0; t < THREADS; t++) {
         uint64_t steps = 0;
-        wrong += w[t].wrong + differs(&w[t]) + (elltree_steps(&w[t].handle, &steps) != ELLTREE_YES) + (steps < OPS);
+        wrong += w[t].wrong + differs(&w[t].handle, w) + (elltree_steps(&w[t].handle, &steps) != ELLTREE_YES) + (steps < OPS);
         printf("thread %d: %ld changes, %ld keys looked up, %llu steps, %ld wrong\n", t, w[t].changed, w[t].looked, (unsigned long long)steps,
                w[t].wrong);
+        wrong += elltree_free(&w[t].handle) != ELLTREE_YES;
     }
-    for (int t = 1; t < THREADS; t++) {
-        wrong += elltree_join(&w[0].handle, &w[t].handle) != ELLTREE_YES;
-        for (uint64_t key = 0; key < KEYS; key++)
-            if (w[t].has[key])
-                w[0].has[key] = w[t].has[key];
-    }
-    wrong += differs(&w[0]) + (elltree_free(&w[0].handle) != ELLTREE_YES);
     printf("%ld wrong\n", wrong);
     return wrong != 0;
 }

@@ -1,4 +1,4 @@
-// Four threads of C++ on neighboring keys, each answer compared with a std::map of the thread's own.
+// Four threads of C++ on neighboring keys of one tree, each with keys of its own, and each answer compared with a std::map of the thread's.
 #include "elltree.hpp"
 #include <algorithm>
 #include <cstdio>
@@ -13,7 +13,7 @@ constexpr std::uint64_t THREADS = 4, KEYS = 1000;
 constexpr int CALLS = 50000;
 using Plain = std::map<std::uint64_t, std::uint64_t>;
 
-long work(elltree::handle &handle, std::uint64_t id, Plain plain) {
+long work(elltree::handle &handle, std::uint64_t id, Plain &plain) {
     std::mt19937_64 random(id);
     long wrong = 0;
     for (int i = 0; i < CALLS; i++) {
@@ -36,40 +36,37 @@ long work(elltree::handle &handle, std::uint64_t id, Plain plain) {
             wrong += handle.find(key) != (there ? std::optional(at->second) : std::nullopt);
         }
     }
-    const auto pairs = handle.pairs();
-    const auto same = [](const elltree_pair &one, const auto &other) { return one.key == other.first && one.value == other.second; };
-    return wrong + !std::equal(pairs.begin(), pairs.end(), plain.begin(), plain.end(), same);
+    return wrong;
 }
 
 } // namespace
 
 int main() {
-    Plain plain[THREADS];
-    std::vector<std::uint64_t> keys;
+    Plain plain[THREADS], all;
     std::vector<elltree_pair> start;
     std::vector<elltree::handle> handles;
     std::vector<std::thread> threads;
     long wrong[THREADS] = {}, sum = 0;
-    for (std::uint64_t key = 0; key < KEYS; key++) {
-        keys.push_back(key);
-        if (key % 3 == 0) {
-            start.push_back({key, key + 7});
-            plain[key % THREADS][key] = key + 7;
-        }
+    for (std::uint64_t key = 0; key < KEYS; key += 3) {
+        start.push_back({key, key + 7});
+        plain[key % THREADS][key] = key + 7;
     }
-    handles.push_back(elltree::handle::open(keys, start, 400000));
-    for (std::uint64_t id = 1; id < THREADS; id++) {
-        std::vector<std::uint64_t> own;
-        for (std::uint64_t key = id; key < KEYS; key += THREADS)
-            own.push_back(key);
-        handles.push_back(handles[0].split(own));
-    }
+    handles.push_back(elltree::handle::open(start, 400000));
+    while (handles.size() < THREADS)
+        handles.push_back(handles[0].another());
     for (std::uint64_t id = 0; id < THREADS; id++)
         threads.emplace_back([&, id] { wrong[id] = work(handles[id], id, plain[id]); });
     for (auto &thread : threads)
         thread.join();
-    for (const long it : wrong)
-        sum += it;
+    for (std::uint64_t id = 0; id < THREADS; id++) {
+        sum += wrong[id];
+        all.merge(plain[id]);
+    }
+    const auto same = [](const elltree_pair &one, const auto &other) { return one.key == other.first && one.value == other.second; };
+    for (auto &handle : handles) {
+        const auto pairs = handle.range();
+        sum += !std::equal(pairs.begin(), pairs.end(), all.begin(), all.end(), same);
+    }
     std::printf("%ld wrong\n", sum);
     return sum != 0;
 }
