@@ -415,7 +415,7 @@ static long add_many(const char *what, uint64_t (*key)(uint64_t i), uint64_t lea
 }
 
 static long add_in_orders(void) {
-    return add_many("ascending", ascending, 2, MANY) + add_many("descending", descending, 2, MANY) + add_many("shuffled", shuffled, 0, 3);
+    return add_many("ascending", ascending, 1, MANY) + add_many("descending", descending, 1, MANY) + add_many("shuffled", shuffled, 0, 3);
 }
 
 /* One thread. */

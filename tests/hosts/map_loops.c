@@ -37,9 +37,9 @@ static long loop(int length, int place) {
             else
                 wrong += elltree_map_get(map, COUNTER, &was) != ELLTREE_YES;
     (void)renewals(&early);
-    if (early < 2)
+    if (early < 1)
         printf("a loop of %d calls whose call %d adds a key: %llu early renewals\n", length, place, (unsigned long long)early);
-    wrong += early < 2;
+    wrong += early < 1;
     return wrong + (elltree_map_free(map) != ELLTREE_YES);
 }
 
@@ -56,9 +56,9 @@ static long queue(void) {
         wrong += elltree_map_remove(map, found, &was) != ELLTREE_YES;
     }
     (void)renewals(&early);
-    if (early < before + 2)
+    if (early < before + 1)
         printf("a queue: %llu early renewals\n", (unsigned long long)(early - before));
-    wrong += early < before + 2;
+    wrong += early < before + 1;
     return wrong + (elltree_map_free(map) != ELLTREE_YES);
 }
 
