@@ -8,7 +8,8 @@ use std::thread::Threads;
 /// The exit status, and what standard output and standard error get.
 pub(super) type Ending<'a> = (u8, &'a str, &'a str);
 
-/// The words of a command, with spaces between them, the text on its standard input, and how it ends where no stream fails.
+/// The words of a command, with spaces between them, the text on its standard input, and how it ends where no stream
+/// fails.
 pub(super) type Row<'a> = (&'static str, &'a str, Ending<'a>);
 
 /// What is told where help was cut or a flush failed.

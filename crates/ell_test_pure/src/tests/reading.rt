@@ -1,4 +1,5 @@
-//! A text of each version, each fault once, with its words, and readers that fail or give a byte at a time. `tests/texts` has more texts.
+//! A text of each version, each fault once, with its words, and readers that fail or give a byte at a time.
+//! `tests/texts` has more texts.
 use super::shared::have_texts;
 use ell_ops::Op;
 use ell_text::{InputFault, TextFault, read_all, read_bulk};

@@ -43,8 +43,8 @@ fn play<G: StepGate>(
     pass
 }
 
-/// Two workers: worker 0 is held at its first step of a kind, until worker 1 has made its calls. The keys at the start and at the end,
-/// with their values; those that have owners, and those of them that worker 0 owns.
+/// Two workers: worker 0 is held at its first step of a kind, until worker 1 has made its calls. The keys at the start
+/// and at the end, with their values; those that have owners, and those of them that worker 0 owns.
 #[derive(Clone, Copy)]
 pub struct Meeting<'a> {
     pub owned: &'a [u64],
@@ -55,8 +55,8 @@ pub struct Meeting<'a> {
     pub end: &'a [(u64, u64)],
 }
 
-/// Has the two meet: worker 0 is held at this kind of step until worker 1 has ended so many operations, of which a put or an update makes
-/// two or more.
+/// Has the two meet: worker 0 is held at this kind of step until worker 1 has ended so many operations, of which a put
+/// or an update makes two or more.
 pub fn meet<R: Threads + Abort + AllocGlobal + Sync>(rt: &R, at: Kind, ends: u64, meeting: Meeting)
     requires ascending { IsStrictlyIncreasing (keys_of meeting.start.now) }
     requires real { All (λ k. k ≤ greatest_key) (keys_of meeting.start.now) }
@@ -239,8 +239,8 @@ fn others_go_past_a_delete_of_their_key(rt: HostRuntime) {
     meet(&rt, Kind::Exchange(Exchange::DUnflag), 4, BEHIND_ITS_CUT);
 }
 
-// Between the flag of worker 0 and its mark, worker 1 adds a neighbor at its place: so the mark is lost. Worker 0 is held again before it
-// takes its flag back, and then deletes what it finds.
+// Between the flag of worker 0 and its mark, worker 1 adds a neighbor at its place: so the mark is lost. Worker 0 is
+// held again before it takes its flag back, and then deletes what it finds.
 const BEHIND_A_LOST_MARK: Meeting = Meeting {
     held: (Ask(Delete(5)), Yes),
     rows: &[

@@ -42,7 +42,8 @@ const OWNER_DELETES: Meeting = Meeting {
     ..OWNER_ADDS
 };
 
-// A shared key is being changed by a worker that is held, and the owner of the neighbors is answered as by a private map.
+// A shared key is being changed by a worker that is held, and the owner of the neighbors is answered as by a private
+// map.
 const GUEST_ADDS: Meeting = Meeting {
     by_zero: &[],
     owned: &[4, 6],

@@ -1,4 +1,5 @@
-//! Scans that are held before each of their steps in turn, while another pass changes the nodes that they have visited or kept.
+//! Scans that are held before each of their steps in turn, while another pass changes the nodes that they have visited
+//! or kept.
 ghost use Rattle.ell_test_shared.specs.Sharing.{IsSharer};
 
 use super::calling::KeyCall::Ask as Call;
@@ -149,8 +150,8 @@ fn was_so(ops: &[Op], first: u64, key: u64, told: Option<u64>) -> bool {
     was
 }
 
-// A call is held before each of its steps in turn, from which on another pass makes its operations: all at once, or so many steps apart.
-// What it tells of each key was so in some state since it began.
+// A call is held before each of its steps in turn, from which on another pass makes its operations: all at once, or so
+// many steps apart. What it tells of each key was so in some state since it began.
 fn hold_at_each<R: Threads + Abort + AllocGlobal + Sync>(rt: &R, ops: &[Op], ask: Ask) {
     for first in 1..=steps_of(rt, &START, ask) {
         for distance in [0, 2] {
@@ -199,9 +200,10 @@ fn a_scan_goes_on_where_keys_go_and_come_again(rt: HostRuntime) {
     hold_each(&rt, &TO_AND_FRO);
 }
 
-// A tree, and the steps of a scan of it: 1 comes to node 20; 2 reads its key, and 3 comes to node 10; 4 reads its key, and 5 comes to
-// leaf 5; 6 and 7 read this. The cursor goes on from node 10: 8 reads its key, 9 comes to leaf 10, and 10 and 11 read this. It goes on from
-// node 20: 12 reads its key, 13 comes to the last node, 14 reads its key, 15 comes to leaf 20, and 16 and 17 read this.
+// A tree, and the steps of a scan of it: 1 comes to node 20; 2 reads its key, and 3 comes to node 10; 4 reads its key,
+// and 5 comes to leaf 5; 6 and 7 read this. The cursor goes on from node 10: 8 reads its key, 9 comes to leaf 10, and
+// 10 and 11 read this. It goes on from node 20: 12 reads its key, 13 comes to the last node, 14 reads its key, 15 comes
+// to leaf 20, and 16 and 17 read this.
 //
 //            20
 //          /    \

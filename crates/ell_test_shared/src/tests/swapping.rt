@@ -1,4 +1,5 @@
-//! Swaps, puts, sums and removals of one key, each held at each kind of step in turn, while another worker changes the key.
+//! Swaps, puts, sums and removals of one key, each held at each kind of step in turn, while another worker changes the
+//! key.
 ghost use Rattle.std.specs.Prelude.{[]};
 
 use super::calling::KeyCall::{Add, Ask, Look, Put, RemoveIf, Take};
