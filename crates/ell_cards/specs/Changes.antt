@@ -1,6 +1,6 @@
 use Rattle.std.specs.Option.{option_or}
 use Rattle.std.specs.List.{list_all}
-use Rattle.std.specs.Prelude.{filter, map, not, option_map, ℕ, ◌+◌, ◌==◌, ◌++◌, if◌then◌else◌, Bool, true, false, Option, Some, None, List, [], ◌∷◌, unwrap_or, nat_lt, max, Result, Ok, Err, ◌-◌, ◌%◌, ◌^◌}
+use Rattle.std.specs.Prelude.{filter, map, not, option_map, ℕ, ◌+◌, ◌==◌, ◌++◌, if◌then◌else◌, Bool, true, false, Option, Some, None, List, [], ◌∷◌, length, unwrap_or, nat_lt, max, Result, Ok, Err, ◌-◌, ◌%◌, ◌^◌}
 use Rattle.ell_ops.specs.KeySet.{set_of}
 use Rattle.ell_ops.specs.declared.op.Op.{Op}
 use Rattle.ell_ops.specs.declared.op.Op.TheVariants.{Insert, Delete, Swap}
@@ -34,6 +34,7 @@ use Rattle.ell_core.specs.declared.view.Entry.TheVariants.{Present, Absent}
 use Rattle.ell_ops.specs.declared.reply.Reply.{Reply}
 use Rattle.ell_ops.specs.declared.reply.Reply.TheVariants.{Yes, Found}
 use Rattle.ell_cards.specs.declared.view.Answered.{Answered}
+use Rattle.ell_cards.specs.declared.view.Deed.{Deed}
 
 -- the facts with the one that an update tells: a flag or a mark that of its card, a clean update none
 abbrev pub facts_by : State → ℕ → List Fact → List Fact
@@ -190,11 +191,24 @@ answered_ledger _ _ ledger = ledger
 abbrev pub answered_so : Option Op → Option ℕ → Reply → Option Answered
 answered_so op card said = option_map (λ o. record { op = o; said = said; card = card }) op
 
+-- a call that is answered now: all that its pass knows of had ended before it began
+abbrev pub deed_of : Op → Reply → List Deed → Deed
+deed_of op said answers = record { op = op; said = said; before = length answers; own = true }
+
+-- what was answered, with the answer to the operation that was in hand
+abbrev pub with_answer : Option Op → Reply → List Deed → List Deed
+with_answer None said answers = answers
+with_answer (Some op) said answers = deed_of op said answers ∷ answers
+
+-- what was answered before a pass was parted, as the right part knows of it
+abbrev pub inherited : List Deed → List Deed
+inherited answers = map (λ (d : Deed). record d { own = false }) answers
+
 -- answer: nothing is in hand any more, the ledger goes by the answer, and the pass has it for its last
 abbrev pub after_answer : Reply → View → View
 after_answer said v = counted (record (at_rest (answered_ledger v.worker.operation said v.worker.ledger) v) {
   answered = answered_so v.worker.operation v.worker.card said;
-  answers = v.answers + 1;
+  answers = with_answer v.worker.operation said v.answers;
 })
 
 -- upd: this update was read at the node where the pass stands
@@ -322,7 +336,7 @@ idle_view share worker = record {
   laid_down = None;
   hindrances = [];
   met = [];
-  answers = 0;
+  answers = [];
   hindered = 0;
   looks = 0;
   made = 0;
@@ -355,6 +369,7 @@ right_view keys v = record (idle_view (given_share v.share)
       told = v.told;
       knew_before = v.knew_before;
       next_at_least = v.next_at_least;
+      answers = inherited v.answers;
     }
 
 -- an entry put into an ascending ledger at its place, or in place of that of its key
@@ -383,7 +398,7 @@ joined_view v w = record (idle_view ((v.share + w.share) % 2 ^ 64)
       hindrances = v.hindrances ++ w.hindrances;
       next = later_reading v.next w.next;
       next_at_least = max v.next_at_least w.next_at_least;
-      answers = v.answers + w.answers;
+      answers = v.answers ++ w.answers;
       hindered = v.hindered + w.hindered;
       looks = v.looks + w.looks;
       made = v.made + w.made + 1;

@@ -53,12 +53,20 @@ pub mod Sharing
 pub mod Changing
 -- one sequence of the calls of a run, which replies as they do
 pub mod Linearizing
+-- histories of tables, and that they are linearizable
+pub mod Histories
 -- the point of the call that a pass answered last
 pub mod Answering
 -- the value that a delete took
 pub mod Taking
 -- calls that were laid down
 pub mod LayingDown
+-- what passes were answered, as of one thread
+pub mod Accounts
+-- the history of a table, as a pass may know it
+pub mod Stories
+-- the places of looks in the sequence of calls
+pub mod Placing
 -- what its public clauses cite of the crates below
 pub use Rattle.ell_ops.specs.KeySet
 pub use Rattle.ell_ops.specs.Meaning

@@ -69,6 +69,7 @@ pub record Began (last : ℕ) (s : TableState) (turns : List Turn) (s' : TableSt
   pub first : ℕ
   pub from : TableState
   pub to : TableState
+  pub at : get_elem? turns first ≡ some (Makes seat call.Look)
   pub before : TableRun last s (take first turns) from
   pub call : CallIsMade last from seat call.Look to
   pub after : TableRun last to (drop (suc first) turns) s'

@@ -15,6 +15,10 @@ ghost use Rattle.ell_cards.specs.Meanwhile.{SearchesBeginThere, SearchesReadMean
 ghost use Rattle.ell_cards.specs.Looking.{LooksAreOfOneState, LooksAreInOrder, LooksReadTheirOwn, StretchesAreOfOneState, StretchesAreInOrder};
 ghost use Rattle.ell_cards.specs.Changing.{CallsHaveTheirPoint, CallsAnswerAsAMap, CallsHaveTheirOwnCards, TreesAreMaps, TreesAreOfOneThread, CallsReplyAsOneThread};
 ghost use Rattle.ell_cards.specs.Linearizing.{RunsAreLinearizable, LastAnswersAreOfCalls};
+ghost use Rattle.ell_cards.specs.Accounts.{WholeAccountsAreOfOneThread};
+ghost use Rattle.ell_cards.specs.Histories.{HistoriesAreLinearizable};
+ghost use Rattle.ell_cards.specs.Stories.{StoriesAreTold};
+ghost use Rattle.ell_cards.specs.Placing.{LooksHavePlaces};
 ghost use Rattle.ell_cards.specs.LayingDown.{LaidDownCallsChangeNothing, LaidDownLastChangesNothing};
 ghost use Rattle.ell_cards.specs.Answering.{AnswersHaveTheirPoints};
 ghost use Rattle.ell_cards.specs.Taking.{DeletesTakeTheToldValue};
@@ -261,6 +265,38 @@ pub fn runs_are_linearizable()
     ensures runs { RunsAreLinearizable }
     // What a pass answered last is a call of the run.
     ensures last { LastAnswersAreOfCalls }
+{}
+
+/// What passes were answered that have come together is what one thread is answered. Wherever turns have led a table
+/// that shares its keys, take the pass that has the whole share, which all others were joined to, with nothing in hand:
+/// there is an order of all calls that it and the others made, each with its answer, in which one thread is answered
+/// so, and leaves the tree.
+pub fn whole_accounts_are_of_one_thread()
+    // Of a tree that shares its keys, the pass with the whole share has been answered, together with all passes that
+    // were joined to it, what one thread is answered that makes the same calls in some order, and leaves the tree.
+    ensures { WholeAccountsAreOfOneThread }
+{}
+
+/// The history of every run from a start, by any passes in any order, is linearizable.
+pub fn histories_are_linearizable()
+    // The history of every run is linearizable.
+    ensures { HistoriesAreLinearizable }
+{}
+
+/// Wherever turns have led a table, all that was done with it is one history, which is linearizable, and has the calls
+/// that each pass was answered.
+pub fn stories_are_told()
+    // All that was done with a table is one linearizable history, in whose sequence are the calls that a pass was
+    // answered, each as often as it was, and no others if all passes were joined to it.
+    ensures { StoriesAreTold }
+{}
+
+/// Every run from a start is linearizable by a sequence of its calls in which each look at a key has a place: it finds
+/// what one thread finds there.
+pub fn looks_have_places()
+    // Each look has a place in the one sequence of calls, after those that ended before it began, and before those that
+    // began after it had ended.
+    ensures { LooksHavePlaces }
 {}
 
 /// The table's rule has force: there are things that no step can tell, since no turns lead to the state after it. None

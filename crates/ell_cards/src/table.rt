@@ -80,7 +80,7 @@ impl<A: Allocator + Copy> CardTable<A> {
 
     // Loads a word, a step that is not counted.
     #[inline(always)]
-    fn load_as<J: Telling>(&self, pass: &mut Pass<A>, call: Call, word: usize) -> u64
+    pub(crate) fn load_as<J: Telling>(&self, pass: &mut Pass<A>, call: Call, word: usize) -> u64
         requires own { pass.old.table ≡ self.now.id }
         requires word { IsNamed self.now.plan.last_card pass.old.view → word < table_size self.now.plan.last_card }
         requires rule { MayLoad self.now.plan pass.old.view word J.then }

@@ -41,6 +41,17 @@ pub struct Answered {
     pub card: Option<u64>,
 }
 
+/// A call that was answered, as a pass knows of it.
+#[derive(Clone, Copy)]
+pub struct Deed {
+    pub op: Op,
+    pub said: Reply,
+    /// How many of the calls behind it in the list, next to it, had ended before it began.
+    pub before: u64,
+    /// Whether it is the pass's, or that of one that was joined to it. If not, it was made by a pass from which this one was split.
+    pub own: bool,
+}
+
 /// What a pass knows. No value of this type is made.
 #[derive(Drop)]
 pub struct View {
@@ -61,8 +72,9 @@ pub struct View {
     pub found: Option<u64>,
     /// The exchanges that it won, each by its kind and its card, the last first. When a pass is split, the left part keeps them.
     pub won: LinkedList<(Exchange, u64)>,
-    /// How many operations it has answered.
-    pub answers: u64,
+    /// The calls that it answered, the last first. When a pass is split, the left part keeps them, and the right part knows of them; a join puts
+    /// those of the right one behind those of the left one.
+    pub answers: LinkedList<Deed>,
     /// The operation that it answered last, until another begins, or the pass is split or joined.
     pub answered: Option<Answered>,
     /// The operation that it laid down last without an answer, until another begins, or the pass is split or joined.

@@ -15,6 +15,7 @@ use Rattle.ell_tree.specs.declared.computing.Replaced.{Replaced}
 use Rattle.ell_tree.specs.declared.computing.Replaced.TheVariants.{Done, Lost}
 use Rattle.ell_tree.specs.declared.operations.NotDone.{NotDone}
 use Rattle.ell_tree.specs.declared.operations.NotDone.TheVariants.{Busy, Spent}
+use Rattle.ell_tree.specs.Called.{AnsweredLast, AnsweredNoChange, put_by, tries_in}
 use Rattle.ell_tree.specs.Ends.{Answers, LaidDown, TakesValue, find_steps, try_steps}
 use Rattle.ell_tree.specs.Ledgers.{TreeModel, present_in, Owns, answers, IsIdle}
 
@@ -25,6 +26,7 @@ pub record IsUntouched (old new : PassModel) : Type 0 where
   pub map : (key : ℕ) → present_in new key ≡ present_in old key
   pub owned : (key : ℕ) → Owns new key ↔ Owns old key
   pub answered : answers old ≤ answers new
+  pub called : AnsweredNoChange old.view.answers new.view.answers
   pub share : SameShare old.view new.view
   pub idle : IsIdle new
 
@@ -42,14 +44,9 @@ pub record Concludes (t : TreeModel) (op : Op) (said : Reply) (old new : PassMod
   pub point : IsAnsweredInRuns t.plan new.view op said
   pub owned : (key : ℕ) → Owns new key ↔ Owns old key
   pub answered : answers old < answers new
+  pub called : AnsweredLast op said old.view.answers new.view.answers
   pub share : SameShare old.view new.view
   pub idle : IsIdle new
-
--- what puts a value at a key, by what was there of it: an insert, where the key was absent, or a swap of the value that
--- it had
-abbrev pub put_by : ℕ → ℕ → Option ℕ → Op
-put_by key value None = Insert key value
-put_by key value (Some was) = Swap key was value
 
 -- the key had this value, or none, at the point of a find, or of a swap of another value, which changes nothing
 abbrev pub ReadsValue : TreeModel → ℕ → Option ℕ → PassModel → PassModel → Type 0
@@ -113,6 +110,7 @@ Replaces t key was value old new (Ok Done) =
     Answers t (put_by key value was) (reply_of_change (put_by key value was)) old new
 Replaces t key was value old new (Ok (Lost there)) =
     IsUntouched old new × ReadsValue t key there old new × (Owns old key → present_in old key ≢ was)
+    × (tries_in old.view.answers < tries_in new.view.answers)
 Replaces t key was value old new (Err why) = LaidDown t (put_by key value was) old new × RanOut t.plan.last_card new why
 
 -- what comes of one try to remove a key that has a value
@@ -128,10 +126,14 @@ RemovesOrReads t key was old new (Ok (Lost there)) =
     IsUntouched old new × Concludes t (Find key) (found there) old new × (Owns old key → present_in old key ≢ Some was)
 RemovesOrReads t key was old new (Err why) = LaidDown t (Delete key) old new × RanOut t.plan.last_card new why
 
--- so many tries were made: each was hindered, or was answered by what another pass had changed; and the key was read
--- before
+-- so many tries were made: each was hindered, or was answered by what another pass had changed
 abbrev pub AreTried : ℕ → PassModel → PassModel → Type 0
-AreTried tries old new = old.view.hindered + answers old + tries < new.view.hindered + answers new
+AreTried tries old new =
+    old.view.hindered + tries_in old.view.answers + tries ≤ new.view.hindered + tries_in new.view.answers
+
+-- so many tries were made: each was hindered, or the key was read anew; and the key was read before
+abbrev pub AreTriedOrRead : ℕ → PassModel → PassModel → Type 0
+AreTriedOrRead tries old new = old.view.hindered + answers old + tries < new.view.hindered + answers new
 
 -- whether it put it
 abbrev pub is_done : Replaced → Bool

@@ -1,4 +1,4 @@
-use Rattle.std.specs.Prelude.{◌≡◌, ℕ, ◌+◌, ◌*◌, ◌≤◌, ◌↔◌, ◌==◌, Bool, false, Option, None, Some, is_some, IfSome, Result, Ok, Err}
+use Rattle.std.specs.Prelude.{◌≡◌, ℕ, ◌+◌, ◌*◌, ◌≤◌, ◌↔◌, ◌==◌, Bool, false, Option, None, Some, is_some, IfSome, Result, Ok, Err, ◌∷◌}
 use Rattle.ell_core.specs.statements.Effects.{reply_of_change}
 use Rattle.ell_ops.specs.declared.op.Op.{Op}
 use Rattle.ell_ops.specs.declared.op.Op.TheVariants.{Find, Insert, Delete, Swap}
@@ -8,6 +8,7 @@ use Rattle.ell_cards.specs.Answering.{IsAnsweredInRuns}
 use Rattle.ell_cards.specs.LayingDown.{IsLaidDownInRuns}
 use Rattle.ell_cards.specs.Taking.{IsTakenInRuns}
 use Rattle.ell_cards.specs.Models.{PassModel}
+use Rattle.ell_cards.specs.Changes.{deed_of}
 use Rattle.ell_cards.specs.Stepping.{SameShare}
 use Rattle.ell_tree.specs.declared.operations.NotDone.{NotDone}
 use Rattle.ell_tree.specs.declared.operations.NotDone.TheVariants.{Busy, Spent}
@@ -27,6 +28,7 @@ pub record Answers (t : TreeModel) (op : Op) (said : Reply) (old new : PassModel
   pub point : IsAnsweredInRuns t.plan new.view op said
   pub owned : (key : ℕ) → Owns new key ↔ Owns old key
   pub answered : answers new ≡ answers old + 1
+  pub called : new.view.answers ≡ deed_of op said old.view.answers ∷ old.view.answers
   pub share : SameShare old.view new.view
   pub idle : IsIdle new
 
@@ -38,6 +40,7 @@ pub record LaidDown (t : TreeModel) (op : Op) (old new : PassModel) : Type 0 whe
   pub label : new.label ≡ old.label
   pub ledger : new.view.worker.ledger ≡ old.view.worker.ledger
   pub answered : answers new ≡ answers old
+  pub called : new.view.answers ≡ old.view.answers
   pub share : SameShare old.view new.view
   pub would : Owns old (key_of op) → reply_of op (present_in old) ≡ reply_of_change op
   pub nothing : IsLaidDownInRuns t.plan new.view op

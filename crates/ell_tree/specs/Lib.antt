@@ -57,3 +57,5 @@ pub mod Scans
 pub mod Cursors
 -- that what a look found was so in one state of every run that can have led there
 pub use Rattle.ell_cards.specs.Looking
+-- what a pass was answered by a call
+pub mod Called

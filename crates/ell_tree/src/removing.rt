@@ -1,6 +1,6 @@
 //! A call that removes a key if it has a certain value, in one atomic step.
 ghost use Rattle.std.specs.Prelude.{◌≡◌, ◌≢◌, ◌<◌, ◌≤◌, ◌*◌, Err, IfOk, IfErr};
-ghost use Rattle.ell_tree.specs.Computing.{AreTried, IsNotDone, RemovesIf, RemovesOnce, RemovesOrReads, round_steps, update_steps, whether_done};
+ghost use Rattle.ell_tree.specs.Computing.{AreTriedOrRead, IsNotDone, RemovesIf, RemovesOnce, RemovesOrReads, round_steps, update_steps, whether_done};
 ghost use Rattle.ell_tree.specs.Counts.{Took};
 ghost use Rattle.ell_tree.specs.Ends.{CountsTries, change_steps, is_value, whether_swapped};
 ghost use Rattle.ell_tree.specs.Ledgers.{Owns};
@@ -33,7 +33,7 @@ pub(crate) fn remove_if<A: Allocator + Copy, G: StepGate>(
     requires tries { 1 ≤ tries }
     ensures removes { IfOk result (RemovesIf table.now key was pass.old pass.new) }
     ensures not_done { IfErr result (IsNotDone table.now key pass.old pass.new) }
-    ensures tried { result ≡ Err Busy → AreTried tries pass.old pass.new }
+    ensures tried { result ≡ Err Busy → AreTriedOrRead tries pass.old pass.new }
     ensures others { Owns pass.old key → result ≡ Err Busy → IsOthersDoing table.now tries pass.old pass.new }
     ensures steps { Took pass.old pass.new (update_steps table.now.plan.last_card tries) }
     ensures counted { CountsTries tries pass.old pass.new }

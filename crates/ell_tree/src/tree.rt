@@ -1,5 +1,5 @@
 //! The tree.
-ghost use Rattle.std.specs.Prelude.{◌≡◌, ◌≢◌, ◌<◌, ◌≤◌, ◌+◌, ◌*◌, [], true, false, length, Err, IfOk, IfErr, IfSome, OnOk, drop, vec_capacity};
+ghost use Rattle.std.specs.Prelude.{◌≡◌, ◌≢◌, ◌<◌, ◌≤◌, ◌+◌, ◌*◌, ◌++◌, [], true, false, length, Err, Ok, IfOk, IfErr, IfSome, OnOk, drop, vec_capacity};
 ghost use Rattle.std.specs.List.{All};
 ghost use Rattle.std.specs.List.Sorted.{IsStrictlyIncreasing};
 ghost use Rattle.std.specs.Map.{keys_of};
@@ -8,11 +8,14 @@ ghost use Rattle.ell_ops.specs.KeySet.{set_of};
 ghost use Rattle.ell_ops.specs.Meaning.{greatest_key, found};
 ghost use Rattle.ell_word.specs.Node.{most_start};
 ghost use Rattle.ell_core.specs.state.Opening.{last_card};
+ghost use Rattle.ell_cards.specs.Changes.{inherited};
 ghost use Rattle.ell_cards.specs.Models.{IsCardCount, MayPart, RefusesCards, SplitRefuses, whole_share};
+ghost use Rattle.ell_cards.specs.Stories.{HasStory};
+ghost use Rattle.ell_tree.specs.Called.{IsCalled, IsPutCalled, IsRemoveCalled, IsUpdateCalled};
 ghost use Rattle.ell_tree.specs.CardsLeft.{AreLeftAtMost, ReadsCardsLeft};
 ghost use Rattle.ell_tree.specs.CardsTaken.{TakesNoCard};
 ghost use Rattle.ell_tree.specs.Closing.{ClosesTo};
-ghost use Rattle.ell_tree.specs.Computing.{AreTried, IsNotDone, IsSum, PutsValue, RemovesIf, UpdatesValue, update_steps, whether_put};
+ghost use Rattle.ell_tree.specs.Computing.{AreTried, AreTriedOrRead, IsNotDone, IsSum, PutsValue, RemovesIf, UpdatesValue, update_steps, whether_put};
 ghost use Rattle.ell_tree.specs.Counts.{Took};
 ghost use Rattle.ell_tree.specs.Ends.{Answers, CountsTries, Ends, TakesValue, find_steps, found_or_not_done, replied, whether, whether_swapped};
 ghost use Rattle.ell_tree.specs.Milestones.{milestones_known};
@@ -66,6 +69,8 @@ impl<A: Allocator + Copy> Tree<A> {
             made.0.plan ≡ record { keys = keys.now; start = []; last_card = cards; shared = false }) }
         // The pass owns these keys, of which the start keys are present, has the whole share, and has made no step.
         ensures pass { IfOk result (λ made. IsFirst made.0 made.1) }
+        // It was answered nothing.
+        ensures called { IfOk result (λ made. made.1.view.answers ≡ []) }
         // `BadCards` is returned exactly if the number of cards is not 1 to 1,000,000, and otherwise only `NoMemory`.
         ensures refused { IfErr result (RefusesCards cards) }
     {
@@ -101,6 +106,8 @@ impl<A: Allocator + Copy> Tree<A> {
         }) }
         // The pass owns these keys, of which the start keys are present, has the whole share, and has made no step.
         ensures pass { IfOk result (λ made. IsFirst made.0 made.1) }
+        // It was answered nothing.
+        ensures called { IfOk result (λ made. made.1.view.answers ≡ []) }
         // `BadCards` is returned exactly if the number of cards is not 1 to 1,000,000, and otherwise only `NoMemory`.
         ensures refused { IfErr result (RefusesCards cards) }
     {
@@ -137,6 +144,8 @@ impl<A: Allocator + Copy> Tree<A> {
         }) }
         // The pass owns these keys, of which the start keys are present, has the whole share, and has made no step.
         ensures pass { IfOk result (λ made. IsFirst made.0 made.1) }
+        // It was answered nothing.
+        ensures called { IfOk result (λ made. made.1.view.answers ≡ []) }
         // `BadCards` is returned exactly if the number of cards is not 1 to 1,000,000, and otherwise only `NoMemory`.
         ensures refused { IfErr result (RefusesCards cards) }
     {
@@ -160,6 +169,9 @@ impl<A: Allocator + Copy> Tree<A> {
         ensures left { IfOk result (λ parts. IsLeftPart left_keys.now pass parts.0) }
         // The right part has the other keys and a piece of the share, knows the same milestones, and counts anew.
         ensures right { IfOk result (λ parts. IsRightPart left_keys.now pass parts.1) }
+        // The left part was answered what the pass was answered, and the right part knows of that.
+        ensures called { IfOk result (λ parts. (parts.0.view.answers ≡ pass.view.answers)
+            × (parts.1.view.answers ≡ inherited pass.view.answers)) }
         // `TooManyPasses` is returned exactly if the tree shares keys and the share is the least one, and otherwise
         // only `NoMemory`. After either error the pass comes back as it was.
         ensures may { OnOk result (MayPart pass.view) }
@@ -181,6 +193,8 @@ impl<A: Allocator + Copy> Tree<A> {
         // The pass has the keys and the shares of both, and knows no fewer milestones. In a row it counts one step more
         // than the greater of the two counts, and in all one more than their sum.
         ensures joined { IfOk result (IsUnion left right) }
+        // It was answered what both were answered.
+        ensures called { IfOk result (λ both. both.view.answers ≡ left.view.answers ++ right.view.answers) }
         // If an allocation fails, both come back as they were.
         ensures refused { IfErr result (λ refused. (refused.0 ≡ left) × (refused.1 ≡ right)) }
     {
@@ -414,6 +428,8 @@ impl<A: Allocator + Copy> Tree<A> {
         // On a key of the pass, the answer is the value that the pass has. On any key, it is that of one thread at one
         // point of the call, in every run. The pass is idle, and keeps its keys and its share.
         ensures answers { Answers self.now (Find key) (found result) pass.old pass.new }
+        // The pass was answered this call, and no other.
+        ensures called { IsCalled (Find key) pass.old pass.new (Ok (found result)) }
         // Nothing is in its way, and no try is counted as hindered.
         ensures quiet { IsQuiet self.now pass.old pass.new }
         // It makes at most `3 * cards + 7` steps.
@@ -455,6 +471,8 @@ impl<A: Allocator + Copy> Tree<A> {
         // changes nothing in any run: `Busy` is returned only after as many hindrances as tries, and `Spent` only if no
         // card is left. What was in its way is over.
         ensures ends { Ends self.now tries (Insert key value) pass.old pass.new (replied result) }
+        // The pass was answered this call and no other, or nothing if the call has no answer.
+        ensures called { IsCalled (Insert key value) pass.old pass.new (replied result) }
         // A `Busy` call counts each of its tries as hindered. Each shows the pass a milestone that it did not know, and
         // in every run they are no more than others' acts allow.
         ensures others { result ≡ Err Busy → IsOthersDoing self.now tries pass.old pass.new }
@@ -489,6 +507,8 @@ impl<A: Allocator + Copy> Tree<A> {
         // without an answer changes nothing in any run: `Busy` is returned only after as many hindrances as tries, and
         // `Spent` only if no card is left. What was in its way is over.
         ensures ends { Ends self.now tries (Swap key was value) pass.old pass.new (found_or_not_done result) }
+        // The pass was answered this call and no other, or nothing if the call has no answer.
+        ensures called { IsCalled (Swap key was value) pass.old pass.new (found_or_not_done result) }
         // A `Busy` call counts each of its tries as hindered. Each shows the pass a milestone that it did not know, and
         // in every run they are no more than others' acts allow.
         ensures others { result ≡ Err Busy → IsOthersDoing self.now tries pass.old pass.new }
@@ -529,6 +549,8 @@ impl<A: Allocator + Copy> Tree<A> {
         // this holds in the pass's map, and on any key as of one thread at the point of the last operation, in every
         // run.
         ensures puts { IfOk result (PutsValue self.now key value pass.old pass.new) }
+        // Of all that the pass was answered by the call, only the last has changed anything: what put the value.
+        ensures called { IsPutCalled key value pass.old pass.new result }
         // A call without an answer changes nothing of what the pass has, and has nothing in hand. Its last operation
         // changes nothing in any run. `Spent` is returned only if no card is left.
         ensures not_done { IfErr result (IsNotDone self.now key pass.old pass.new) }
@@ -567,6 +589,8 @@ impl<A: Allocator + Copy> Tree<A> {
         // key stays absent. On a key of the pass, this holds in the pass's map, and on any key as of one thread at the
         // point of the last operation, in every run.
         ensures updates { IfOk result (UpdatesValue self.now key (F.post f) pass.old pass.new) }
+        // Of all that the pass was answered by the call, only the last has changed anything: the swap of the value.
+        ensures called { IsUpdateCalled key (F.post f) pass.old pass.new result }
         // A call without an answer changes nothing of what the pass has, and has nothing in hand. Its last operation
         // changes nothing in any run. `Spent` is returned only if no card is left.
         ensures not_done { IfErr result (IsNotDone self.now key pass.old pass.new) }
@@ -607,6 +631,8 @@ impl<A: Allocator + Copy> Tree<A> {
         // absent. On a key of the pass, this holds in the pass's map, and on any key as of one thread at the point of
         // the last operation, in every run.
         ensures adds { IfOk result (UpdatesValue self.now key (IsSum addend) pass.old pass.new) }
+        // Of all that the pass was answered by the call, only the last has changed anything: the swap of the value.
+        ensures called { IsUpdateCalled key (IsSum addend) pass.old pass.new result }
         // A call without an answer changes nothing of what the pass has, and has nothing in hand. Its last operation
         // changes nothing in any run. `Spent` is returned only if no card is left.
         ensures not_done { IfErr result (IsNotDone self.now key pass.old pass.new) }
@@ -647,6 +673,8 @@ impl<A: Allocator + Copy> Tree<A> {
         // changes nothing in any run: `Busy` is returned only after as many hindrances as tries, and `Spent` only if no
         // card is left. What was in its way is over.
         ensures ends { Ends self.now tries (Delete key) pass.old pass.new (replied result) }
+        // The pass was answered this call and no other, or nothing if the call has no answer.
+        ensures called { IsCalled (Delete key) pass.old pass.new (replied result) }
         // A `Busy` call counts each of its tries as hindered. Each shows the pass a milestone that it did not know, and
         // in every run they are no more than others' acts allow.
         ensures others { result ≡ Err Busy → IsOthersDoing self.now tries pass.old pass.new }
@@ -679,6 +707,8 @@ impl<A: Allocator + Copy> Tree<A> {
         // changes nothing in any run: `Busy` is returned only after as many hindrances as tries, and `Spent` only if no
         // card is left. What was in its way is over.
         ensures ends { Ends self.now tries (Delete key) pass.old pass.new (replied (whether result)) }
+        // The pass was answered this call and no other, or nothing if the call has no answer.
+        ensures called { IsCalled (Delete key) pass.old pass.new (replied (whether result)) }
         // The value is the one that it took: for a key of the pass, the value that the pass had; for any key, the one
         // that it had at the call's point, in every run.
         ensures took { IfOk result (TakesValue self.now key pass.old pass.new) }
@@ -716,12 +746,13 @@ impl<A: Allocator + Copy> Tree<A> {
         // this holds in the pass's map, and on any key as of one thread at the point of the last operation, in every
         // run.
         ensures removes { IfOk result (RemovesIf self.now key was pass.old pass.new) }
+        // Of all that the pass was answered by the call, only the last has changed anything: the delete.
+        ensures called { IsRemoveCalled key was pass.old pass.new result }
         // A call without an answer changes nothing of what the pass has, and has nothing in hand. Its last operation
         // changes nothing in any run. `Spent` is returned only if no card is left.
         ensures not_done { IfErr result (IsNotDone self.now key pass.old pass.new) }
-        // `Busy` is returned only after all tries: each was hindered, or the key was read after another pass had
-        // changed it.
-        ensures tried { result ≡ Err Busy → AreTried tries pass.old pass.new }
+        // `Busy` is returned only after all tries: each was hindered, or the key was read anew.
+        ensures tried { result ≡ Err Busy → AreTriedOrRead tries pass.old pass.new }
         // On a key of the pass, a `Busy` call counts each of its tries as hindered, because of what others did.
         ensures others { Owns pass.old key → result ≡ Err Busy → IsOthersDoing self.now tries pass.old pass.new }
         // It makes at most `3 * cards + 7` steps, and `10 * cards + 35` for each try. It counts at most `tries` tries.
@@ -734,6 +765,28 @@ impl<A: Allocator + Copy> Tree<A> {
         ensures enough { Owns pass.old key → 2 * self.now.plan.last_card < tries → result ≢ Err Busy }
     {
         Ok(remove_if(&self.table, pass, key, was, tries, gate)?)
+    }
+
+    /// Reads one word, so that the pass knows what was done with the tree up to now, by whichever passes: that was one
+    /// history, which is linearizable, and has the calls that the pass was answered (`story`). Whatever a program
+    /// concludes from the answers of several threads, it concludes from this, once it has joined their passes.
+    pub fn story(&self, pass: &mut Pass<A>)
+        requires own { pass.old.table ≡ self.now.id }
+        // All that was done with the tree is one history, which is linearizable. Its order has the calls that the pass
+        // was answered, it and the passes that were joined to it, and no others if it has the whole share.
+        ensures story { HasStory self.now.plan pass.new.view }
+        // It makes one step. Otherwise the pass is unchanged.
+        ensures table { pass.new.table ≡ pass.old.table }
+        ensures label { pass.new.label ≡ pass.old.label }
+        ensures worker { pass.new.view.worker ≡ pass.old.view.worker }
+        ensures called { pass.new.view.answers ≡ pass.old.view.answers }
+        ensures share { pass.new.view.share ≡ pass.old.view.share }
+        ensures steps { Took pass.old pass.new 1 }
+        // It takes no card.
+        ensures cards { TakesNoCard pass.old pass.new }
+    {
+        self.table.story(pass);
+        pass.count(1);
     }
 
     /// A law, the contract of a function that does nothing: a pass of the tree knows of at most two milestones of each

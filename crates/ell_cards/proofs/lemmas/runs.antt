@@ -98,3 +98,17 @@ pub mod Linearizing
 pub mod LinearizingAnswers
 -- calls that were laid down
 pub mod LayingDown
+-- passes that were joined to others
+pub mod Spent
+-- calls that are in hand still
+pub mod Pending
+-- the calls of a run of which passes know
+pub mod Deeds
+-- what passes were answered, and the calls of a run
+pub mod Accounts
+-- the history of a run
+pub mod Histories
+-- and of a table
+pub mod Stories
+-- the places of looks
+pub mod Placing

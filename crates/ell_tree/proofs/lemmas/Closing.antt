@@ -11,7 +11,11 @@ use Rattle.ell_layout.specs.Words.{words_of, IsLeaf}
 use Rattle.ell_core.specs.tree.Tree.{IsTreeKey, ListsTreePairs}
 use Rattle.ell_core.specs.tree.Room.{HoldsKeys}
 use Rattle.ell_core.proofs.lemmas.tree.Pairs.{Contains-from_list_any}
-use Rattle.ell_cards.specs.Models.{PassModel}
+use Rattle.ell_cards.specs.Models.{PassModel, IsFree, whole_share}
+use Rattle.ell_cards.specs.Changing.{HasMap}
+use Rattle.ell_cards.specs.Accounts.{AreOfOneThread}
+use Rattle.ell_cards.proofs.lemmas.runs.Accounts.{whole_accounts_are_of_one_thread}
+use Rattle.ell_cards.proofs.lemmas.runs.LinearizingStates.{one_map}
 use Rattle.ell_cards.specs.Changes.{ledger_keys}
 use Rattle.std.specs.Map.{keys_of as pair_keys, values_of}
 use Rattle.ell_ops.specs.Contents.{contents_of}
@@ -155,8 +159,20 @@ module _ (t : TreeModel) (p : PassModel) (closed : ClosedModel) (ends : TableEnd
     all_present none k = sym (there_same (ledger p k) (contents_of pairs k)
         (λ v. (present_listed k v, λ is. listed_present k v (tree_key none k (v, (lists.each k v).0 (contained pairs k v is))) is)))
 
-    pub closes : closed.last_card ≡ t.plan.last_card → ClosesTo t p pairs
-    closes cards = record {
+    -- the list is the map that the tree is
+    is_list : HasMap (words_of closed.words) (contents_of pairs)
+    is_list k v = (λ there. listed pairs k v lists.ascending ((lists.each k v).1 there), λ is. (lists.each k v).0 (contained pairs k v is))
+
+    of_thread : IsFree p.view → (t.plan.shared ≡ true → p.view.share ≡ whole_share) → t.plan.shared ≡ true
+        → AreOfOneThread (contents_of t.plan.start) p.view.answers (contents_of pairs)
+    of_thread free whole mode =
+        let ran = ends.ran in
+        let account = whole_accounts_are_of_one_thread t.plan ran.state mode ran.reached ran.seat p.view ran.seen (whole mode) free in
+        let is : HasMap (words_of closed.words) account.left = subst (λ ws. HasMap (words_of ws) account.left) ran.same account.is in
+        subst (AreOfOneThread (contents_of t.plan.start) p.view.answers) (one_map (words_of closed.words) account.left (contents_of pairs) is is_list) account.thread
+
+    pub closes : IsFree p.view → (t.plan.shared ≡ true → p.view.share ≡ whole_share) → closed.last_card ≡ t.plan.last_card → ClosesTo t p pairs
+    closes free whole cards = record {
       ascending = lists.ascending;
       present = λ k among. of_plan k (Contains-from_list_any t.plan.keys k among);
       among = all_keys (λ k. (set_of t.plan.keys k ≡ true) ⊎ IsSharedIn t.plan k) pairs (λ k v h.
@@ -169,4 +185,5 @@ module _ (t : TreeModel) (p : PassModel) (closed : ClosedModel) (ends : TableEnd
       cards = cards;
       ran = ends.ran;
       tree = lists;
+      thread = of_thread free whole;
     }

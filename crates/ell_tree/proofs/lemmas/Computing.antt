@@ -1,4 +1,5 @@
-use Rattle.std.proofs.Common.{◌≡◌, ◌≢◌, ◌<◌, ℕ, false, not, Option, Some, None, is_some, inl, inr, refl, sym, ap, ◌∙◌, arith}
+use Rattle.std.proofs.Common.{◌≡◌, ◌≢◌, ◌<◌, ℕ, false, not, Option, Some, None, is_some, inl, inr, refl, sym, ap, ◌∙◌, arith, List, [], ◌∷◌, ◌++◌, length}
+use Rattle.std.proofs.lemmas.List.{append_assoc}
 use Rattle.std.proofs.lemmas.Bool.{ne_eqb, eq-eqb, false≢true}
 use Rattle.std.proofs.Common.{eqb}
 use Rattle.std.specs.Option.{option_eq}
@@ -9,14 +10,18 @@ use Rattle.ell_ops.specs.declared.reply.Reply.TheVariants.{No, Yes}
 use Rattle.ell_ops.specs.Contents.{Contents}
 use Rattle.ell_ops.specs.Meaning.{key_of, reply_of, after, found, yes_if}
 use Rattle.ell_core.specs.state.Machine.{ledger_of, shared_of}
-use Rattle.ell_core.specs.statements.Effects.{contents_in}
+use Rattle.ell_core.specs.statements.Effects.{contents_in, reply_of_change}
 use Rattle.ell_core.proofs.lemmas.outcomes.Decide.{cases_option, some_not_none}
 use Rattle.ell_core.proofs.lemmas.following.AnswerMeaning.{key_kept, swap_lacked, swap_other}
+use Rattle.ell_cards.specs.declared.view.Deed.{Deed}
+use Rattle.ell_cards.specs.Accounts.{own_calls}
+use Rattle.ell_cards.specs.Changes.{deed_of}
 use Rattle.ell_cards.specs.Models.{PassModel, ledger}
 use Rattle.ell_cards.specs.Stepping.{SameShare}
 use Rattle.ell_tree.specs.Ledgers.{TreeModel, present_in, Owns, IsIdle, answers}
 use Rattle.ell_tree.specs.Ends.{Answers, LaidDown}
-use Rattle.ell_tree.specs.Computing.{IsUntouched, Concludes, LastChangesNothing, ReadsValue, put_by}
+use Rattle.ell_tree.specs.Called.{AnsweredNoChange, AreNoChanges, put_by}
+use Rattle.ell_tree.specs.Computing.{IsUntouched, Concludes, LastChangesNothing, ReadsValue}
 use Rattle.ell_tree.specs.Promises.{MayDo}
 use Rattle.ell_tree.proofs.lemmas.Keeping.{share_trans}
 
@@ -24,9 +29,34 @@ use Rattle.ell_tree.proofs.lemmas.Keeping.{share_trans}
 abbrev pub LeavesOwn : Op → PassModel → Type 0
 LeavesOwn op p = Owns p (key_of op) → (key : ℕ) → after op (present_in p) key ≡ present_in p key
 
+-- a value is found in one way
+pub found_one : (a b : Option ℕ) → found a ≡ found b → a ≡ b
+found_one None None e = refl
+found_one None (Some y) e = absurd cc
+found_one (Some x) None e = absurd cc
+found_one (Some x) (Some y) e = let same : x ≡ y = cc in ap Some same
+
+-- a find is no change's answer, and neither is what a swap finds that is not its first value
+pub found_not_yes : (o : Option ℕ) → found o ≢ Yes
+found_not_yes None e = absurd cc
+found_not_yes (Some v) e = absurd cc
+
+-- calls that change nothing, and others such
+both_none : (xs ys : List Deed) → AreNoChanges xs → AreNoChanges ys → AreNoChanges (xs ++ ys)
+both_none [] ys h g = g
+both_none (x ∷ xs) ys h g = (h.0, both_none xs ys h.1 g)
+
+called_trans : (a b c : List Deed) → AnsweredNoChange a b → AnsweredNoChange b c → AnsweredNoChange a c
+called_trans a b c g h = record {
+  calls = h.calls ++ g.calls;
+  is = h.is ∙ (ap (λ (l : List Deed). h.calls ++ l) g.is ∙ sym (append_assoc h.calls g.calls a));
+  none = both_none h.calls g.calls h.none g.none;
+}
+
 -- a pass that answers such an operation is left as it was
-pub untouched_by : (t : TreeModel) (op : Op) (said : Reply) (p q : PassModel) → LeavesOwn op p → Answers t op said p q → IsUntouched p q
-untouched_by t op said p q leaves h = record {
+pub untouched_by : (t : TreeModel) (op : Op) (said : Reply) (p q : PassModel) → LeavesOwn op p → said ≢ reply_of_change op → Answers t op said p q → IsUntouched p q
+untouched_by t op said p q leaves other h = record {
+  called = record { calls = deed_of op said p.view.answers ∷ []; is = h.called; none = (other, tt) };
   table = h.table;
   label = h.label;
   map = λ key. elim (cases_option (ledger p (key_of op))) [
@@ -40,24 +70,26 @@ untouched_by t op said p q leaves h = record {
 }
 
 -- so is one whose ledger is as it was
-pub untouched_still : (p q : PassModel) → q.table ≡ p.table → q.label ≡ p.label → q.view.worker.ledger ≡ p.view.worker.ledger → answers q ≡ answers p → SameShare p.view q.view
+pub untouched_still : (p q : PassModel) → q.table ≡ p.table → q.label ≡ p.label → q.view.worker.ledger ≡ p.view.worker.ledger → q.view.answers ≡ p.view.answers → SameShare p.view q.view
     → IsIdle q → IsUntouched p q
-untouched_still p q table label ledgers count share idle = let same : ledger q ≡ ledger p = ap ledger_of ledgers in record {
+untouched_still p q table label ledgers said share idle = let same : ledger q ≡ ledger p = ap ledger_of ledgers in record {
   table = table;
   label = label;
   map = λ key. ap (λ f. contents_in f key) same;
   owned = λ key. (λ owns none. owns (ap (λ f. f key) same ∙ none), λ owns none. owns (sym (ap (λ f. f key) same) ∙ none));
-  answered = omega (arith, count);
+  answered = let count = ap (λ l. length (own_calls l)) said in omega (arith, count);
+  called = record { calls = []; is = said; none = tt };
   share = share;
   idle = idle;
 }
 
 -- and one that lays an operation down
 pub untouched_laid : (t : TreeModel) (op : Op) (p q : PassModel) → LaidDown t op p q → IsUntouched p q
-untouched_laid t op p q h = untouched_still p q h.table h.label h.ledger h.answered h.share h.idle
+untouched_laid t op p q h = untouched_still p q h.table h.label h.ledger h.called h.share h.idle
 
 pub untouched_trans : (p q r : PassModel) → IsUntouched p q → IsUntouched q r → IsUntouched p r
 untouched_trans p q r g h = record {
+  called = called_trans p.view.answers q.view.answers r.view.answers g.called h.called;
   table = h.table ∙ g.table;
   label = h.label ∙ g.label;
   map = λ key. h.map key ∙ g.map key;
@@ -71,6 +103,7 @@ untouched_trans p q r g h = record {
 pub concludes : (t : TreeModel) (op : Op) (said : Reply) (p q r : PassModel) → IsUntouched p q → Answers t op said q r → Concludes t op said p r
 concludes t op said p q r g h =
     let there : present_in q ≡ present_in p = λ i key. g.map key i in record {
+      called = record { earlier = q.view.answers; before = g.called; is = h.called };
       table = h.table ∙ g.table;
       label = h.label ∙ g.label;
       says = λ owns. h.says ((g.owned (key_of op)).1 owns) ∙ ap (reply_of op) there;
@@ -87,6 +120,11 @@ concludes t op said p q r g h =
 pub concludes_after : (t : TreeModel) (op : Op) (said : Reply) (p q r : PassModel) → IsUntouched p q → Concludes t op said q r → Concludes t op said p r
 concludes_after t op said p q r g h =
     let there : present_in q ≡ present_in p = λ i key. g.map key i in record {
+      called = record {
+        earlier = h.called.earlier;
+        before = called_trans p.view.answers q.view.answers h.called.earlier g.called h.called.before;
+        is = h.called.is;
+      };
       table = h.table ∙ g.table;
       label = h.label ∙ g.label;
       says = λ owns. h.says ((g.owned (key_of op)).1 owns) ∙ ap (reply_of op) there;
@@ -104,8 +142,13 @@ reads_after t key was p q r g (inl h) = inl (concludes_after t (Find key) (found
 reads_after t key was p q r g (inr h) = inr (h.0, h.1, h.2, concludes_after t (Swap key h.0 h.1) (found was) p q r g h.3)
 
 -- a call that only reads leaves what a pass has
-reads_keep : (t : TreeModel) (op : Op) (said : Reply) (p q : PassModel) → LeavesOwn op p → Concludes t op said p q → IsUntouched p q
-reads_keep t op said p q leaves h = record {
+reads_keep : (t : TreeModel) (op : Op) (said : Reply) (p q : PassModel) → LeavesOwn op p → said ≢ reply_of_change op → Concludes t op said p q → IsUntouched p q
+reads_keep t op said p q leaves other h = record {
+  called = record {
+    calls = deed_of op said h.called.earlier ∷ h.called.before.calls;
+    is = h.called.is ∙ ap (λ (l : List Deed). deed_of op said h.called.earlier ∷ l) h.called.before.is;
+    none = (other, h.called.before.none);
+  };
   table = h.table;
   label = h.label;
   map = λ key. elim (cases_option (ledger p (key_of op))) [
@@ -117,13 +160,6 @@ reads_keep t op said p q leaves h = record {
   share = h.share;
   idle = h.idle;
 }
-
--- a value is found in one way
-pub found_one : (a b : Option ℕ) → found a ≡ found b → a ≡ b
-found_one None None e = refl
-found_one None (Some y) e = absurd cc
-found_one (Some x) None e = absurd cc
-found_one (Some x) (Some y) e = let same : x ≡ y = cc in ap Some same
 
 -- a find leaves everything
 pub find_leaves : (key : ℕ) (p : PassModel) → LeavesOwn (Find key) p
@@ -157,15 +193,16 @@ reads_own t key was p q (inr h) owns = sym (found_one was (present_in p key) (h.
 
 -- and reading changes nothing
 pub reads_leave : (t : TreeModel) (key : ℕ) (was : Option ℕ) (p q : PassModel) → ReadsValue t key was p q → IsUntouched p q
-reads_leave t key was p q (inl h) = reads_keep t (Find key) (found was) p q (find_leaves key p) h
+reads_leave t key was p q (inl h) = reads_keep t (Find key) (found was) p q (find_leaves key p) (found_not_yes was) h
 reads_leave t key was p q (inr h) =
     reads_keep t (Swap key h.0 h.1) (found was) p q
     (λ owns k. left_by (present_in p) key h.0 h.1 (present_in p key) refl
-    (λ e. h.2 (found_one was (present_in p key) (h.3.says owns) ∙ e)) k) h.3
+    (λ e. h.2 (found_one was (present_in p key) (h.3.says owns) ∙ e)) k) (λ e. h.2 (found_one was (Some h.0) e)) h.3
 
 -- a pass is as it is
 pub untouched_self : (p : PassModel) → IsIdle p → IsUntouched p p
 untouched_self p idle = record {
+  called = record { calls = []; is = refl; none = tt };
   table = refl;
   label = refl;
   map = λ key. refl;
@@ -198,11 +235,6 @@ may_still t key p q g h = record {
   ];
 }
 
--- a find is no change's answer, and neither is what a swap finds that is not its first value
-found_not_yes : (o : Option ℕ) → found o ≢ Yes
-found_not_yes None e = absurd cc
-found_not_yes (Some v) e = absurd cc
-
 pub found_last : (t : TreeModel) (key : ℕ) (was : Option ℕ) (p q : PassModel) → Concludes t (Find key) (found was) p q → LastChangesNothing t key q.view
 found_last t key was p q h = record { op = Find key; on = refl; nothing = inr (found was, found_not_yes was, h.point) }
 
@@ -218,8 +250,3 @@ put_on key value (Some was) = refl
 
 pub laid_last : (t : TreeModel) (key value : ℕ) (was : Option ℕ) (p q : PassModel) → LaidDown t (put_by key value was) p q → LastChangesNothing t key q.view
 laid_last t key value was p q h = record { op = put_by key value was; on = put_on key value was; nothing = inl h.nothing }
-
--- and is answered
-pub reads_count : (t : TreeModel) (key : ℕ) (was : Option ℕ) (p q : PassModel) → ReadsValue t key was p q → answers p < answers q
-reads_count t key was p q (inl h) = h.answered
-reads_count t key was p q (inr h) = h.3.answered

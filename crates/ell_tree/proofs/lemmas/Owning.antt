@@ -1,4 +1,4 @@
-use Rattle.std.proofs.Common.{◌≡◌, ◌≢◌, ℕ, if◌then◌else◌, Option, Some, None, List, not, is_some, sym, ap, ◌∙◌, subst, eq-eqb, ◌+◌}
+use Rattle.std.proofs.Common.{◌≡◌, ◌≢◌, ℕ, if◌then◌else◌, Option, Some, None, List, ◌∷◌, length, not, is_some, sym, ap, ◌∙◌, subst, eq-eqb, ◌+◌}
 use Rattle.std.proofs.lemmas.Bool.{ne_eqb}
 use Rattle.ell_ops.specs.declared.op.Op.{Op}
 use Rattle.ell_ops.specs.declared.op.Op.TheVariants.{Find, Insert, Delete, Swap}
@@ -14,6 +14,8 @@ use Rattle.ell_core.specs.acts.Searching.{put_of, TakesPut}
 use Rattle.ell_core.proofs.lemmas.keeping.Puts.{added, replacing}
 use Rattle.ell_cards.specs.Models.{PassModel, ledger}
 use Rattle.ell_cards.specs.Stepping.{SameShare}
+use Rattle.ell_cards.specs.Changes.{deed_of}
+use Rattle.ell_cards.specs.Accounts.{own_calls}
 use Rattle.ell_tree.specs.declared.searching.LeafFound.{LeafFound}
 use Rattle.ell_tree.specs.declared.trying.Tried.TheVariants.{Answered}
 use Rattle.ell_tree.specs.Ends.{Answers, TakesIfDelete, TakesValue}
@@ -47,7 +49,8 @@ answers_before t op said p q r table label same count share h =
       stays = λ other. h.stays (λ owns. other (still_owned (key_of op) q p (sym same) owns)) ∙ back;
       point = h.point;
       owned = λ key. (λ owns. still_owned key q p (sym same) ((h.owned key).0 owns), λ owns. (h.owned key).1 (still_owned key p q same owns));
-      answered = h.answered ∙ ap (λ n. n + 1) count;
+      answered = h.answered ∙ ap (λ l. length (own_calls l) + 1) count;
+      called = h.called ∙ ap (λ l. deed_of op said l ∷ l) count;
       share = share_trans p.view q.view r.view share h.share;
       idle = h.idle;
     }

@@ -1,4 +1,4 @@
-use Rattle.std.proofs.Common.{◌≡◌, ◌≢◌, ◌↔◌, ℕ, max, if◌then◌else◌, Bool, true, false, Option, Some, None, Result, Ok, Err, IfOk, List, refl, sym, ◌∙◌, ap, subst, inl, inr, length-append, arith}
+use Rattle.std.proofs.Common.{◌≡◌, ◌≢◌, ◌↔◌, ℕ, max, if◌then◌else◌, Bool, true, false, Option, Some, None, Result, Ok, Err, IfOk, List, refl, sym, ◌∙◌, ap, subst, inl, inr, length, length-append, arith}
 use Rattle.std.specs.List.{All}
 use Rattle.std.specs.Map.{keys_of}
 use Rattle.ell_ops.specs.KeySet.{set_of}
@@ -9,6 +9,8 @@ use Rattle.ell_cards.specs.Changes.{first_of, left_view, right_view, united_ledg
 use Rattle.ell_cards.proofs.lemmas.lifetimes.Parts.{part_on, part_off}
 use Rattle.ell_core.specs.state.Machine.{entry_of}
 use Rattle.ell_cards.specs.Starts.{OpensBy}
+use Rattle.ell_cards.specs.Accounts.{own_calls}
+use Rattle.ell_cards.proofs.lemmas.runs.Deeds.{none_own, own_both}
 use Rattle.ell_cards.proofs.lemmas.words.Keys.{ledger_at_start, present_at_start}
 use Rattle.ell_cards.proofs.lemmas.lifetimes.Parts.{parts_on, parts_off}
 use Rattle.ell_cards.proofs.lemmas.lifetimes.Unions.{ledger_united}
@@ -52,6 +54,7 @@ first_pass plan made given opens = subst (IsFirst made.0) (sym opens.pass) (subs
   share = refl;
   ownable = refl;
   answers = refl;
+  called = refl;
   hindrances = refl;
   hindered = refl;
   taken = refl;
@@ -82,6 +85,7 @@ left_part keys p part s = subst (IsLeftPart keys p) (sym s) (record {
   own = refl;
   ledger = left_ledger keys p.view.worker.ledger;
   answers = refl;
+  called = refl;
   hindrances = refl;
   hindered = refl;
   taken = refl;
@@ -98,7 +102,8 @@ pub right_part : (keys : List ℕ) (p part : PassModel) → Steps p part (right_
 right_part keys p part s = subst (IsRightPart keys p) (sym s) (record {
   own = refl;
   ledger = right_ledger keys p.view.worker.ledger;
-  answers = refl;
+  answers = ap length (none_own p.view.answers);
+  called = refl;
   hindrances = refl;
   hindered = refl;
   taken = refl;
@@ -128,7 +133,8 @@ pub union : (left right both : PassModel)
 union left right both e = subst (IsUnion left right) (sym e) (record {
   own = refl;
   ledger = both_ledger left.view.worker.ledger right.view.worker.ledger;
-  answers = refl;
+  answers = ap length (own_both left.view.answers right.view.answers) ∙ length-append (own_calls left.view.answers) (own_calls right.view.answers);
+  called = refl;
   hindrances = length-append left.view.hindrances right.view.hindrances;
   hindered = refl;
   taken = claims_append left.view.won right.view.won;

@@ -1,4 +1,4 @@
-use Rattle.std.proofs.Common.{◌≡◌, ◌≢◌, ℕ, ◌==◌, if◌then◌else◌, Bool, true, false, Option, Some, None, [], ◌⊎◌, inl, inr, refl, sym, ap, ◌∙◌, eq-eqb, eqb-true}
+use Rattle.std.proofs.Common.{◌≡◌, ◌≢◌, ℕ, ◌==◌, if◌then◌else◌, Bool, true, false, Option, Some, None, [], length, ◌⊎◌, inl, inr, refl, sym, ap, ◌∙◌, eq-eqb, eqb-true}
 use Rattle.std.proofs.lemmas.Bool.{false≢true}
 use Rattle.ell_ops.specs.declared.op.Op.{Op}
 use Rattle.ell_ops.specs.declared.op.Op.TheVariants.{Delete}
@@ -8,6 +8,7 @@ use Rattle.ell_core.specs.state.Machine.{worker_of}
 use Rattle.ell_core.proofs.lemmas.outcomes.Decide.{some_not_none}
 use Rattle.ell_cards.proofs.lemmas.runs.LayingDown.{laid_down_last_changes_nothing}
 use Rattle.ell_cards.specs.declared.view.View.{View}
+use Rattle.ell_cards.specs.Accounts.{own_calls}
 use Rattle.ell_cards.specs.Models.{PassModel}
 use Rattle.ell_tree.specs.declared.searching.LeafFound.{LeafFound}
 use Rattle.ell_tree.specs.Computing.{IsUntouched, RemovesIf}
@@ -59,7 +60,8 @@ halts_laid t op p q r s n begins halts lays = record {
   table = lays.table ∙ (halts.table ∙ begins.table);
   label = lays.label ∙ (halts.label ∙ begins.label);
   ledger = lays.ledger ∙ (halts.ledger ∙ begins.ledger);
-  answered = lays.answers ∙ (halts.answers ∙ begins.answers);
+  answered = ap (λ l. length (own_calls l)) (lays.answers ∙ (halts.answers ∙ begins.answers));
+  called = lays.answers ∙ (halts.answers ∙ begins.answers);
   share = share_trans p.view r.view s.view (share_trans p.view q.view r.view begins.share halts.share) lays.share;
   would = would_before op p q begins.ledger halts.would;
   nothing = laid_down_last_changes_nothing t.plan s.view op lays.laid;

@@ -120,6 +120,7 @@ module _ (cards seat : ℕ) where
       first = suc b.first;
       from = b.from;
       to = b.to;
+      at = b.at;
       before = (run.0, run.1, b.before);
       call = b.call;
       after = b.after;
@@ -130,6 +131,7 @@ module _ (cards seat : ℕ) where
         first = 0;
         from = s;
         to = run.0;
+        at = ap (λ (u : Turn). some u) is;
         before = refl;
         call = subst (λ u. TableTurns cards s u run.0) is run.1;
         after = run.2;

@@ -35,12 +35,12 @@ module _ (plan : TablePlan) (opened : TableState) (starts : Starts plan opened) 
   Changes i p op = ChangesAt plan.last_card opened turns i p op
 
   -- an item that is a call which changes the tree, at its turn
-  record IsChanging (x : Placed) : Type 0 where
+  pub record IsChanging (x : Placed) : Type 0 where
     changes : Changes x.item.begin x.at x.item.op
     says : x.item.reply ≡ reply_of_change x.item.op
 
   -- one that is a call which answered at a leaf, at its point
-  record IsReading (x : Placed) (j : ℕ) : Type 0 where
+  pub record IsReading (x : Placed) (j : ℕ) : Type 0 where
     answered : IsAnswered turns x.item.begin j x.item.op x.item.reply
     leaf : KnowsAnswerAtLeaf (called plan opened starts turns s' run x.item.begin j x.item.op x.item.reply answered).answers.view x.item.op x.item.reply
     low : x.item.begin < x.at
@@ -49,7 +49,7 @@ module _ (plan : TablePlan) (opened : TableState) (starts : Starts plan opened) 
     right : IsRight map_at x
 
   -- the same call changes the tree in one turn
-  same_change : (i k p q : ℕ) (op o : Op) → Changes i p op → Changes k q o → i ≡ k → p ≡ q
+  pub same_change : (i k p q : ℕ) (op o : Op) → Changes i p op → Changes k q o → i ≡ k → p ≡ q
   same_change i k p q op o g h e =
       let h' = subst (λ n. Changes n q o) (sym e) h in
       let seat = (same_begin turns i g.by.work.seat h'.by.work.seat op o g.begins h'.begins).0 in
@@ -80,7 +80,7 @@ module _ (plan : TablePlan) (opened : TableState) (starts : Starts plan opened) 
       }
 
   -- the calls that change the tree from a turn on
-  record Changing (p : ℕ) : Type 0 where
+  pub record Changing (p : ℕ) : Type 0 where
     list : List Placed
     right : AreRight map_at (length turns) p list
     each : (x : Placed) → In x list → (p ≤ x.at) × IsChanging x
@@ -159,15 +159,15 @@ module _ (plan : TablePlan) (opened : TableState) (starts : Starts plan opened) 
       ]
 
   -- the call that a turn ends is one
-  record SameAnswer (i k : ℕ) (op o : Op) (said other : Reply) : Type 0 where
-    begins : i ≡ k
-    does : op ≡ o
-    says : said ≡ other
+  pub record SameAnswer (i k : ℕ) (op o : Op) (said other : Reply) : Type 0 where
+    pub begins : i ≡ k
+    pub does : op ≡ o
+    pub says : said ≡ other
 
   answer_turn : (seat other : ℕ) (said o : Reply) → Makes seat (call.Answer said) ≡ Makes other (call.Answer o) → (seat ≡ other) × (said ≡ o)
   answer_turn seat other said o e = (cc, cc)
 
-  same_answer : (i k j : ℕ) (op o : Op) (said other : Reply) → IsAnswered turns i j op said → IsAnswered turns k j o other → SameAnswer i k op o said other
+  pub same_answer : (i k j : ℕ) (op o : Op) (said other : Reply) → IsAnswered turns i j op said → IsAnswered turns k j o other → SameAnswer i k op o said other
   same_answer i k j op o said other g h =
       let turn = answer_turn g.seat h.seat said other
       (some-injective (Makes g.seat (call.Answer said)) (Makes h.seat (call.Answer other)) (sym g.answers ∙ h.answers)) in
@@ -179,10 +179,10 @@ module _ (plan : TablePlan) (opened : TableState) (starts : Starts plan opened) 
         says = turn.1;
       }
 
-  abbrev item : ℕ → Op → Reply → Item
+  abbrev pub item : ℕ → Op → Reply → Item
   item i op said = record { begin = i; op = op; reply = said }
 
-  same_item : (i k : ℕ) (op o : Op) (said other : Reply) → i ≡ k → op ≡ o → said ≡ other → item i op said ≡ item k o other
+  pub same_item : (i k : ℕ) (op o : Op) (said other : Reply) → i ≡ k → op ≡ o → said ≡ other → item i op said ≡ item k o other
   same_item i k op o said other e f g = λ t. record { begin = e t; op = f t; reply = g t }
 
   -- where a call that has ended is
@@ -190,7 +190,7 @@ module _ (plan : TablePlan) (opened : TableState) (starts : Starts plan opened) 
   IsKept list i op said = ((x : Placed) × In x list × (x.item ≡ item i op said)) ⊎ ((said ≡ reply_of_change op) × ChangesThere plan opened starts turns s' run i op)
 
   -- the calls that answer at a leaf from a turn on
-  record Reading (p : ℕ) : Type 0 where
+  pub record Reading (p : ℕ) : Type 0 where
     list : List Placed
     each : (x : Placed) → In x list → (j : ℕ) × (p ≤ j) × IsReading x j
     all : (i j : ℕ) (op : Op) (said : Reply) → p ≤ j → IsAnswered turns i j op said → IsKept list i op said
@@ -282,11 +282,11 @@ module _ (plan : TablePlan) (opened : TableState) (starts : Starts plan opened) 
     ended : IsAnswered turns i end op said
 
   -- whether a turn is an answer
-  is_answer : (t : Turn) → ((seat : ℕ) × (said : Reply) × (t ≡ Makes seat (call.Answer said))) ⊎ ((seat : ℕ) (said : Reply) → t ≢ Makes seat (call.Answer said))
+  pub is_answer : (t : Turn) → ((seat : ℕ) × (said : Reply) × (t ≡ Makes seat (call.Answer said))) ⊎ ((seat : ℕ) (said : Reply) → t ≢ Makes seat (call.Answer said))
   is_answer (Makes seat (call.Answer said)) = inl (seat, said, refl)
   is_answer _ = inr (λ seat said e. cc)
 
-  answers_end_calls : AnswersEndCalls turns
+  pub answers_end_calls : AnswersEndCalls turns
   answers_end_calls seat p said at =
       let end : CallIsMade plan.last_card (at_turn p) seat (call.Answer said) (at_turn (suc p)) =
       made plan opened starts turns s' run p (Makes seat (call.Answer said)) at in
@@ -329,14 +329,14 @@ module _ (plan : TablePlan) (opened : TableState) (starts : Starts plan opened) 
       change_before plan opened starts turns s' run i p j op o said h
       (subst (λ x. Changed plan opened starts turns s' run x i p o) (sym seat) (changed_of plan opened starts turns s' run i p o g))
 
-  every_change : Changing 0
+  pub every_change : Changing 0
   every_change = changing (length turns) 0 (omega arith)
 
-  every_reading : Reading 0
+  pub every_reading : Reading 0
   every_reading = reading (length turns) 0 (omega arith)
 
   -- all of them, one after the other
-  all_calls : Arranged map_at (length turns) every_reading.list every_change.list
+  pub all_calls : Arranged map_at (length turns) every_reading.list every_change.list
   all_calls =
       arranged map_at (length turns) every_reading.list every_change.list (λ x i. (let h = (every_reading.each x i).2 in record {
         right = h.right;
@@ -346,7 +346,7 @@ module _ (plan : TablePlan) (opened : TableState) (starts : Starts plan opened) 
       (λ x y i j. let h = every_reading.each x i in let g = (every_change.each y j).1 in
       crossed x.item.begin y.item.begin h.0 y.at x.item.op y.item.op x.item.reply h.2.answered h.2.leaf g.changes)
 
-  abbrev sequence : List Item
+  abbrev pub sequence : List Item
   sequence = items_of all_calls.list
 
   -- each call that changes the tree is there
@@ -425,7 +425,7 @@ module _ (plan : TablePlan) (opened : TableState) (starts : Starts plan opened) 
     | inr j ↦ (let h = (every_change.each x j).1 in pending x.item x.at h.changes h.says)
   ]
 
-  has_the_calls : HasTheCalls plan.last_card opened turns sequence
+  pub has_the_calls : HasTheCalls plan.last_card opened turns sequence
   has_the_calls = record {
     ended = ended_there;
     changed = changed_there;
@@ -440,14 +440,14 @@ module _ (plan : TablePlan) (opened : TableState) (starts : Starts plan opened) 
   }
 
   -- the point of a call is after its begin
-  after_begin : (x : Placed) → In x all_calls.list → x.item.begin < x.at
+  pub after_begin : (x : Placed) → In x all_calls.list → x.item.begin < x.at
   after_begin x i = elim (all_calls.all x i) [
     | inl j ↦ (every_reading.each x j).2.low
     | inr j ↦ (every_change.each x j).1.changes.later
   ]
 
   -- and no later than its end
-  before_end : (x : Placed) → In x all_calls.list → (end : ℕ) → IsAnswered turns x.item.begin end x.item.op x.item.reply → x.at ≤ end
+  pub before_end : (x : Placed) → In x all_calls.list → (end : ℕ) → IsAnswered turns x.item.begin end x.item.op x.item.reply → x.at ≤ end
   before_end x i end h = elim (all_calls.all x i) [
     | inl j ↦
         let g = every_reading.each x j in
@@ -456,7 +456,7 @@ module _ (plan : TablePlan) (opened : TableState) (starts : Starts plan opened) 
     | inr j ↦ (let less = changes_before x.item.begin x.at end x.item.op x.item.op x.item.reply h (every_change.each x j).1.changes in omega arith)
   ]
 
-  keeps_the_order : KeepsTheOrder turns sequence
+  pub keeps_the_order : KeepsTheOrder turns sequence
   keeps_the_order i j m n at at' end h less = elim (cases_lt i j) [
     | inl low ↦ low
     | inr most ↦
@@ -469,25 +469,25 @@ module _ (plan : TablePlan) (opened : TableState) (starts : Starts plan opened) 
         let begin = ap (λ (k : Item). k.begin) y.is in absurd (omega arith)
   ]
 
-  replies_right : replies_of sequence ≡ replies (contents_of plan.start) (ops_of sequence)
+  pub replies_right : replies_of sequence ≡ replies (contents_of plan.start) (ops_of sequence)
   replies_right =
       right_replies map_at (length turns) 0 all_calls.list all_calls.right ∙ ap (λ m. replies m (ops_of sequence)) (first_map plan opened starts turns s' run)
 
-  leaves_right : HasMap (own_words s') (final (contents_of plan.start) (ops_of sequence))
+  pub leaves_right : HasMap (own_words s') (final (contents_of plan.start) (ops_of sequence))
   leaves_right =
       let is : final (contents_of plan.start) (ops_of sequence) ≡ map_at (length turns) =
       ap (λ m. final m (ops_of sequence)) (sym (first_map plan opened starts turns s' run)) ∙ right_leaves map_at (length turns) 0 all_calls.list all_calls.right in
       subst (HasMap (own_words s')) (sym is) (subst (λ (s : TableState). HasMap (own_words s) (map_at (length turns))) (sym (at_end plan.last_card opened turns s' run))
       (is_map plan opened starts turns s' run (length turns)))
 
-  of_calls : ChangesAreOfCalls plan.last_card opened turns
+  pub of_calls : ChangesAreOfCalls plan.last_card opened turns
   of_calls k state turn op at effect =
       let is : state ≡ at_turn k = run_same plan.last_card opened (take k turns) state (at_turn k) at.led (run_to plan.last_card opened turns s' run k) in
       change_at plan opened starts turns s' run k turn op at.at (subst (λ (s : TableState). turn_effect s turn ≡ op ∷ []) is effect)
 
 -- each run from a start is linearizable
-pub runs_are_linearizable : RunsAreLinearizable
-runs_are_linearizable plan opened starts turns s' run = record {
+abbrev pub linearized : RunsAreLinearizable
+linearized plan opened starts turns s' run = record {
   order = sequence plan opened starts turns s' run;
   calls = has_the_calls plan opened starts turns s' run;
   keeps = keeps_the_order plan opened starts turns s' run;
@@ -497,3 +497,6 @@ runs_are_linearizable plan opened starts turns s' run = record {
   changes = of_calls plan opened starts turns s' run;
   single = λ i p q op o g h. same_change plan opened starts turns s' run i i p q op o g h refl;
 }
+
+pub runs_are_linearizable : RunsAreLinearizable
+runs_are_linearizable = linearized

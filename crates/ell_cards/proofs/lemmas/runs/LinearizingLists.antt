@@ -184,7 +184,7 @@ module _ (map : ℕ → Contents) (last : ℕ) where
       }
 
   -- no point is before the first
-  low_in : (first : ℕ) (xs : List Placed) → AreRight map last first xs → (x : Placed) → In x xs → first ≤ x.at
+  pub low_in : (first : ℕ) (xs : List Placed) → AreRight map last first xs → (x : Placed) → In x xs → first ≤ x.at
   low_in first [] h x i = absurd i
   low_in first (y ∷ ys) h x i = elim i [
     | inl e ↦ (let up = h.0.up in let same = ap (λ (p : Placed). p.at) e in omega arith)

@@ -42,7 +42,7 @@ use Rattle.ell_cards.proofs.lemmas.runs.LinearizingTurns.{turn_cases, turn_none,
 use Rattle.ell_cards.proofs.lemmas.runs.Points.{point_of, calls_have_their_own_cards}
 
 -- the first of some first turns
-take_fewer : {A : Type 0} (n m : ℕ) (l : List A) → n ≤ m → take n (take m l) ≡ take n l
+pub take_fewer : {A : Type 0} (n m : ℕ) (l : List A) → n ≤ m → take n (take m l) ≡ take n l
 take_fewer zero m l h = refl
 take_fewer (suc n) zero l h = absurd (omega arith)
 take_fewer (suc n) (suc m) [] h = refl
@@ -93,7 +93,7 @@ pub record IsBusy (s : TableState) (seat : ℕ) (op : Op) : Type 0 where
   pub does : Does view op
 
 -- one turn more in which it goes on
-more_on : (turns : List Turn) (seat i p : ℕ) (t : Turn) → get_elem? turns p ≡ some t → KeepOn seat (t ∷ []) → KeepsOnBetween seat turns i p → KeepsOnBetween seat turns i (suc p)
+pub more_on : (turns : List Turn) (seat i p : ℕ) (t : Turn) → get_elem? turns p ≡ some t → KeepOn seat (t ∷ []) → KeepsOnBetween seat turns i p → KeepsOnBetween seat turns i (suc p)
 more_on turns seat i p t at keeps on k u low high e = elim (cases_lt k p) [
   | inl less ↦ on k u low less e
   | inr most ↦
@@ -310,7 +310,7 @@ module _ (plan : TablePlan) (opened : TableState) (starts : Starts plan opened) 
     pub high : place ≤ q
     pub is : state ≡ after_turns place
 
-  state_between : (p q n : ℕ) (state : TableState) → p ≤ q → TableRun plan.last_card (after_turns p) (take n (slice p q)) state → StateBetween p q state
+  pub state_between : (p q n : ℕ) (state : TableState) → p ≤ q → TableRun plan.last_card (after_turns p) (take n (slice p q)) state → StateBetween p q state
   state_between p q n state up led = elim (cases_lt n (q - p)) [
     | inl less ↦ record {
       place = p + n;

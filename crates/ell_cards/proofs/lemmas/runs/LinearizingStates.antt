@@ -10,7 +10,7 @@ use Rattle.ell_cards.specs.Meanwhile.{KeepOn}
 use Rattle.ell_cards.specs.Changing.{HasMap}
 
 -- what a turn leads to is one state
-turn_same : (cards : ℕ) (s : TableState) (t : Turn) (a b : TableState) → TableTurns cards s t a → TableTurns cards s t b → a ≡ b
+pub turn_same : (cards : ℕ) (s : TableState) (t : Turn) (a b : TableState) → TableTurns cards s t a → TableTurns cards s t b → a ≡ b
 turn_same cards s (Makes seat c) a b h k =
     h.gives ∙ (ap (λ v. state_after s seat v c) (some-injective h.view k.view (sym h.there ∙ k.there)) ∙ sym k.gives)
 turn_same cards s (Splits seat left) a b h k =

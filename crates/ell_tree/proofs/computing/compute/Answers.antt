@@ -1,15 +1,16 @@
-use Rattle.std.proofs.Common.{rules, ◌≡◌, ◌≢◌, ◌*◌, ◌+◌, None, inl, refl, sym, ◌∙◌, arith}
+use Rattle.std.proofs.Common.{rules, ◌≡◌, ◌≢◌, ◌*◌, ◌+◌, None, inl, refl, sym, ap, ◌<◌, ◌∙◌, arith}
 use Rattle.ell_ops.specs.declared.op.Op.TheVariants.{Find}
 use Rattle.ell_ops.specs.Meaning.{found}
 use Rattle.ell_core.specs.statements.Effects.{reply_of_change}
 use Rattle.ell_cards.proofs.lemmas.runs.Tries.{more_tries}
-use Rattle.ell_tree.specs.Computing.{IsUntouched, ReadsValue, put_by, round_steps}
+use Rattle.ell_tree.specs.Called.{put_by, tries_in}
+use Rattle.ell_tree.specs.Computing.{IsUntouched, ReadsValue, round_steps}
 use Rattle.ell_tree.specs.Ends.{LaidDown, find_steps}
 use Rattle.ell_tree.specs.Ledgers.{Owns, present_in}
 use Rattle.ell_tree.specs.Promises.{IsOthersDoing}
 use Rattle.ell_tree.specs.CardsTaken.{TakesByHindered}
 use Rattle.ell_core.proofs.lemmas.outcomes.Decide.{some_not_none}
-use Rattle.ell_tree.proofs.lemmas.Computing.{untouched_by, untouched_laid, untouched_self, untouched_trans, concludes, find_leaves, reads_own, reads_after, reads_last, reads_count, laid_last, may_still}
+use Rattle.ell_tree.proofs.lemmas.Computing.{untouched_by, untouched_laid, untouched_self, untouched_trans, concludes, find_leaves, found_not_yes, reads_own, reads_after, reads_last, laid_last, may_still}
 use Rattle.ell_tree.proofs.lemmas.Counts.{took_within, took_trans}
 use Rattle.ell_tree.proofs.lemmas.Milestones.{milestones_most}
 use Rattle.ell_tree.proofs.lemmas.Rounds.{rounds_within, one_round_more, spends_none, by_rounds, not_some}
@@ -24,7 +25,7 @@ loop-round-init g c =
     let new = c.find-was.new.pass in
     let was = c.find-was.result in
     let finds = c.find-was.ensures in
-    let left = untouched_by t (Find key) (found was) old new (find_leaves key old) finds.answers in
+    let left = untouched_by t (Find key) (found was) old new (find_leaves key old) (found_not_yes was) finds.answers in
     let reads : ReadsValue t key was old new =
     inl (concludes t (Find key) (found was) old old new (untouched_self old c.requires.may.idle) finds.answers) in
     record {
@@ -40,7 +41,7 @@ loop-round-init g c =
       hindered = λ owns. omega (arith, finds.quiet.hindered);
       milestones = λ owns. omega (arith, finds.quiet.milestones);
       tried = λ owns some. absurd (omega arith);
-      made = omega (arith, finds.answers.answered, finds.quiet.hindered);
+      made = let same = ap tries_in finds.answers.called in omega (arith, same, finds.quiet.hindered);
       cards = record { least = omega (arith, finds.cards); most = omega (arith, finds.cards) };
       few = omega (arith, finds.cards, finds.quiet.hindered);
     }
@@ -57,7 +58,8 @@ loop-round-preserved g c = elim c.match-replace.branch [
       let i = l.invariant in
       let new = c.replace.new.pass in
       let there = c.match-replace.was in
-      let lost : IsUntouched l.pass new × ReadsValue t key there l.pass new × (Owns l.pass key → present_in l.pass key ≢ l.was) = rw w.was-is (search rules) in
+      let lost : IsUntouched l.pass new × ReadsValue t key there l.pass new × (Owns l.pass key → present_in l.pass key ≢ l.was)
+      × (tries_in l.pass.view.answers < tries_in new.view.answers) = rw w.was-is (search rules) in
       let reads = reads_after t key there old l.pass new i.untouched lost.1 in
       let kept = untouched_trans old l.pass new i.untouched lost.0 in
       let apart : ¬ Owns old key = λ owns. lost.2 ((i.untouched.owned key).1 owns) (i.untouched.map key ∙ i.own owns) in
@@ -77,7 +79,7 @@ loop-round-preserved g c = elim c.match-replace.branch [
         hindered = λ owns. absurd (apart owns);
         milestones = λ owns. absurd (apart owns);
         tried = λ owns. absurd (apart owns);
-        made = let one = reads_count t key there l.pass new lost.1 in omega (arith, one, counts.least, i.made);
+        made = omega (arith, lost.3, counts.least, i.made);
         cards = record { least = omega (arith, spends.most.least, i.cards.least); most = omega (arith, spends.most.most, i.cards.most) };
         few = omega (arith, each, i.few);
       }
@@ -110,7 +112,7 @@ loop-round-preserved g c = elim c.match-replace.branch [
         hindered = λ owns. omega (arith, others.each, i.hindered owns);
         milestones = λ owns. omega (arith, others.milestones, i.milestones owns);
         tried = λ owns more. some;
-        made = omega (arith, laid.answered, others.each, i.made);
+        made = let same = ap tries_in laid.called in omega (arith, same, others.each, i.made);
         cards = record { least = omega (arith, spends.most.least, i.cards.least); most = omega (arith, spends.most.most, i.cards.most) };
         few = omega (arith, each, i.few);
       }

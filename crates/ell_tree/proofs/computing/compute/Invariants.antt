@@ -1,9 +1,10 @@
-use Rattle.std.proofs.Common.{◌≡◌, ◌≢◌, ◌<◌, ◌≤◌, ◌*◌, ◌+◌, None}
+use Rattle.std.proofs.Common.{◌≡◌, ◌≢◌, ◌≤◌, ◌*◌, ◌+◌, None}
+use Rattle.ell_tree.specs.Called.{tries_in}
 use Rattle.ell_tree.specs.CardsTaken.{TakesAtMost, TakesByHindered}
 use Rattle.ell_tree.specs.Computing.{IsUntouched, LastChangesNothing, ReadsValue, round_steps}
 use Rattle.ell_tree.specs.Counts.{Took}
 use Rattle.ell_tree.specs.Ends.{CountsTries, find_steps}
-use Rattle.ell_tree.specs.Ledgers.{Owns, answers, present_in}
+use Rattle.ell_tree.specs.Ledgers.{Owns, present_in}
 use Rattle.ell_tree.specs.Milestones.{milestones_known}
 use Rattle.ell_tree.specs.Promises.{MayDo}
 use Rattle.ell_tree.proofs.computing.compute.Given as goal
@@ -24,7 +25,7 @@ invariant-loop-round g l = record {
   milestones : Owns l.fn.pass l.fn.key
       → milestones_known l.fn.table.plan.last_card l.fn.pass.view + l._round ≤ milestones_known l.fn.table.plan.last_card l.pass.view;
   tried : Owns l.fn.pass l.fn.key → 1 ≤ l._round → l.made ≢ None;
-  made : l.fn.pass.view.hindered + answers l.fn.pass + l._round < l.pass.view.hindered + answers l.pass;
+  made : l.fn.pass.view.hindered + tries_in l.fn.pass.view.answers + l._round ≤ l.pass.view.hindered + tries_in l.pass.view.answers;
   cards : TakesAtMost l._round l.fn.pass l.pass;
   few : TakesByHindered l.fn.pass l.pass;
 }

@@ -1,6 +1,7 @@
-use Rattle.std.proofs.Common.{◌≢◌, Some, inr, sym, ◌∙◌, rules}
+use Rattle.std.proofs.Common.{◌≢◌, Some, inr, sym, ap, ◌∙◌, rules, arith}
 use Rattle.ell_ops.specs.declared.op.Op.TheVariants.{Swap}
 use Rattle.ell_ops.specs.Meaning.{found}
+use Rattle.ell_tree.specs.Called.{tries_in}
 use Rattle.ell_tree.specs.Ends.{Answers}
 use Rattle.ell_tree.proofs.lemmas.Computing.{untouched_by, untouched_self, concludes, swap_leaves, not_one, found_one}
 use Rattle.ell_tree.proofs.computing.replace.Goals as goal
@@ -16,7 +17,8 @@ returns-else-eq-clause-replaces g c =
     let new = c.change.new.pass in
     let other : there ≢ Some was = not_one there was (sym c.eq.ensures ∙ c.if-eq.false) in
     let said : Answers t (Swap key was c.args.value) (found there) old new = search rules in (
-      untouched_by t (Swap key was c.args.value) (found there) old new (swap_leaves t key was c.args.value there old new other said) said,
+      untouched_by t (Swap key was c.args.value) (found there) old new (swap_leaves t key was c.args.value there old new other said) (λ e. other (found_one there (Some was) e)) said,
       inr (was, c.args.value, other, concludes t (Swap key was c.args.value) (found there) old old new (untouched_self old c.requires.may.idle) said),
       λ owns same. other (found_one there _ (said.says owns) ∙ (same ∙ c.in-Some.is)),
+      (let more = ap tries_in said.called in omega (arith, more)),
     )

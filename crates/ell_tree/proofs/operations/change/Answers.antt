@@ -1,6 +1,7 @@
-use Rattle.std.proofs.Common.{◌≡◌, ◌+◌, ◌*◌, ◌∙◌, ap, arith, rules, eq-eqb, eqb-true}
+use Rattle.std.proofs.Common.{◌≡◌, ◌+◌, ◌*◌, ◌∙◌, ap, length, arith, rules, eq-eqb, eqb-true}
 use Rattle.ell_cards.proofs.lemmas.runs.Tries.{more_tries}
 use Rattle.ell_cards.proofs.lemmas.runs.LayingDown.{laid_down_last_changes_nothing}
+use Rattle.ell_cards.specs.Accounts.{own_calls}
 use Rattle.ell_tree.specs.Ends.{changes_by, try_steps}
 use Rattle.ell_tree.specs.Hindrances.{way_of}
 use Rattle.ell_tree.proofs.lemmas.Counts.{took_within, took_trans, rounds_first, rounds_later, round_steps, rounds_steps}
@@ -208,7 +209,8 @@ returns-in-Spent-clause-ends g c =
         table = search rules;
         label = search rules;
         ledger = search rules;
-        answered = search rules;
+        answered = ap (λ l. length (own_calls l)) (lays.answers ∙ (halts.answers ∙ (begins.answers ∙ i.answers)));
+        called = lays.answers ∙ (halts.answers ∙ (begins.answers ∙ i.answers));
         share = share_trans a tried c.leave.new.pass.view (share_trans a c.restart.new.pass.view tried kept halts.share) lays.share;
         would = would_before op c.args.pass.now c.restart.new.pass (begins.ledger ∙ i.ledger) halts.would;
         nothing = laid_down_last_changes_nothing c.args.table.now.plan c.leave.new.pass.view op lays.laid;
@@ -232,7 +234,8 @@ returns-clause-ends g c =
         table = search rules;
         label = search rules;
         ledger = search rules;
-        answered = search rules;
+        answered = ap (λ l. length (own_calls l)) (lays.answers ∙ i.answers);
+        called = lays.answers ∙ i.answers;
         share = share_trans a l.pass.view c.leave-2.new.pass.view i.share lays.share;
         would = i.would (omega (arith, all, c.requires.tries));
         nothing = laid_down_last_changes_nothing c.args.table.now.plan c.leave-2.new.pass.view op lays.laid;

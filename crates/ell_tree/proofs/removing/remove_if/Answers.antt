@@ -8,7 +8,7 @@ use Rattle.ell_tree.specs.Ends.{Answers, LaidDown, TakesValue, find_steps}
 use Rattle.ell_tree.specs.Ledgers.{Owns, present_in}
 use Rattle.ell_tree.specs.Promises.{IsOthersDoing}
 use Rattle.ell_tree.specs.CardsTaken.{TakesByHindered}
-use Rattle.ell_tree.proofs.lemmas.Computing.{untouched_by, untouched_laid, untouched_self, untouched_trans, concludes, concludes_after, find_leaves, found_last, found_own, may_still}
+use Rattle.ell_tree.proofs.lemmas.Computing.{untouched_by, untouched_laid, untouched_self, untouched_trans, concludes, concludes_after, find_leaves, found_last, found_not_yes, found_own, may_still}
 use Rattle.ell_tree.proofs.lemmas.Counts.{took_within, took_trans}
 use Rattle.ell_tree.proofs.lemmas.Milestones.{milestones_most}
 use Rattle.ell_tree.proofs.lemmas.Removing.{is_that, removes}
@@ -24,7 +24,7 @@ loop-round-init g c =
     let new = c.find-there.new.pass in
     let there = c.find-there.result in
     let finds = c.find-there.ensures in
-    let left = untouched_by t (Find key) (found there) old new (find_leaves key old) finds.answers in
+    let left = untouched_by t (Find key) (found there) old new (find_leaves key old) (found_not_yes there) finds.answers in
     let reads = concludes t (Find key) (found there) old old new (untouched_self old c.requires.may.idle) finds.answers in
     record {
       same = (refl, refl, refl, refl);

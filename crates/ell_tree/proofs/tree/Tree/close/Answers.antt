@@ -18,4 +18,4 @@ pub returns-clause-pairs : goal.returns-clause-pairs
 returns-clause-pairs g c =
     let ends = subst (λ (t : TreeModel). TableEnds t.plan c.args.pass.view c.close-closed.result) c.self.view_is c.close-closed.ensures.ends in
     let cards = c.close-closed.ensures.cards ∙ ap (λ (t : TreeModel). t.plan.last_card) c.self.view_is in
-    closes c.args.self c.args.pass c.close-closed.result ends c.requires.all c.pairs_of_tree.result.items c.pairs_of_tree.ensures cards
+    closes c.args.self c.args.pass c.close-closed.result ends c.requires.all c.pairs_of_tree.result.items c.pairs_of_tree.ensures c.requires.may.1 c.requires.whole cards

@@ -1,0 +1,141 @@
+use Rattle.std.proofs.Common.{◌≡◌, ◌≢◌, ℕ, zero, suc, ◌<◌, ◌≤◌, ◌+◌, ◌-◌, ◌⊎◌, Option, List, [], ◌∷◌, length, take, drop, inl, inr, refl, sym, ap, ◌∙◌, subst, arith}
+use Rattle.std.proofs.lemmas.Bool.{cases_lt}
+use Rattle.std.proofs.lemmas.List.{drop-take}
+use mathlib.Core.Option.{some, some-injective, some-ne-none}
+use lib.ListN.{get_elem?}
+use Rattle.ell_ops.specs.Contents.{Contents, contents_of}
+use Rattle.ell_ops.specs.Meaning.{after, final}
+use Rattle.ell_cards.specs.declared.call.Call.TheVariants as call
+use Rattle.ell_cards.specs.Models.{TablePlan}
+use Rattle.ell_cards.specs.States.{TableState}
+use Rattle.ell_cards.specs.Turns.{Turn, Makes, TableTurns, TableRun}
+use Rattle.ell_cards.specs.TurnEffects.{own_words}
+use Rattle.ell_cards.specs.Starts.{Starts}
+use Rattle.ell_cards.specs.Looking.{HasThere, FoundInRun}
+use Rattle.ell_cards.specs.Linearizing.{IsAnswered, Item, ops_of}
+use Rattle.ell_cards.specs.Placing.{IsLook, IsPlaced, LooksHavePlaces}
+use Rattle.ell_cards.proofs.lemmas.runs.AsMap.{map_has}
+use Rattle.ell_cards.proofs.lemmas.runs.Beginnings.{looks_are_of_one_state}
+use Rattle.ell_cards.proofs.lemmas.runs.LinearizingLists.{Placed, items_of, AreRight, low_in, in_at, placed_at}
+use Rattle.ell_cards.proofs.lemmas.runs.LinearizingStates.{run_same, run_to, turn_same}
+use Rattle.ell_cards.proofs.lemmas.runs.LinearizingPoints.{after_turns, slice, made, map_after, is_map, first_map, take_fewer, state_between}
+use Rattle.ell_cards.proofs.lemmas.runs.Linearizing.{all_calls, sequence, before_end, after_begin, linearized}
+
+-- how many calls of a sequence are before a state: they leave its map
+record Cut (map : ℕ → Contents) (first p : ℕ) (xs : List Placed) : Type 0 where
+  count : ℕ
+  leaves : map p ≡ final (map first) (ops_of (take count (items_of xs)))
+  among : (i : ℕ) (x : Placed) → get_elem? xs i ≡ some x → x.at < p → i < count
+  beyond : (i : ℕ) (x : Placed) → get_elem? xs i ≡ some x → p < x.at → count ≤ i
+
+cut : (map : ℕ → Contents) (last first p : ℕ) (xs : List Placed) → AreRight map last first xs → first ≤ p → p ≤ last → Cut map first p xs
+cut map last first p [] h low high = record {
+  count = 0;
+  leaves = h.same p low high;
+  among = λ i x e less. absurd (some-ne-none x (sym e));
+  beyond = λ i x e less. absurd (some-ne-none x (sym e));
+}
+cut map last first p (x ∷ xs) h low high = elim (cases_lt p x.past) [
+  | inl short ↦
+      let near = h.1.near in
+      let up = h.0.up in record {
+        count = 0;
+        leaves = h.0.same p low (omega arith);
+        among = λ i y e less. absurd (none i y e less short near);
+        beyond = λ i y e less. omega arith;
+      }
+  | inr most ↦
+      let rest = cut map last x.past p xs h.2 most high in
+      let up = h.1.up in
+      let here : map x.past ≡ after x.item.op (map first) = sym h.1.goes ∙ ap (after x.item.op) (h.0.same x.at h.0.up (omega arith)) in record {
+        count = suc rest.count;
+        leaves = rest.leaves ∙ ap (λ (m : Contents). final m (ops_of (take rest.count (items_of xs)))) here;
+        among = more rest.count rest.among;
+        beyond = past rest.count rest.beyond most up;
+      }
+]
+  where
+    none : (i : ℕ) (y : Placed) → get_elem? (x ∷ xs) i ≡ some y → y.at < p → p < x.past → x.past ≤ suc x.at → ⊥
+    none zero y e less short near = let same = ap (λ (z : Placed). z.at) (some-injective x y e) in omega arith
+    none (suc i) y e less short near = let up = low_in map last x.past xs h.2 y (in_at xs i y e) in omega arith
+
+    more : (n : ℕ) → ((i : ℕ) (y : Placed) → get_elem? xs i ≡ some y → y.at < p → i < n) → (i : ℕ) (y : Placed) → get_elem? (x ∷ xs) i ≡ some y → y.at < p → i < suc n
+    more n rest zero y e less = omega arith
+    more n rest (suc i) y e less = let h = rest i y e less in omega arith
+
+    past : (n : ℕ) → ((i : ℕ) (y : Placed) → get_elem? xs i ≡ some y → p < y.at → n ≤ i) → x.past ≤ p → x.at ≤ x.past
+        → (i : ℕ) (y : Placed) → get_elem? (x ∷ xs) i ≡ some y → p < y.at → suc n ≤ i
+    past n rest most up zero y e less = let same = ap (λ (z : Placed). z.at) (some-injective x y e) in absurd (omega arith)
+    past n rest most up (suc i) y e less = let h = rest i y e less in omega arith
+
+of_take : {A : Type 0} (n : ℕ) (l : List A) (k : ℕ) (a : A) → get_elem? (take n l) k ≡ some a → (k < n) × (get_elem? l k ≡ some a)
+of_take zero l k a e = absurd (some-ne-none a (sym e))
+of_take (suc n) [] k a e = absurd (some-ne-none a (sym e))
+of_take (suc n) (x ∷ xs) zero a e = (omega arith, e)
+of_take (suc n) (x ∷ xs) (suc k) a e = (let h = of_take n xs k a e in let less = h.0 in (omega arith, h.1))
+
+module _ (plan : TablePlan) (opened : TableState) (starts : Starts plan opened) (turns : List Turn) (s' : TableState) (run : TableRun plan.last_card opened turns s') where
+  abbrev state : ℕ → TableState
+  state = after_turns plan opened starts turns s' run
+
+  abbrev map_at : ℕ → Contents
+  map_at = map_after plan opened starts turns s' run
+
+  abbrev order : List Item
+  order = sequence plan opened starts turns s' run
+
+  look_placed : (ended key : ℕ) (there : Option ℕ) (look : IsLook plan.last_card opened turns ended key there) → IsPlaced (contents_of plan.start) turns order look.seat ended key there
+  look_placed ended key there look =
+      let found : FoundInRun plan.last_card opened (take ended turns) look.state look.seat (HasThere key there) =
+      looks_are_of_one_state plan look.view key there look.found opened starts (take ended turns) look.state look.led look.seat look.at in
+      let b = found.began in
+      let at = of_take ended turns b.first (Makes look.seat call.Look) b.at in
+      let less = at.0 in
+      let from : b.from ≡ state b.first = run_same plan.last_card opened (take b.first turns) b.from (state b.first)
+      (subst (λ ts. TableRun plan.last_card opened ts b.from) (take_fewer b.first ended turns (omega arith)) b.before)
+      (run_to plan.last_card opened turns s' run b.first) in
+      let to : b.to ≡ state (suc b.first) = turn_same plan.last_card b.from (Makes look.seat call.Look) b.to (state (suc b.first)) b.call
+      (subst (λ (x : TableState). TableTurns plan.last_card x (Makes look.seat call.Look) (state (suc b.first))) (sym from)
+      (made plan opened starts turns s' run b.first (Makes look.seat call.Look) at.1)) in
+      let n = ended - suc b.first in
+      let whole : suc b.first + n ≡ ended = omega arith in
+      let rest : drop (suc b.first) (take ended turns) ≡ take n (drop (suc b.first) turns) =
+      ap (λ k. drop (suc b.first) (take k turns)) (sym whole) ∙ drop-take (suc b.first) n turns in
+      let amid = found.so.amid in
+      let led : TableRun plan.last_card (state (suc b.first)) (take amid.first (take n (drop (suc b.first) turns))) found.so.state =
+      subst (λ (x : TableState). TableRun plan.last_card x (take amid.first (take n (drop (suc b.first) turns))) found.so.state) to
+      (subst (λ ts. TableRun plan.last_card b.to (take amid.first ts) found.so.state) rest amid.before) in
+      let between = state_between plan opened starts turns s' run (suc b.first) ended amid.first found.so.state (omega arith) led in
+      let p = between.place in
+      let low = between.low in
+      let high = between.high in
+      let inside = look.inside in
+      let so = subst (λ (x : TableState). HasThere key there (own_words x)) between.is found.so.so in
+      let calls = all_calls plan opened starts turns s' run in
+      let parts = cut map_at (length turns) 0 p calls.list calls.right (omega arith) (omega arith) in
+      let says : map_at p ≡ final (contents_of plan.start) (ops_of (take parts.count (items_of calls.list))) =
+      parts.leaves ∙ ap (λ (m : Contents). final m (ops_of (take parts.count (items_of calls.list)))) (first_map plan opened starts turns s' run) in
+      record {
+        began = b.first;
+        begins = at.1;
+        later = less;
+        placed = record {
+          place = parts.count;
+          says = sym (map_has (own_words (state p)) (map_at p) (is_map plan opened starts turns s' run p) key there so) ∙ ap (λ (m : Contents). m key) says;
+          after = λ i x there' end h first.
+              let y = placed_at calls.list i x there' in
+              let last = before_end plan opened starts turns s' run y.placed (in_at calls.list i y.placed y.there) end
+              (subst (λ (k : Item). IsAnswered turns k.begin end k.op k.reply) (sym y.is) h) in
+              parts.among i y.placed y.there (omega arith);
+          before = λ i x there' later.
+              let y = placed_at calls.list i x there' in
+              let begins = after_begin plan opened starts turns s' run y.placed (in_at calls.list i y.placed y.there) in
+              let same = ap (λ (k : Item). k.begin) y.is in
+              parts.beyond i y.placed y.there (omega arith);
+        };
+      }
+
+-- each look of each run has a place
+pub looks_have_places : LooksHavePlaces
+looks_have_places plan opened starts turns s' run =
+    record { calls = linearized plan opened starts turns s' run; looks = look_placed plan opened starts turns s' run }

@@ -1,0 +1,170 @@
+use Rattle.std.proofs.Common.{◌≡◌, ◌≢◌, ℕ, ◌==◌, if◌then◌else◌, Bool, true, false, None, Some, Option, List, [], ◌∷◌, ◌++◌, filter, not, set, inl, inr, ◌⊎◌, refl, sym, ap, ap₂, ◌∙◌, subst, ⊎_elim}
+use mathlib.Core.Option.{some, some-injective}
+use lib.ListN.{get_elem?}
+use Rattle.atomic_table.proofs.Lists.{at_set}
+use Rattle.ell_word.specs.Word.{packed, unpacked}
+use Rattle.ell_word.specs.declared.update.Update.{Update}
+use Rattle.ell_ops.specs.declared.op.Op.{Op}
+use Rattle.ell_ops.specs.KeySet.{set_of}
+use Rattle.ell_ops.specs.Meaning.{key_of}
+use Rattle.ell_core.specs.declared.fact.Fact.{Fact}
+use Rattle.ell_core.specs.declared.fact.Fact.TheVariants as fact
+use Rattle.ell_core.specs.declared.view.Entry.{Entry}
+use Rattle.ell_core.specs.state.Machine.{ledger_of, shared_of, worker_of}
+use Rattle.ell_core.specs.soundness.Sound.{MayChange}
+use Rattle.ell_core.proofs.lemmas.outcomes.Decide.{some_not_none}
+use Rattle.std.specs.Option.{option_or}
+use Rattle.std.proofs.lemmas.Bool.{false≢true}
+use Rattle.ell_cards.specs.declared.call.Call.{Call}
+use Rattle.ell_cards.specs.declared.call.Call.TheVariants as call
+use Rattle.ell_cards.specs.declared.view.Deed.{Deed}
+use Rattle.ell_cards.specs.declared.view.View.{View}
+use Rattle.ell_cards.specs.Models.{TablePlan, IsFree, whole_share}
+use Rattle.ell_cards.specs.Changes.{first_of, ownable_if, left_view, right_view, joined_view, spent_view, united_ledgers, inherited, after_claim, after_flag, after_mark, is_mark_of, with_fact, unmarking}
+use Rattle.ell_cards.specs.Calls.{after, May}
+use Rattle.ell_cards.specs.States.{TableState}
+use Rattle.ell_cards.specs.Turns.{Turn, Makes, Splits, Joins, TableTurns, TableRun, found_by}
+use Rattle.ell_cards.specs.Starts.{IsReached}
+use Rattle.ell_cards.specs.Looking.{BeginsNothing}
+use Rattle.ell_cards.proofs.lemmas.seats.Taken.{owned_stays}
+use Rattle.ell_cards.proofs.lemmas.lifetimes.Splits.{each_split}
+use Rattle.ell_cards.proofs.lemmas.lifetimes.Joins.{each_joined}
+use Rattle.ell_cards.proofs.lemmas.lifetimes.Openings.{each_first}
+use Rattle.ell_cards.proofs.lemmas.runs.OwnSeat.{call_free}
+use Rattle.ell_cards.proofs.lemmas.runs.Shares.{alone_with_the_whole}
+
+-- a step call that answers nothing
+abbrev pub AnswersNothing : Call → Type 0
+AnswersNothing (call.Answer said) = ⊥
+AnswersNothing _ = Unit {0}
+
+-- only an answer adds to what a pass was answered
+answers_claim : (b : Bool) (c : ℕ) (v : View) → (after_claim b c v).answers ≡ v.answers
+answers_claim true c v = refl
+answers_claim false c v = refl
+
+answers_flag : (b : Bool) (new : Fact) (x : ℕ) (u : Update) (v : View) → (after_flag b new x u v).answers ≡ v.answers
+answers_flag true new x u v = refl
+answers_flag false new x u v = refl
+
+answers_mark : (b : Bool) (c x : ℕ) (u : Update) (v : View) → (after_mark b c x u v).answers ≡ v.answers
+answers_mark true c x u v = refl
+answers_mark false c x u v = by (is_mark_of c u.state u.card)
+  where
+    by : (b : Bool) → (if b then with_fact (fact.Marked c) v else unmarking c x u v).answers ≡ v.answers
+    by true = refl
+    by false = refl
+
+pub answers_stay : (c : Call) (n : ℕ) (v : View) → AnswersNothing c → (after c n v).answers ≡ v.answers
+answers_stay (call.Answer said) n v h = absurd h
+answers_stay (call.Claim c) n v h = answers_claim (n == c) c v
+answers_stay (call.IFlag c p from) n v h = answers_flag (n == packed from) (fact.IFlagged c) p (unpacked n) v
+answers_stay (call.DFlag c gp from) n v h = answers_flag (n == packed from) (fact.DFlagged c) gp (unpacked n) v
+answers_stay (call.Mark c p was) n v h = answers_mark (n == was) c p (unpacked n) v
+answers_stay _ n v h = refl
+
+-- a pass that has nothing, and was answered nothing: it was joined to another
+pub record IsSpent (v : View) : Type 0 where
+  pub free : IsFree v
+  pub ledger : v.worker.ledger ≡ []
+  pub answers : v.answers ≡ []
+
+-- so is each that takes no key for a shared one
+abbrev pub SpentAreSpent : TableState → Type 0
+SpentAreSpent s = (j : ℕ) (u : View) → get_elem? s.views j ≡ some u → u.worker.shared ≡ None → IsSpent u
+
+other : (last : ℕ) (c : Call) (n : ℕ) (v : View) → BeginsNothing c → AnswersNothing c → May last c v → IsSpent v → IsSpent (after c n v)
+other last c n v begins silent may spent =
+    let h = call_free last c n v begins may spent.free in
+    record { free = h.free; ledger = h.ledger ∙ spent.ledger; answers = answers_stay c n v silent ∙ spent.answers }
+
+begins_none : (op : Op) (v : View) → MayChange (worker_of v.worker) (key_of op) → v.worker.shared ≡ None → v.worker.ledger ≡ [] → ⊥
+begins_none op v (inl owns) none empty = owns (ap (λ (l : List (ℕ × Entry)). ledger_of l (key_of op)) empty)
+begins_none op v (inr shared) none empty = false≢true (sym (ap (λ o. shared_of o (key_of op)) none) ∙ shared)
+
+-- it may begin nothing, so it stays so
+call_spent : (last : ℕ) (c : Call) (n : ℕ) (v : View) → May last c v → v.worker.shared ≡ None → IsSpent v → IsSpent (after c n v)
+call_spent last (call.Begin op) n v may none spent = absurd (begins_none op v may.1 none spent.ledger)
+call_spent last call.Look n v may none spent = record { free = spent.free; ledger = spent.ledger; answers = spent.answers }
+call_spent last (call.Answer said) n v may none spent = absurd (some_not_none may.busy spent.free)
+call_spent last call.Again n v may none spent = absurd (some_not_none may.busy spent.free)
+call_spent last call.Leave n v may none spent = absurd (some_not_none may.busy spent.free)
+call_spent last (call.Claim c) n v may none spent = other last (call.Claim c) n v tt tt may spent
+call_spent last (call.IFlag c p from) n v may none spent = other last (call.IFlag c p from) n v tt tt may spent
+call_spent last (call.DFlag c gp from) n v may none spent = other last (call.DFlag c gp from) n v tt tt may spent
+call_spent last (call.Mark c p was) n v may none spent = other last (call.Mark c p was) n v tt tt may spent
+call_spent last _ n v may none spent = record { free = spent.free; ledger = spent.ledger; answers = spent.answers }
+
+turn_spent : (last : ℕ) (s : TableState) (t : Turn) (s' : TableState) → TableTurns last s t s' → SpentAreSpent s → SpentAreSpent s'
+turn_spent last s (Makes id c) s' turn h = λ j u at none.
+    let w = after c (found_by s c) turn.view in
+    let there : get_elem? (set s.views id w) j ≡ some u = subst (λ (x : TableState). get_elem? x.views j ≡ some u) turn.gives at in
+    ⊎_elim
+    (λ (t : (j ≡ id) × (w ≡ u)).
+    let closed = sym (owned_stays c (found_by s c) turn.view) ∙ (ap (λ (x : View). x.worker.shared) t.1 ∙ none) in
+    subst IsSpent t.1 (call_spent last c (found_by s c) turn.view turn.may closed (h id turn.view turn.there closed)))
+    (λ (t : (j ≢ id) × (get_elem? s.views j ≡ some u)). h j u t.1 none)
+    (at_set s.views id j w u there)
+turn_spent last s (Splits id chosen) s' turn h =
+    let v = turn.view in
+    subst SpentAreSpent (sym turn.gives) (each_split s.views id v turn.there (left_view chosen v) (right_view chosen v) (λ u. u.worker.shared ≡ None → IsSpent u)
+    (λ none. let spent = h id v turn.there none in record {
+      free = refl;
+      ledger = ap (filter (λ (e : ℕ × Entry). set_of chosen e.0)) spent.ledger;
+      answers = spent.answers;
+    })
+    (λ none. let spent = h id v turn.there none in record {
+      free = refl;
+      ledger = ap (filter (λ (e : ℕ × Entry). not (set_of chosen e.0))) spent.ledger;
+      answers = ap inherited spent.answers;
+    })
+    h)
+turn_spent last s (Joins id other) s' turn h =
+    let v = turn.view in
+    let w = turn.view' in
+    subst SpentAreSpent (sym turn.gives) (each_joined s.views id other v w turn.there turn.there' (λ e. turn.apart (sym e)) (joined_view v w)
+    (λ u. u.worker.shared ≡ None → IsSpent u)
+    (λ none.
+    let both = neither v.worker.shared w.worker.shared none in
+    let one = h id v turn.there both.0 in
+    let two = h other w turn.there' both.1 in record {
+      free = refl;
+      ledger = ap₂ united_ledgers one.ledger two.ledger;
+      answers = ap₂ (λ (a b : List Deed). a ++ b) one.answers two.answers;
+    })
+    (λ none. record { free = refl; ledger = refl; answers = refl })
+    h)
+  where
+    neither : (l m : Option (List ℕ)) → option_or l m ≡ None → (l ≡ None) × (m ≡ None)
+    neither None m e = (refl, e)
+    neither (Some l) m e = absurd (some_not_none refl e)
+
+run_spent : (last : ℕ) (s : TableState) (turns : List Turn) (s' : TableState) → TableRun last s turns s' → SpentAreSpent s → SpentAreSpent s'
+run_spent last s [] s' run h = subst SpentAreSpent (sym run) h
+run_spent last s (t ∷ ts) s' run h = run_spent last run.0 ts s' run.2 (turn_spent last s t run.0 run.1 h)
+
+-- so it is wherever turns have led a table that shares its keys
+pub spent_are_spent : (plan : TablePlan) (s : TableState) → plan.shared ≡ true → IsReached plan s → SpentAreSpent s
+spent_are_spent plan s mode h = run_spent plan.last_card h.first h.turns s h.run (subst SpentAreSpent (sym h.starts.is)
+    (each_first (first_of plan) (λ u. u.worker.shared ≡ None → IsSpent u)
+    (λ none. absurd (some_not_none (ap (λ b. ownable_if b plan.keys) mode) none))))
+
+-- where one pass has the whole share, and nothing in hand, nobody has anything in hand, and no other was answered anything
+pub record IsAllThere (s : TableState) (seat : ℕ) : Type 0 where
+  pub free : (j : ℕ) (u : View) → get_elem? s.views j ≡ some u → IsFree u
+  pub silent : (j : ℕ) (u : View) → get_elem? s.views j ≡ some u → (j ≡ seat) ⊎ (u.answers ≡ [])
+
+pub all_there : (plan : TablePlan) (s : TableState) → plan.shared ≡ true → IsReached plan s → (seat : ℕ) (v : View) → get_elem? s.views seat ≡ some v
+    → v.share ≡ whole_share → IsFree v → IsAllThere s seat
+all_there plan s mode h seat v here whole free =
+    let spent = spent_are_spent plan s mode h in
+    let alone = alone_with_the_whole plan s h seat v here whole in record {
+      free = λ j u at. elim (alone j u at) [
+        | inl same ↦ subst IsFree (some-injective v u (sym here ∙ (ap (get_elem? s.views) (sym same) ∙ at))) free
+        | inr none ↦ (spent j u at none).free
+      ];
+      silent = λ j u at. elim (alone j u at) [
+        | inl same ↦ inl same
+        | inr none ↦ inr (spent j u at none).answers
+      ];
+    }

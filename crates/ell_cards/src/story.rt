@@ -1,0 +1,28 @@
+//! What a pass may know of all that was done with its table.
+ghost use Rattle.std.specs.Prelude.{◌≡◌, ℕ};
+ghost use Rattle.ell_cards.specs.declared.call.Call.TheVariants as call;
+ghost use Rattle.ell_cards.specs.Models.{Sees};
+ghost use Rattle.ell_cards.specs.Calls.{after};
+ghost use Rattle.ell_cards.specs.Stories.{HasStory};
+
+use crate::call::Call;
+use crate::pass::Pass;
+use crate::table::CardTable;
+use std::alloc::Allocator;
+use std::marker::Brand;
+
+impl<A: Allocator + Copy> CardTable<A> {
+    /// Reads the claim word, and does nothing else, so that the pass knows this law: all that was done with the table
+    /// up to now, by whichever passes, is one history, which is linearizable, and in whose sequence are the calls that
+    /// the pass was answered. The step is not counted.
+    pub fn story(&self, pass: &mut Pass<A>)
+        requires own { pass.old.table ≡ self.now.id }
+        // All that was done with the table is one linearizable history. Its sequence has the calls that the pass was
+        // answered, it and the passes that were joined to it, and no others if it has the whole share.
+        ensures story { HasStory self.now.plan pass.new.view }
+        // It loads the claim word.
+        ensures step { (n : ℕ) × Sees pass.old pass.new (after call.Next n pass.old.view) }
+    {
+        self.load_as::<Brand>(pass, Call::Next, 0);
+    }
+}

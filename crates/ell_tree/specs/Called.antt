@@ -1,0 +1,77 @@
+use Rattle.std.specs.Prelude.{◌≡◌, ◌≢◌, ℕ, ◌+◌, ◌⊎◌, if◌then◌else◌, Bool, true, false, Option, Some, None, Result, Ok, Err, List, [], ◌∷◌, ◌++◌}
+use Rattle.ell_ops.specs.declared.op.Op.{Op}
+use Rattle.ell_ops.specs.declared.op.Op.TheVariants.{Delete, Find, Insert, Swap}
+use Rattle.ell_ops.specs.declared.reply.Reply.{Reply}
+use Rattle.ell_ops.specs.declared.reply.Reply.TheVariants.{Yes}
+use Rattle.ell_ops.specs.Meaning.{found}
+use Rattle.ell_core.specs.statements.Effects.{reply_of_change}
+use Rattle.ell_cards.specs.declared.view.Deed.{Deed}
+use Rattle.ell_cards.specs.Changes.{deed_of}
+use Rattle.ell_cards.specs.Models.{PassModel}
+use Rattle.ell_tree.specs.declared.operations.NotDone.{NotDone}
+
+-- what a pass was answered by a call: this, after all of which it knew; or nothing, where the call has no answer
+abbrev pub IsCalled : Op → PassModel → PassModel → Result Reply NotDone → Type 0
+IsCalled op old new (Ok said) = new.view.answers ≡ deed_of op said old.view.answers ∷ old.view.answers
+IsCalled op old new (Err why) = new.view.answers ≡ old.view.answers
+
+abbrev pub is_find : Op → Bool
+is_find (Find key) = true
+is_find _ = false
+
+-- no change of the map gets this answer
+abbrev pub IsNoChange : Deed → Type 0
+IsNoChange d = d.said ≢ reply_of_change d.op
+
+abbrev pub AreNoChanges : List Deed → Type 0
+AreNoChanges [] = Unit {0}
+AreNoChanges (d ∷ ds) = IsNoChange d × AreNoChanges ds
+
+-- a pass was answered these calls since then, none of which has changed anything
+pub record AnsweredNoChange (old new : List Deed) : Type 0 where
+  pub calls : List Deed
+  pub is : new ≡ calls ++ old
+  pub none : AreNoChanges calls
+
+-- a pass was answered this call, and before that since then only such
+pub record AnsweredLast (op : Op) (said : Reply) (old new : List Deed) : Type 0 where
+  pub earlier : List Deed
+  pub before : AnsweredNoChange old earlier
+  pub is : new ≡ deed_of op said earlier ∷ earlier
+
+-- what puts a value at a key, by what was there of it: an insert, where the key was absent, or a swap of the value that
+-- it had
+abbrev pub put_by : ℕ → ℕ → Option ℕ → Op
+put_by key value None = Insert key value
+put_by key value (Some was) = Swap key was value
+
+-- what a pass was answered by a call that puts a value at a key, in the place of what it returns: last what put it
+abbrev pub IsPutCalled : ℕ → ℕ → PassModel → PassModel → Result (Option ℕ) NotDone → Type 0
+IsPutCalled key value old new (Ok was) =
+    AnsweredLast (put_by key value was) (reply_of_change (put_by key value was)) old.view.answers new.view.answers
+IsPutCalled key value old new (Err why) = AnsweredNoChange old.view.answers new.view.answers
+
+-- what a pass was answered by a call that only found this of a key: last a find, or a swap of another value
+abbrev pub IsReadCalled : ℕ → Option ℕ → PassModel → PassModel → Type 0
+IsReadCalled key was old new = AnsweredLast (Find key) (found was) old.view.answers new.view.answers
+    ⊎ ((other value : ℕ) × (was ≢ Some other) × AnsweredLast (Swap key other value) (found was) old.view.answers new.view.answers)
+
+-- what a pass was answered by a call that puts at a key what is made of the value that it returns: last the swap of
+-- that value; where the key is absent, it only found that
+abbrev pub IsUpdateCalled : ℕ → (ℕ → ℕ → Type 0) → PassModel → PassModel → Result (Option ℕ) NotDone → Type 0
+IsUpdateCalled key makes old new (Ok None) = IsReadCalled key None old new
+IsUpdateCalled key makes old new (Ok (Some was)) = (value : ℕ) × makes was value × IsPutCalled key value old new (Ok (Some was))
+IsUpdateCalled key makes old new (Err why) = AnsweredNoChange old.view.answers new.view.answers
+
+-- what a pass was answered by a call that removes a key if it finds this value: last the delete; or it only found what
+-- it returns
+abbrev pub IsRemoveCalled : ℕ → ℕ → PassModel → PassModel → Result (Option ℕ) NotDone → Type 0
+IsRemoveCalled key was old new (Ok there) =
+    (there ≡ Some was → AnsweredLast (Delete key) Yes old.view.answers new.view.answers)
+    × (there ≢ Some was → AnsweredLast (Find key) (found there) old.view.answers new.view.answers)
+IsRemoveCalled key was old new (Err why) = AnsweredNoChange old.view.answers new.view.answers
+
+-- how many of these calls were tries of a change: all but the finds
+abbrev pub tries_in : List Deed → ℕ
+tries_in [] = 0
+tries_in (d ∷ ds) = (if is_find d.op then 0 else 1) + tries_in ds
