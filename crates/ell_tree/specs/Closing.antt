@@ -8,15 +8,13 @@ use Rattle.ell_core.specs.tree.Tree.{ListsTreePairs}
 use Rattle.ell_cards.specs.Models.{PassModel}
 use Rattle.std.specs.List.Sorted.{IsStrictlyIncreasing}
 use Rattle.ell_cards.specs.Starts.{IsSharedIn}
-use Rattle.ell_cards.specs.Accounts.{AreOfOneThread}
 use Rattle.ell_cards.specs.Closed.{ClosedModel, TableRan}
 use Rattle.ell_tree.specs.Ledgers.{TreeModel, present_in}
 
 -- the keys of a tree with their values, ascending, as a pass closes it that owns all keys of the plan: they are the
 -- pairs of the tree that the words of the table make at that point, to which turns of the passes have led from the
 -- table's start; each is of the plan or shared, and of the plan's those are there that are present in the pass's
--- ledger; so all are those, where no key is shared; and where others are shared, what the pass was answered, it and all
--- that were joined to it, is what one thread is answered that makes these calls in some order, and leaves those pairs
+-- ledger; so all are those, where no key is shared
 pub record ClosesTo (t : TreeModel) (p : PassModel) (pairs : List (ℕ × ℕ)) : Type 0 where
   pub ascending : IsStrictlyIncreasing (keys_of pairs)
   pub present : (k : ℕ) → set_of t.plan.keys k ≡ true → contents_of pairs k ≡ present_in p k
@@ -26,4 +24,3 @@ pub record ClosesTo (t : TreeModel) (p : PassModel) (pairs : List (ℕ × ℕ)) 
   pub cards : closed.last_card ≡ t.plan.last_card
   pub ran : TableRan t.plan p.view closed
   pub tree : ListsTreePairs (words_of closed.words) pairs
-  pub thread : t.plan.shared ≡ true → AreOfOneThread (contents_of t.plan.start) p.view.answers (contents_of pairs)

@@ -8,6 +8,7 @@ ghost use Rattle.ell_ops.specs.KeySet.{set_of};
 ghost use Rattle.ell_ops.specs.Meaning.{greatest_key, found};
 ghost use Rattle.ell_word.specs.Node.{most_start};
 ghost use Rattle.ell_core.specs.state.Opening.{last_card};
+ghost use Rattle.ell_cards.specs.Accounts.{AreOfOneThread};
 ghost use Rattle.ell_cards.specs.Changes.{inherited};
 ghost use Rattle.ell_cards.specs.Models.{IsCardCount, MayPart, RefusesCards, SplitRefuses, whole_share};
 ghost use Rattle.ell_cards.specs.Stories.{HasStory};
@@ -809,6 +810,10 @@ impl<A: Allocator + Copy> Tree<A> {
         // The pairs are those of the tree to which a run led, strictly ascending by their keys: of the keys that may
         // have an owner, those that the pass has present, and besides these only shared ones.
         ensures pairs { IfOk result (λ pairs. ClosesTo self pass pairs.items) }
+        // If the other keys are shared, one thread that makes the calls that the pass was answered, it and all that
+        // were joined to it, in some order, is answered so, and leaves the pairs.
+        ensures thread { IfOk result (λ pairs. self.plan.shared ≡ true
+            → AreOfOneThread (contents_of self.plan.start) pass.view.answers (contents_of pairs.items)) }
         // If an allocation fails, tree and pass come back as they were.
         ensures refused { IfErr result (λ refused. (refused.0 ≡ self) × (refused.1 ≡ pass)) }
     {

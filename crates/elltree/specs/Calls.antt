@@ -4,9 +4,10 @@ use Rattle.ell_ops.specs.declared.op.Op.TheVariants.{Delete, Find, Insert, Swap}
 use Rattle.ell_ops.specs.declared.reply.Reply.{Reply}
 use Rattle.ell_ops.specs.Contents.{contents_of}
 use Rattle.ell_ops.specs.Meaning.{found, greatest_key, key_of}
+use Rattle.ell_cards.specs.Models.{PassModel}
 use Rattle.ell_tree.specs.CardsLeft.{AreLeftAtMost, ReadsCardsLeft}
 use Rattle.ell_tree.specs.CardsTaken.{TakesNoCard}
-use Rattle.ell_tree.specs.Computing.{AreTried, IsNotDone, IsSum, PutsValue, RemovesIf, UpdatesValue, update_steps, whether_put}
+use Rattle.ell_tree.specs.Computing.{AreTried, AreTriedOrRead, IsNotDone, IsSum, PutsValue, RemovesIf, UpdatesValue, update_steps, whether_put}
 use Rattle.ell_tree.specs.Counts.{Took}
 use Rattle.ell_tree.specs.Ends.{Answers, CountsTries, Ends, TakesValue, find_steps, found_or_not_done, replied, whether, whether_swapped}
 use Rattle.ell_tree.specs.Looks.{IsFoundIn, OnlyLooks, look_steps}
@@ -106,25 +107,25 @@ pub record Takes (key tries : ℕ) (old new : Handle) (result : Result (Option �
 abbrev pub Swaps : ℕ → ℕ → ℕ → ℕ → Handle → Handle → Result (Option ℕ) NotDone → Type 0
 Swaps key current value tries = Changes (Swap key current value) tries found_or_not_done (whether_swapped current)
 
--- a call that reads a key, and then tries to change it by what it has read: the tree's, in so many tries
-pub record Computes (key tries : ℕ) (Does : Handle → Handle → Option ℕ → Type 0)
+-- a call that reads a key, and then tries to change it by what it has read: the tree's, which makes so many tries
+pub record Computes (key tries : ℕ) (Does : Handle → Handle → Option ℕ → Type 0) (AreMade : ℕ → PassModel → PassModel → Type 0)
     (made : Result (Option ℕ) NotDone → Result Bool NotDone) (old new : Handle) (result : Result (Option ℕ) NotDone) : Type 0 where
   pub does : IfOk result (Does old new)
   pub unanswered : IfErr result (IsNotDone (tree_of old) key old.pass new.pass)
-  pub tried : result ≡ Err not_done.Busy → AreTried tries old.pass new.pass
+  pub tried : result ≡ Err not_done.Busy → AreMade tries old.pass new.pass
   pub steps : Took old.pass new.pass (update_steps (last_card_of old) tries)
   pub counted : CountsTries tries old.pass new.pass
   pub cards : SpendsCards key tries old.pass new.pass (made result)
   pub tree : new.tree ≡ old.tree
 
 abbrev pub Puts : ℕ → ℕ → ℕ → Handle → Handle → Result (Option ℕ) NotDone → Type 0
-Puts key value tries = Computes key tries (λ old new. PutsValue (tree_of old) key value old.pass new.pass) whether_put
+Puts key value tries = Computes key tries (λ old new. PutsValue (tree_of old) key value old.pass new.pass) AreTried whether_put
 
 abbrev pub Adds : ℕ → ℕ → ℕ → Handle → Handle → Result (Option ℕ) NotDone → Type 0
-Adds key addend tries = Computes key tries (λ old new. UpdatesValue (tree_of old) key (IsSum addend) old.pass new.pass) whether
+Adds key addend tries = Computes key tries (λ old new. UpdatesValue (tree_of old) key (IsSum addend) old.pass new.pass) AreTried whether
 
 abbrev pub Removes : ℕ → ℕ → ℕ → Handle → Handle → Result (Option ℕ) NotDone → Type 0
-Removes key current tries = Computes key tries (λ old new. RemovesIf (tree_of old) key current old.pass new.pass) (whether_swapped current)
+Removes key current tries = Computes key tries (λ old new. RemovesIf (tree_of old) key current old.pass new.pass) AreTriedOrRead (whether_swapped current)
 
 -- a key may be changed in so many tries
 pub record MayTry (key tries : ℕ) : Type 0 where

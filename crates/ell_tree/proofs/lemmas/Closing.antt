@@ -163,7 +163,8 @@ module _ (t : TreeModel) (p : PassModel) (closed : ClosedModel) (ends : TableEnd
     is_list : HasMap (words_of closed.words) (contents_of pairs)
     is_list k v = (λ there. listed pairs k v lists.ascending ((lists.each k v).1 there), λ is. (lists.each k v).0 (contained pairs k v is))
 
-    of_thread : IsFree p.view → (t.plan.shared ≡ true → p.view.share ≡ whole_share) → t.plan.shared ≡ true
+    -- what the pass was answered is of one thread, which leaves the list
+    pub of_thread : IsFree p.view → (t.plan.shared ≡ true → p.view.share ≡ whole_share) → t.plan.shared ≡ true
         → AreOfOneThread (contents_of t.plan.start) p.view.answers (contents_of pairs)
     of_thread free whole mode =
         let ran = ends.ran in
@@ -171,8 +172,8 @@ module _ (t : TreeModel) (p : PassModel) (closed : ClosedModel) (ends : TableEnd
         let is : HasMap (words_of closed.words) account.left = subst (λ ws. HasMap (words_of ws) account.left) ran.same account.is in
         subst (AreOfOneThread (contents_of t.plan.start) p.view.answers) (one_map (words_of closed.words) account.left (contents_of pairs) is is_list) account.thread
 
-    pub closes : IsFree p.view → (t.plan.shared ≡ true → p.view.share ≡ whole_share) → closed.last_card ≡ t.plan.last_card → ClosesTo t p pairs
-    closes free whole cards = record {
+    pub closes : closed.last_card ≡ t.plan.last_card → ClosesTo t p pairs
+    closes cards = record {
       ascending = lists.ascending;
       present = λ k among. of_plan k (Contains-from_list_any t.plan.keys k among);
       among = all_keys (λ k. (set_of t.plan.keys k ≡ true) ⊎ IsSharedIn t.plan k) pairs (λ k v h.
@@ -185,5 +186,4 @@ module _ (t : TreeModel) (p : PassModel) (closed : ClosedModel) (ends : TableEnd
       cards = cards;
       ran = ends.ran;
       tree = lists;
-      thread = of_thread free whole;
     }

@@ -1,4 +1,4 @@
-use Rattle.std.proofs.Common.{◌≡◌, ◌≢◌, ◌<◌, ℕ, false, not, Option, Some, None, is_some, inl, inr, refl, sym, ap, ◌∙◌, arith, List, [], ◌∷◌, ◌++◌, length}
+use Rattle.std.proofs.Common.{◌≡◌, ◌≢◌, ◌<◌, ℕ, false, not, Ok, Option, Some, None, is_some, inl, inr, refl, sym, ap, ◌∙◌, arith, List, [], ◌∷◌, ◌++◌, length}
 use Rattle.std.proofs.lemmas.List.{append_assoc}
 use Rattle.std.proofs.lemmas.Bool.{ne_eqb, eq-eqb, false≢true}
 use Rattle.std.proofs.Common.{eqb}
@@ -20,8 +20,8 @@ use Rattle.ell_cards.specs.Models.{PassModel, ledger}
 use Rattle.ell_cards.specs.Stepping.{SameShare}
 use Rattle.ell_tree.specs.Ledgers.{TreeModel, present_in, Owns, IsIdle, answers}
 use Rattle.ell_tree.specs.Ends.{Answers, LaidDown}
-use Rattle.ell_tree.specs.Called.{AnsweredNoChange, AreNoChanges, put_by}
-use Rattle.ell_tree.specs.Computing.{IsUntouched, Concludes, LastChangesNothing, ReadsValue}
+use Rattle.ell_tree.specs.Called.{AnsweredNoChange, AreNoChanges, IsReadCalled, IsUpdateCalled, put_by}
+use Rattle.ell_tree.specs.Computing.{IsUntouched, Concludes, LastChangesNothing, ReadsValue, UpdatesValue}
 use Rattle.ell_tree.specs.Promises.{MayDo}
 use Rattle.ell_tree.proofs.lemmas.Keeping.{share_trans}
 
@@ -250,3 +250,13 @@ put_on key value (Some was) = refl
 
 pub laid_last : (t : TreeModel) (key value : ℕ) (was : Option ℕ) (p q : PassModel) → LaidDown t (put_by key value was) p q → LastChangesNothing t key q.view
 laid_last t key value was p q h = record { op = put_by key value was; on = put_on key value was; nothing = inl h.nothing }
+
+-- what a pass was answered by a call that only reads, or that updates a value
+pub reads_called : (t : TreeModel) (key : ℕ) (was : Option ℕ) (p q : PassModel) → ReadsValue t key was p q → IsReadCalled key was p q
+reads_called t key was p q (inl h) = inl h.called
+reads_called t key was p q (inr h) = inr (h.0, h.1, h.2, h.3.called)
+
+pub updates_called : (t : TreeModel) (key : ℕ) (makes : ℕ → ℕ → Type 0) (p q : PassModel) (was : Option ℕ) → UpdatesValue t key makes p q was
+    → IsUpdateCalled key makes p q (Ok was)
+updates_called t key makes p q None h = reads_called t key None p q h
+updates_called t key makes p q (Some was) h = (h.0, h.1, h.2.called)

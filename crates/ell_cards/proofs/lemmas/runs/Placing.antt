@@ -11,11 +11,10 @@ use Rattle.ell_cards.specs.States.{TableState}
 use Rattle.ell_cards.specs.Turns.{Turn, Makes, TableTurns, TableRun}
 use Rattle.ell_cards.specs.TurnEffects.{own_words}
 use Rattle.ell_cards.specs.Starts.{Starts}
-use Rattle.ell_cards.specs.Looking.{HasThere, FoundInRun}
+use Rattle.ell_cards.specs.Looking.{HasThere}
 use Rattle.ell_cards.specs.Linearizing.{IsAnswered, Item, ops_of}
-use Rattle.ell_cards.specs.Placing.{IsLook, IsPlaced, LooksHavePlaces}
+use Rattle.ell_cards.specs.Placing.{HasPlace, IsLook, LooksHavePlaces, began}
 use Rattle.ell_cards.proofs.lemmas.runs.AsMap.{map_has}
-use Rattle.ell_cards.proofs.lemmas.runs.Beginnings.{looks_are_of_one_state}
 use Rattle.ell_cards.proofs.lemmas.runs.LinearizingLists.{Placed, items_of, AreRight, low_in, in_at, placed_at}
 use Rattle.ell_cards.proofs.lemmas.runs.LinearizingStates.{run_same, run_to, turn_same}
 use Rattle.ell_cards.proofs.lemmas.runs.LinearizingPoints.{after_turns, slice, made, map_after, is_map, first_map, take_fewer, state_between}
@@ -28,37 +27,31 @@ record Cut (map : ℕ → Contents) (first p : ℕ) (xs : List Placed) : Type 0 
   among : (i : ℕ) (x : Placed) → get_elem? xs i ≡ some x → x.at < p → i < count
   beyond : (i : ℕ) (x : Placed) → get_elem? xs i ≡ some x → p < x.at → count ≤ i
 
-cut : (map : ℕ → Contents) (last first p : ℕ) (xs : List Placed) → AreRight map last first xs → first ≤ p → p ≤ last → Cut map first p xs
-cut map last first p [] h low high = record {
-  count = 0;
-  leaves = h.same p low high;
-  among = λ i x e less. absurd (some-ne-none x (sym e));
-  beyond = λ i x e less. absurd (some-ne-none x (sym e));
-}
-cut map last first p (x ∷ xs) h low high = elim (cases_lt p x.past) [
-  | inl short ↦
-      let near = h.1.near in
-      let up = h.0.up in record {
-        count = 0;
-        leaves = h.0.same p low (omega arith);
-        among = λ i y e less. absurd (none i y e less short near);
-        beyond = λ i y e less. omega arith;
-      }
-  | inr most ↦
-      let rest = cut map last x.past p xs h.2 most high in
-      let up = h.1.up in
-      let here : map x.past ≡ after x.item.op (map first) = sym h.1.goes ∙ ap (after x.item.op) (h.0.same x.at h.0.up (omega arith)) in record {
-        count = suc rest.count;
-        leaves = rest.leaves ∙ ap (λ (m : Contents). final m (ops_of (take rest.count (items_of xs)))) here;
-        among = more rest.count rest.among;
-        beyond = past rest.count rest.beyond most up;
-      }
-]
+-- by whether the state is before the first of them has ended
+abbrev cut_by : (map : ℕ → Contents) (last first p : ℕ) (x : Placed) (xs : List Placed) → AreRight map last first (x ∷ xs) → first ≤ p → p ≤ last → (p < x.past) ⊎ (x.past ≤ p)
+    → (x.past ≤ p → Cut map x.past p xs) → Cut map first p (x ∷ xs)
+cut_by map last first p x xs h low high (inl short) next =
+    let near = h.1.near in
+    let up = h.0.up in record {
+      count = 0;
+      leaves = h.0.same p low (omega arith);
+      among = λ i y e less. absurd (none i y e less short near);
+      beyond = λ i y e less. omega arith;
+    }
   where
     none : (i : ℕ) (y : Placed) → get_elem? (x ∷ xs) i ≡ some y → y.at < p → p < x.past → x.past ≤ suc x.at → ⊥
     none zero y e less short near = let same = ap (λ (z : Placed). z.at) (some-injective x y e) in omega arith
     none (suc i) y e less short near = let up = low_in map last x.past xs h.2 y (in_at xs i y e) in omega arith
-
+cut_by map last first p x xs h low high (inr most) next =
+    let rest = next most in
+    let up = h.1.up in
+    let here : map x.past ≡ after x.item.op (map first) = sym h.1.goes ∙ ap (after x.item.op) (h.0.same x.at h.0.up (omega arith)) in record {
+      count = suc rest.count;
+      leaves = rest.leaves ∙ ap (λ (m : Contents). final m (ops_of (take rest.count (items_of xs)))) here;
+      among = more rest.count rest.among;
+      beyond = past rest.count rest.beyond most up;
+    }
+  where
     more : (n : ℕ) → ((i : ℕ) (y : Placed) → get_elem? xs i ≡ some y → y.at < p → i < n) → (i : ℕ) (y : Placed) → get_elem? (x ∷ xs) i ≡ some y → y.at < p → i < suc n
     more n rest zero y e less = omega arith
     more n rest (suc i) y e less = let h = rest i y e less in omega arith
@@ -67,6 +60,36 @@ cut map last first p (x ∷ xs) h low high = elim (cases_lt p x.past) [
         → (i : ℕ) (y : Placed) → get_elem? (x ∷ xs) i ≡ some y → p < y.at → suc n ≤ i
     past n rest most up zero y e less = let same = ap (λ (z : Placed). z.at) (some-injective x y e) in absurd (omega arith)
     past n rest most up (suc i) y e less = let h = rest i y e less in omega arith
+
+abbrev cut : (map : ℕ → Contents) (last first p : ℕ) (xs : List Placed) → AreRight map last first xs → first ≤ p → p ≤ last → Cut map first p xs
+cut map last first p [] h low high = record {
+  count = 0;
+  leaves = h.same p low high;
+  among = λ i x e less. absurd (some-ne-none x (sym e));
+  beyond = λ i x e less. absurd (some-ne-none x (sym e));
+}
+cut map last first p (x ∷ xs) h low high = cut_by map last first p x xs h low high (cases_lt p x.past) (λ most. cut map last x.past p xs h.2 most high)
+
+-- before a later state there are no fewer
+cut_rises : (map : ℕ → Contents) (last first p q : ℕ) (xs : List Placed) (h : AreRight map last first xs) (low : first ≤ p) (high : p ≤ last) (low' : first ≤ q) (high' : q ≤ last)
+    → p ≤ q → (cut map last first p xs h low high).count ≤ (cut map last first q xs h low' high').count
+cut_rises map last first p q [] h low high low' high' up = let none : 0 ≤ 0 = omega arith in none
+cut_rises map last first p q (x ∷ xs) h low high low' high' up =
+    by (cases_lt p x.past) (cases_lt q x.past) (λ most more. cut_rises map last x.past p q xs h.2 most high more high' up)
+  where
+    one : x.past ≤ p → Cut map x.past p xs
+    one most = cut map last x.past p xs h.2 most high
+
+    other : x.past ≤ q → Cut map x.past q xs
+    other more = cut map last x.past q xs h.2 more high'
+
+    by : (c : (p < x.past) ⊎ (x.past ≤ p)) (d : (q < x.past) ⊎ (x.past ≤ q)) → ((most : x.past ≤ p) (more : x.past ≤ q) → (one most).count ≤ (other more).count)
+        → (cut_by map last first p x xs h low high c one).count ≤ (cut_by map last first q x xs h low' high' d other).count
+    by (inl short) d rest = let least : 0 ≤ (cut_by map last first q x xs h low' high' d other).count = omega arith in least
+    by (inr most) (inl short) rest = absurd (omega arith)
+    by (inr most) (inr more) rest =
+        let fewer = rest most more in
+        let both : suc (one most).count ≤ suc (other more).count = omega arith in both
 
 of_take : {A : Type 0} (n : ℕ) (l : List A) (k : ℕ) (a : A) → get_elem? (take n l) k ≡ some a → (k < n) × (get_elem? l k ≡ some a)
 of_take zero l k a e = absurd (some-ne-none a (sym e))
@@ -84,11 +107,16 @@ module _ (plan : TablePlan) (opened : TableState) (starts : Starts plan opened) 
   abbrev order : List Item
   order = sequence plan opened starts turns s' run
 
-  look_placed : (ended key : ℕ) (there : Option ℕ) (look : IsLook plan.last_card opened turns ended key there) → IsPlaced (contents_of plan.start) turns order look.seat ended key there
-  look_placed ended key there look =
-      let found : FoundInRun plan.last_card opened (take ended turns) look.state look.seat (HasThere key there) =
-      looks_are_of_one_state plan look.view key there look.found opened starts (take ended turns) look.state look.led look.seat look.at in
-      let b = found.began in
+  -- the state in which it was so, after so many turns of the run
+  record SeenAt (began ended key : ℕ) (there : Option ℕ) : Type 0 where
+    at : ℕ
+    low : suc began ≤ at
+    high : at ≤ ended
+    so : HasThere key there (own_words (state at))
+
+  seen_at : (ended key : ℕ) (there : Option ℕ) (look : IsLook plan.last_card opened turns ended key there) → SeenAt (began plan.last_card opened turns ended key there look) ended key there
+  seen_at ended key there look =
+      let b = look.found.began in
       let at = of_take ended turns b.first (Makes look.seat call.Look) b.at in
       let less = at.0 in
       let from : b.from ≡ state b.first = run_same plan.last_card opened (take b.first turns) b.from (state b.first)
@@ -101,41 +129,67 @@ module _ (plan : TablePlan) (opened : TableState) (starts : Starts plan opened) 
       let whole : suc b.first + n ≡ ended = omega arith in
       let rest : drop (suc b.first) (take ended turns) ≡ take n (drop (suc b.first) turns) =
       ap (λ k. drop (suc b.first) (take k turns)) (sym whole) ∙ drop-take (suc b.first) n turns in
-      let amid = found.so.amid in
-      let led : TableRun plan.last_card (state (suc b.first)) (take amid.first (take n (drop (suc b.first) turns))) found.so.state =
-      subst (λ (x : TableState). TableRun plan.last_card x (take amid.first (take n (drop (suc b.first) turns))) found.so.state) to
-      (subst (λ ts. TableRun plan.last_card b.to (take amid.first ts) found.so.state) rest amid.before) in
-      let between = state_between plan opened starts turns s' run (suc b.first) ended amid.first found.so.state (omega arith) led in
-      let p = between.place in
-      let low = between.low in
-      let high = between.high in
-      let inside = look.inside in
-      let so = subst (λ (x : TableState). HasThere key there (own_words x)) between.is found.so.so in
+      let amid = look.found.so.amid in
+      let led : TableRun plan.last_card (state (suc b.first)) (take amid.first (take n (drop (suc b.first) turns))) look.found.so.state =
+      subst (λ (x : TableState). TableRun plan.last_card x (take amid.first (take n (drop (suc b.first) turns))) look.found.so.state) to
+      (subst (λ ts. TableRun plan.last_card b.to (take amid.first ts) look.found.so.state) rest amid.before) in
+      let between = state_between plan opened starts turns s' run (suc b.first) ended amid.first look.found.so.state (omega arith) led in record {
+        at = between.place;
+        low = between.low;
+        high = between.high;
+        so = subst (λ (x : TableState). HasThere key there (own_words x)) between.is look.found.so.so;
+      }
+
+  least : (p : ℕ) → 0 ≤ p
+  least p = omega arith
+
+  within : (ended key : ℕ) (there : Option ℕ) (look : IsLook plan.last_card opened turns ended key there) → (seen_at ended key there look).at ≤ length turns
+  within ended key there look = let high = (seen_at ended key there look).high in let inside = look.inside in omega arith
+
+  -- the calls before a state
+  abbrev before : (p : ℕ) → p ≤ length turns → Cut map_at 0 p (all_calls plan opened starts turns s' run).list
+  before p up = cut map_at (length turns) 0 p (all_calls plan opened starts turns s' run).list (all_calls plan opened starts turns s' run).right (least p) up
+
+  before_rises : (p q : ℕ) (up : p ≤ length turns) (up' : q ≤ length turns) → p ≤ q → (before p up).count ≤ (before q up').count
+  before_rises p q up up' less =
+      cut_rises map_at (length turns) 0 p q (all_calls plan opened starts turns s' run).list (all_calls plan opened starts turns s' run).right (least p) up (least q) up' less
+
+  abbrev look_placed : (ended key : ℕ) (there : Option ℕ) (look : IsLook plan.last_card opened turns ended key there)
+      → HasPlace (contents_of plan.start) turns order (began plan.last_card opened turns ended key there look) ended key there
+  look_placed ended key there look =
+      let seen = seen_at ended key there look in
+      let p = seen.at in
+      let low = seen.low in
+      let high = seen.high in
       let calls = all_calls plan opened starts turns s' run in
-      let parts = cut map_at (length turns) 0 p calls.list calls.right (omega arith) (omega arith) in
+      let parts = before p (within ended key there look) in
       let says : map_at p ≡ final (contents_of plan.start) (ops_of (take parts.count (items_of calls.list))) =
       parts.leaves ∙ ap (λ (m : Contents). final m (ops_of (take parts.count (items_of calls.list)))) (first_map plan opened starts turns s' run) in
       record {
-        began = b.first;
-        begins = at.1;
-        later = less;
-        placed = record {
-          place = parts.count;
-          says = sym (map_has (own_words (state p)) (map_at p) (is_map plan opened starts turns s' run p) key there so) ∙ ap (λ (m : Contents). m key) says;
-          after = λ i x there' end h first.
-              let y = placed_at calls.list i x there' in
-              let last = before_end plan opened starts turns s' run y.placed (in_at calls.list i y.placed y.there) end
-              (subst (λ (k : Item). IsAnswered turns k.begin end k.op k.reply) (sym y.is) h) in
-              parts.among i y.placed y.there (omega arith);
-          before = λ i x there' later.
-              let y = placed_at calls.list i x there' in
-              let begins = after_begin plan opened starts turns s' run y.placed (in_at calls.list i y.placed y.there) in
-              let same = ap (λ (k : Item). k.begin) y.is in
-              parts.beyond i y.placed y.there (omega arith);
-        };
+        place = parts.count;
+        says = sym (map_has (own_words (state p)) (map_at p) (is_map plan opened starts turns s' run p) key there seen.so) ∙ ap (λ (m : Contents). m key) says;
+        after = λ i x there' end h first.
+            let y = placed_at calls.list i x there' in
+            let last = before_end plan opened starts turns s' run y.placed (in_at calls.list i y.placed y.there) end
+            (subst (λ (k : Item). IsAnswered turns k.begin end k.op k.reply) (sym y.is) h) in
+            parts.among i y.placed y.there (omega arith);
+        before = λ i x there' later.
+            let y = placed_at calls.list i x there' in
+            let begins = after_begin plan opened starts turns s' run y.placed (in_at calls.list i y.placed y.there) in
+            let same = ap (λ (k : Item). k.begin) y.is in
+            parts.beyond i y.placed y.there (omega arith);
       }
 
 -- each look of each run has a place
 pub looks_have_places : LooksHavePlaces
-looks_have_places plan opened starts turns s' run =
-    record { calls = linearized plan opened starts turns s' run; looks = look_placed plan opened starts turns s' run }
+looks_have_places plan opened starts turns s' run = record {
+  calls = linearized plan opened starts turns s' run;
+  looks = look_placed plan opened starts turns s' run;
+  keeps = λ ended key there look ended' key' there' later first.
+      let one = seen_at plan opened starts turns s' run ended key there look in
+      let other = seen_at plan opened starts turns s' run ended' key' there' later in
+      let high = one.high in
+      let low = other.low in
+      before_rises plan opened starts turns s' run one.at other.at (within plan opened starts turns s' run ended key there look)
+      (within plan opened starts turns s' run ended' key' there' later) (omega arith);
+}

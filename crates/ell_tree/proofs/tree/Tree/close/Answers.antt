@@ -1,7 +1,7 @@
 use Rattle.std.proofs.Common.{length, ap, ◌∙◌, subst, if◌then◌else◌, ◌+◌, ◌*◌}
 use Rattle.ell_cards.specs.Closed.{TableEnds}
 use Rattle.ell_tree.specs.Ledgers.{TreeModel}
-use Rattle.ell_tree.proofs.lemmas.Closing.{room_for, holds_keys, closes}
+use Rattle.ell_tree.proofs.lemmas.Closing.{room_for, holds_keys, closes, of_thread}
 use Rattle.ell_tree.proofs.tree.Tree.close.Goals as goal
 
 pub pairs_of_tree-requires-clause-pairs_room : goal.pairs_of_tree-requires-clause-pairs_room
@@ -18,4 +18,9 @@ pub returns-clause-pairs : goal.returns-clause-pairs
 returns-clause-pairs g c =
     let ends = subst (λ (t : TreeModel). TableEnds t.plan c.args.pass.view c.close-closed.result) c.self.view_is c.close-closed.ensures.ends in
     let cards = c.close-closed.ensures.cards ∙ ap (λ (t : TreeModel). t.plan.last_card) c.self.view_is in
-    closes c.args.self c.args.pass c.close-closed.result ends c.requires.all c.pairs_of_tree.result.items c.pairs_of_tree.ensures c.requires.may.1 c.requires.whole cards
+    closes c.args.self c.args.pass c.close-closed.result ends c.requires.all c.pairs_of_tree.result.items c.pairs_of_tree.ensures cards
+
+pub returns-clause-thread : goal.returns-clause-thread
+returns-clause-thread g c =
+    let ends = subst (λ (t : TreeModel). TableEnds t.plan c.args.pass.view c.close-closed.result) c.self.view_is c.close-closed.ensures.ends in
+    of_thread c.args.self c.args.pass c.close-closed.result ends c.requires.all c.pairs_of_tree.result.items c.pairs_of_tree.ensures c.requires.may.1 c.requires.whole
