@@ -191,24 +191,25 @@ answered_ledger _ _ ledger = ledger
 abbrev pub answered_so : Option Op → Option ℕ → Reply → Option Answered
 answered_so op card said = option_map (λ o. record { op = o; said = said; card = card }) op
 
--- a leaf that is told of a card, and a value that is told of a leaf
-abbrev pub leaf_told : ℕ → Told → Option ℕ
-leaf_told c (Info d L leaf) = if d == c then Some leaf else None
-leaf_told c _ = None
+-- the leaf that an entry tells of a card, and the value that it tells of a leaf
+abbrev pub tells_leaf_of : ℕ → Told → Option ℕ
+tells_leaf_of c (Info d L leaf) = if d == c then Some leaf else None
+tells_leaf_of c _ = None
 
-abbrev pub value_told : ℕ → Told → Option ℕ
-value_told leaf (Value x value) = if x == leaf then Some value else None
-value_told leaf _ = None
+abbrev pub tells_value_of : ℕ → Told → Option ℕ
+tells_value_of leaf (Value x value) = if x == leaf then Some value else None
+tells_value_of leaf _ = None
 
--- what was told of such the last time
+-- what entries tell so, the last time
 abbrev pub last_told : (Told → Option ℕ) → List Told → Option ℕ
-last_told such [] = None
-last_told such (e ∷ told) = option_or (such e) (last_told such told)
+last_told tells [] = None
+last_told tells (e ∷ told) = option_or (tells e) (last_told tells told)
 
--- the value that an operation took by its card, as it was told: a delete that says yes took that of the card's leaf
+-- the value that an operation took by its card, as its pass was told: a delete that says yes took that of the card's
+-- leaf, and no other took anything
 unfoldable pub taken_by : Option Op → Option ℕ → Reply → List Told → Option ℕ
 taken_by (Some (Delete key)) (Some c) Yes told =
-    option_and_then (λ leaf. last_told (value_told leaf) told) (last_told (leaf_told c) told)
+    option_and_then (λ leaf. last_told (tells_value_of leaf) told) (last_told (tells_leaf_of c) told)
 taken_by _ _ _ told = None
 
 -- a call that is answered now, and took this: all that its pass knows of had ended before it began

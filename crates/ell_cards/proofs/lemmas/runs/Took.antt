@@ -18,7 +18,7 @@ use Rattle.ell_cards.specs.declared.view.Told.{Told}
 use Rattle.ell_cards.specs.declared.view.Told.TheVariants.{Value, Info}
 use Rattle.ell_cards.specs.declared.view.View.{View}
 use Rattle.ell_cards.specs.Models.{TablePlan, Does, Has, IsTold, latest, earlier}
-use Rattle.ell_cards.specs.Changes.{leaf_told, value_told, last_told, taken_by}
+use Rattle.ell_cards.specs.Changes.{tells_leaf_of, tells_value_of, last_told, taken_by}
 use Rattle.ell_cards.specs.Looking.{ValuesAreFixed}
 use Rattle.ell_cards.specs.States.{TableState}
 use Rattle.ell_cards.specs.Starts.{Starts}
@@ -54,7 +54,7 @@ told_last such (_ ∷ told) n one e (earlier _ d _ has) is = by (such d) refl (t
     by (Some m) is rest = ap Some (one d m (latest d told) is)
 
 -- a leaf of a card, and a value of a leaf
-leaf_is : (c : ℕ) (e : Told) (leaf : ℕ) → leaf_told c e ≡ Some leaf → e ≡ Info c field.L leaf
+leaf_is : (c : ℕ) (e : Told) (leaf : ℕ) → tells_leaf_of c e ≡ Some leaf → e ≡ Info c field.L leaf
 leaf_is c (Info d field.L x) leaf e = by (d == c) refl e
   where
     by : (b : Bool) → (d == c) ≡ b → (if b then Some x else None) ≡ Some leaf → Info d field.L x ≡ Info c field.L leaf
@@ -62,7 +62,7 @@ leaf_is c (Info d field.L x) leaf e = by (d == c) refl e
     by false other is = absurd cc
 leaf_is c _ leaf e = absurd cc
 
-value_is : (leaf : ℕ) (e : Told) (value : ℕ) → value_told leaf e ≡ Some value → e ≡ Value leaf value
+value_is : (leaf : ℕ) (e : Told) (value : ℕ) → tells_value_of leaf e ≡ Some value → e ≡ Value leaf value
 value_is leaf (Value x n) value e = by (x == leaf) refl e
   where
     by : (b : Bool) → (x == leaf) ≡ b → (if b then Some n else None) ≡ Some value → Value x n ≡ Value leaf value
@@ -83,13 +83,13 @@ pub record TakesBy (op : Op) (card : Option ℕ) (said : Reply) (told : List Tol
 
 pub takes_by : (op : Op) (card : Option ℕ) (said : Reply) (told : List Told) (value : ℕ) → taken_by (Some op) card said told ≡ Some value → TakesBy op card said told value
 unfolding taken_by
-takes_by (Delete key) (Some c) Yes told value e = by (last_told (leaf_told c) told) refl e
+takes_by (Delete key) (Some c) Yes told value e = by (last_told (tells_leaf_of c) told) refl e
   where
-    by : (o : Option ℕ) → last_told (leaf_told c) told ≡ o → option_and_then (λ leaf. last_told (value_told leaf) told) o ≡ Some value → TakesBy (Delete key) (Some c) Yes told value
+    by : (o : Option ℕ) → last_told (tells_leaf_of c) told ≡ o → option_and_then (λ leaf. last_told (tells_value_of leaf) told) o ≡ Some value → TakesBy (Delete key) (Some c) Yes told value
     by None none e = absurd cc
     by (Some leaf) is e =
-        let l = was_told (leaf_told c) told leaf is in
-        let v = was_told (value_told leaf) told value e in
+        let l = was_told (tells_leaf_of c) told leaf is in
+        let v = was_told (tells_value_of leaf) told value e in
         record {
           key = key;
           c = c;
@@ -107,10 +107,10 @@ pub taken_is : (v : View) (key c leaf value : ℕ) → ValuesAreFixed v → IsTo
     → taken_by (Some (Delete key)) (Some c) Yes v.told ≡ Some value
 unfolding taken_by
 taken_is v key c leaf value fixed at_leaf at_value =
-    ap (λ o. option_and_then (λ x. last_told (value_told x) v.told) o)
-    (told_last (leaf_told c) v.told leaf (λ e m has is. fixed.leaf c m leaf (subst (IsTold v) (leaf_is c e m is) has) at_leaf) (Info c field.L leaf) at_leaf
+    ap (λ o. option_and_then (λ x. last_told (tells_value_of x) v.told) o)
+    (told_last (tells_leaf_of c) v.told leaf (λ e m has is. fixed.leaf c m leaf (subst (IsTold v) (leaf_is c e m is) has) at_leaf) (Info c field.L leaf) at_leaf
     (ap (λ b. if b then Some leaf else None) (eq-eqb c c refl)))
-    ∙ told_last (value_told leaf) v.told value (λ e m has is. fixed.value leaf m value (subst (IsTold v) (value_is leaf e m is) has) at_value) (Value leaf value) at_value
+    ∙ told_last (tells_value_of leaf) v.told value (λ e m has is. fixed.value leaf m value (subst (IsTold v) (value_is leaf e m is) has) at_value) (Value leaf value) at_value
     (ap (λ b. if b then Some value else None) (eq-eqb leaf leaf refl))
 
 module _ (plan : TablePlan) (opened : TableState) (starts : Starts plan opened) (turns : List Turn) (s' : TableState) (run : TableRun plan.last_card opened turns s') where

@@ -1,0 +1,7 @@
+use Rattle.std.proofs.Common.{rules}
+use Rattle.ell_tree.proofs.lemmas.Computing.{updates_called}
+use Rattle.ell_tree.proofs.tree.Tree.update.Goals as goal
+
+pub returns-clause-called : goal.returns-clause-called
+returns-clause-called g c =
+    updates_called c.args.self.now c.args.key _ c.args.pass.now c.compute.new.pass c.in_ok-done.done.was (search rules)
