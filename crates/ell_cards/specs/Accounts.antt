@@ -1,10 +1,10 @@
-use Rattle.std.specs.Prelude.{◌≡◌, ℕ, zero, suc, ◌+◌, ◌<◌, if◌then◌else◌, Bool, true, List, [], ◌∷◌}
+use Rattle.std.specs.Prelude.{◌≡◌, ℕ, zero, suc, ◌+◌, ◌<◌, if◌then◌else◌, Bool, true, Some, List, [], ◌∷◌, take}
 use mathlib.Core.Option.{some}
 use lib.ListN.{get_elem?}
 use Rattle.ell_ops.specs.declared.op.Op.{Op}
 use Rattle.ell_ops.specs.declared.reply.Reply.{Reply}
 use Rattle.ell_ops.specs.Contents.{Contents, contents_of}
-use Rattle.ell_ops.specs.Meaning.{replies, final}
+use Rattle.ell_ops.specs.Meaning.{key_of, replies, final}
 use Rattle.ell_cards.specs.declared.view.Deed.{Deed}
 use Rattle.ell_cards.specs.declared.view.View.{View}
 use Rattle.ell_cards.specs.Models.{TablePlan, IsFree, whole_share}
@@ -38,23 +38,30 @@ AreBelow zero place places = Unit {0}
 AreBelow (suc n) place [] = ⊥
 AreBelow (suc n) place (p ∷ ps) = (p < place) × AreBelow n place ps
 
--- the calls of which a pass knows stand in a sequence at these places, and each after those that had ended before it
--- began, as far as the pass knows
-abbrev pub StandAt : List (Op × Reply) → List Deed → List ℕ → Type 0
-StandAt order [] [] = Unit {0}
-StandAt order [] (p ∷ ps) = ⊥
-StandAt order (d ∷ ds) [] = ⊥
-StandAt order (d ∷ ds) (p ∷ ps) =
-    (get_elem? order p ≡ some (d.op, d.said)) × AreBelow d.before p ps × StandAt order ds ps
+-- a call that took a value took it at this place: where these are the contents first, one thread that made the calls
+-- before it has the key with that value
+abbrev pub TookThere : Contents → List (Op × Reply) → Deed → ℕ → Type 0
+TookThere start order d p =
+    (value : ℕ) → d.took ≡ Some value → final start (ops_in (take p order)) (key_of d.op) ≡ Some value
+
+-- the calls of which a pass knows stand in a sequence at these places, where they took what they took, and each after
+-- those that had ended before it began, as far as the pass knows
+abbrev pub StandAt : Contents → List (Op × Reply) → List Deed → List ℕ → Type 0
+StandAt start order [] [] = Unit {0}
+StandAt start order [] (p ∷ ps) = ⊥
+StandAt start order (d ∷ ds) [] = ⊥
+StandAt start order (d ∷ ds) (p ∷ ps) =
+    (get_elem? order p ≡ some (d.op, d.said)) × TookThere start order d p × AreBelow d.before p ps
+    × StandAt start order ds ps
 
 -- One thread that makes the calls of a pass in some order, where the map has these contents first, gets their answers,
 -- and leaves this map. The order has each call that the pass made as often as it made it, and no other; and each stands
--- after those that had ended before it began, as far as the pass knows
+-- where it took what it took, and after those that had ended before it began, as far as the pass knows
 pub record AreOfOneThread (start : Contents) (deeds : List Deed) (left : Contents) : Type 0 where
   pub order : List (Op × Reply)
   pub same : (such : Op × Reply → Bool) → count_such such order ≡ count_such such (own_calls deeds)
   pub places : List ℕ
-  pub stand : StandAt order deeds places
+  pub stand : StandAt start order deeds places
   pub says : replies_in order ≡ replies start (ops_in order)
   pub leaves : left ≡ final start (ops_in order)
 

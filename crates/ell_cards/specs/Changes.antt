@@ -1,6 +1,6 @@
 use Rattle.std.specs.Option.{option_or}
 use Rattle.std.specs.List.{list_all}
-use Rattle.std.specs.Prelude.{filter, map, not, option_map, ℕ, ◌+◌, ◌==◌, ◌++◌, if◌then◌else◌, Bool, true, false, Option, Some, None, List, [], ◌∷◌, length, unwrap_or, nat_lt, max, Result, Ok, Err, ◌-◌, ◌%◌, ◌^◌}
+use Rattle.std.specs.Prelude.{filter, map, not, option_map, option_and_then, ℕ, ◌+◌, ◌==◌, ◌++◌, if◌then◌else◌, Bool, true, false, Option, Some, None, List, [], ◌∷◌, length, unwrap_or, nat_lt, max, Result, Ok, Err, ◌-◌, ◌%◌, ◌^◌}
 use Rattle.ell_ops.specs.KeySet.{set_of}
 use Rattle.ell_ops.specs.declared.op.Op.{Op}
 use Rattle.ell_ops.specs.declared.op.Op.TheVariants.{Insert, Delete, Swap}
@@ -191,14 +191,39 @@ answered_ledger _ _ ledger = ledger
 abbrev pub answered_so : Option Op → Option ℕ → Reply → Option Answered
 answered_so op card said = option_map (λ o. record { op = o; said = said; card = card }) op
 
--- a call that is answered now: all that its pass knows of had ended before it began
+-- the leaf that an entry tells of a card, and the value that it tells of a leaf
+abbrev pub tells_leaf_of : ℕ → Told → Option ℕ
+tells_leaf_of c (Info d L leaf) = if d == c then Some leaf else None
+tells_leaf_of c _ = None
+
+abbrev pub tells_value_of : ℕ → Told → Option ℕ
+tells_value_of leaf (Value x value) = if x == leaf then Some value else None
+tells_value_of leaf _ = None
+
+-- what entries tell so, the last time
+abbrev pub last_told : (Told → Option ℕ) → List Told → Option ℕ
+last_told tells [] = None
+last_told tells (e ∷ told) = option_or (tells e) (last_told tells told)
+
+-- the value that an operation took by its card, as its pass was told: a delete that says yes took that of the card's
+-- leaf, and no other took anything
+unfoldable pub taken_by : Option Op → Option ℕ → Reply → List Told → Option ℕ
+taken_by (Some (Delete key)) (Some c) Yes told =
+    option_and_then (λ leaf. last_told (tells_value_of leaf) told) (last_told (tells_leaf_of c) told)
+taken_by _ _ _ told = None
+
+-- a call that is answered now, and took this: all that its pass knows of had ended before it began
+abbrev pub deed_taking : Op → Reply → Option ℕ → List Deed → Deed
+deed_taking op said took answers = record { op = op; said = said; took = took; before = length answers; own = true }
+
+-- and one that took nothing
 abbrev pub deed_of : Op → Reply → List Deed → Deed
-deed_of op said answers = record { op = op; said = said; before = length answers; own = true }
+deed_of op said answers = deed_taking op said None answers
 
 -- what was answered, with the answer to the operation that was in hand
-abbrev pub with_answer : Option Op → Reply → List Deed → List Deed
-with_answer None said answers = answers
-with_answer (Some op) said answers = deed_of op said answers ∷ answers
+abbrev pub with_answer : Option Op → Reply → Option ℕ → List Deed → List Deed
+with_answer None said took answers = answers
+with_answer (Some op) said took answers = deed_taking op said took answers ∷ answers
 
 -- what was answered before a pass was parted, as the right part knows of it
 abbrev pub inherited : List Deed → List Deed
@@ -208,7 +233,7 @@ inherited answers = map (λ (d : Deed). record d { own = false }) answers
 abbrev pub after_answer : Reply → View → View
 after_answer said v = counted (record (at_rest (answered_ledger v.worker.operation said v.worker.ledger) v) {
   answered = answered_so v.worker.operation v.worker.card said;
-  answers = with_answer v.worker.operation said v.answers;
+  answers = with_answer v.worker.operation said (taken_by v.worker.operation v.worker.card said v.told) v.answers;
 })
 
 -- upd: this update was read at the node where the pass stands

@@ -1,13 +1,14 @@
 use Rattle.std.specs.Prelude.{◌≡◌, ◌≢◌, ℕ, ◌+◌, ◌<◌, ◌≤◌, ◌⊎◌, Option, Some, None, List, [], ◌∷◌, suc, take, drop}
 use mathlib.Core.Option.{some}
 use lib.ListN.{get_elem?}
+use Rattle.ell_layout.specs.declared.field.Field.TheVariants as field
 use Rattle.ell_layout.specs.Words.{Words, IsLeaf}
 use Rattle.ell_core.specs.state.Machine.{ledger_of}
 use Rattle.ell_core.specs.tree.Tree.{IsTreeKey, IsTreePair}
 use Rattle.ell_core.specs.statements.Effects.{contents_in}
 use Rattle.ell_cards.specs.declared.call.Call.{Call}
 use Rattle.ell_cards.specs.declared.call.Call.TheVariants as call
-use Rattle.ell_cards.specs.declared.view.Told.TheVariants.{Key, Value}
+use Rattle.ell_cards.specs.declared.view.Told.TheVariants.{Info, Key, Value}
 use Rattle.ell_cards.specs.declared.view.View.{View}
 use Rattle.ell_cards.specs.Models.{TablePlan, IsTold, HasCome}
 use Rattle.ell_cards.specs.Guards.{TellsOf}
@@ -147,3 +148,8 @@ LooksReadTheirOwn = (plan : TablePlan) (s : TableState) → IsReached plan s →
 -- a pass was told no two keys of one node: the key of a node never changes
 abbrev pub KeysAreFixed : View → Type 0
 KeysAreFixed v = (node key other : ℕ) → IsTold v (Key node key) → IsTold v (Key node other) → key ≡ other
+
+-- and no two leaves of one card, and no two values of one leaf
+pub record ValuesAreFixed (v : View) : Type 0 where
+  pub leaf : (c leaf other : ℕ) → IsTold v (Info c field.L leaf) → IsTold v (Info c field.L other) → leaf ≡ other
+  pub value : (leaf value other : ℕ) → IsTold v (Value leaf value) → IsTold v (Value leaf other) → value ≡ other

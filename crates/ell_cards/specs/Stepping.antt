@@ -9,7 +9,7 @@ use Rattle.ell_cards.specs.Changes.{ledger_keys}
 use Rattle.ell_cards.specs.Naming.{IsNamed}
 use Rattle.ell_cards.specs.Calls.{after, Tells}
 use Rattle.ell_cards.specs.Starts.{IsReached}
-use Rattle.ell_cards.specs.Looking.{KeysAreFixed, ReadsItsOwn}
+use Rattle.ell_cards.specs.Looking.{KeysAreFixed, ValuesAreFixed, ReadsItsOwn}
 use Rattle.ell_cards.specs.declared.share.Share.{Share}
 use Rattle.ell_cards.specs.Inside.{HasShare}
 
@@ -74,13 +74,14 @@ pub record StepsBy (old new : PassModel) : Type 0 where
   pub label : new.label ≡ old.label
 
 -- what a step call that found this word leaves of a pass: what it knows is as the call says, and what the call tells is
--- so; what a look has found of its own keys is what its ledger has; it was told no two keys of one node; the pass owns
--- the keys and has the share that it did, and names what is in its table
+-- so; what a look has found of its own keys is what its ledger has; it was told no two keys of one node, and no two
+-- values; the pass owns the keys and has the share that it did, and names what is in its table
 pub record IsTaken (last : ℕ) (c : Call) (v : View) (n : ℕ) (w : View) : Type 0 where
   pub view : w ≡ after c n v
   pub tells : Tells last c v n
   pub own : ReadsItsOwn w
   pub fixed : KeysAreFixed w
+  pub values : ValuesAreFixed w
   pub keys : ledger_keys w.worker.ledger ≡ ledger_keys v.worker.ledger
   pub share : SameShare v w
   pub named : IsNamed last w

@@ -11,7 +11,7 @@ ghost use Rattle.ell_cards.specs.Changes.{after_fill};
 ghost use Rattle.ell_cards.specs.Naming.{IsNamed};
 ghost use Rattle.ell_cards.specs.Guards.{MayFill};
 ghost use Rattle.ell_cards.specs.Calls.{word_of, atomic_of, Load, Exchange, after, May, Tells};
-ghost use Rattle.ell_cards.specs.Looking.{KeysAreFixed, ReadsItsOwn};
+ghost use Rattle.ell_cards.specs.Looking.{KeysAreFixed, ValuesAreFixed, ReadsItsOwn};
 ghost use Rattle.ell_cards.specs.Stepping.{MayLoad, MayStore, MayExchange, KeepsPass, SeesBy, StepsBy};
 
 use crate::call::Call;
@@ -103,6 +103,7 @@ impl<A: Allocator + Copy> CardTable<A> {
         ensures tells { Tells self.now.plan.last_card call pass.old.view result }
         ensures looked { ReadsItsOwn pass.new.view }
         ensures fixed { KeysAreFixed pass.new.view }
+        ensures values { ValuesAreFixed pass.new.view }
     {
         self.load_as::<Brand>(pass, call, word)
     }
@@ -116,6 +117,7 @@ impl<A: Allocator + Copy> CardTable<A> {
         requires atomic { atomic_of call ≡ Load }
         ensures step { Steps pass.old pass.new (after call result pass.old.view) }
         ensures tells { Tells self.now.plan.last_card call pass.old.view result }
+        ensures values { ValuesAreFixed pass.new.view }
     {
         let found = self.see(pass, call, word);
         pass.count(1);

@@ -46,6 +46,8 @@ pub struct Answered {
 pub struct Deed {
     pub op: Op,
     pub said: Reply,
+    /// The value that it took, if it is a delete that took one, as the pass was told.
+    pub took: Option<u64>,
     /// How many of the calls behind it in the list, next to it, had ended before it began.
     pub before: u64,
     /// Whether it is the pass's, or that of one that was joined to it. If not, it was made by a pass from which this one was split.

@@ -11,7 +11,7 @@ ghost use Rattle.ell_cards.specs.Changes.{after_begin, after_again, after_leave,
 ghost use Rattle.ell_cards.specs.declared.call.Call.TheVariants as call;
 ghost use Rattle.ell_cards.specs.Guards.{MayBegin, MayAnswer, MayRead, MayGoDown, MayLookDown};
 ghost use Rattle.ell_cards.specs.Calls.{after, TellsLeaf, TellsLedgerValue};
-ghost use Rattle.ell_cards.specs.Looking.{KeysAreFixed, ReadsItsOwn};
+ghost use Rattle.ell_cards.specs.Looking.{KeysAreFixed, ValuesAreFixed, ReadsItsOwn};
 
 use crate::call::Call;
 use crate::glance::Glance;
@@ -71,6 +71,8 @@ impl<A: Allocator + Copy> CardTable<A> {
         // The answer on a key that the pass owns is that of the ledger, which becomes what the operation makes of it.
         // An answer on a shared key leaves the ledger unchanged.
         ensures reply { AnswersAsMap (worker_of pass.old.view.worker) (ledger_of pass.new.view.worker.ledger) said }
+        // The pass was told no two leaves of one card, and no two values of one leaf.
+        ensures values { ValuesAreFixed pass.new.view }
     {
         self.load(pass, Call::Answer(said), root_key());
     }

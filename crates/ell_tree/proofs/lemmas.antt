@@ -22,6 +22,8 @@ pub mod Claiming
 pub mod Filling
 -- what is stored of a card
 pub mod Storing
+-- the deed of an operation that was answered
+pub mod Called
 -- the steps of some tries
 pub mod Owning
 -- how many steps

@@ -1,6 +1,6 @@
 use Rattle.std.specs.Prelude.{◌≡◌, ◌≢◌, ℕ, ◌+◌, ◌*◌, ◌<◌, ◌≤◌, ◌↔◌, ◌⊎◌, ◌%◌, ◌^◌, true, false, Bool, Option, Some, None, is_some, Result, Ok, Err}
 use Rattle.ell_ops.specs.declared.op.Op.{Op}
-use Rattle.ell_ops.specs.declared.op.Op.TheVariants.{Delete, Find, Insert, Swap}
+use Rattle.ell_ops.specs.declared.op.Op.TheVariants.{Delete, Find, Swap}
 use Rattle.ell_ops.specs.declared.reply.Reply.{Reply}
 use Rattle.ell_ops.specs.declared.reply.Reply.TheVariants.{Yes}
 use Rattle.ell_ops.specs.Meaning.{key_of, reply_of, after, found}
@@ -15,7 +15,7 @@ use Rattle.ell_tree.specs.declared.computing.Replaced.{Replaced}
 use Rattle.ell_tree.specs.declared.computing.Replaced.TheVariants.{Done, Lost}
 use Rattle.ell_tree.specs.declared.operations.NotDone.{NotDone}
 use Rattle.ell_tree.specs.declared.operations.NotDone.TheVariants.{Busy, Spent}
-use Rattle.ell_tree.specs.Called.{AnsweredLast, AnsweredNoChange, put_by, tries_in}
+use Rattle.ell_tree.specs.Called.{AnsweredLast, AnsweredNoChange, ByItsDeed, IsTakeCalled, delete_of, put_by, tries_in}
 use Rattle.ell_tree.specs.Ends.{Answers, LaidDown, TakesValue, find_steps, try_steps}
 use Rattle.ell_tree.specs.Ledgers.{TreeModel, present_in, Owns, answers, IsIdle}
 
@@ -44,7 +44,7 @@ pub record Concludes (t : TreeModel) (op : Op) (said : Reply) (old new : PassMod
   pub point : IsAnsweredInRuns t.plan new.view op said
   pub owned : (key : ℕ) → Owns new key ↔ Owns old key
   pub answered : answers old < answers new
-  pub called : AnsweredLast op said old.view.answers new.view.answers
+  pub called : ByItsDeed op said (λ deed. AnsweredLast deed old.view.answers new.view.answers)
   pub share : SameShare old.view new.view
   pub idle : IsIdle new
 
@@ -71,6 +71,7 @@ UpdatesValue t key makes old new (Some was) = (value : ℕ) × makes was value �
 pub record RemovesValue (t : TreeModel) (key value : ℕ) (old new : PassModel) : Type 0 where
   pub removes : Concludes t (Delete key) Yes old new
   pub took : TakesValue t key old new (Some value)
+  pub called : AnsweredLast (delete_of key (Some value)) old.view.answers new.view.answers
 
 -- a key was removed if it was found with this value, and was left as it was found otherwise
 pub record RemovesIf (t : TreeModel) (key was : ℕ) (old new : PassModel) (there : Option ℕ) : Type 0 where
@@ -115,13 +116,15 @@ Replaces t key was value old new (Err why) = LaidDown t (put_by key value was) o
 
 -- what comes of one try to remove a key that has a value
 abbrev pub RemovesOnce : TreeModel → ℕ → ℕ → PassModel → PassModel → Result Bool NotDone → Type 0
-RemovesOnce t key was old new (Ok true) = Answers t (Delete key) Yes old new × TakesValue t key old new (Some was)
+RemovesOnce t key was old new (Ok true) =
+    Answers t (Delete key) Yes old new × TakesValue t key old new (Some was) × IsTakeCalled key old new (Ok (Some was))
 RemovesOnce t key was old new (Ok false) = IsUntouched old new × (Owns old key → present_in old key ≢ Some was)
 RemovesOnce t key was old new (Err why) = LaidDown t (Delete key) old new × RanOut t.plan.last_card new why
 
 -- and what the key was found to have, if that was another value
 abbrev pub RemovesOrReads : TreeModel → ℕ → ℕ → PassModel → PassModel → Result Replaced NotDone → Type 0
-RemovesOrReads t key was old new (Ok Done) = Answers t (Delete key) Yes old new × TakesValue t key old new (Some was)
+RemovesOrReads t key was old new (Ok Done) =
+    Answers t (Delete key) Yes old new × TakesValue t key old new (Some was) × IsTakeCalled key old new (Ok (Some was))
 RemovesOrReads t key was old new (Ok (Lost there)) =
     IsUntouched old new × Concludes t (Find key) (found there) old new × (Owns old key → present_in old key ≢ Some was)
 RemovesOrReads t key was old new (Err why) = LaidDown t (Delete key) old new × RanOut t.plan.last_card new why

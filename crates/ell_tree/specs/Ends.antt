@@ -8,10 +8,10 @@ use Rattle.ell_cards.specs.Answering.{IsAnsweredInRuns}
 use Rattle.ell_cards.specs.LayingDown.{IsLaidDownInRuns}
 use Rattle.ell_cards.specs.Taking.{IsTakenInRuns}
 use Rattle.ell_cards.specs.Models.{PassModel}
-use Rattle.ell_cards.specs.Changes.{deed_of}
 use Rattle.ell_cards.specs.Stepping.{SameShare}
 use Rattle.ell_tree.specs.declared.operations.NotDone.{NotDone}
 use Rattle.ell_tree.specs.declared.operations.NotDone.TheVariants.{Busy, Spent}
+use Rattle.ell_tree.specs.Called.{ByItsDeed, IsTakeCalled}
 use Rattle.ell_tree.specs.Hindrances.{Meets}
 use Rattle.ell_tree.specs.Ledgers.{TreeModel, present_in, ledger, Owns, answers, hindrances, IsIdle}
 
@@ -28,7 +28,7 @@ pub record Answers (t : TreeModel) (op : Op) (said : Reply) (old new : PassModel
   pub point : IsAnsweredInRuns t.plan new.view op said
   pub owned : (key : ℕ) → Owns new key ↔ Owns old key
   pub answered : answers new ≡ answers old + 1
-  pub called : new.view.answers ≡ deed_of op said old.view.answers ∷ old.view.answers
+  pub called : ByItsDeed op said (λ deed. new.view.answers ≡ deed old.view.answers ∷ old.view.answers)
   pub share : SameShare old.view new.view
   pub idle : IsIdle new
 
@@ -108,11 +108,11 @@ pub record TakesValue (t : TreeModel) (key : ℕ) (old new : PassModel) (taken :
   pub mine : Owns old key → taken ≡ present_in old key
   pub took : IfSome taken (IsTakenInRuns t.plan new.view key)
 
--- the value that a change added, took or found: what is promised of a delete's
+-- the value that a change added, took or found: what is promised of a delete's, with which the pass was answered
 abbrev pub TakesIfDelete : TreeModel → Op → PassModel → PassModel → Option ℕ → Type 0
 TakesIfDelete t (Find key) old new had = Unit {0}
 TakesIfDelete t (Insert key value) old new had = Unit {0}
-TakesIfDelete t (Delete key) old new had = TakesValue t key old new had
+TakesIfDelete t (Delete key) old new had = TakesValue t key old new had × IsTakeCalled key old new (Ok had)
 TakesIfDelete t (Swap key was value) old new there = Unit {0}
 
 -- how an insert, a delete or a swap ends; whatever was in its way is over

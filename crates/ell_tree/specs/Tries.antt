@@ -29,6 +29,7 @@ use Rattle.ell_tree.specs.Ledgers.{TreeModel, Owns, present_in, IsIdle}
 use Rattle.ell_cards.specs.Stepping.{SameShare}
 use Rattle.ell_tree.specs.Counts.{Took}
 use Rattle.ell_tree.specs.CardsTaken.{TakesNoCard}
+use Rattle.ell_tree.specs.Called.{IsTakeCalled}
 use Rattle.ell_tree.specs.Ends.{Answers, TakesValue, reply_by}
 use Rattle.ell_tree.specs.Hindrances.{AreOver, Meets, StillKnows, way_of}
 use Rattle.ell_tree.specs.Keeping.{IsSeenAt}
@@ -107,7 +108,7 @@ TryEnds t op old new tried.Hindered =
 
 -- what a try of a delete took
 abbrev pub TryTook : TreeModel → ℕ → PassModel → PassModel → Tried → Type 0
-TryTook t key old new (tried.Answered taken) = TakesValue t key old new taken
+TryTook t key old new (tried.Answered taken) = TakesValue t key old new taken × IsTakeCalled key old new (Ok taken)
 TryTook t key old new tried.Spent = Unit {0}
 TryTook t key old new tried.Hindered = Unit {0}
 

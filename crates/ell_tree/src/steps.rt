@@ -9,9 +9,10 @@ ghost use Rattle.ell_core.specs.state.Machine.{worker_of};
 ghost use Rattle.ell_core.specs.acts.Searching.{MayStop};
 ghost use Rattle.ell_cards.specs.declared.view.Told.TheVariants as told;
 ghost use Rattle.ell_cards.specs.Models.{Does, IsFree, IsTold, Knows};
-ghost use Rattle.ell_cards.specs.Changes.{answered_so, is_mark_of, tries_hindered};
+ghost use Rattle.ell_cards.specs.Changes.{answered_so, is_mark_of, taken_by, tries_hindered, with_answer};
 ghost use Rattle.ell_cards.specs.Guards.{KnowsPlace, MayAnswer, MayAsk, NamesNode};
 ghost use Rattle.ell_cards.specs.Calls.{TellsDepth, TellsNode};
+ghost use Rattle.ell_cards.specs.Looking.{ValuesAreFixed};
 ghost use Rattle.ell_tree.specs.CardsTaken.{TakesNoCard};
 ghost use Rattle.ell_tree.specs.Counts.{Took};
 ghost use Rattle.ell_tree.specs.Ends.{Answers};
@@ -94,6 +95,9 @@ pub(crate) fn answer<A: Allocator + Copy, G: StepGate>(
     ensures hindrances { pass.new.view.hindrances ≡ pass.old.view.hindrances }
     ensures hindered { pass.new.view.hindered ≡ pass.old.view.hindered }
     ensures last { pass.new.view.answered ≡ answered_so pass.old.view.worker.operation pass.old.view.worker.card said }
+    ensures deeds { pass.new.view.answers ≡ with_answer pass.old.view.worker.operation said
+        (taken_by pass.old.view.worker.operation pass.old.view.worker.card said pass.old.view.told) pass.old.view.answers }
+    ensures values { ValuesAreFixed pass.new.view }
     ensures told { pass.new.view.told ≡ pass.old.view.told }
     ensures facts { pass.new.view.worker.knows ≡ pass.old.view.worker.knows }
     ensures least { pass.new.view.next_at_least ≡ pass.old.view.next_at_least }

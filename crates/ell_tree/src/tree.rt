@@ -12,7 +12,7 @@ ghost use Rattle.ell_cards.specs.Accounts.{AreOfOneThread};
 ghost use Rattle.ell_cards.specs.Changes.{inherited};
 ghost use Rattle.ell_cards.specs.Models.{IsCardCount, MayPart, RefusesCards, SplitRefuses, whole_share};
 ghost use Rattle.ell_cards.specs.Stories.{HasStory};
-ghost use Rattle.ell_tree.specs.Called.{IsCalled, IsPutCalled, IsRemoveCalled, IsUpdateCalled};
+ghost use Rattle.ell_tree.specs.Called.{IsCalled, IsDeleteCalled, IsPutCalled, IsRemoveCalled, IsTakeCalled, IsUpdateCalled};
 ghost use Rattle.ell_tree.specs.CardsLeft.{AreLeftAtMost, ReadsCardsLeft};
 ghost use Rattle.ell_tree.specs.CardsTaken.{TakesNoCard};
 ghost use Rattle.ell_tree.specs.Closing.{ClosesTo};
@@ -674,8 +674,9 @@ impl<A: Allocator + Copy> Tree<A> {
         // changes nothing in any run: `Busy` is returned only after as many hindrances as tries, and `Spent` only if no
         // card is left. What was in its way is over.
         ensures ends { Ends self.now tries (Delete key) pass.old pass.new (replied result) }
-        // The pass was answered this call and no other, or nothing if the call has no answer.
-        ensures called { IsCalled (Delete key) pass.old pass.new (replied result) }
+        // The pass was answered this call and no other, or nothing if the call has no answer. The call took a value
+        // exactly if it says so.
+        ensures called { IsDeleteCalled key pass.old pass.new result }
         // A `Busy` call counts each of its tries as hindered. Each shows the pass a milestone that it did not know, and
         // in every run they are no more than others' acts allow.
         ensures others { result ≡ Err Busy → IsOthersDoing self.now tries pass.old pass.new }
@@ -708,8 +709,9 @@ impl<A: Allocator + Copy> Tree<A> {
         // changes nothing in any run: `Busy` is returned only after as many hindrances as tries, and `Spent` only if no
         // card is left. What was in its way is over.
         ensures ends { Ends self.now tries (Delete key) pass.old pass.new (replied (whether result)) }
-        // The pass was answered this call and no other, or nothing if the call has no answer.
-        ensures called { IsCalled (Delete key) pass.old pass.new (replied (whether result)) }
+        // The pass was answered this call and no other, which took the value that it returns; or nothing, if the call
+        // has no answer.
+        ensures called { IsTakeCalled key pass.old pass.new result }
         // The value is the one that it took: for a key of the pass, the value that the pass had; for any key, the one
         // that it had at the call's point, in every run.
         ensures took { IfOk result (TakesValue self.now key pass.old pass.new) }
@@ -747,7 +749,8 @@ impl<A: Allocator + Copy> Tree<A> {
         // this holds in the pass's map, and on any key as of one thread at the point of the last operation, in every
         // run.
         ensures removes { IfOk result (RemovesIf self.now key was pass.old pass.new) }
-        // Of all that the pass was answered by the call, only the last has changed anything: the delete.
+        // Of all that the pass was answered by the call, only the last has changed anything: the delete, which took
+        // `was`.
         ensures called { IsRemoveCalled key was pass.old pass.new result }
         // A call without an answer changes nothing of what the pass has, and has nothing in hand. Its last operation
         // changes nothing in any run. `Spent` is returned only if no card is left.

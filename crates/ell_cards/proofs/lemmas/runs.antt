@@ -94,6 +94,8 @@ pub mod LinearizingTurns
 pub mod LinearizingPoints
 -- one sequence of the calls of a run
 pub mod Linearizing
+-- what a call took that was answered, and where it stands in that sequence
+pub mod Took
 -- what a pass answered last among the calls of a run
 pub mod LinearizingAnswers
 -- calls that were laid down

@@ -1,4 +1,4 @@
-use Rattle.std.proofs.Common.{◌≡◌, ◌≢◌, ◌<◌, ℕ, false, not, Ok, Option, Some, None, is_some, inl, inr, refl, sym, ap, ◌∙◌, arith, List, [], ◌∷◌, ◌++◌, length}
+use Rattle.std.proofs.Common.{◌≡◌, ◌≢◌, ℕ, false, not, Ok, Option, Some, None, is_some, inl, inr, refl, sym, ap, ◌∙◌, arith, List, [], ◌∷◌, ◌++◌, length}
 use Rattle.std.proofs.lemmas.List.{append_assoc}
 use Rattle.std.proofs.lemmas.Bool.{ne_eqb, eq-eqb, false≢true}
 use Rattle.std.proofs.Common.{eqb}
@@ -15,14 +15,15 @@ use Rattle.ell_core.proofs.lemmas.outcomes.Decide.{cases_option, some_not_none}
 use Rattle.ell_core.proofs.lemmas.following.AnswerMeaning.{key_kept, swap_lacked, swap_other}
 use Rattle.ell_cards.specs.declared.view.Deed.{Deed}
 use Rattle.ell_cards.specs.Accounts.{own_calls}
-use Rattle.ell_cards.specs.Changes.{deed_of}
+use Rattle.ell_cards.specs.Changes.{deed_taking}
 use Rattle.ell_cards.specs.Models.{PassModel, ledger}
 use Rattle.ell_cards.specs.Stepping.{SameShare}
-use Rattle.ell_tree.specs.Ledgers.{TreeModel, present_in, Owns, IsIdle, answers}
+use Rattle.ell_tree.specs.Ledgers.{TreeModel, present_in, Owns, IsIdle}
 use Rattle.ell_tree.specs.Ends.{Answers, LaidDown}
-use Rattle.ell_tree.specs.Called.{AnsweredNoChange, AreNoChanges, IsReadCalled, IsUpdateCalled, put_by}
-use Rattle.ell_tree.specs.Computing.{IsUntouched, Concludes, LastChangesNothing, ReadsValue, UpdatesValue}
+use Rattle.ell_tree.specs.Called.{AnsweredLast, AnsweredNoChange, AreNoChanges, IsPutCalled, IsReadCalled, IsUpdateCalled, put_by}
+use Rattle.ell_tree.specs.Computing.{IsUntouched, Concludes, LastChangesNothing, PutsValue, ReadsValue, UpdatesValue}
 use Rattle.ell_tree.specs.Promises.{MayDo}
+use Rattle.ell_tree.proofs.lemmas.Called.{its_deed, by_deed}
 use Rattle.ell_tree.proofs.lemmas.Keeping.{share_trans}
 
 -- an operation that leaves what a pass has, if the key is its own
@@ -55,8 +56,8 @@ called_trans a b c g h = record {
 
 -- a pass that answers such an operation is left as it was
 pub untouched_by : (t : TreeModel) (op : Op) (said : Reply) (p q : PassModel) → LeavesOwn op p → said ≢ reply_of_change op → Answers t op said p q → IsUntouched p q
-untouched_by t op said p q leaves other h = record {
-  called = record { calls = deed_of op said p.view.answers ∷ []; is = h.called; none = (other, tt) };
+untouched_by t op said p q leaves other h = let last = its_deed op said (λ deed. q.view.answers ≡ deed p.view.answers ∷ p.view.answers) h.called in record {
+  called = record { calls = deed_taking op said last.0 p.view.answers ∷ []; is = last.1; none = (other, tt) };
   table = h.table;
   label = h.label;
   map = λ key. elim (cases_option (ledger p (key_of op))) [
@@ -103,7 +104,8 @@ untouched_trans p q r g h = record {
 pub concludes : (t : TreeModel) (op : Op) (said : Reply) (p q r : PassModel) → IsUntouched p q → Answers t op said q r → Concludes t op said p r
 concludes t op said p q r g h =
     let there : present_in q ≡ present_in p = λ i key. g.map key i in record {
-      called = record { earlier = q.view.answers; before = g.called; is = h.called };
+      called = by_deed op said (λ deed. r.view.answers ≡ deed q.view.answers ∷ q.view.answers) (λ deed. AnsweredLast deed p.view.answers r.view.answers)
+          (λ taken is. record { earlier = q.view.answers; before = g.called; is = is }) h.called;
       table = h.table ∙ g.table;
       label = h.label ∙ g.label;
       says = λ owns. h.says ((g.owned (key_of op)).1 owns) ∙ ap (reply_of op) there;
@@ -120,11 +122,8 @@ concludes t op said p q r g h =
 pub concludes_after : (t : TreeModel) (op : Op) (said : Reply) (p q r : PassModel) → IsUntouched p q → Concludes t op said q r → Concludes t op said p r
 concludes_after t op said p q r g h =
     let there : present_in q ≡ present_in p = λ i key. g.map key i in record {
-      called = record {
-        earlier = h.called.earlier;
-        before = called_trans p.view.answers q.view.answers h.called.earlier g.called h.called.before;
-        is = h.called.is;
-      };
+      called = by_deed op said (λ deed. AnsweredLast deed q.view.answers r.view.answers) (λ deed. AnsweredLast deed p.view.answers r.view.answers)
+          (λ taken last. record { earlier = last.earlier; before = called_trans p.view.answers q.view.answers last.earlier g.called last.before; is = last.is }) h.called;
       table = h.table ∙ g.table;
       label = h.label ∙ g.label;
       says = λ owns. h.says ((g.owned (key_of op)).1 owns) ∙ ap (reply_of op) there;
@@ -143,11 +142,11 @@ reads_after t key was p q r g (inr h) = inr (h.0, h.1, h.2, concludes_after t (S
 
 -- a call that only reads leaves what a pass has
 reads_keep : (t : TreeModel) (op : Op) (said : Reply) (p q : PassModel) → LeavesOwn op p → said ≢ reply_of_change op → Concludes t op said p q → IsUntouched p q
-reads_keep t op said p q leaves other h = record {
+reads_keep t op said p q leaves other h = let d = its_deed op said (λ deed. AnsweredLast deed p.view.answers q.view.answers) h.called in record {
   called = record {
-    calls = deed_of op said h.called.earlier ∷ h.called.before.calls;
-    is = h.called.is ∙ ap (λ (l : List Deed). deed_of op said h.called.earlier ∷ l) h.called.before.is;
-    none = (other, h.called.before.none);
+    calls = deed_taking op said d.0 d.1.earlier ∷ d.1.before.calls;
+    is = d.1.is ∙ ap (λ (l : List Deed). deed_taking op said d.0 d.1.earlier ∷ l) d.1.before.is;
+    none = (other, d.1.before.none);
   };
   table = h.table;
   label = h.label;
@@ -251,7 +250,7 @@ put_on key value (Some was) = refl
 pub laid_last : (t : TreeModel) (key value : ℕ) (was : Option ℕ) (p q : PassModel) → LaidDown t (put_by key value was) p q → LastChangesNothing t key q.view
 laid_last t key value was p q h = record { op = put_by key value was; on = put_on key value was; nothing = inl h.nothing }
 
--- what a pass was answered by a call that only reads, or that updates a value
+-- what a pass was answered by a call that only reads, that updates a value, or that puts one
 pub reads_called : (t : TreeModel) (key : ℕ) (was : Option ℕ) (p q : PassModel) → ReadsValue t key was p q → IsReadCalled key was p q
 reads_called t key was p q (inl h) = inl h.called
 reads_called t key was p q (inr h) = inr (h.0, h.1, h.2, h.3.called)
@@ -260,3 +259,7 @@ pub updates_called : (t : TreeModel) (key : ℕ) (makes : ℕ → ℕ → Type 0
     → IsUpdateCalled key makes p q (Ok was)
 updates_called t key makes p q None h = reads_called t key None p q h
 updates_called t key makes p q (Some was) h = (h.0, h.1, h.2.called)
+
+pub puts_called : (t : TreeModel) (key value : ℕ) (p q : PassModel) (was : Option ℕ) → PutsValue t key value p q was → IsPutCalled key value p q (Ok was)
+puts_called t key value p q None h = h.called
+puts_called t key value p q (Some was) h = h.called

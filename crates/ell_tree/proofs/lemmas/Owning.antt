@@ -14,15 +14,17 @@ use Rattle.ell_core.specs.acts.Searching.{put_of, TakesPut}
 use Rattle.ell_core.proofs.lemmas.keeping.Puts.{added, replacing}
 use Rattle.ell_cards.specs.Models.{PassModel, ledger}
 use Rattle.ell_cards.specs.Stepping.{SameShare}
-use Rattle.ell_cards.specs.Changes.{deed_of}
+use Rattle.ell_cards.specs.declared.view.Deed.{Deed}
 use Rattle.ell_cards.specs.Accounts.{own_calls}
 use Rattle.ell_tree.specs.declared.searching.LeafFound.{LeafFound}
 use Rattle.ell_tree.specs.declared.trying.Tried.TheVariants.{Answered}
+use Rattle.ell_tree.specs.Called.{ByItsDeed}
 use Rattle.ell_tree.specs.Ends.{Answers, TakesIfDelete, TakesValue}
 use Rattle.ell_tree.specs.Tries.{TryTakesValue}
 use Rattle.ell_tree.specs.Keeping.{Keeps}
 use Rattle.ell_tree.specs.Ledgers.{Owns, TreeModel, present_in}
 use Rattle.ell_tree.specs.Searches.{EndsAt, there_at}
+use Rattle.ell_tree.proofs.lemmas.Called.{take_before}
 use Rattle.ell_tree.proofs.lemmas.Keeping.{share_trans}
 
 -- a key is owned still where the ledger is as it was
@@ -50,7 +52,7 @@ answers_before t op said p q r table label same count share h =
       point = h.point;
       owned = λ key. (λ owns. still_owned key q p (sym same) ((h.owned key).0 owns), λ owns. (h.owned key).1 (still_owned key p q same owns));
       answered = h.answered ∙ ap (λ l. length (own_calls l) + 1) count;
-      called = h.called ∙ ap (λ l. deed_of op said l ∷ l) count;
+      called = subst (λ (l : List Deed). ByItsDeed op said (λ deed. r.view.answers ≡ deed l ∷ l)) count h.called;
       share = share_trans p.view q.view r.view share h.share;
       idle = h.idle;
     }
@@ -63,12 +65,12 @@ takes_before t key taken p q r same h = record {
   took = h.took;
 }
 
-pub takes_before_it : (t : TreeModel) (op : Op) (had : Option ℕ) (p q r : PassModel) → q.view.worker.ledger ≡ p.view.worker.ledger → TryTakesValue t op q r (Answered had)
-    → TakesIfDelete t op p r had
-takes_before_it t (Find key) had p q r same h = tt
-takes_before_it t (Insert key value) had p q r same h = tt
-takes_before_it t (Delete key) had p q r same h = takes_before t key had p q r same h
-takes_before_it t (Swap key was value) had p q r same h = tt
+pub takes_before_it : (t : TreeModel) (op : Op) (had : Option ℕ) (p q r : PassModel) → q.view.worker.ledger ≡ p.view.worker.ledger → q.view.answers ≡ p.view.answers
+    → TryTakesValue t op q r (Answered had) → TakesIfDelete t op p r had
+takes_before_it t (Find key) had p q r same count h = tt
+takes_before_it t (Insert key value) had p q r same count h = tt
+takes_before_it t (Delete key) had p q r same count h = (takes_before t key had p q r same h.0, take_before key had p q r count h.1)
+takes_before_it t (Swap key was value) had p q r same count h = tt
 
 pub keeps_answers : (t : TreeModel) (op : Op) (said : Reply) (p q r : PassModel) (n : ℕ) → Keeps p q n → Answers t op said q r → Answers t op said p r
 keeps_answers t op said p q r n keeps h = answers_before t op said p q r keeps.table keeps.label keeps.view.ledger keeps.view.answers keeps.view.share h

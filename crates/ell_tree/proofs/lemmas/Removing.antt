@@ -1,4 +1,4 @@
-use Rattle.std.proofs.Common.{◌≡◌, ◌≢◌, ℕ, ◌==◌, if◌then◌else◌, Bool, true, false, Option, Some, None, [], length, ◌⊎◌, inl, inr, refl, sym, ap, ◌∙◌, eq-eqb, eqb-true}
+use Rattle.std.proofs.Common.{◌≡◌, ◌≢◌, ℕ, ◌==◌, if◌then◌else◌, Bool, true, false, Option, Some, None, Ok, [], length, ◌⊎◌, inl, inr, refl, sym, ap, ◌∙◌, eq-eqb, eqb-true}
 use Rattle.std.proofs.lemmas.Bool.{false≢true}
 use Rattle.ell_ops.specs.declared.op.Op.{Op}
 use Rattle.ell_ops.specs.declared.op.Op.TheVariants.{Delete}
@@ -11,6 +11,7 @@ use Rattle.ell_cards.specs.declared.view.View.{View}
 use Rattle.ell_cards.specs.Accounts.{own_calls}
 use Rattle.ell_cards.specs.Models.{PassModel}
 use Rattle.ell_tree.specs.declared.searching.LeafFound.{LeafFound}
+use Rattle.ell_tree.specs.Called.{IsTakeCalled}
 use Rattle.ell_tree.specs.Computing.{IsUntouched, RemovesIf}
 use Rattle.ell_tree.specs.Ends.{Answers, LaidDown, TakesValue, is_value}
 use Rattle.ell_tree.specs.Ledgers.{Owns, TreeModel, present_in}
@@ -75,8 +76,12 @@ takes_later t key taken p q r g h = record { mine = λ owns. h.mine ((g.owned ke
 
 -- a delete after others that have changed nothing removes what a call was to remove
 pub removes : (t : TreeModel) (key was : ℕ) (there : Option ℕ) (p q r : PassModel) → there ≡ Some was → IsUntouched p q → Answers t (Delete key) Yes q r → TakesValue t key q r (Some was)
-    → RemovesIf t key was p r there
-removes t key was there p q r that g h took = record {
-  removed = λ same. record { removes = concludes t (Delete key) Yes p q r g h; took = takes_later t key (Some was) p q r g took };
+    → IsTakeCalled key q r (Ok (Some was)) → RemovesIf t key was p r there
+removes t key was there p q r that g h took called = record {
+  removed = λ same. record {
+    removes = concludes t (Delete key) Yes p q r g h;
+    took = takes_later t key (Some was) p q r g took;
+    called = record { earlier = q.view.answers; before = g.called; is = called };
+  };
   left = λ other. absurd (other that);
 }

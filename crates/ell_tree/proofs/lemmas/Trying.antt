@@ -14,6 +14,7 @@ use Rattle.ell_tree.specs.Ledgers.{TreeModel}
 use Rattle.ell_tree.specs.Milestones.{SeesMilestone}
 use Rattle.ell_tree.specs.Searches.{AtRoot, EndsAt, HasSearched}
 use Rattle.ell_tree.specs.Tries.{Halts, TryEnds, TryTook}
+use Rattle.ell_tree.proofs.lemmas.Called.{take_before}
 use Rattle.ell_tree.proofs.lemmas.Halting.{seek_meets}
 use Rattle.ell_tree.proofs.lemmas.Hindrances.{root_in_try}
 use Rattle.ell_tree.proofs.lemmas.Keeping.{share_trans}
@@ -71,7 +72,7 @@ module _ (p q r : PassModel) (n : ℕ) (k : KeepsAllButSearch p q n) where
       (halts_after op h.0, (let same = ap length k.hindrances in omega (arith, h.1, same)), sees_after t.plan.last_card h.2)
 
   pub took_after : (t : TreeModel) (key : ℕ) (ended : Tried) → TryTook t key q r ended → TryTook t key p r ended
-  took_after t key (Answered taken) h = takes_before t key taken p q r k.keeps.view.ledger h
+  took_after t key (Answered taken) h = (takes_before t key taken p q r k.keeps.view.ledger h.0, take_before key taken p q r k.keeps.view.answers h.1)
   took_after t key Spent h = tt
   took_after t key Hindered h = tt
 

@@ -1,5 +1,5 @@
-use Rattle.std.proofs.Common.{◌≡◌, ◌≢◌, ℕ, zero, suc, ◌<◌, ◌≤◌, ◌+◌, ◌⊎◌, if◌then◌else◌, Bool, true, List, [], ◌∷◌, ◌++◌, length, set, inl, inr, refl, sym, ap, ap₂, ◌∙◌, subst, arith}
-use Rattle.std.proofs.lemmas.Bool.{cases_eq, cases_lt}
+use Rattle.std.proofs.Common.{◌≡◌, ◌≢◌, ℕ, zero, suc, ◌<◌, ◌≤◌, ◌+◌, ◌⊎◌, if◌then◌else◌, Bool, List, [], ◌∷◌, ◌++◌, length, set, inl, inr, refl, sym, ap, ◌∙◌, subst, arith}
+use Rattle.std.proofs.lemmas.Bool.{cases_lt}
 use mathlib.Core.Option.{some, some-injective, some-ne-none}
 use lib.ListN.{get_elem?}
 use Rattle.atomic_table.proofs.Lists.{set_else}
@@ -11,20 +11,21 @@ use Rattle.ell_cards.specs.declared.call.Call.{Call}
 use Rattle.ell_cards.specs.declared.call.Call.TheVariants as call
 use Rattle.ell_cards.specs.declared.view.View.{View}
 use Rattle.ell_cards.specs.Models.{TablePlan, IsFree}
-use Rattle.ell_cards.specs.Changes.{first_of, left_view, right_view, joined_view, spent_view, with_answer, inherited}
+use Rattle.ell_cards.specs.Changes.{left_view, right_view, joined_view, spent_view, taken_by, with_answer, inherited}
 use Rattle.ell_cards.specs.Calls.{after}
 use Rattle.ell_cards.specs.States.{TableState}
-use Rattle.ell_cards.specs.Starts.{Starts, IsReached}
+use Rattle.ell_cards.specs.Starts.{Starts}
 use Rattle.ell_cards.specs.Turns.{Turn, Makes, Splits, Joins, CallIsMade, TableTurns, TableRun, found_by}
 use Rattle.ell_cards.specs.Linearizing.{IsAnswered, Item, ops_of, replies_of, StandsIn, HasItem, IsLinearized}
-use Rattle.ell_cards.specs.Accounts.{ops_in, replies_in, count_such, own_calls, WholeAccountsAreOfOneThread}
+use Rattle.ell_cards.specs.Accounts.{ops_in, replies_in, count_such, own_calls, StandAt, WholeAccountsAreOfOneThread}
 use Rattle.ell_cards.specs.Stories.{calls_of}
 use Rattle.ell_cards.proofs.lemmas.seats.Seats.{inside}
-use Rattle.ell_cards.proofs.lemmas.runs.Linearizing.{item, same_item, same_answer, is_answer, runs_are_linearizable}
+use Rattle.ell_cards.proofs.lemmas.runs.Linearizing.{item, same_item, same_answer, is_answer, linearized}
 use Rattle.ell_cards.proofs.lemmas.runs.LinearizingStates.{at_end, turn_inside}
 use Rattle.ell_cards.proofs.lemmas.runs.LinearizingPoints.{after_turns, made, begun_of, one_end}
 use Rattle.ell_cards.proofs.lemmas.runs.Pending.{in_hand}
-use Rattle.ell_cards.proofs.lemmas.runs.Deeds.{none_own, own_both, know, places_of, stand_of}
+use Rattle.ell_cards.proofs.lemmas.runs.Took.{taken_stands}
+use Rattle.ell_cards.proofs.lemmas.runs.Deeds.{none_own, own_both, taken, know, places_of, stand_of}
 use Rattle.ell_cards.proofs.lemmas.runs.Spent.{AnswersNothing, answers_stay, IsAllThere, all_there}
 
 -- what all passes were answered
@@ -247,8 +248,8 @@ module _ (plan : TablePlan) (opened : TableState) (starts : Starts plan opened) 
             let v = end.view in
             let w = after (call.Answer said) (found_by (state p) (call.Answer said)) v in
             let there : total such (set (state p).views seat w) + count_such such (own_calls v.answers)
-            ≡ total such (state p).views + count_such such (own_calls (with_answer v.worker.operation said v.answers)) = total_set such (state p).views seat v w end.there in
-            let more = ap (λ o. count_such such (own_calls (with_answer o said v.answers))) end.may.busy in
+            ≡ total such (state p).views + count_such such (own_calls w.answers) = total_set such (state p).views seat v w end.there in
+            let more = ap (λ o. count_such such (own_calls (with_answer o said (taken_by o v.worker.card said v.told) v.answers))) end.may.busy in
             let rest = h.sums such in
             let goal : total such (set (state p).views seat w) ≡ count_such such (calls_of (x ∷ h.list)) = omega arith in
             subst (λ (s : TableState). total such s.views ≡ count_such such (calls_of (x ∷ h.list))) (sym end.gives) goal;
@@ -264,8 +265,21 @@ module _ (plan : TablePlan) (opened : TableState) (starts : Starts plan opened) 
         | inr none ↦ silent p t.0 t.1 none h
       ]
 
-  pub lin : IsLinearized plan opened turns s'
-  lin = runs_are_linearizable plan opened starts turns s' run
+  abbrev pub lin : IsLinearized plan opened turns s'
+  lin = linearized plan opened starts turns s' run
+
+  -- where the calls stand there of which a pass knows
+  pub record Stands (v : View) : Type 0 where
+    pub places : List ℕ
+    pub stand : StandAt (contents_of plan.start) (calls_of lin.order) v.answers places
+
+  pub stands : (seat : ℕ) (v : View) → get_elem? s'.views seat ≡ some v → Stands v
+  stands seat v there =
+      let h = know plan opened starts turns s' run seat v there in
+      let takes = taken plan opened starts turns s' run in record {
+        places = places_of plan opened turns s' lin takes v.answers h.0 h.1;
+        stand = stand_of plan opened turns s' lin takes (taken_stands plan opened starts turns s' run) v.answers h.0 h.1;
+      }
 
   -- each that has ended is in the sequence, which has no fewer than passes were answered
   pub few_counts : (such : Op × Reply → Bool) → total such s'.views ≤ count_such such (calls_of lin.order)
@@ -302,15 +316,15 @@ pub whole_accounts_are_of_one_thread : WholeAccountsAreOfOneThread
 whole_accounts_are_of_one_thread plan s mode h seat v here whole free =
     let there : IsAllThere s seat = all_there plan s mode h seat v here whole free in
     let linear = lin plan h.first h.starts h.turns s h.run in
-    let knows = know plan h.first h.starts h.turns s h.run seat v here in
+    let stands = stands plan h.first h.starts h.turns s h.run seat v here in
     record {
       left = final (contents_of plan.start) (ops_of linear.order);
       is = linear.leaves;
       thread = record {
         order = calls_of linear.order;
         same = λ such. same_counts plan h.first h.starts h.turns s h.run there.free such ∙ total_one such s.views seat v here there.silent;
-        places = places_of plan h.first h.turns s linear v.answers knows.0 knows.1;
-        stand = stand_of plan h.first h.turns s linear v.answers knows.0 knows.1;
+        places = stands.places;
+        stand = stands.stand;
         says = replies_same linear.order ∙ (linear.replies ∙ ap (replies (contents_of plan.start)) (sym (ops_same linear.order)));
         leaves = ap (final (contents_of plan.start)) (sym (ops_same linear.order));
       };

@@ -1,29 +1,31 @@
-use Rattle.std.proofs.Common.{◌≡◌, ◌≢◌, ℕ, zero, suc, ◌+◌, ◌<◌, ◌≤◌, ◌⊎◌, if◌then◌else◌, Bool, true, false, List, [], ◌∷◌, ◌++◌, length, set, inl, inr, refl, sym, ap, ◌∙◌, subst, ⊎_elim, arith}
+use Rattle.std.proofs.Common.{◌≡◌, ◌≢◌, ℕ, zero, suc, ◌<◌, ◌≤◌, if◌then◌else◌, Bool, true, false, Some, List, [], ◌∷◌, ◌++◌, length, take, set, inl, inr, refl, sym, ap, ◌∙◌, subst, ⊎_elim, arith}
 use Rattle.std.proofs.lemmas.Bool.{cases_lt}
 use mathlib.Core.Option.{some, some-injective, some-ne-none}
 use lib.ListN.{get_elem?}
 use Rattle.atomic_table.proofs.Lists.{at_set, at_snoc}
 use Rattle.ell_ops.specs.declared.op.Op.{Op}
 use Rattle.ell_ops.specs.declared.reply.Reply.{Reply}
+use Rattle.ell_ops.specs.Contents.{contents_of}
+use Rattle.ell_ops.specs.Meaning.{key_of, final}
 use Rattle.ell_core.proofs.lemmas.outcomes.Decide.{some_not_none}
 use Rattle.ell_cards.specs.declared.call.Call.{Call}
 use Rattle.ell_cards.specs.declared.call.Call.TheVariants as call
 use Rattle.ell_cards.specs.declared.view.Deed.{Deed}
 use Rattle.ell_cards.specs.declared.view.View.{View}
 use Rattle.ell_cards.specs.Models.{TablePlan, Does, IsFree}
-use Rattle.ell_cards.specs.Changes.{first_of, left_view, right_view, joined_view, spent_view, deed_of, with_answer, inherited}
+use Rattle.ell_cards.specs.Changes.{first_of, left_view, right_view, joined_view, spent_view, deed_taking, taken_by, with_answer, inherited}
 use Rattle.ell_cards.specs.Calls.{after, May}
 use Rattle.ell_cards.specs.States.{TableState}
 use Rattle.ell_cards.specs.Starts.{Starts}
-use Rattle.ell_cards.specs.Turns.{Turn, Makes, Splits, Joins, CallIsMade, SplitIsMade, JoinIsMade, TableTurns, TableRun, found_by}
-use Rattle.ell_cards.specs.Meanwhile.{KeepsOn, KeepOn}
-use Rattle.ell_cards.specs.Linearizing.{IsAnswered, Item, HasItem, IsLinearized}
-use Rattle.ell_cards.specs.Accounts.{own_calls, AreBelow, StandAt}
+use Rattle.ell_cards.specs.Turns.{Turn, Makes, Splits, Joins, TableTurns, TableRun, found_by}
+use Rattle.ell_cards.specs.Linearizing.{IsAnswered, Item, ops_of, StandsIn, HasItem, IsLinearized}
+use Rattle.ell_cards.specs.Accounts.{ops_in, own_calls, AreBelow, StandAt}
 use Rattle.ell_cards.specs.Stories.{calls_of}
 use Rattle.ell_cards.proofs.lemmas.seats.Seats.{inside}
 use Rattle.ell_cards.proofs.lemmas.lifetimes.Openings.{each_first}
 use Rattle.ell_cards.proofs.lemmas.runs.LinearizingStates.{at_end, turn_inside}
 use Rattle.ell_cards.proofs.lemmas.runs.LinearizingPoints.{Begun, after_turns, made, begun_of}
+use Rattle.ell_cards.proofs.lemmas.runs.Took.{HasTaken, has_taken}
 use Rattle.ell_cards.proofs.lemmas.runs.Pending.{IsPlain, does_stay}
 use Rattle.ell_cards.proofs.lemmas.runs.Spent.{answers_stay}
 
@@ -56,29 +58,35 @@ abbrev pub Ended : ℕ → List Span → Type 0
 Ended turn [] = Unit {0}
 Ended turn (c ∷ cs) = (c.end < turn) × Ended turn cs
 
--- calls of a run are those of which a pass knows, and ended when it says
-abbrev pub Fits : List Turn → List Deed → List Span → Type 0
-Fits turns [] [] = Unit {0}
-Fits turns [] (c ∷ cs) = ⊥
-Fits turns (d ∷ ds) [] = ⊥
-Fits turns (d ∷ ds) (c ∷ cs) = IsAnswered turns c.begin c.end d.op d.said × Earlier d.before c.begin cs × Fits turns ds cs
+-- what takes a value: the turn in which a call begins, its operation, and the value
+abbrev pub Takes : Type 1
+Takes = ℕ → Op → ℕ → Type 0
+
+-- calls of a run are those of which a pass knows, took what it says, and ended when it says
+abbrev pub Fits : Takes → List Turn → List Deed → List Span → Type 0
+Fits takes turns [] [] = Unit {0}
+Fits takes turns [] (c ∷ cs) = ⊥
+Fits takes turns (d ∷ ds) [] = ⊥
+Fits takes turns (d ∷ ds) (c ∷ cs) =
+    IsAnswered turns c.begin c.end d.op d.said × ((value : ℕ) → d.took ≡ Some value → takes c.begin d.op value)
+    × Earlier d.before c.begin cs × Fits takes turns ds cs
 
 earlier_more : (n turn : ℕ) (cs es : List Span) → Earlier n turn cs → Earlier n turn (cs ++ es)
 earlier_more zero turn cs es h = tt
 earlier_more (suc n) turn [] es h = absurd h
 earlier_more (suc n) turn (c ∷ cs) es h = (h.0, earlier_more n turn cs es h.1)
 
-fits_both : (turns : List Turn) (ds bs : List Deed) (cs es : List Span) → Fits turns ds cs → Fits turns bs es → Fits turns (ds ++ bs) (cs ++ es)
-fits_both turns [] bs [] es h g = g
-fits_both turns [] bs (c ∷ cs) es h g = absurd h
-fits_both turns (d ∷ ds) bs [] es h g = absurd h
-fits_both turns (d ∷ ds) bs (c ∷ cs) es h g = (h.0, earlier_more d.before c.begin cs es h.1, fits_both turns ds bs cs es h.2 g)
+fits_both : (takes : Takes) (turns : List Turn) (ds bs : List Deed) (cs es : List Span) → Fits takes turns ds cs → Fits takes turns bs es → Fits takes turns (ds ++ bs) (cs ++ es)
+fits_both takes turns [] bs [] es h g = g
+fits_both takes turns [] bs (c ∷ cs) es h g = absurd h
+fits_both takes turns (d ∷ ds) bs [] es h g = absurd h
+fits_both takes turns (d ∷ ds) bs (c ∷ cs) es h g = (h.0, h.1, earlier_more d.before c.begin cs es h.2, fits_both takes turns ds bs cs es h.3 g)
 
-fits_inherited : (turns : List Turn) (ds : List Deed) (cs : List Span) → Fits turns ds cs → Fits turns (inherited ds) cs
-fits_inherited turns [] [] h = tt
-fits_inherited turns [] (c ∷ cs) h = absurd h
-fits_inherited turns (d ∷ ds) [] h = absurd h
-fits_inherited turns (d ∷ ds) (c ∷ cs) h = (h.0, h.1, fits_inherited turns ds cs h.2)
+fits_inherited : (takes : Takes) (turns : List Turn) (ds : List Deed) (cs : List Span) → Fits takes turns ds cs → Fits takes turns (inherited ds) cs
+fits_inherited takes turns [] [] h = tt
+fits_inherited takes turns [] (c ∷ cs) h = absurd h
+fits_inherited takes turns (d ∷ ds) [] h = absurd h
+fits_inherited takes turns (d ∷ ds) (c ∷ cs) h = (h.0, h.1, h.2, fits_inherited takes turns ds cs h.3)
 
 ended_later : (p q : ℕ) (cs : List Span) → p ≤ q → Ended p cs → Ended q cs
 ended_later p q [] up h = tt
@@ -88,19 +96,23 @@ ended_both : (p : ℕ) (cs es : List Span) → Ended p cs → Ended p es → End
 ended_both p [] es h g = g
 ended_both p (c ∷ cs) es h g = (h.0, ended_both p cs es h.1 g)
 
-all_earlier : (turns : List Turn) (ds : List Deed) (cs : List Span) (turn : ℕ) → Fits turns ds cs → Ended turn cs → Earlier (length ds) turn cs
-all_earlier turns [] cs turn h e = tt
-all_earlier turns (d ∷ ds) [] turn h e = absurd h
-all_earlier turns (d ∷ ds) (c ∷ cs) turn h e = (e.0, all_earlier turns ds cs turn h.2 e.1)
+all_earlier : (takes : Takes) (turns : List Turn) (ds : List Deed) (cs : List Span) (turn : ℕ) → Fits takes turns ds cs → Ended turn cs → Earlier (length ds) turn cs
+all_earlier takes turns [] cs turn h e = tt
+all_earlier takes turns (d ∷ ds) [] turn h e = absurd h
+all_earlier takes turns (d ∷ ds) (c ∷ cs) turn h e = (e.0, all_earlier takes turns ds cs turn h.3 e.1)
 
 module _ (plan : TablePlan) (opened : TableState) (starts : Starts plan opened) (turns : List Turn) (s' : TableState) (run : TableRun plan.last_card opened turns s') where
   abbrev state : ℕ → TableState
   state = after_turns plan opened starts turns s' run
 
+  -- what took a value in this run
+  abbrev pub taken : Takes
+  taken = HasTaken plan opened starts turns s' run
+
   -- what a pass knows before a turn: its calls ended before that, and before the call in hand began
   record Knows (p seat : ℕ) (v : View) : Type 0 where
     spans : List Span
-    fits : Fits turns v.answers spans
+    fits : Fits taken turns v.answers spans
     ended : Ended p spans
     since : (op : Op) → Does v op → (b : Begun turns seat op p) → Ended b.begin spans
 
@@ -108,7 +120,7 @@ module _ (plan : TablePlan) (opened : TableState) (starts : Starts plan opened) 
   AllKnow p = (seat : ℕ) (v : View) → get_elem? (state p).views seat ≡ some v → Knows p seat v
 
   -- a pass with nothing in hand
-  free_knows : (p seat : ℕ) (v : View) (spans : List Span) → Fits turns v.answers spans → Ended p spans → IsFree v → Knows p seat v
+  free_knows : (p seat : ℕ) (v : View) (spans : List Span) → Fits taken turns v.answers spans → Ended p spans → IsFree v → Knows p seat v
   free_knows p seat v spans fits ended free =
       record { spans = spans; fits = fits; ended = ended; since = λ op does b. absurd (some_not_none does free) }
 
@@ -127,7 +139,7 @@ module _ (plan : TablePlan) (opened : TableState) (starts : Starts plan opened) 
       → ((op : Op) → get_elem? turns p ≡ some (Makes seat (call.Begin op)) → ⊥) → Knows p seat v → Knows (suc p) seat w
   on_knows p seat v w same does other k = record {
     spans = k.spans;
-    fits = subst (λ ds. Fits turns ds k.spans) (sym same) k.fits;
+    fits = subst (λ ds. Fits taken turns ds k.spans) (sym same) k.fits;
     ended = ended_later p (suc p) k.spans (omega arith) k.ended;
     since = λ op busy b.
         let less = shorter seat p op b (other op) in
@@ -168,9 +180,12 @@ module _ (plan : TablePlan) (opened : TableState) (starts : Starts plan opened) 
       let now : IsAnswered turns b.begin p op said = record { seat = seat; begins = b.begins; later = b.later; on = b.on; answers = at } in
       let before = k.since op may.busy b in
       let c : Span = record { begin = b.begin; end = p } in
-      let fits : Fits turns (deed_of op said v.answers ∷ v.answers) (c ∷ k.spans) = (now, all_earlier turns v.answers k.spans b.begin k.fits before, k.fits) in
-      let same : with_answer v.worker.operation said v.answers ≡ deed_of op said v.answers ∷ v.answers = ap (λ o. with_answer o said v.answers) may.busy in
-      free_knows (suc p) seat (after (call.Answer said) n v) (c ∷ k.spans) (subst (λ ds. Fits turns ds (c ∷ k.spans)) (sym same) fits)
+      let took = taken_by (Some op) v.worker.card said v.told in
+      let fits : Fits taken turns (deed_taking op said took v.answers ∷ v.answers) (c ∷ k.spans) =
+      (now, has_taken plan opened starts turns s' run b.begin p op said now v there may.busy, all_earlier taken turns v.answers k.spans b.begin k.fits before, k.fits) in
+      let same : (after (call.Answer said) n v).answers ≡ deed_taking op said took v.answers ∷ v.answers =
+      ap (λ o. with_answer o said (taken_by o v.worker.card said v.told) v.answers) may.busy in
+      free_knows (suc p) seat (after (call.Answer said) n v) (c ∷ k.spans) (subst (λ ds. Fits taken turns ds (c ∷ k.spans)) (sym same) fits)
       (omega arith, ended_later p (suc p) k.spans (omega arith) k.ended) refl
   call_knows p seat call.Leave n v at may there k =
       free_knows (suc p) seat (after call.Leave n v) k.spans k.fits (ended_later p (suc p) k.spans (omega arith) k.ended) refl
@@ -205,7 +220,7 @@ module _ (plan : TablePlan) (opened : TableState) (starts : Starts plan opened) 
       (λ (t : (j ≡ id) × (left ≡ u)). subst (Knows (suc p) j) t.1 (free_knows (suc p) j left k.spans k.fits ended refl))
       (λ (t : (j ≢ id) × (get_elem? (state p).views j ≡ some u)). others_know p j u (Splits id chosen) at (λ op e. cc) (knows j u t.1))
       (at_set (state p).views id j left u a))
-      (λ (e : right ≡ u). subst (Knows (suc p) j) e (free_knows (suc p) j right k.spans (fits_inherited turns v.answers k.spans k.fits) ended refl))
+      (λ (e : right ≡ u). subst (Knows (suc p) j) e (free_knows (suc p) j right k.spans (fits_inherited taken turns v.answers k.spans k.fits) ended refl))
       (at_snoc (set (state p).views id left) right u j here)
   turn_knows p (Joins id other) at h knows = λ j u there.
       let v = h.view in
@@ -219,7 +234,7 @@ module _ (plan : TablePlan) (opened : TableState) (starts : Starts plan opened) 
       (λ (t : (j ≡ other) × (spent_view ≡ u)). subst (Knows (suc p) j) t.1 (free_knows (suc p) j spent_view [] tt tt refl))
       (λ (t : (j ≢ other) × (get_elem? (set (state p).views id both) j ≡ some u)). ⊎_elim
       (λ (q : (j ≡ id) × (both ≡ u)). subst (Knows (suc p) j) q.1
-      (free_knows (suc p) j both (k.spans ++ m.spans) (fits_both turns v.answers w.answers k.spans m.spans k.fits m.fits) ended refl))
+      (free_knows (suc p) j both (k.spans ++ m.spans) (fits_both taken turns v.answers w.answers k.spans m.spans k.fits m.fits) ended refl))
       (λ (q : (j ≢ id) × (get_elem? (state p).views j ≡ some u)). others_know p j u (Joins id other) at (λ op e. cc) (knows j u q.1))
       (at_set (state p).views id j both u t.1))
       (at_set (set (state p).views id both) other j spent_view u here)
@@ -228,7 +243,7 @@ module _ (plan : TablePlan) (opened : TableState) (starts : Starts plan opened) 
   first_knows seat v there =
       let first = each_first (first_of plan) (λ u. (u.answers ≡ []) × IsFree u) (refl, refl) seat v
       (subst (λ (x : TableState). get_elem? x.views seat ≡ some v) starts.is there) in
-      free_knows 0 seat v [] (subst (λ ds. Fits turns ds []) (sym first.0) tt) tt first.1
+      free_knows 0 seat v [] (subst (λ ds. Fits taken turns ds []) (sym first.0) tt) tt first.1
 
   all_know : (p : ℕ) → p ≤ length turns → AllKnow p
   all_know zero up = first_knows
@@ -237,7 +252,7 @@ module _ (plan : TablePlan) (opened : TableState) (starts : Starts plan opened) 
       turn_knows p t.0 t.1 (made plan opened starts turns s' run p t.0 t.1) (all_know p (omega arith))
 
   -- so of the calls of which a pass knows each is one of the run
-  pub know : (seat : ℕ) (v : View) → get_elem? s'.views seat ≡ some v → (spans : List Span) × Fits turns v.answers spans
+  pub know : (seat : ℕ) (v : View) → get_elem? s'.views seat ≡ some v → (spans : List Span) × Fits taken turns v.answers spans
   know seat v there =
       let k = all_know (length turns) (omega arith) seat v
       (subst (λ (x : TableState). get_elem? x.views seat ≡ some v) (at_end plan.last_card opened turns s' run) there) in
@@ -249,14 +264,25 @@ at_calls [] i x e = absurd (some-ne-none x (sym e))
 at_calls (y ∷ ys) zero x e = ap (λ (z : Item). some (z.op, z.reply)) (some-injective y x e)
 at_calls (y ∷ ys) (suc i) x e = at_calls ys i x e
 
-module _ (plan : TablePlan) (opened : TableState) (turns : List Turn) (s' : TableState) (lin : IsLinearized plan opened turns s') where
+-- so do those before them
+ops_before : (xs : List Item) (k : ℕ) → ops_in (take k (calls_of xs)) ≡ ops_of (take k xs)
+ops_before xs zero = refl
+ops_before [] (suc k) = refl
+ops_before (x ∷ xs) (suc k) = ap (λ (os : List Op). x.op ∷ os) (ops_before xs k)
+
+module _ (plan : TablePlan) (opened : TableState) (turns : List Turn) (s' : TableState) (lin : IsLinearized plan opened turns s') (takes : Takes) where
+  -- where a call stands that took a value, one thread has its key with the value
+  abbrev pub TakesThere : Type 0
+  TakesThere = (i : ℕ) (op : Op) (value : ℕ) → takes i op value → (k : ℕ) (said : Reply) → StandsIn lin.order k (record { begin = i; op = op; reply = said })
+      → final (contents_of plan.start) (ops_of (take k lin.order)) (key_of op) ≡ Some value
+
   -- the places of such calls in the run's sequence
-  abbrev pub places_of : (ds : List Deed) (cs : List Span) → Fits turns ds cs → List ℕ
+  abbrev pub places_of : (ds : List Deed) (cs : List Span) → Fits takes turns ds cs → List ℕ
   places_of [] cs h = []
   places_of (d ∷ ds) [] h = []
-  places_of (d ∷ ds) (c ∷ cs) h = (lin.calls.ended c.begin c.end d.op d.said h.0).0 ∷ places_of ds cs h.2
+  places_of (d ∷ ds) (c ∷ cs) h = (lin.calls.ended c.begin c.end d.op d.said h.0).0 ∷ places_of ds cs h.3
 
-  below : (c : Span) (op : Op) (said : Reply) (mine : HasItem lin.order (record { begin = c.begin; op = op; reply = said })) (ds : List Deed) (cs : List Span) (h : Fits turns ds cs)
+  below : (c : Span) (op : Op) (said : Reply) (mine : HasItem lin.order (record { begin = c.begin; op = op; reply = said })) (ds : List Deed) (cs : List Span) (h : Fits takes turns ds cs)
       (n : ℕ) → Earlier n c.begin cs → AreBelow n mine.0 (places_of ds cs h)
   below c op said mine ds cs h zero e = tt
   below c op said mine [] [] h (suc n) e = absurd e
@@ -265,16 +291,21 @@ module _ (plan : TablePlan) (opened : TableState) (turns : List Turn) (s' : Tabl
   below c op said mine (d ∷ ds) (b ∷ cs) h (suc n) e =
       let its = lin.calls.ended b.begin b.end d.op d.said h.0 in (
         lin.keeps its.0 mine.0 (record { begin = b.begin; op = d.op; reply = d.said }) (record { begin = c.begin; op = op; reply = said }) its.1 mine.1 b.end h.0 e.0,
-        below c op said mine ds cs h.2 n e.1,
+        below c op said mine ds cs h.3 n e.1,
       )
 
-  pub stand_of : (ds : List Deed) (cs : List Span) (h : Fits turns ds cs) → StandAt (calls_of lin.order) ds (places_of ds cs h)
-  stand_of [] [] h = tt
-  stand_of [] (c ∷ cs) h = absurd h
-  stand_of (d ∷ ds) [] h = absurd h
-  stand_of (d ∷ ds) (c ∷ cs) h =
+  took_there : (k : ℕ) (op : Op) (value : ℕ) → final (contents_of plan.start) (ops_of (take k lin.order)) (key_of op) ≡ Some value
+      → final (contents_of plan.start) (ops_in (take k (calls_of lin.order))) (key_of op) ≡ Some value
+  took_there k op value e = ap (λ ops. final (contents_of plan.start) ops (key_of op)) (ops_before lin.order k) ∙ e
+
+  pub stand_of : TakesThere → (ds : List Deed) (cs : List Span) (h : Fits takes turns ds cs) → StandAt (contents_of plan.start) (calls_of lin.order) ds (places_of ds cs h)
+  stand_of there [] [] h = tt
+  stand_of there [] (c ∷ cs) h = absurd h
+  stand_of there (d ∷ ds) [] h = absurd h
+  stand_of there (d ∷ ds) (c ∷ cs) h =
       let its = lin.calls.ended c.begin c.end d.op d.said h.0 in (
         at_calls lin.order its.0 (record { begin = c.begin; op = d.op; reply = d.said }) its.1,
-        below c d.op d.said its ds cs h.2 d.before h.1,
-        stand_of ds cs h.2,
+        λ value took. took_there its.0 d.op value (there c.begin d.op value (h.1 value took) its.0 d.said its.1),
+        below c d.op d.said its ds cs h.3 d.before h.2,
+        stand_of there ds cs h.3,
       )

@@ -1,4 +1,4 @@
-use Rattle.std.proofs.Common.{◌≡◌, ◌≢◌, ℕ, zero, suc, ◌<◌, ◌⊎◌, List, [], ◌∷◌, map, inl, inr, refl, sym, ap, ◌∙◌, subst, arith}
+use Rattle.std.proofs.Common.{◌≡◌, ℕ, zero, suc, List, [], ◌∷◌, inl, inr, refl, sym, ap, ◌∙◌, subst, arith}
 use Rattle.std.proofs.lemmas.Bool.{cases_lt}
 use mathlib.Core.Option.{some, some-injective, some-ne-none}
 use lib.ListN.{get_elem?}
@@ -9,10 +9,8 @@ use Rattle.ell_ops.specs.Contents.{contents_of}
 use Rattle.ell_cards.specs.declared.call.Call.TheVariants as call
 use Rattle.ell_cards.specs.Models.{TablePlan}
 use Rattle.ell_cards.specs.States.{TableState}
-use Rattle.ell_cards.specs.Turns.{Turn, Makes, TableRun}
-use Rattle.ell_cards.specs.Starts.{Starts}
-use Rattle.ell_cards.specs.Meanwhile.{KeepOn}
-use Rattle.ell_cards.specs.Linearizing.{IsAnswered, Item, AnswersEndCalls, IsLinearized}
+use Rattle.ell_cards.specs.Turns.{Turn, Makes}
+use Rattle.ell_cards.specs.Linearizing.{IsAnswered, AnswersEndCalls, IsLinearized}
 use Rattle.ell_cards.specs.Histories.{Event, Begins, Ends, IsCall, IsLinearizable, event_of, history_of, HistoriesAreLinearizable}
 use Rattle.ell_cards.proofs.lemmas.runs.Linearizing.{runs_are_linearizable}
 

@@ -36,13 +36,13 @@ module _ (plan : TablePlan) (opened : TableState) (starts : Starts plan opened) 
 
   -- an item that is a call which changes the tree, at its turn
   pub record IsChanging (x : Placed) : Type 0 where
-    changes : Changes x.item.begin x.at x.item.op
+    pub changes : Changes x.item.begin x.at x.item.op
     says : x.item.reply ≡ reply_of_change x.item.op
 
   -- one that is a call which answered at a leaf, at its point
   pub record IsReading (x : Placed) (j : ℕ) : Type 0 where
-    answered : IsAnswered turns x.item.begin j x.item.op x.item.reply
-    leaf : KnowsAnswerAtLeaf (called plan opened starts turns s' run x.item.begin j x.item.op x.item.reply answered).answers.view x.item.op x.item.reply
+    pub answered : IsAnswered turns x.item.begin j x.item.op x.item.reply
+    pub leaf : KnowsAnswerAtLeaf (called plan opened starts turns s' run x.item.begin j x.item.op x.item.reply answered).answers.view x.item.op x.item.reply
     low : x.item.begin < x.at
     high : x.at ≤ j
     reads : x.past ≡ x.at
@@ -83,7 +83,7 @@ module _ (plan : TablePlan) (opened : TableState) (starts : Starts plan opened) 
   pub record Changing (p : ℕ) : Type 0 where
     list : List Placed
     right : AreRight map_at (length turns) p list
-    each : (x : Placed) → In x list → (p ≤ x.at) × IsChanging x
+    pub each : (x : Placed) → In x list → (p ≤ x.at) × IsChanging x
     all : (k : ℕ) (t : Turn) (op : Op) → p ≤ k → get_elem? turns k ≡ some t → turn_effect (at_turn k) t ≡ op ∷ [] → (x : Placed) × In x list × (x.at ≡ k)
     apart : AreApart list
 
@@ -192,7 +192,7 @@ module _ (plan : TablePlan) (opened : TableState) (starts : Starts plan opened) 
   -- the calls that answer at a leaf from a turn on
   pub record Reading (p : ℕ) : Type 0 where
     list : List Placed
-    each : (x : Placed) → In x list → (j : ℕ) × (p ≤ j) × IsReading x j
+    pub each : (x : Placed) → In x list → (j : ℕ) × (p ≤ j) × IsReading x j
     all : (i j : ℕ) (op : Op) (said : Reply) → p ≤ j → IsAnswered turns i j op said → IsKept list i op said
     apart : AreApart list
 
@@ -314,7 +314,7 @@ module _ (plan : TablePlan) (opened : TableState) (starts : Starts plan opened) 
       ]
 
   -- a call that answers at a leaf does not change the tree
-  crossed : (i k j p : ℕ) (op o : Op) (said : Reply) (h : IsAnswered turns i j op said)
+  pub crossed : (i k j p : ℕ) (op o : Op) (said : Reply) (h : IsAnswered turns i j op said)
       → KnowsAnswerAtLeaf (called plan opened starts turns s' run i j op said h).answers.view op said → Changes k p o → i ≢ k
   crossed i k j p op o said h leaf g e =
       let g' = subst (λ n. Changes n p o) (sym e) g in

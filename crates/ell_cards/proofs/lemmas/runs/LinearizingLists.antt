@@ -1,4 +1,4 @@
-use Rattle.std.proofs.Common.{◌≡◌, ◌≢◌, ℕ, zero, suc, ◌≤◌, ◌⊎◌, List, [], ◌∷◌, inl, inr, refl, sym, ap, ap₂, ◌∙◌, subst, arith}
+use Rattle.std.proofs.Common.{◌≡◌, ◌≢◌, ℕ, zero, suc, ◌≤◌, ◌⊎◌, List, [], ◌∷◌, take, inl, inr, refl, sym, ap, ap₂, ◌∙◌, subst, arith}
 use Rattle.std.proofs.lemmas.Bool.{cases_lt}
 use mathlib.Core.Option.{some, some-injective, some-ne-none}
 use lib.ListN.{get_elem?}
@@ -63,6 +63,15 @@ module _ (map : ℕ → Contents) (last : ℕ) where
   right_leaves first (x ∷ xs) h =
       let same = h.0.same x.at h.0.up (omega arith) in
       ap (λ m. final m (ops_of (items_of xs))) (sym (ap (after x.item.op) same) ∙ h.1.goes) ∙ right_leaves x.past xs h.2
+
+  -- the map at the point of each is what those before it leave
+  pub right_map : (first : ℕ) (xs : List Placed) → AreRight map last first xs → (k : ℕ) (x : Placed) → get_elem? xs k ≡ some x
+      → map x.at ≡ final (map first) (ops_of (take k (items_of xs)))
+  right_map first [] h k x e = absurd (some-ne-none x (sym e))
+  right_map first (y ∷ ys) h zero x e = ap (λ (z : Placed). map z.at) (sym (some-injective y x e)) ∙ h.0.same y.at h.0.up (omega arith)
+  right_map first (y ∷ ys) h (suc k) x e =
+      let same = h.0.same y.at h.0.up (omega arith) in
+      right_map y.past ys h.2 k x e ∙ ap (λ m. final m (ops_of (take k (items_of ys)))) (sym h.1.goes ∙ ap (after y.item.op) same)
 
   stays_from : (first mid : ℕ) → Stays map first last → first ≤ mid → mid ≤ last → Stays map mid last
   stays_from first mid h low high = record {

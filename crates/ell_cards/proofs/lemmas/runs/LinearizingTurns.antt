@@ -13,7 +13,7 @@ use Rattle.ell_cards.specs.States.{TableState}
 use Rattle.ell_cards.specs.Turns.{Turn, Makes, Splits, Joins, found_by}
 use Rattle.ell_cards.specs.TurnEffects.{own_words, PairsChangeBy, IsAtWork, ChangeIsOf, PairsGoBy, IsWonFor, win_of, turn_wins}
 use Rattle.ell_cards.specs.Meanwhile.{KeepsOn, KeepOn}
-use Rattle.ell_cards.specs.Changing.{change_of, effect_of, turn_effect}
+use Rattle.ell_cards.specs.Changing.{change_of, FindsItsValue, effect_of, turn_effect}
 
 -- an insert's card changes the tree by its ichild
 brought_change : (b : Bool) (key was value : ℕ) → change_of (op_brought b key was value) ≡ exchange.IChild ∷ []
@@ -22,6 +22,11 @@ brought_change false key was value = refl
 
 card_change : (w : Words) (c : ℕ) → change_of (op_of_card w c) ≡ exchange.IChild ∷ []
 card_change w c = brought_change (is_replace_card w c) (card_key w c) (w.value (w.l c)) (card_value w c)
+
+-- and it is none that takes its value away
+brought_finds : (b : Bool) (key was value c : ℕ) (w : Words) → FindsItsValue (op_brought b key was value) c w
+brought_finds true key was value c w = tt
+brought_finds false key was value c w = tt
 
 -- a call changes the tree by one operation or not at all
 effect_cases : (y : Call) (b : Bool) (w : Words) → (effect_of y b w ≡ []) ⊎ ((op : Op) × (effect_of y b w ≡ op ∷ []))
@@ -58,6 +63,7 @@ record CallChanges (s : TableState) (y : Call) (b : Bool) (op : Op) : Type 0 whe
   own : (c : ℕ) → (if b then win_of y c else []) ≡ (if c == card then change_of op else [])
   work : ChangeIsOf y b s → IsAtWork s card op
   makes : (new : Words) → PairsChangeBy y b (own_words s) new → MakesChange op (own_words s) new
+  finds : (new : Words) → PairsChangeBy y b (own_words s) new → FindsItsValue op card (own_words s)
   one : sum_by child_changes (change_of op) ≡ 1
   keeps : KeepsOn y
 
@@ -72,12 +78,13 @@ call_changes s (call.IChild d p l q right) true op e =
       own = λ c. ap (λ ks. if c == d then ks else []) (sym (card_change (own_words s) d));
       work = λ h. h;
       makes = λ new h. h;
+      finds = λ new h. brought_finds (is_replace_card (own_words s) d) (card_key (own_words s) d) ((own_words s).value ((own_words s).l d)) (card_value (own_words s) d) d (own_words s);
       one = ap (sum_by child_changes) (card_change (own_words s) d);
       keeps = tt;
     })
 call_changes s (call.DChild d gp p y right) true op e =
     subst (CallChanges s (call.DChild d gp p y right) true) (one_op (Delete (card_key (own_words s) d)) op e)
-    (record { card = d; own = λ c. refl; work = λ h. h; makes = λ new h. (card_value (own_words s) d, h); one = refl; keeps = tt })
+    (record { card = d; own = λ c. refl; work = λ h. h; makes = λ new h. (card_value (own_words s) d, h); finds = λ new h. h.present; one = refl; keeps = tt })
 call_changes s _ b op e = absurd cc
 
 -- the same of a turn
@@ -86,13 +93,14 @@ pub record TurnChanges (s : TableState) (t : Turn) (op : Op) : Type 0 where
   pub own : (c : ℕ) → turn_wins s t c ≡ (if c == card then change_of op else [])
   pub work : IsWonFor s t → IsAtWork s card op
   pub makes : (s' : TableState) → PairsGoBy s t s' → MakesChange op (own_words s) (own_words s')
+  pub finds : (s' : TableState) → PairsGoBy s t s' → FindsItsValue op card (own_words s)
   pub one : sum_by child_changes (change_of op) ≡ 1
   pub keeps : (seat : ℕ) → KeepOn seat (t ∷ [])
 
 pub turn_changes : (s : TableState) (t : Turn) (op : Op) → turn_effect s t ≡ op ∷ [] → TurnChanges s t op
 turn_changes s (Makes seat y) op e =
     let h = call_changes s y (is_won (atomic_of y) (found_by s y)) op e in
-    record { card = h.card; own = h.own; work = h.work; makes = λ s'. h.makes (own_words s'); one = h.one; keeps = λ other. (λ same. h.keeps, tt) }
+    record { card = h.card; own = h.own; work = h.work; makes = λ s'. h.makes (own_words s'); finds = λ s'. h.finds (own_words s'); one = h.one; keeps = λ other. (λ same. h.keeps, tt) }
 turn_changes s (Splits seat left) op e = absurd cc
 turn_changes s (Joins seat other) op e = absurd cc
 

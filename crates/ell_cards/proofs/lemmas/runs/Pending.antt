@@ -1,4 +1,4 @@
-use Rattle.std.proofs.Common.{◌≡◌, ◌≢◌, ℕ, zero, suc, ◌<◌, ◌≤◌, ◌+◌, ◌-◌, ◌⊎◌, ◌==◌, if◌then◌else◌, Bool, true, false, None, List, [], ◌∷◌, length, inl, inr, refl, sym, ap, ◌∙◌, subst, arith}
+use Rattle.std.proofs.Common.{◌≡◌, ℕ, zero, suc, ◌<◌, ◌≤◌, ◌+◌, ◌-◌, ◌⊎◌, ◌==◌, if◌then◌else◌, Bool, true, false, List, [], ◌∷◌, length, inl, inr, refl, sym, ap, ◌∙◌, subst, arith}
 use mathlib.Core.Option.{some, some-injective}
 use lib.ListN.{get_elem?}
 use Rattle.ell_word.specs.Word.{packed, unpacked}
@@ -19,11 +19,10 @@ use Rattle.ell_cards.specs.Starts.{Starts}
 use Rattle.ell_cards.specs.Turns.{Turn, Makes, Splits, Joins, TableTurns, TableRun, found_by}
 use Rattle.ell_cards.specs.Meanwhile.{KeepsOn, KeepOn}
 use Rattle.ell_cards.specs.Linearizing.{KeepsOnBetween, IsAnswered, ChangesAt}
-use Rattle.ell_cards.specs.LayingDown.{IsLaidDown}
-use Rattle.ell_cards.proofs.lemmas.runs.OwnSeat.{Only, SeatGoesOn, turn_seat}
+use Rattle.ell_cards.proofs.lemmas.runs.OwnSeat.{Only, turn_seat}
 use Rattle.ell_cards.proofs.lemmas.runs.LayingDown.{laid_down_calls_change_nothing}
 use Rattle.ell_cards.proofs.lemmas.runs.LinearizingStates.{at_end, turn_inside}
-use Rattle.ell_cards.proofs.lemmas.runs.LinearizingPoints.{Changed, after_turns, made, changed_of, more_on}
+use Rattle.ell_cards.proofs.lemmas.runs.LinearizingPoints.{after_turns, made, changed_of, more_on}
 
 -- a call that neither answers the operation in hand nor lays it down leaves it in hand
 does_claim : (b : Bool) (c : ℕ) (v : View) → (after_claim b c v).worker.operation ≡ v.worker.operation

@@ -5,12 +5,13 @@ use mathlib.Core.Option.{some}
 use Rattle.atomic_table.specs.Table.{Allows, opening, keeps}
 use Rattle.atomic_table.proofs.Lists.{set_else}
 use Rattle.ell_layout.specs.declared.field.Field.{Field}
+use Rattle.ell_layout.specs.declared.field.Field.TheVariants as field
 use Rattle.ell_layout.specs.Layout.{address, table_size}
 use Rattle.ell_layout.specs.Words.{words_of}
 use Rattle.ell_layout.specs.Start.{start_words}
 use Rattle.ell_cards.specs.declared.call.Call.{Call}
 use Rattle.ell_cards.specs.declared.call.Call.TheVariants as call
-use Rattle.ell_cards.specs.declared.view.Told.TheVariants.{Key}
+use Rattle.ell_cards.specs.declared.view.Told.TheVariants.{Key, Value, Info}
 use Rattle.ell_cards.specs.declared.view.View.{View}
 use Rattle.ell_cards.specs.Models.{TablePlan, IsFree, MayPart}
 use Rattle.ell_cards.specs.Changes.{first_of, left_view, right_view, joined_view, spent_view}
@@ -19,7 +20,7 @@ use Rattle.ell_cards.specs.States.{TableState}
 use Rattle.ell_cards.specs.Machines.{HasMachine}
 use Rattle.ell_cards.specs.Turns.{Turn, Makes, Splits, Joins, TableTurns, TableRun}
 use Rattle.ell_cards.specs.Starts.{MayStart, Starts, IsReached, RunFromStart}
-use Rattle.ell_cards.specs.Looking.{KeysAreFixed}
+use Rattle.ell_cards.specs.Looking.{KeysAreFixed, ValuesAreFixed}
 use Rattle.ell_cards.specs.Stepping.{MayLoad, MayStore, MayExchange, MaySplit, MayJoin, IsTaken}
 use Rattle.ell_cards.proofs.lemmas.seats.Seats.{set_there}
 use Rattle.ell_cards.proofs.lemmas.seats.Named.{kept_named}
@@ -72,6 +73,14 @@ module _ (plan : TablePlan) where
       let holds = (reached_kept s h).views id v here in
       sym (holds.entries (Key node key) told).1 ∙ (holds.entries (Key node other) told').1
 
+  -- and none two leaves of one card, or two values of one leaf
+  told_one_value : (s : TableState) → IsReached plan s → (id : ℕ) (v : View) → get_elem? s.views id ≡ some v → ValuesAreFixed v
+  told_one_value s h id v here =
+      let entries = ((reached_kept s h).views id v here).entries in record {
+        leaf = λ c leaf other told told'. sym (entries (Info c field.L leaf) told).2 ∙ (entries (Info c field.L other) told').2;
+        value = λ leaf value other told told'. sym (entries (Value leaf value) told).1 ∙ (entries (Value leaf other) told').1;
+      }
+
   -- a step call is a turn, wherever turns have led the table, and leaves of its pass what the call says
   taken : (c : Call) (v : View) (f : ℕ → ℕ) → ((n : ℕ) → f n ≡ left_by (atomic_of c) n) → May plan.last_card c v
       → (id : ℕ) → Allows (IsReached plan) 0 id (v, []) (word_of c) f (λ n me. IsTaken plan.last_card c v n me.0 × (me.1 ≡ []))
@@ -95,6 +104,7 @@ module _ (plan : TablePlan) where
             tells = (steps_are_events plan.keys plan.last_card s (reached_kept s h) id v c here may).tells;
             own = looks_read_their_own plan s' on id w (set_there s.views id w v here);
             fixed = told_once s' on id w (set_there s.views id w v here);
+            values = told_one_value s' on id w (set_there s.views id w v here);
             keys = keys_stay c n v;
             share = same_share c n v;
             named = kept_named plan.keys plan.last_card s' (reached_kept s' on) id w (set_there s.views id w v here);
@@ -117,7 +127,7 @@ module _ (plan : TablePlan) where
       (λ id s h homes here small.
       let x = taken (call.Fill c f value) v (λ n. value) (λ n. refl) may id s h homes here small in
       let t = x.4.0 in
-      (x.0, x.1, x.2, x.3, (record { view = t.view; tells = tt; own = t.own; fixed = t.fixed; keys = t.keys; share = t.share; named = t.named }, x.4.1)))
+      (x.0, x.1, x.2, x.3, (record { view = t.view; tells = tt; own = t.own; fixed = t.fixed; values = t.values; keys = t.keys; share = t.share; named = t.named }, x.4.1)))
 
   either_is : (b : Bool) (x y : ℕ) → either b x y ≡ (if b then x else y)
   either_is true x y = refl

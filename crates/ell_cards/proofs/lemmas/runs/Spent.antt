@@ -20,7 +20,7 @@ use Rattle.ell_cards.specs.declared.call.Call.TheVariants as call
 use Rattle.ell_cards.specs.declared.view.Deed.{Deed}
 use Rattle.ell_cards.specs.declared.view.View.{View}
 use Rattle.ell_cards.specs.Models.{TablePlan, IsFree, whole_share}
-use Rattle.ell_cards.specs.Changes.{first_of, ownable_if, left_view, right_view, joined_view, spent_view, united_ledgers, inherited, after_claim, after_flag, after_mark, is_mark_of, with_fact, unmarking}
+use Rattle.ell_cards.specs.Changes.{first_of, ownable_if, left_view, right_view, joined_view, united_ledgers, inherited, after_claim, after_flag, after_mark, is_mark_of, with_fact, unmarking}
 use Rattle.ell_cards.specs.Calls.{after, May}
 use Rattle.ell_cards.specs.States.{TableState}
 use Rattle.ell_cards.specs.Turns.{Turn, Makes, Splits, Joins, TableTurns, TableRun, found_by}

@@ -1,10 +1,6 @@
-use Rattle.std.proofs.Common.{◌≡◌, ℕ, ◌≤◌, Bool, true, List, ◌∙◌, refl, arith}
-use mathlib.Core.Option.{some}
-use lib.ListN.{get_elem?}
+use Rattle.std.proofs.Common.{ℕ, ◌∙◌, refl, arith}
 use Rattle.ell_cards.specs.declared.view.View.{View}
 use Rattle.ell_cards.specs.Models.{TablePlan}
-use Rattle.ell_cards.specs.States.{TableState}
-use Rattle.ell_cards.specs.Starts.{IsReached}
 use Rattle.ell_cards.specs.Histories.{history_of}
 use Rattle.ell_cards.specs.Stepping.{MayLoad, IsTaken}
 use Rattle.ell_cards.specs.declared.call.Call.TheVariants as call
@@ -13,8 +9,7 @@ use Rattle.ell_cards.proofs.lemmas.seats.Seats.{set_there}
 use Rattle.ell_cards.proofs.lemmas.runs.Reaching.{may_load}
 use Rattle.ell_cards.proofs.lemmas.runs.Histories.{linear_of}
 use Rattle.ell_cards.proofs.lemmas.runs.Spent.{all_there}
-use Rattle.ell_cards.proofs.lemmas.runs.Deeds.{know, places_of, stand_of}
-use Rattle.ell_cards.proofs.lemmas.runs.Accounts.{total_within, total_one, lin, few_counts, same_counts}
+use Rattle.ell_cards.proofs.lemmas.runs.Accounts.{total_within, total_one, lin, stands, few_counts, same_counts}
 
 -- the history of the run that led there is such
 pub stories_are_told : StoriesAreTold
@@ -25,10 +20,8 @@ stories_are_told plan s h seat v here = record {
       let own = total_within such s.views seat v here in
       let few = few_counts plan h.first h.starts h.turns s h.run such in
       omega arith;
-  places = places_of plan h.first h.turns s (lin plan h.first h.starts h.turns s h.run) v.answers (know plan h.first h.starts h.turns s h.run seat v here).0
-      (know plan h.first h.starts h.turns s h.run seat v here).1;
-  stand = stand_of plan h.first h.turns s (lin plan h.first h.starts h.turns s h.run) v.answers (know plan h.first h.starts h.turns s h.run seat v here).0
-      (know plan h.first h.starts h.turns s h.run seat v here).1;
+  places = (stands plan h.first h.starts h.turns s h.run seat v here).places;
+  stand = (stands plan h.first h.starts h.turns s h.run seat v here).stand;
   all = λ mode whole free such.
       let there = all_there plan s mode h seat v here whole free in
       same_counts plan h.first h.starts h.turns s h.run there.free such ∙ total_one such s.views seat v here there.silent;

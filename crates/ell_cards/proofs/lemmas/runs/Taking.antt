@@ -31,7 +31,7 @@ use Rattle.ell_cards.proofs.lemmas.runs.AsMap.{trees_are_of_one_thread, runs_on,
 use Rattle.ell_cards.proofs.lemmas.runs.Answering.{answers_with_card}
 
 -- the value that goes with a delete's card before its child exchange is the one that a pass is told of the card's leaf later
-told_is_value : (keys : List ℕ) (cards : ℕ) (s : TableState) (r : HasMachine keys cards s) (t : Turn) (next : TableState) → TableTurns cards s t next → (c : ℕ)
+pub told_is_value : (keys : List ℕ) (cards : ℕ) (s : TableState) (r : HasMachine keys cards s) (t : Turn) (next : TableState) → TableTurns cards s t next → (c : ℕ)
     → turn_wins s t c ≡ exchange.DChild ∷ [] → (turns : List Turn) (s' : TableState) → TableRun cards s turns s' → (seat : ℕ) (v : View) → get_elem? s'.views seat ≡ some v
     → (leaf value : ℕ) → IsTold v (Info c field.L leaf) → IsTold v (Value leaf value) → card_value (own_words s) c ≡ value
 told_is_value keys cards s r t next now c wins turns s' run seat v there leaf value told_leaf told_value =

@@ -10,6 +10,7 @@ use Rattle.ell_cards.proofs.lemmas.runs.Taking.{deletes_take_the_told_value}
 use Rattle.ell_tree.specs.CardsTaken.{cards_taken}
 use Rattle.ell_tree.specs.Hindrances.{way_of}
 use Rattle.ell_tree.specs.Searches.{seen_any, below}
+use Rattle.ell_tree.proofs.lemmas.Called.{takes_told}
 use Rattle.ell_tree.proofs.lemmas.Keeping.{inner_kept, share_trans}
 use Rattle.ell_tree.proofs.lemmas.Owning.{keeps_answers, had_value, would_delete}
 use Rattle.ell_tree.proofs.lemmas.Meeting.{meets_trans, meets_more, above_way, parent_way, nowhere_way, way_over, way_free, no_way}
@@ -253,12 +254,15 @@ returns-clause-took g c =
     c.in-Some.above c.in-Some.is c.requires.searched.busy ends.at c.in-Card.ensures.claims.0 in
     let value = c.flag_delete.ensures.keeps.view.told _ (c.take_card.ensures.keeps.view.told _ ends.at.value_told) in
     let on = c.finish_own.ensures.keeps_but_met.keeps.view.told in
-    record {
-      mine = had_value c.args.table.now.plan.last_card a a refl place c.args.key ends c.requires.key;
-      took = deletes_take_the_told_value c.args.table.now.plan new.view c.args.key card place.leaf place.value
-          (said.ensures.last ∙ (ap (λ o. answered_so o m.view.worker.card Yes) busy ∙ ap (λ o. answered_so (Some (Delete c.args.key)) o Yes) hand))
-          (stays _ (on _ leaf)) (stays _ (on _ value));
-    }
+    let same = c.finish_own.ensures.keeps_but_met.keeps.view.answers ∙ (c.flag_delete.ensures.keeps.view.answers ∙ c.take_card.ensures.keeps.view.answers) in (
+      record {
+        mine = had_value c.args.table.now.plan.last_card a a refl place c.args.key ends c.requires.key;
+        took = deletes_take_the_told_value c.args.table.now.plan new.view c.args.key card place.leaf place.value
+            (said.ensures.last ∙ (ap (λ o. answered_so o m.view.worker.card Yes) busy ∙ ap (λ o. answered_so (Some (Delete c.args.key)) o Yes) hand))
+            (stays _ (on _ leaf)) (stays _ (on _ value));
+      },
+      takes_told a m new c.args.key card place.leaf place.value same busy hand said.ensures.deeds said.ensures.told said.ensures.values (stays _ (on _ leaf)) (stays _ (on _ value)),
+    )
 
 -- the cards of each
 pub returns-then-ne-clause-taken : goal.returns-then-ne-clause-taken

@@ -1,5 +1,6 @@
 use Rattle.std.proofs.Common.{◌∙◌, rules}
 use Rattle.ell_ops.specs.declared.op.Op.TheVariants.{Delete}
+use Rattle.ell_tree.proofs.lemmas.Called.{takes_none}
 use Rattle.ell_tree.proofs.lemmas.Owning.{keeps_answers, had_none}
 use Rattle.ell_tree.proofs.lemmas.Meeting.{meets_trans}
 use Rattle.ell_tree.proofs.lemmas.Halting.{seek_meets, said_meets}
@@ -27,11 +28,14 @@ returns-then-place-key-clause-ends g c =
 -- nothing was there to take
 pub returns-then-place-key-clause-took : goal.returns-then-place-key-clause-took
 returns-then-place-key-clause-took g c =
-    let s = c.search-place in
-    record {
-      mine = had_none c.args.table.now.plan.last_card c.args.pass.now s.new.pass s.ensures.keeps_but_search.keeps.view.ledger s.result c.args.key s.ensures.ends (search rules);
-      took = tt;
-    }
+    let s = c.search-place in (
+      record {
+        mine = had_none c.args.table.now.plan.last_card c.args.pass.now s.new.pass s.ensures.keeps_but_search.keeps.view.ledger s.result c.args.key s.ensures.ends (search rules);
+        took = tt;
+      },
+      takes_none c.args.pass.now s.new.pass c.answer.new.pass c.args.key s.ensures.keeps_but_search.keeps.view.answers
+          (s.ensures.keeps_but_search.keeps.view.operation ∙ c.requires.root.busy) c.answer.ensures.deeds,
+    )
 
 -- and otherwise what came after the search is what came of the try
 pub returns-clause-ends : goal.returns-clause-ends

@@ -252,7 +252,8 @@ returns-in-Answered-clause-takes g c =
     let l = c.loop-round in
     let i = l.invariant in
     let begins = c.restart.ensures.begins c.args.op i.stops.busy (λ none. i.root (eqb-true l.round 0 none)) in
-    takes_before_it c.args.table.now c.args.op c.in-Answered.had c.args.pass.now c.restart.new.pass c.try_once.new.pass (begins.ledger ∙ i.ledger) c.in-Answered.ensures.takes
+    takes_before_it c.args.table.now c.args.op c.in-Answered.had c.args.pass.now c.restart.new.pass c.try_once.new.pass (begins.ledger ∙ i.ledger) (begins.answers ∙ i.answers)
+    c.in-Answered.ensures.takes
 
 pub returns-in-Answered-clause-cards : goal.returns-in-Answered-clause-cards
 returns-in-Answered-clause-cards g c =

@@ -1,11 +1,13 @@
-use Rattle.std.proofs.Common.{◌≡◌, ◌+◌, Some, true, false, is_some, ap, ◌∙◌, subst, rules, arith}
+use Rattle.std.proofs.Common.{◌≡◌, ◌+◌, Some, Ok, true, false, is_some, ap, ◌∙◌, subst, rules, arith}
 use Rattle.ell_ops.specs.declared.op.Op.TheVariants.{Delete}
 use Rattle.ell_ops.specs.declared.reply.Reply.TheVariants.{Yes}
 use Rattle.ell_ops.specs.Meaning.{yes_if}
 use Rattle.ell_cards.proofs.lemmas.runs.Tries.{more_tries}
+use Rattle.ell_tree.specs.Called.{IsTakeCalled}
 use Rattle.ell_tree.specs.Ends.{Answers, TakesValue, is_value}
 use Rattle.ell_tree.specs.Searches.{there_at}
 use Rattle.ell_tree.specs.declared.trying.Tried.TheVariants.{Hindered, Spent}
+use Rattle.ell_tree.proofs.lemmas.Called.{take_before}
 use Rattle.ell_tree.proofs.lemmas.Computing.{untouched_still}
 use Rattle.ell_tree.proofs.lemmas.Hindrances.{halts_hindered, one_hindered}
 use Rattle.ell_tree.proofs.lemmas.Keeping.{share_trans}
@@ -83,9 +85,11 @@ returns-in-Answered-clause-removes g c =
     let that : is_value c.args.was (there_at s.result key) ≡ true = search rules in
     let had : c.in-Answered.field-0 ≡ Some c.args.was = c.in-Answered.ensures.value ∙ ap Some (at_that s.result key c.args.was that).1 in
     let yes : Answers t op Yes s.new.pass d = subst (λ o. Answers t op (yes_if (is_some o)) s.new.pass d) had c.in-Answered.ensures.ends.0 in
-    let took : TakesValue t key s.new.pass d (Some c.args.was) = subst (λ o. TakesValue t key s.new.pass d o) had c.in-Answered.ensures.took in (
+    let took : TakesValue t key s.new.pass d (Some c.args.was) × IsTakeCalled key s.new.pass d (Ok (Some c.args.was)) =
+    subst (λ o. TakesValue t key s.new.pass d o × IsTakeCalled key s.new.pass d (Ok o)) had c.in-Answered.ensures.took in (
       answers_before t op Yes a b d begins.table begins.label begins.ledger begins.answers begins.share (keeps_answers t op Yes b s.new.pass d _ keeps yes),
-      takes_before t key (Some c.args.was) a s.new.pass d (keeps.view.ledger ∙ begins.ledger) took,
+      takes_before t key (Some c.args.was) a s.new.pass d (keeps.view.ledger ∙ begins.ledger) took.0,
+      take_before key (Some c.args.was) a s.new.pass d (keeps.view.answers ∙ begins.answers) took.1,
     )
 
 -- no card was left, or something was in the way: so it was

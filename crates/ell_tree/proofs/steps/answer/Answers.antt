@@ -4,9 +4,10 @@ use Rattle.ell_ops.specs.declared.op.Op.{Op}
 use Rattle.ell_ops.specs.Meaning.{key_of, reply_of, after}
 use Rattle.ell_core.specs.state.Machine.{ledger_of}
 use Rattle.ell_tree.specs.Ledgers.{present_in, Owns, ledger}
+use Rattle.ell_tree.proofs.lemmas.Called.{of_taken}
 use Rattle.ell_tree.proofs.steps.answer.Goals as goal
 use Rattle.ell_cards.proofs.lemmas.runs.Answering.{answers_have_their_points}
-use Rattle.ell_cards.specs.Changes.{answered_so, deed_of, with_answer}
+use Rattle.ell_cards.specs.Changes.{answered_so, deed_taking, taken_by, with_answer}
 use Rattle.ell_cards.specs.Accounts.{own_calls}
 use Rattle.ell_cards.specs.Models.{PassModel}
 
@@ -22,8 +23,9 @@ returns-clause-answers g c op busy =
     let old = c.args.pass.now in
     let new = c.answer.new.pass in
     let is : a.op ≡ op = same_Some a.op op (sym a.busy ∙ busy) in
-    let called : new.view.answers ≡ deed_of op c.args.said old.view.answers ∷ old.view.answers =
-    ap (λ (p : PassModel). p.view.answers) c.answer.ensures.step ∙ ap (λ o. with_answer o c.args.said old.view.answers) busy in
+    let called : new.view.answers ≡ deed_taking op c.args.said (taken_by (Some op) old.view.worker.card c.args.said old.view.told) old.view.answers ∷ old.view.answers =
+    ap (λ (p : PassModel). p.view.answers) c.answer.ensures.step
+    ∙ ap (λ o. with_answer o c.args.said (taken_by o old.view.worker.card c.args.said old.view.told) old.view.answers) busy in
     record {
       table = search rules;
       label = search rules;
@@ -35,6 +37,6 @@ returns-clause-answers g c op busy =
       share = search rules;
       owned = λ key. (λ has none. has ((a.owned key).1 none), λ has none. has ((a.owned key).0 none));
       answered = let more = ap (λ l. length (own_calls l)) called in omega arith;
-      called = called;
+      called = of_taken op old.view.worker.card c.args.said old.view.told (λ deed. new.view.answers ≡ deed old.view.answers ∷ old.view.answers) called;
       idle = search rules;
     }

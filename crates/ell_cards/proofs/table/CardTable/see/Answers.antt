@@ -25,3 +25,6 @@ returns-clause-looked g c = c.load_as.ensures.told.own
 
 pub returns-clause-fixed : goal.returns-clause-fixed
 returns-clause-fixed g c = c.load_as.ensures.told.fixed
+
+pub returns-clause-values : goal.returns-clause-values
+returns-clause-values g c = c.load_as.ensures.told.values
