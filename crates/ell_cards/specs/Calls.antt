@@ -26,6 +26,7 @@ use Rattle.ell_cards.specs.declared.view.View.{View}
 use Rattle.ell_cards.specs.Models.{IsTold, IsFree, Does, StandsAt, InTable, KnowsDelete, EndWasUnknown}
 use Rattle.ell_cards.specs.Changes.{counted, with_fact, if_won, exchanged, after_begin, after_again, after_leave, after_answer, after_upd, after_claim, after_flag, after_mark, glance_down, is_this, told_info, after_fill}
 use Rattle.ell_cards.specs.Guards.{MayBegin, MayAnswer, MayRead, MayGoDown, MayAsk, KnowsPlace, MayLookDown, MayClaim, MayFill, MayIFlag, MayDFlag, MayIChild, MayMark, MayDChild}
+use Rattle.ell_core.specs.tree.Rank.{rank}
 
 -- the address of the update word of a node
 abbrev pub update_address : ℕ → ℕ
@@ -215,13 +216,14 @@ TellsLedgerValue v x value =
     (op : Op) → Does v op → StandsAt v x → v.here ≡ Some (key_of op) → ledger_of v.worker.ledger (key_of op) ≢ None
     → contents_in (ledger_of v.worker.ledger) (key_of op) ≡ Some value
 
--- where a card goes is ever deeper: a delete's parent below its grandparent, and a leaf below the parent
+-- where a card goes is ever deeper, by the ranks of nodes: a delete's parent below its grandparent, and a leaf below
+-- the parent
 abbrev pub TellsDepth : View → ℕ → Field → ℕ → Type 0
-TellsDepth v c field.Gp x = KnowsDelete v c → (p : ℕ) → IsTold v (Info c field.P p) → x < p
+TellsDepth v c field.Gp x = KnowsDelete v c → (p : ℕ) → IsTold v (Info c field.P p) → rank x < rank p
 TellsDepth v c field.P x =
-    (KnowsDelete v c → (gp : ℕ) → IsTold v (Info c field.Gp gp) → gp < x)
-    × ((l : ℕ) → IsTold v (Info c field.L l) → x < l)
-TellsDepth v c field.L x = (p : ℕ) → IsTold v (Info c field.P p) → p < x
+    (KnowsDelete v c → (gp : ℕ) → IsTold v (Info c field.Gp gp) → rank gp < rank x)
+    × ((l : ℕ) → IsTold v (Info c field.L l) → rank x < rank l)
+TellsDepth v c field.L x = (p : ℕ) → IsTold v (Info c field.P p) → rank p < rank x
 TellsDepth v c _ x = Unit {0}
 
 -- a word of a card that names a node names one of the table; grandparent and parent are internal
@@ -238,14 +240,14 @@ Tells last (call.Answer said) v n =
     × (v.next_at_least ≤ last + 1)
 Tells last call.Leave v n = v.next_at_least ≤ last + 1
 Tells last (call.Upd x) v n = ((unpacked n).card ≤ last) × EndWasUnknown v (unpacked n).state (unpacked n).card
-Tells last (call.Down x right) v n = (x < n) × InTable last n
+Tells last (call.Down x right) v n = (rank x < rank n) × InTable last n
 Tells last call.Next v n = (1 ≤ n) × (n ≤ last + 1) × (v.next_at_least ≤ n)
 Tells last (call.KeyOf x) v n = TellsLeaf v x n
 Tells last (call.ValueOf x) v n = TellsLedgerValue v x n
 Tells last (call.Info c f) v n = TellsNode last f n × TellsDepth v c f n
-Tells last (call.FrozenChild c p right) v n = (p < n) × InTable last n
-Tells last call.Look v n = (0 < n) × InTable last n
-Tells last (call.LookDown from key right) v n = (from.node < n) × InTable last n
+Tells last (call.FrozenChild c p right) v n = (rank p < rank n) × InTable last n
+Tells last call.Look v n = (rank 0 < rank n) × InTable last n
+Tells last (call.LookDown from key right) v n = (rank from.node < rank n) × InTable last n
 Tells last (call.IFlag c p from) v n = (unpacked n).card ≤ last
 Tells last (call.DFlag c gp from) v n = (unpacked n).card ≤ last
 Tells last (call.Mark c p was) v n = (unpacked n).card ≤ last

@@ -76,6 +76,7 @@ pub use Rattle.ell_layout.specs.Cards
 pub use Rattle.ell_layout.specs.Layout
 pub use Rattle.ell_core.specs.state.Machine
 pub use Rattle.ell_core.specs.state.Opening
+pub use Rattle.ell_core.specs.tree.Rank
 pub use Rattle.ell_layout.specs.Words
 pub use Rattle.ell_core.specs.acts.Searching
 pub use Rattle.ell_core.specs.statements.Effects

@@ -4,6 +4,7 @@ ghost use Rattle.std.specs.Prelude.{◌≡◌, ◌≢◌, ◌≤◌, ◌<◌, is
 ghost use Rattle.ell_word.specs.Word.{packed, unpacked};
 ghost use Rattle.ell_core.specs.declared.exchange.Exchange.TheVariants as exchange;
 ghost use Rattle.ell_core.specs.declared.fact.Fact.TheVariants.{IChanged, IOver, Marked, Unmarkable, Cut, DOver, Backed};
+ghost use Rattle.ell_core.specs.tree.Rank.{rank};
 ghost use Rattle.ell_layout.specs.declared.field.Field.TheVariants.{Gp, P};
 ghost use Rattle.ell_layout.specs.Cards.{iflag, dflag};
 ghost use Rattle.ell_cards.specs.Models.{Steps, InTable};
@@ -45,8 +46,8 @@ impl<A: Allocator + Copy> CardTable<A> {
         requires may { KnowsPlace pass.old.view (Marked card) card P parent }
         // It makes one step and counts it. The pass then knows exactly what this call tells.
         ensures step { Steps pass.old pass.new (after (call.FrozenChild card parent right) result pass.old.view) }
-        // The child has a greater number, and is a node of the table.
-        ensures greater { parent < result }
+        // The child has a greater rank, and is a node of the table.
+        ensures greater { rank parent < rank result }
         ensures there { InTable self.now.plan.last_card result }
     {
         self.names(pass);

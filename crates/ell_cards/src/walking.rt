@@ -2,6 +2,7 @@
 //! each node, so those calls leave it to their caller to count the step ([`Pass::count`]).
 ghost use Rattle.std.specs.Prelude.{◌≡◌, ◌≤◌, ◌<◌, ◌+◌, Some};
 ghost use Rattle.ell_core.specs.state.Machine.{ledger_of, worker_of};
+ghost use Rattle.ell_core.specs.tree.Rank.{rank};
 ghost use Rattle.ell_layout.specs.Words.{IsLeaf};
 ghost use Rattle.ell_core.specs.statements.Effects.{AnswersAsMap};
 ghost use Rattle.ell_core.specs.acts.Searching.{MayStop};
@@ -93,15 +94,15 @@ impl<A: Allocator + Copy> CardTable<A> {
         unpack(self.see(pass, Call::Upd(node), update_address(node)))
     }
 
-    /// Goes down from the internal node where the pass stands to the child on its key's side: a greater node of the table.
+    /// Goes down from the internal node where the pass stands to the child on its key's side: a node of the table of greater rank.
     #[inline(always)]
     pub fn down(&self, pass: &mut Pass<A>, node: u64, right: bool) -> u64
         requires own { pass.old.table ≡ self.now.id }
         requires may { MayGoDown pass.old.view node right }
         // It makes one step, which the caller has to count. The pass then knows exactly what this call tells.
         ensures step { Sees pass.old pass.new (after (call.Down node right) result pass.old.view) }
-        // The child has a greater number, and is a node of the table.
-        ensures greater { node < result }
+        // The child has a greater rank, and is a node of the table.
+        ensures greater { rank node < rank result }
         ensures there { InTable self.now.plan.last_card result }
     {
         self.names(pass);
@@ -130,8 +131,8 @@ impl<A: Allocator + Copy> CardTable<A> {
         requires free { IsFree pass.old.view }
         // It makes one step, which the caller has to count. The pass then knows exactly what this call tells.
         ensures step { Sees pass.old pass.new (after call.Look result pass.old.view) }
-        // The child has a greater number, and is a node of the table.
-        ensures greater { 0 < result }
+        // The child has a greater rank, and is a node of the table.
+        ensures greater { rank 0 < rank result }
         ensures there { InTable self.now.plan.last_card result }
     {
         self.names(pass);
@@ -139,15 +140,15 @@ impl<A: Allocator + Copy> CardTable<A> {
     }
 
     /// Goes down in a look from an internal node to which it has come, now or earlier, with the node's key, to the
-    /// child on a side: a greater node of the table, to which those of the keys have come that go to this side.
+    /// child on a side: a node of the table of greater rank, to which those of the keys have come that go to this side.
     #[inline(always)]
     pub fn look_down(&self, pass: &mut Pass<A>, from: Glance, key: u64, right: bool) -> u64
         requires own { pass.old.table ≡ self.now.id }
         requires may { MayLookDown pass.old.view from key }
         // It makes one step, which the caller has to count. The pass then knows exactly what this call tells.
         ensures step { Sees pass.old pass.new (after (call.LookDown from key right) result pass.old.view) }
-        // The child has a greater number, and is a node of the table.
-        ensures greater { from.node < result }
+        // The child has a greater rank, and is a node of the table.
+        ensures greater { rank from.node < rank result }
         ensures there { InTable self.now.plan.last_card result }
     {
         self.names(pass);

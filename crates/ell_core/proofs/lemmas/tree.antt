@@ -18,6 +18,8 @@ pub mod OneRange
 pub mod Pairs
 -- Paths through the tree that the words make, and what is below a node.
 pub mod Paths
+-- What is known of the ranks of nodes.
+pub mod Ranks
 -- Ranges and paths: the nodes that have a range are those reached from node 0, and where the walks for a key go.
 pub mod Reached
 -- The real keys of the leaves in a list of nodes, with their values; below a node of a lawful tree they ascend.

@@ -18,6 +18,7 @@ use Rattle.ell_core.specs.soundness.Sound.{WorkerOwns, MayChange, IsNotShared, I
 use Rattle.ell_core.specs.tree.Ranges.{IsSpanned, IsCutOut, FindsLeaf, IsOrdered, OnCourse}
 use Rattle.ell_core.specs.history.Stages.{Stages, Opening, is_claimed, is_start, is_insert, is_delete, is_born, insert_won, insert_open, insert_waits, is_changed, insert_over, delete_won, delete_open, delete_waits, is_markable, is_unmarkable, is_marked, is_cut, delete_past, allows, Born, effective_at}
 use Rattle.ell_core.specs.declared.view.Entry.TheVariants.{Present}
+use Rattle.ell_core.specs.tree.Rank.{rank}
 
 -- all keys are below this number
 abbrev pub top : ℕ
@@ -94,7 +95,7 @@ pub record InsertCard (w : Words) (stage : Stages) (c : ℕ) : Type 0 where
   pub was : w.was c ≡ 0
   pub parent : IsInnerBorn stage (w.p c)
   pub leaf : IsLeafBorn stage (w.l c)
-  pub above : w.p c < w.l c
+  pub above : rank (w.p c) < rank (w.l c)
   pub before : w.l c < internal c
   pub ordered : w.key (left_leaf c) ≤ w.key (right_leaf c)
   pub node_key : w.key (internal c) ≡ w.key (right_leaf c)
@@ -109,8 +110,8 @@ pub record DeleteCard (w : Words) (stage : Stages) (c : ℕ) : Type 0 where
   pub grandparent : IsInnerBorn stage (w.gp c)
   pub parent : IsInnerBorn stage (w.p c)
   pub leaf : IsLeafBorn stage (w.l c)
-  pub first : w.gp c < w.p c
-  pub above : w.p c < w.l c
+  pub first : rank (w.gp c) < rank (w.p c)
+  pub above : rank (w.p c) < rank (w.l c)
   pub before : w.l c < internal c
   pub real : delete_key w c ≤ greatest_key
   pub calm : IsClean (w.was c)
@@ -173,11 +174,11 @@ pub record DeleteStage (w : Words) (stage : Stages) (c : ℕ) : Type 0 where
   pub marked : is_marked (stage c) ≡ true → IsMarked w c
   pub cut : is_cut (stage c) ≡ true → IsCut w c
 
--- an internal node that came into the tree: its children came too, have greater numbers, and keys on their side of its
+-- an internal node that came into the tree: its children came too, have greater ranks, and keys on their side of its
 -- own
 pub record ChildrenAreSound (w : Words) (stage : Stages) (x : ℕ) : Type 0 where
   pub born : (right : Bool) → Born stage (w.child x right)
-  pub rising : (right : Bool) → x < w.child x right
+  pub rising : (right : Bool) → rank x < rank (w.child x right)
   pub left_less : w.key (w.child x false) < w.key x
   pub right_more : w.key x ≤ w.key (w.child x true)
 
@@ -191,7 +192,7 @@ pub record UpdateIsSound (w : Words) (stage : Stages) (x : ℕ) : Type 0 where
 -- the tree: in order, with the two greatest keys in their places; and every internal node that came into it is still
 -- there, or marked
 pub record TreeIsSound (w : Words) (stage : Stages) : Type 0 where
-  pub ordered : IsOrdered w.key w.child top
+  pub ordered : IsOrdered w.key w.child top rank
   pub root_key : w.key 0 ≡ infinity2
   pub root_right : w.child 0 true ≡ right_leaf 0
   pub right_key : w.key (right_leaf 0) ≡ infinity2
@@ -208,11 +209,11 @@ pub record WordsAreSound (w : Words) (stage : Stages) : Type 0 where
   pub updates : (x : ℕ) → IsInternal x → Born stage x → UpdateIsSound w stage x
   pub tree : TreeIsSound w stage
 
--- what a search has seen of a node on its way to x: the node came before x and has x's key on k's side; its update word
+-- what a search has seen of a node on its way to x: the node has a lesser rank than x, and x's key on k's side; its update word
 -- was read before its child; and if that word was clean and still stands, x is still the child
 pub record SeenIsSound (w : Words) (stage : Stages) (k : ℕ) (seen : Seen) (x : ℕ) : Type 0 where
   pub node : IsInnerBorn stage seen.node
-  pub less : seen.node < x
+  pub less : rank seen.node < rank x
   pub word : seen.word ≤ w.update seen.node
   pub side : is_right w seen.node (w.key x) ≡ is_right w seen.node k
   pub at_least : x ≤ child_for w k seen.node

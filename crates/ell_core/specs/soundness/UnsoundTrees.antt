@@ -17,7 +17,7 @@ BreaksTree m = (¬ IsLawful m.words) × (¬ IsSound m)
 abbrev pub child_of_less_number : Machine
 child_of_less_number = with_one (with_child five (internal 1) true (left_leaf 0)) (owner 5 (Present 50))
 
--- one path: both links of a node lead to one leaf (with two paths to a node, numbers or keys are out of order too)
+-- one path: both links of a node lead to one leaf (with two paths to a node, ranks or keys are out of order too)
 abbrev pub leaf_linked_twice : Machine
 leaf_linked_twice = with_one (with_child five (internal 1) false (right_leaf 1)) (owner 5 Absent)
 

@@ -23,6 +23,7 @@ use Rattle.ell_core.specs.history.Invariant.{Invariant}
 use Rattle.ell_core.specs.history.Later.{Follows}
 use Rattle.ell_core.specs.declared.view.Entry.TheVariants.{Present}
 use Rattle.ell_core.specs.statements.Effects.{PairsChange, LedgersChange, KnowledgeLasts, FactsLast}
+use Rattle.ell_core.specs.tree.Rank.{rank}
 
 -- an event leads from a state that the invariant holds of to one that it holds of; with what it does to pairs, ledgers,
 -- knowledge and facts
@@ -62,19 +63,19 @@ pub record NamesItsCard (w : Words) (x : ℕ) : Type 0 where
 pub record IsReadable (w : Words) (stage : Stages) (x : ℕ) : Type 0 where
   pub inner : IsInternal x
   pub born : Born stage x
-  pub children : (right : Bool) → Born stage (w.child x right) × (x < w.child x right)
+  pub children : (right : Bool) → Born stage (w.child x right) × (rank x < rank (w.child x right))
   pub names : NamesItsCard w x
 
 -- where an insert's card goes: two nodes that came into the tree, the leaf the deeper one
 pub record IsInserting (w : Words) (stage : Stages) (c : ℕ) : Type 0 where
-  pub above : w.p c < w.l c
+  pub above : rank (w.p c) < rank (w.l c)
   pub parent : IsReadable w stage (w.p c)
   pub leaf : Born stage (w.l c)
 
 -- where a delete's card goes: three nodes that came into the tree, ever deeper
 pub record IsDeepening (w : Words) (stage : Stages) (c : ℕ) : Type 0 where
-  pub first : w.gp c < w.p c
-  pub second : w.p c < w.l c
+  pub first : rank (w.gp c) < rank (w.p c)
+  pub second : rank (w.p c) < rank (w.l c)
   pub grandparent : IsReadable w stage (w.gp c)
   pub parent : IsReadable w stage (w.p c)
   pub leaf : Born stage (w.l c)
@@ -89,7 +90,7 @@ pub record GoesInTree (w : Words) (stage : Stages) (c : ℕ) : Type 0 where
 -- a node above x that a search has seen may be read, and the word that was read there names a claimed card
 pub record HasSeen (w : Words) (stage : Stages) (seen : Seen) (x : ℕ) : Type 0 where
   pub node : IsReadable w stage seen.node
-  pub less : seen.node < x
+  pub less : rank seen.node < rank x
   pub names : (unpacked seen.word).card < w.next
 
 -- a worker stands somewhere, and has seen a parent
@@ -114,7 +115,7 @@ is_of_marked (fact.DOver c) = true
 is_of_marked _ = false
 
 -- what a step of worker i may rely on: where it stands, and what it reads and has read there; that a down leads to a
--- greater node of the table; what its search has behind it; where the cards go of which it knows anything, and that the
+-- node of the table of greater rank; what its search has behind it; where the cards go of which it knows anything, and that the
 -- mark of one that was marked stands; the key and the value of a leaf where it stands, and the grandparent that there
 -- is above its own key's; that a node that came into the tree, the card in hand, and each card of which anything is
 -- known, are claimed ones of the table; that with a card in hand that is not flagged it stands somewhere; that it owns
@@ -126,7 +127,7 @@ pub record Reliance (m : Machine) (stage : Stages) (i : ℕ) : Type 0 where
       → (unpacked word).card < m.words.next
   pub down : (said : Stepped) (after : Scene) (x y : ℕ) → Down (scene m i) said after
       → (m.worker i).search.node ≡ Some x
-      → after.worker.search.node ≡ Some y → (x < y) × (card y ≤ m.last_card)
+      → after.worker.search.node ≡ Some y → (rank x < rank y) × (card y ≤ m.last_card)
   pub parent : (x : ℕ) (seen : Seen) → (m.worker i).search.node ≡ Some x → (m.worker i).search.parent ≡ Some seen
       → HasSeen m.words stage seen x
   pub grandparent : (x : ℕ) (seen above : Seen) → (m.worker i).search.node ≡ Some x

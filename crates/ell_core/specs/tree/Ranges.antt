@@ -38,11 +38,11 @@ pub data FindsLeaf (key : ℕ → ℕ) (child : ℕ → Bool → ℕ) (holds : �
       → FindsLeaf key child holds k x
 
 -- each reached node has its key among those that lead to it, an internal one not as the first, and children have
--- greater numbers
-pub record IsOrdered (key : ℕ → ℕ) (child : ℕ → Bool → ℕ) (top : ℕ) : Type 0 where
+-- greater ranks
+pub record IsOrdered (key : ℕ → ℕ) (child : ℕ → Bool → ℕ) (top : ℕ) (rank : ℕ → ℕ) : Type 0 where
   pub within : (x low high : ℕ) → Spans key child top x low high → (low ≤ key x) × (key x < high)
   pub proper : (x low high : ℕ) → Spans key child top x low high → IsInternal x → low < key x
-  pub rising : (x low high : ℕ) (right : Bool) → Spans key child top x low high → IsInternal x → x < child x right
+  pub rising : (x low high : ℕ) (right : Bool) → Spans key child top x low high → IsInternal x → rank x < rank (child x right)
 
 -- the child of a node on a side is now this one, and every other child is as it was
 pub record Relinked (old new : ℕ → Bool → ℕ) (node : ℕ) (side : Bool) (to : ℕ) : Type 0 where

@@ -5,6 +5,7 @@ use Rattle.ell_ops.specs.Meaning.{greatest_key}
 use Rattle.ell_word.specs.Node.{IsInternal, right_leaf, infinity1, infinity2}
 use Rattle.ell_layout.specs.Words.{Words, IsLeaf}
 use Rattle.ell_layout.specs.Cards.{child_for}
+use Rattle.ell_core.specs.tree.Rank.{rank}
 
 -- a node is on the walk for a key from x: it is x, or it is on the walk from the child of x on the key's side
 pub data OnWalk (w : Words) (key : ℕ) : ℕ → ℕ → Type 0 where
@@ -63,9 +64,9 @@ pub record LeftIsLawful (w : Words) : Type 0 where
   pub real : (x : ℕ) → Below w (w.child 0 false) x → IsLeaf x → x ≢ last → w.key x ≤ greatest_key
   pub deep : (x : ℕ) → Below w (w.child 0 false) x → IsLeaf x → x ≢ last → HasGrandparent w x
 
--- a lawful tree: numbers rise, one path leads to each node, keys are in order, root and right leaf have infinity2
+-- a lawful tree: ranks rise, one path leads to each node, keys are in order, root and right leaf have infinity2
 pub record IsLawful (w : Words) : Type 0 where
-  pub rises : (x : ℕ) (right : Bool) → Reached w x → IsInternal x → x < w.child x right
+  pub rises : (x : ℕ) (right : Bool) → Reached w x → IsInternal x → rank x < rank (w.child x right)
   pub one_path : (x : ℕ) (p q : List Bool) → Leads w 0 p x → Leads w 0 q x → p ≡ q
   pub left_less : (x y : ℕ) → Reached w x → IsInternal x → Below w (w.child x false) y → w.key y < w.key x
   pub right_more : (x y : ℕ) → Reached w x → IsInternal x → Below w (w.child x true) y → w.key x ≤ w.key y

@@ -27,7 +27,7 @@ pub fn handovers_are_lawful()
 {}
 
 /// What a step may rely on: where a worker stands and what it has behind it came into the tree, children have greater
-/// numbers and stand in the table, an update word names a claimed card that set it there, and so does one that was read
+/// ranks and stand in the table, an update word names a claimed card that set it there, and so does one that was read
 /// before. Cards go to nodes that came into the tree, a delete's ever deeper, and the mark of a card that is known to
 /// be marked stands. A leaf where a worker stands has its key and value exactly if its ledger has them, and then there
 /// is a grandparent. Each card in hand, or about which anything is known, is a claimed one.

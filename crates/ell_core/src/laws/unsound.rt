@@ -7,7 +7,7 @@ ghost use Rattle.ell_core.specs.soundness.UnsoundTrees.{BreaksTree, child_of_les
 ghost use Rattle.ell_core.specs.soundness.UnsoundFacts.{NoneHolds, not_an_insert, linked_unflagged, never_linked, insert_flag_stands, not_a_delete, mark_of_an_insert, cut_unflagged, passed_unflagged, never_marked, cut_unmarked, never_cut, cut_flag_stands, passed_flag_stands};
 ghost use Rattle.ell_core.specs.soundness.UnsoundFlags.{BreaksNames, node_not_claimed, number_left_out, card_not_claimed, BreaksFlags, flag_left_standing, flag_of_another, flag_not_won, iflag_elsewhere, dflag_elsewhere, mark_elsewhere};
 
-/// No tree breaks one of the rules of a lawful one: numbers rise, one path leads to each node, keys are in order, the two
+/// No tree breaks one of the rules of a lawful one: ranks rise, one path leads to each node, keys are in order, the two
 /// infinities stand in their places, and every leaf of a real key has a grandparent.
 pub fn no_tree_is_unlawful()
     // For each clause on the shape of the tree, a small state that breaks it is unsound.

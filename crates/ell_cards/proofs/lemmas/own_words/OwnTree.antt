@@ -13,6 +13,7 @@ use Rattle.ell_core.specs.statements.Effects.{SamePairs}
 use Rattle.ell_core.proofs.lemmas.stages.Order.{born_is_node}
 use Rattle.ell_layout.proofs.lemmas.Writes.{key_at_node, value_at_leaf, child_at_node, update_at_node}
 use Rattle.ell_core.proofs.lemmas.stages.Waiting.{born-settled}
+use Rattle.ell_core.specs.tree.Rank.{rank}
 
 -- trees of the same keys with the same values have the same keys
 pub same_keys : (old new : Words) → SamePairs old new → (k : ℕ) → IsTreeKey new k ↔ IsTreeKey old k
@@ -189,7 +190,7 @@ module _ (w t : Words) (stage : Stages) (sound : WordsAreSound w stage) (same : 
   pub lawful_same : IsLawful w → IsLawful t
   lawful_same h = record {
     rises = λ x right reached inner.
-        subst (λ n. x < n) (sym (child_same x right inner (reached_born x reached)))
+        subst (λ n. rank x < rank n) (sym (child_same x right inner (reached_born x reached)))
         (h.rises x right (below_back 0 root_born x reached) inner);
     one_path = λ x p q first second. h.one_path x p q (leads_back 0 root_born p x first) (leads_back 0 root_born q x second);
     left_less = λ x y reached inner below.

@@ -55,6 +55,7 @@ use Rattle.ell_cards.proofs.lemmas.seats.Seats.{relies}
 use Rattle.ell_cards.proofs.lemmas.stepping.Looks.{update_listed}
 use Rattle.ell_cards.proofs.lemmas.stepping.Exchanges.{told_is}
 use Rattle.ell_cards.proofs.lemmas.stepping.Known.{known_delete}
+use Rattle.ell_core.specs.tree.Rank.{rank}
 
 -- a node whose update word was no greater when a search began than one that it has read there since, and which was not cut out then
 pub record PlaceSince (w : Words) (stage : Stages) (x word : ℕ) : Type 0 where
@@ -412,14 +413,14 @@ module _ (keys : List ℕ) (cards : ℕ) (m0 : Machine) (stage : Stages) (first 
       let above = ((holds.words.updates p inner born).dflagged d is).1 in
       let goes = ap r.words.gp (sym e) ∙ above in
       let first = ((holds.words.cards c).delete deletes).first in
-      omega (arith, goes, place, first)
+      omega (arith, ap rank goes, ap rank place, first)
   word_apart c p deletes place inner born rose state.Mark d is apart e = false≢true (sym apart ∙ eq-eqb d c e)
   word_apart c p deletes place inner born rose state.Clean d is apart e =
       let said = (holds.words.cards c).delete deletes in
       let h = cleans p d rose is (first_card c deletes d e) in
       elim h.2.1 [
         | inl insert ↦ one_kind (now c) (ap (λ n. is_insert (now n)) (sym e) ∙ insert.0) deletes
-        | inr above ↦ (let goes = ap r.words.gp (sym e) ∙ above in let first = said.first in omega (arith, goes, place, first))
+        | inr above ↦ (let goes = ap r.words.gp (sym e) ∙ above in let first = said.first in omega (arith, ap rank goes, ap rank place, first))
       ]
 
   -- so the card in hand is none that its lost mark found

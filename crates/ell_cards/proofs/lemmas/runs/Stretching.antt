@@ -27,6 +27,7 @@ use Rattle.ell_cards.proofs.lemmas.runs.GoingOn.{Went, went_still, went_after, T
 use Rattle.ell_cards.proofs.lemmas.runs.EarlySums.{early_sum}
 use Rattle.ell_cards.proofs.lemmas.runs.HowMany.{many_where, many_most}
 use Rattle.ell_cards.proofs.lemmas.runs.FlagTurns.{turn_unchanged, turn_flags}
+use Rattle.ell_core.proofs.lemmas.tree.Ranks.{rank_least, ranked_apart}
 
 -- whether a card's flag was won since
 abbrev pub flag_since : Stages → Stages → ℕ → Bool
@@ -158,7 +159,8 @@ module _ (keys : List ℕ) (cards : ℕ) (s0 : TableState) (r0 : HasMachine keys
     set_now c taken is late =
         let says = (goes.invariant.words.cards c).delete (backed-delete (stages c) taken.1) in
         let rose = (keeps.backtracks.rose c taken).0 in
-        let above = says.first in
+        let least = rank_least (m'.words.gp c) in
+        let below = ranked_apart 0 (m'.words.p c) (let first = says.first in omega arith) in
         subst (λ k. IsSetSince first m'.words stages (unpacked k).card (m'.words.p c)) (sym is)
         (set_since m0 first before m' stages goes.invariant goes.words goes.later goes.cleans unchanged_now (m'.words.p c) (m'.words.was c)
         says.parent.inner says.parent.born (omega arith) says.calm late (omega arith))

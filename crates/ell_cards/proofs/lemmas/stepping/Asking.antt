@@ -1,4 +1,4 @@
-use Rattle.std.proofs.Common.{◌≡◌, ◌∷◌, ℕ, ◌<◌, Bool, true, List, get_or, refl, sym, subst, inl, inr, arith}
+use Rattle.std.proofs.Common.{◌≡◌, ◌∷◌, ℕ, ◌<◌, Bool, true, List, get_or, refl, sym, ap, subst, inl, inr, arith}
 use Rattle.ell_core.proofs.lemmas.stages.LaterKeys.{root_born}
 use mathlib.Core.Option.{some}
 use lib.ListN.{get_elem?}
@@ -29,6 +29,7 @@ use Rattle.ell_cards.proofs.lemmas.seats.Frames.{kept_told, is_no_event}
 use Rattle.ell_cards.proofs.lemmas.stepping.Looks.{born_in_table}
 use Rattle.ell_cards.proofs.lemmas.stepping.Exchanges.{told_is}
 use Rattle.ell_cards.proofs.lemmas.stepping.Known.{known_delete, known_card, known_claimed, known_settled, child_found}
+use Rattle.ell_core.specs.tree.Rank.{rank}
 
 module _ (keys : List ℕ) (cards : ℕ) (s : TableState) (r : HasMachine keys cards s) (id : ℕ) (v : View) (here : get_elem? s.views id ≡ some v) where
   -- where a known card goes came into the tree; an insert's has no grandparent, which is node 0
@@ -45,7 +46,7 @@ module _ (keys : List ℕ) (cards : ℕ) (s : TableState) (r : HasMachine keys c
   l_born c k = elim (known_card keys cards s r id v here c k) [ inl i ↦ i.leaf.born | inr d ↦ d.leaf.born ]
 
   -- its leaf is below its parent
-  deeper : (c : ℕ) → KnowsCard v c → r.words.p c < r.words.l c
+  deeper : (c : ℕ) → KnowsCard v c → rank (r.words.p c) < rank (r.words.l c)
   deeper c k = elim (known_card keys cards s r id v here c k) [ inl i ↦ i.above | inr d ↦ d.above ]
 
   -- what is told of a card's word
@@ -87,17 +88,19 @@ module _ (keys : List ℕ) (cards : ℕ) (s : TableState) (r : HasMachine keys c
   -- where the card goes is ever deeper
   tells_depth : (c : ℕ) (f : Field) (n : ℕ) → KnowsCard v c → word r.words c f ≡ n → TellsDepth v c f n
   tells_depth c field.Gp n k is = λ knows p told.
+      let at = ap rank is in
       let first = (known_delete keys cards s r id v here c knows).first in
-      let p_is = told_is keys cards s r id v here c field.P p told in
+      let p_is = ap rank (told_is keys cards s r id v here c field.P p told) in
       omega arith
   tells_depth c field.P n k is = (
     λ knows gp told.
+        let at = ap rank is in
         let first = (known_delete keys cards s r id v here c knows).first in
-        let gp_is = told_is keys cards s r id v here c field.Gp gp told in
+        let gp_is = ap rank (told_is keys cards s r id v here c field.Gp gp told) in
         omega arith,
-    λ l told. let above = deeper c k in let l_is = told_is keys cards s r id v here c field.L l told in omega arith,
+    λ l told. let at = ap rank is in let above = deeper c k in let l_is = ap rank (told_is keys cards s r id v here c field.L l told) in omega arith,
   )
-  tells_depth c field.L n k is = λ p told. let above = deeper c k in let p_is = told_is keys cards s r id v here c field.P p told in omega arith
+  tells_depth c field.L n k is = λ p told. let at = ap rank is in let above = deeper c k in let p_is = ap rank (told_is keys cards s r id v here c field.P p told) in omega arith
   tells_depth c _ n k is = tt
 
   -- info
@@ -132,6 +135,8 @@ module _ (keys : List ℕ) (cards : ℕ) (s : TableState) (r : HasMachine keys c
       let children = r.invariant.words.children (w.p c) said.parent.inner said.parent.born in
       let born : Born r.stages n = subst (Born r.stages) is (children.born right) in
       let rises = children.rising right in
+      let from = ap rank p_is in
+      let to = ap rank is in
       is_no_event keys cards s r id v here (call.FrozenChild c p right)
       (kept_told keys cards s r id v here (after_frozen_child c right n v) refl (record {
         entries = with_entry (EntryHolds w r.stages) (Frozen c right n) (Met n ∷ v.told)

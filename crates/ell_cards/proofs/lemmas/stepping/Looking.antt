@@ -18,14 +18,15 @@ use Rattle.ell_cards.specs.Laws.{IsEvent}
 use Rattle.ell_cards.proofs.lemmas.seats.Entries.{with_entry}
 use Rattle.ell_cards.proofs.lemmas.seats.Frames.{kept_told, is_no_event}
 use Rattle.ell_cards.proofs.lemmas.stepping.Looks.{born_in_table, child_listed}
+use Rattle.ell_core.specs.tree.Rank.{rank}
 
 module _ (keys : List ℕ) (cards : ℕ) (s : TableState) (r : HasMachine keys cards s) (id : ℕ) (v : View) (here : get_elem? s.views id ≡ some v) where
   -- the child of an internal node that came into the tree, as it stands in the table
   child_there : (x : ℕ) (right : Bool) → IsInternal x → Born r.stages x
-      → Born r.stages (get_or s.words (child_address x right) 0) × (x < get_or s.words (child_address x right) 0)
+      → Born r.stages (get_or s.words (child_address x right) 0) × (rank x < rank (get_or s.words (child_address x right) 0))
   child_there x right inner born =
       let children = r.invariant.words.children x inner born in
-      subst (λ n. Born r.stages n × (x < n)) (child_listed keys cards s r id v here x right inner born) (children.born right, children.rising right)
+      subst (λ n. Born r.stages n × (rank x < rank n)) (child_listed keys cards s r id v here x right inner born) (children.born right, children.rising right)
 
   -- look
   pub keeps_look : IsFree v → IsEvent keys cards s r id v call.Look

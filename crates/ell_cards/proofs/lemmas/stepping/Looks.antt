@@ -54,6 +54,7 @@ use Rattle.ell_cards.proofs.lemmas.views.Entries.{places_more}
 use Rattle.ell_cards.proofs.lemmas.seats.Entries.{with_entry, places_hold, facts_known}
 use Rattle.ell_cards.proofs.lemmas.seats.Seats.{mine, becomes, mine_is, mine_sound, relies, stands_born, born_claimed}
 use Rattle.ell_cards.proofs.lemmas.seats.Frames.{looks, kept_told, is_event, is_no_event}
+use Rattle.ell_core.specs.tree.Rank.{rank}
 
 -- an entry that is not present has no value
 no_value : (entry : Option Entry) → ((value : ℕ) → entry ≢ Some (Present value)) → value_in entry ≡ None
@@ -270,7 +271,7 @@ module _ (keys : List ℕ) (cards : ℕ) (s : TableState) (r : HasMachine keys c
             );
       })
       (child_address x right))
-      refl refl (subst (λ y. x < y) is (children.rising (is_right r.words x (key_of may.op))), born_in_table n child_born)
+      refl refl (subst (λ y. rank x < rank y) is (children.rising (is_right r.words x (key_of may.op))), born_in_table n child_born)
 
   -- next
   pub keeps_next : IsEvent keys cards s r id v call.Next

@@ -26,6 +26,7 @@ use Rattle.ell_core.proofs.lemmas.following.waiting.Cards.{busy, hand_claimed}
 use Rattle.ell_core.proofs.lemmas.following.Sound.{word_by_state}
 use Rattle.ell_core.proofs.lemmas.outcomes.Decide.{cases_option, some_not_none}
 use Rattle.ell_core.proofs.lemmas.stages.Order.{born-claimed, insert-claimed, delete-claimed, delete_won-delete, insert_won-insert, changed-insert, insert_over-insert, marked-delete, unmarkable-delete, cut-delete, cut-marked, over-delete, over-marked, backed-delete}
+use Rattle.ell_core.specs.tree.Rank.{rank}
 
 module _ (w : Words) (stage : Stages) (sound : WordsAreSound w stage) where
   -- a flag or mark stands where its card set it
@@ -122,9 +123,9 @@ standing m stage i x invariant at = elim (cases_option (m.worker i).operation) [
 in_table : (m : Machine) (stage : Stages) → Invariant m stage → (x : ℕ) → Born stage x → card x < m.words.next
 in_table m stage invariant x born = ((invariant.words.cards (card x)).claimed).0 (born-claimed (stage (card x)) (x % 4) born)
 
--- a down leads from a node to a greater one of the table
+-- a down leads from a node to one of the table of greater rank
 goes_down : (m : Machine) (stage : Stages) (i : ℕ) (said : Stepped) (after : Scene) (x y : ℕ) → Invariant m stage → Down (scene m i) said after
-    → (m.worker i).search.node ≡ Some x → after.worker.search.node ≡ Some y → (x < y) × (card y ≤ m.last_card)
+    → (m.worker i).search.node ≡ Some x → after.worker.search.node ≡ Some y → (rank x < rank y) × (card y ≤ m.last_card)
 goes_down m stage i said after x y invariant row at to =
     let w = m.words in
     let right = is_right w row.seen.node (key_of row.op) in
@@ -136,6 +137,8 @@ goes_down m stage i said after x y invariant row at to =
     let below = in_table m stage invariant (w.child row.seen.node right) (children.born right) in
     let room = invariant.limit in
     let same = ap card child in
+    let above = ap rank from in
+    let under = ap rank child in
     (omega arith, omega arith)
 
 -- a node that a search has seen

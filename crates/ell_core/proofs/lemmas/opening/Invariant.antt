@@ -29,6 +29,8 @@ use Rattle.ell_core.proofs.lemmas.opening.StartWords.{has_value, leaf_key, leave
 use Rattle.ell_layout.specs.declared.field.Field.TheVariants.{Key, RightLeafKey}
 use Rattle.ell_core.specs.declared.view.Entry.TheVariants.{Present}
 use Rattle.ell_core.proofs.lemmas.opening.KeyLists.{holds_present}
+use Rattle.ell_core.proofs.lemmas.tree.Ranks.{rank_rises}
+use Rattle.ell_core.specs.tree.Rank.{rank}
 
 -- the stages at the start: the cards below this number have the opening tree, and no other card is claimed
 abbrev pub start_stages : ℕ → Stages
@@ -109,7 +111,7 @@ module _ (start : List (ℕ × ℕ)) (ascending : IsStrictlyIncreasing (keys_of 
   some = omega arith
 
   -- the tree of the start keys
-  ordered : IsOrdered w.key w.child top
+  ordered : IsOrdered w.key w.child top rank
   ordered = tree_ordered (length start + 1) some (start_leaf start) w.key w.child (has_value start) top (leaves_rise start ascending real) (leaves_end start ascending real)
       (has_branches start)
 
@@ -175,8 +177,9 @@ module _ (start : List (ℕ × ℕ)) (ascending : IsStrictlyIncreasing (keys_of 
   children_sound c below = record {
     born = λ right. below_born (length start + 1) (card (w.child (internal c) right)) (w.child (internal c) right % 4)
         (let node = is_node c right below in omega (arith, node)) (on_card c right below);
-    rising = λ right. child_more (length start + 1) some (start_leaf start) w.key w.child (has_value start) top (leaves_rise start ascending real) (leaves_end start ascending real)
-        (has_branches start) right c below;
+    rising = λ right. rank_rises (internal c) (w.child (internal c) right)
+        (child_more (length start + 1) some (start_leaf start) w.key w.child (has_value start) top (leaves_rise start ascending real) (leaves_end start ascending real)
+        (has_branches start) right c below);
     left_less = left_less (length start + 1) some (start_leaf start) w.key w.child (has_value start) top (leaves_rise start ascending real) (leaves_end start ascending real)
         (has_branches start) c below;
     right_more = right_least (length start + 1) some (start_leaf start) w.key w.child (has_value start) top (leaves_rise start ascending real) (leaves_end start ascending real)

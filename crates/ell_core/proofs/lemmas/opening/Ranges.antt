@@ -4,6 +4,8 @@ use Rattle.ell_word.specs.Node.{IsInternal, infinity1, infinity2}
 use Rattle.ell_layout.specs.Start.{opening_words}
 use Rattle.ell_core.specs.tree.Ranges.{low_of, high_of, next_node, Spans, root, goes, at_leaf, below, IsOrdered}
 use Rattle.ell_core.specs.history.Invariant.{top, IsIn, LeadsTo}
+use Rattle.ell_core.proofs.lemmas.tree.Ranks.{rank_rises}
+use Rattle.ell_core.specs.tree.Rank.{rank}
 
 -- a node of the opening tree, with its keys: the root, or one of its leaves
 Place : ℕ → ℕ → ℕ → Type 0
@@ -51,11 +53,11 @@ rising_place x low high right (inr (inl h)) inner = absurd (omega arith)
 rising_place x low high right (inr (inr h)) inner = absurd (omega arith)
 
 -- the opening tree is in order
-pub opening_ordered : IsOrdered opening_words.key opening_words.child top
+pub opening_ordered : IsOrdered opening_words.key opening_words.child top rank
 opening_ordered = record {
   within = λ x low high spans. within_place x low high (places spans);
   proper = λ x low high spans inner. proper_place x low high (places spans) inner;
-  rising = λ x low high right spans inner. rising_place x low high right (places spans) inner;
+  rising = λ x low high right spans inner. rank_rises x (opening_words.child x right) (rising_place x low high right (places spans) inner);
 }
 
 -- its root is in it

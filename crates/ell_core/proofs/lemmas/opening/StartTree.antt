@@ -5,6 +5,8 @@ use Rattle.ell_layout.specs.declared.branch.Branch.{Branch}
 use Rattle.ell_layout.specs.Branches.{left_branch, right_branch, descend, branch_of, left_child, right_child}
 use Rattle.ell_core.specs.tree.Ranges.{low_of, high_of, Spans, root, goes, FindsLeaf, at_leaf, below, IsOrdered, IsSpanned}
 use Rattle.ell_layout.proofs.lemmas.Branches.{branch_card, branch_holds, branch_left, branch_right, branch_within, cards_within, above}
+use Rattle.ell_core.proofs.lemmas.tree.Ranks.{rank_rises}
+use Rattle.ell_core.specs.tree.Rank.{rank}
 
 -- a card has the node of a branch: its key is that of the first leaf on its right; and of each leaf holds what is to
 pub record HasBranch (leaf key : ℕ → ℕ) (child : ℕ → Bool → ℕ) (holds : ℕ → ℕ → Type 0) (c : ℕ) (b : Branch) : Type 0 where
@@ -222,11 +224,11 @@ module _ (leaves : ℕ) (some : 0 < leaves) (leaf key : ℕ → ℕ) (child : �
   place_rising x low high right inner (inr at) = absurd (at.outer inner)
 
   -- the tree is in order
-  pub tree_ordered : IsOrdered key child top
+  pub tree_ordered : IsOrdered key child top rank
   tree_ordered = record {
     within = λ x low high spans. place_within x low high (places spans);
     proper = λ x low high spans inner. place_proper x low high inner (places spans);
-    rising = λ x low high right spans inner. place_rising x low high right inner (places spans);
+    rising = λ x low high right spans inner. rank_rises x (child x right) (place_rising x low high right inner (places spans));
   }
 
   -- each card's internal node is reached

@@ -19,7 +19,8 @@ pub Meets-map : (key : ℕ → ℕ) (child : ℕ → Bool → ℕ) {holds also :
 Meets-map key child k more (at_leaf {x = x} outer has that) = at_leaf outer has (more x that)
 Meets-map key child k more (below inner e rest) = below inner e (Meets-map key child k more rest)
 
-module _ (key : ℕ → ℕ) (child : ℕ → Bool → ℕ) (top : ℕ) (ordered : IsOrdered key child top) where
+module _ (key : ℕ → ℕ) (child : ℕ → Bool → ℕ) (top : ℕ) {rank : ℕ → ℕ}
+    (ordered : IsOrdered key child top rank) where
   -- the range of a child lies in that of its parent
   pub child_within : (x low high : ℕ) (t : Bool) → Spans key child top x low high
       → (low ≤ low_of t low (key x)) × (high_of t high (key x) ≤ high)

@@ -6,7 +6,8 @@ use Rattle.ell_core.proofs.lemmas.tree.OneRange.{unique, no_between, two_leaves}
 use Rattle.ell_core.proofs.lemmas.tree.Inserts.{Inserts, new_node, new_leaf, Spans-insert, Spans-stays, IsOrdered-insert}
 use Rattle.ell_core.proofs.lemmas.tree.Removes.{Removes, stays, was_p, was_l, Spans-left, Spans-remove, IsOrdered-remove, gone, same_or_not}
 
-module _ (key : ℕ → ℕ) (child : ℕ → Bool → ℕ) (top : ℕ) (ordered : IsOrdered key child top) where
+module _ (key : ℕ → ℕ) (child : ℕ → Bool → ℕ) (top : ℕ) {rank : ℕ → ℕ}
+    (ordered : IsOrdered key child top rank) where
   -- node 0 is on course for each key
   pub OnCourse-start : (k : ℕ) → k < top → OnCourse key child top k 0
   OnCourse-start k h = here (root refl refl refl) (omega arith) h
@@ -27,12 +28,12 @@ module _ (key : ℕ → ℕ) (child : ℕ → Bool → ℕ) (top : ℕ) (ordered
   OnCourse-range (off i h e t) q = absurd (h _ _ q)
   OnCourse-range (dead h n) q = absurd (n _ _ q)
 
-  module _ (after : ℕ → Bool → ℕ) (p : ℕ) (s : Bool) (l q k : ℕ) (shape : Inserts key child after top p s l q k)
+  module _ (after : ℕ → Bool → ℕ) (p : ℕ) (s : Bool) (l q k : ℕ) (shape : Inserts rank key child after top p s l q k)
       (low high : ℕ) (reached : Spans key child top p low high) (internal : IsInternal p)
       (Born : ℕ → Type 0) (closed : (x : ℕ) (t : Bool) → IsInternal x → Born x → Born (child x t))
       (not_new : (x : ℕ) → Born x → x ≢ q) (not_new_leaf : (x : ℕ) (t : Bool) → Born x → x ≢ child q t)
       (old_l : Born l) where
-    ordered_after : IsOrdered key after top
+    ordered_after : IsOrdered key after top rank
     ordered_after = IsOrdered-insert key child after top p s l q k shape ordered
 
     l_spans : Spans key child top l (low_of s low (key p)) (high_of s high (key p))
@@ -82,7 +83,7 @@ module _ (key : ℕ → ℕ) (child : ℕ → Bool → ℕ) (top : ℕ) (ordered
   module _ (after : ℕ → Bool → ℕ) (g : ℕ) (s : Bool) (p : ℕ) (t : Bool) (l w : ℕ)
       (shape : Removes key child after top g s p t l w)
       (low high : ℕ) (reached : Spans key child top g low high) where
-    ordered_cut : IsOrdered key after top
+    ordered_cut : IsOrdered key after top rank
     ordered_cut = IsOrdered-remove key child after top g s p t l w shape ordered
 
     l_cut : (a b : ℕ) → ¬ Spans key after top l a b
@@ -93,11 +94,11 @@ module _ (key : ℕ → ℕ) (child : ℕ → Bool → ℕ) (top : ℕ) (ordered
     p_spans : Spans key child top p (low_of s low (key g)) (high_of s high (key g))
     p_spans = goes s reached shape.node (sym shape.parent) refl refl
 
-    g_rises : g < p
-    g_rises = let up = ordered.rising g low high s reached shape.node in omega (arith, shape.parent)
+    g_rises : rank g < rank p
+    g_rises = let up = ordered.rising g low high s reached shape.node in omega (arith, ap rank shape.parent)
 
-    p_rises : p < w
-    p_rises = let up = ordered.rising p _ _ t p_spans shape.inner in omega (arith, shape.other)
+    p_rises : rank p < rank w
+    p_rises = let up = ordered.rising p _ _ t p_spans shape.inner in omega (arith, ap rank shape.other)
 
     p_cut : (a b : ℕ) → ¬ Spans key after top p a b
     p_cut a b r =
@@ -112,7 +113,7 @@ module _ (key : ℕ → ℕ) (child : ℕ → Bool → ℕ) (top : ℕ) (ordered
               let up = no_between key after top ordered_cut (key p) r v.0 v.1 u.reached (omega arith) (omega arith)
               shape.node next p_rises in
               absurd (omega (arith, g_rises))
-          | was_p e u ↦ absurd (omega (arith, g_rises))
+          | was_p e u ↦ absurd (omega (arith, g_rises, ap rank e))
           | was_l e ↦ absurd (shape.leaf (cc))
         ]
 
@@ -121,7 +122,7 @@ module _ (key : ℕ → ℕ) (child : ℕ → Bool → ℕ) (top : ℕ) (ordered
 
     after_p : (j : ℕ) → (a b : ℕ) → Spans key after top w a b → a ≤ j → j < b → OnCourse key after top j p
     after_p j a b r c d = elim (shape.relinks.others p (nat_le (key p) j)) [
-      | inl o ↦ absurd (omega (arith, g_rises))
+      | inl o ↦ absurd (omega (arith, g_rises, ap rank o.0))
       | inr o ↦ off shape.inner p_cut refl (elim (same_or_not (nat_le (key p) j) t) [
         | inl e ↦ subst (OnCourse key after top j) (cc) (here r c d)
         | inr e ↦ subst (OnCourse key after top j) (cc) (dead shape.leaf l_cut)

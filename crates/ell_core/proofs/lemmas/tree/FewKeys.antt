@@ -15,6 +15,8 @@ use Rattle.ell_core.proofs.lemmas.tree.Pairs.{Contains-none, Contains-first, Con
 use Rattle.ell_core.proofs.lemmas.tree.Paths.{internal_or_leaf, Below-refl}
 use Rattle.ell_core.proofs.lemmas.tree.Nodes.{nodes_below, nodes_below-none, nodes_below-leaf, nodes_below-inner, nodes_below-only, nodes_below-apart}
 use Rattle.ell_core.proofs.lemmas.tree.RealPairs.{inner, real, infinite, kind_of, real_pairs, real_pairs-none, real_pairs-inner, real_pairs-real, real_pairs-infinite, real_pairs-append, ListsTreePairs-all, ListsKeys-of_pairs}
+use Rattle.ell_core.proofs.lemmas.tree.Ranks.{rank_most}
+use Rattle.ell_core.specs.tree.Rank.{rank}
 
 -- the cards of the internal nodes among nodes
 unfoldable inner_cards : List ℕ → List ℕ
@@ -116,7 +118,8 @@ no_longer w keys others first second =
 -- as many places as are enough for the nodes that wait are enough for the keys
 pub HoldsKeys-from_room : (w : Words) (places : ℕ) → IsLawful w → HasRoom w places → HoldsKeys w places
 HoldsKeys-from_room w places lawful room keys listed =
-    let inside : (x : ℕ) → Reached w x → x < 4 * places = λ x reached. let h = room x reached in omega arith in
+    let inside : (x : ℕ) → Reached w x → rank x < 4 * places =
+    λ x reached. let h = room x reached in let most = rank_most x (places - 2) (omega arith) in omega arith in
     let nodes = nodes_below w (4 * places) 0 in
     let pairs = real_pairs w nodes in
     let all = no_longer w keys (keys_of pairs) listed (ListsKeys-of_pairs w pairs (ListsTreePairs-all w (4 * places) lawful inside)) in

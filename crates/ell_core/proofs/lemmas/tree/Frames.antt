@@ -57,13 +57,13 @@ module _ (Born : ℕ → Type 0) (key key_after : ℕ → ℕ) (child after : �
       (λ x t o. sym (same_child x t o)) still k o f
 
   -- the tree stays in order
-  pub IsOrdered-same : IsOrdered key child top → IsOrdered key_after after top
-  IsOrdered-same h = record {
+  pub IsOrdered-same : {rank : ℕ → ℕ} → IsOrdered key child top rank → IsOrdered key_after after top rank
+  IsOrdered-same {rank = rank} h = record {
     within = λ x low high r. subst (λ v. (low ≤ v) × (v < high)) (sym (same_key x (Spans-back_born r)))
         (h.within x low high (Spans-back r));
     proper = λ x low high r i. subst (λ v. low < v) (sym (same_key x (Spans-back_born r)))
         (h.proper x low high (Spans-back r) i);
-    rising = λ x low high t r i. subst (λ v. x < v) (sym (same_child x t (Spans-back_born r)))
+    rising = λ x low high t r i. subst (λ v. rank x < rank v) (sym (same_child x t (Spans-back_born r)))
         (h.rising x low high t (Spans-back r) i);
   }
 

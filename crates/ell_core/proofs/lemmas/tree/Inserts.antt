@@ -5,15 +5,15 @@ use Rattle.ell_core.proofs.lemmas.tree.Bounds.{leaf_key, leaf_holds, Meets-up, M
 
 -- the shape of the change: the child of p on the side s, a leaf l, becomes the internal node q, whose leaves have the keys
 -- of l and k
-pub record Inserts (key : ℕ → ℕ) (child after : ℕ → Bool → ℕ) (top p : ℕ) (s : Bool) (l q k : ℕ) : Type 0 where
+pub record Inserts (rank key : ℕ → ℕ) (child after : ℕ → Bool → ℕ) (top p : ℕ) (s : Bool) (l q k : ℕ) : Type 0 where
   pub relinks : Relinked child after p s q
   pub was : child p s ≡ l
   pub leaf : ¬ IsInternal l
   pub node : IsInternal q
   pub leaves : (t : Bool) → ¬ IsInternal (child q t)
   pub apart : p ≢ q
-  pub rises : p < q
-  pub above : (t : Bool) → q < child q t
+  pub rises : rank p < rank q
+  pub above : (t : Bool) → rank q < rank (child q t)
   -- the keys of the new nodes
   pub left_low : key (child q false) < key q
   pub right_high : key (child q true) ≡ key q
@@ -29,8 +29,8 @@ pub data New (key : ℕ → ℕ) (child : ℕ → Bool → ℕ) (top l q : ℕ) 
   new_leaf : {z low high a b : ℕ} (t : Bool) → z ≡ child q t → Spans key child top l low high
       → a ≡ low_of t low (key q) → b ≡ high_of t high (key q) → New key child top l q z a b
 
-module _ (key : ℕ → ℕ) (child after : ℕ → Bool → ℕ) (top p : ℕ) (s : Bool) (l q k : ℕ)
-    (shape : Inserts key child after top p s l q k) where
+module _ {rank : ℕ → ℕ} (key : ℕ → ℕ) (child after : ℕ → Bool → ℕ) (top p : ℕ) (s : Bool) (l q k : ℕ)
+    (shape : Inserts rank key child after top p s l q k) where
   insert_step : (x low high y a b : ℕ) (t : Bool) → Spans key child top x low high ⊎ New key child top l q x low high
       → IsInternal x → y ≡ after x t → a ≡ low_of t low (key x) → b ≡ high_of t high (key x)
       → Spans key child top y a b ⊎ New key child top l q y a b
@@ -58,7 +58,7 @@ module _ (key : ℕ → ℕ) (child after : ℕ → Bool → ℕ) (top p : ℕ) 
     | inr h ↦ elim (Spans-stays r) [ inl d ↦ absurd (shape.leaf (cc)) | inr d ↦ inr (goes t d i (e ∙ sym h) f g) ]
   ]
 
-  module _ (ordered : IsOrdered key child top) where
+  module _ (ordered : IsOrdered key child top rank) where
     new_within : (z low high : ℕ) → New key child top l q z low high → (low ≤ key z) × (key z < high)
     new_within z low high (new_node e r) =
         let a = shape.only true in let b = shape.only false in let c = shape.left_low in let d = shape.right_high in
@@ -80,12 +80,12 @@ module _ (key : ℕ → ℕ) (child after : ℕ → Bool → ℕ) (top p : ℕ) 
         omega arith
     new_proper z low high (new_leaf t e r f g) i = absurd (shape.leaves t (cc))
 
-    new_rises : (z low high : ℕ) (t : Bool) → New key child top l q z low high → IsInternal z → z < child z t
-    new_rises z low high t (new_node e r) i = subst (λ v. v < child v t) (sym e) (shape.above t)
+    new_rises : (z low high : ℕ) (t : Bool) → New key child top l q z low high → IsInternal z → rank z < rank (child z t)
+    new_rises z low high t (new_node e r) i = subst (λ v. rank v < rank (child v t)) (sym e) (shape.above t)
     new_rises z low high t (new_leaf u e r f g) i = absurd (shape.leaves u (cc))
 
     -- the tree stays in order
-    pub IsOrdered-insert : IsOrdered key after top
+    pub IsOrdered-insert : IsOrdered key after top rank
     IsOrdered-insert = record {
       within = λ x low high r. elim (Spans-insert r) [
         | inl d ↦ ordered.within x low high d
@@ -96,9 +96,9 @@ module _ (key : ℕ → ℕ) (child after : ℕ → Bool → ℕ) (top p : ℕ) 
         | inr d ↦ new_proper x low high d i
       ];
       rising = λ x low high t r i. elim (shape.relinks.others x t) [
-        | inl h ↦ subst (λ v. v < after v t) (sym h.0)
-            (subst (λ u. p < after p u) (sym h.1) (subst (λ v. p < v) (sym shape.relinks.there) shape.rises))
-        | inr h ↦ subst (λ v. x < v) (sym h) (elim (Spans-insert r) [
+        | inl h ↦ subst (λ v. rank v < rank (after v t)) (sym h.0)
+            (subst (λ u. rank p < rank (after p u)) (sym h.1) (subst (λ v. rank p < rank v) (sym shape.relinks.there) shape.rises))
+        | inr h ↦ subst (λ v. rank x < rank v) (sym h) (elim (Spans-insert r) [
           | inl d ↦ ordered.rising x low high t d i
           | inr d ↦ new_rises x low high t d i
         ])
@@ -155,7 +155,7 @@ module _ (key : ℕ → ℕ) (child after : ℕ → Bool → ℕ) (top p : ℕ) 
       | inr h ↦ below i (cc) (Meets-before j ne f)
     ]
 
-  module _ (ordered : IsOrdered key child top) (low high : ℕ) (reached : Spans key child top p low high)
+  module _ (ordered : IsOrdered key child top rank) (low high : ℕ) (reached : Spans key child top p low high)
       (internal : IsInternal p)
       (from : low_of s low (key p) ≤ k) (until : k < high_of s high (key p)) {holds : ℕ → Type 0} where
     -- the key of the new leaf is met afterwards

@@ -6,6 +6,8 @@ use Rattle.ell_layout.specs.Words.{Words, IsLeaf}
 use Rattle.ell_core.specs.tree.Tree.{Below, Reached, IsLawful}
 use Rattle.ell_core.proofs.lemmas.tree.Pairs.{Contains-none, Contains-first, Contains-later, Contains-cons_cases, AllPairs-none, AllPairs-append, AllPairs-cons, AllPairs-single}
 use Rattle.ell_core.proofs.lemmas.tree.Paths.{internal_or_leaf, Below-refl, Below-from_child, Below-cases, Below-leaf, Reached-child, Below-child-lt, sides_apart}
+use Rattle.ell_core.specs.tree.Rank.{rank}
+use Rattle.ell_core.proofs.lemmas.tree.Ranks.{ranked_apart}
 
 -- the nodes below a node, left before right, down to as many levels as the fuel says
 unfoldable pub nodes_below : Words → ℕ → ℕ → List ℕ
@@ -54,10 +56,10 @@ Contains-either : (lists : Bool → List ℕ) (right : Bool) (y : ℕ) → Conta
 Contains-either lists false y h = Contains-append_left (lists false) (lists true) y h
 Contains-either lists true y h = Contains-append_right (lists false) (lists true) y h
 
--- a lawful tree whose reached nodes are less than n
-module _ (w : Words) (n : ℕ) (lawful : IsLawful w) (inside : (x : ℕ) → Reached w x → x < n) where
+-- a lawful tree whose reached nodes have ranks less than n
+module _ (w : Words) (n : ℕ) (lawful : IsLawful w) (inside : (x : ℕ) → Reached w x → rank x < n) where
   -- the nodes below children of x, with fuel enough, are the nodes below x after x itself: with one fuel more the list is the same
-  pub nodes_below-more : (fuel x : ℕ) → Reached w x → n ≤ fuel + x → nodes_below w fuel x ≡ nodes_below w (suc fuel) x
+  pub nodes_below-more : (fuel x : ℕ) → Reached w x → n ≤ fuel + rank x → nodes_below w fuel x ≡ nodes_below w (suc fuel) x
   nodes_below-more zero x reached enough = let within = inside x reached in absurd (omega arith)
   nodes_below-more (suc fuel) x reached enough = ⊎_elim
       (λ inner.
@@ -72,7 +74,7 @@ module _ (w : Words) (n : ℕ) (lawful : IsLawful w) (inside : (x : ℕ) → Rea
       (internal_or_leaf x)
 
   -- with fuel enough each node below x is in the list
-  pub nodes_below-all : (fuel x y : ℕ) → Reached w x → n ≤ fuel + x → Below w x y → Contains (nodes_below w fuel x) y
+  pub nodes_below-all : (fuel x y : ℕ) → Reached w x → n ≤ fuel + rank x → Below w x y → Contains (nodes_below w fuel x) y
   nodes_below-all zero x y reached enough below = let within = inside x reached in absurd (omega arith)
   nodes_below-all (suc fuel) x y reached enough below = ⊎_elim
       (λ inner.
@@ -101,8 +103,8 @@ module _ (w : Words) (n : ℕ) (lawful : IsLawful w) (inside : (x : ℕ) → Rea
       subst (AllPairs (λ y z. y ≢ z)) (sym (nodes_below-inner w fuel x inner))
       (AllPairs-cons (λ y z. y ≢ z) x (lefts ++ rights)
       (λ y h. ⊎_elim
-      (λ on_left. let up = Below-child-lt w lawful x y false reached inner (nodes_below-only w fuel (w.child x false) y on_left) in λ e. omega arith)
-      (λ on_right. let up = Below-child-lt w lawful x y true reached inner (nodes_below-only w fuel (w.child x true) y on_right) in λ e. omega arith)
+      (λ on_left. let up = Below-child-lt w lawful x y false reached inner (nodes_below-only w fuel (w.child x false) y on_left) in ranked_apart x y up)
+      (λ on_right. let up = Below-child-lt w lawful x y true reached inner (nodes_below-only w fuel (w.child x true) y on_right) in ranked_apart x y up)
       (Contains-append_cases lefts rights y h))
       (AllPairs-append (λ y z. y ≢ z) lefts rights
       (nodes_below-apart fuel (w.child x false) (Reached-child w x false reached inner))

@@ -36,7 +36,7 @@ module _ (key : ℕ → ℕ) (child : ℕ → Bool → ℕ) (top : ℕ) where
   abbrev Inner : ℕ → ℕ → Type 0
   Inner k n = (m : ℕ) → m < n → IsInternal (walk k m).node
 
-  module _ (ordered : IsOrdered key child top) where
+  module _ {rank : ℕ → ℕ} (ordered : IsOrdered key child top rank) where
     -- the walk for a key comes to a node with this range
     abbrev IsPlace : ℕ → ℕ → ℕ → ℕ → Type 0
     IsPlace k x low high = (n : ℕ) × (walk k n ≡ record { node = x; low = low; high = high }) × Inner k n
@@ -63,18 +63,18 @@ module _ (key : ℕ → ℕ) (child : ℕ → Bool → ℕ) (top : ℕ) where
         goes (nat_le (key (walk k n).node) k) (walk_spans k n (λ m c. h m (omega arith))) (h n (omega arith))
         (ap (λ p. p.node) e) (ap (λ p. p.low) e) (ap (λ p. p.high) e)
 
-    walk_step : (k n : ℕ) → Inner k (suc n) → (walk k n).node < (walk k (suc n)).node
+    walk_step : (k n : ℕ) → Inner k (suc n) → rank (walk k n).node < rank (walk k (suc n)).node
     walk_step k n h =
         let place = walk_spans k n (λ m c. h m (omega arith)) in
         let up = ordered.rising _ _ _ (nat_le (key (walk k n).node) k) place (h n (omega arith)) in
-        omega (arith, ap (λ p. p.node) (at_next k n))
+        omega (arith, ap (λ p. rank p.node) (at_next k n))
 
-    walk_rises : (k m n : ℕ) → m < n → Inner k n → (walk k m).node < (walk k n).node
+    walk_rises : (k m n : ℕ) → m < n → Inner k n → rank (walk k m).node < rank (walk k n).node
     walk_rises k m zero c h = absurd (omega arith)
     walk_rises k m (suc n) c h =
         let one = walk_step k n h in
         elim (cases_order m n) [
-          | inl e ↦ subst (λ v. (walk k v).node < (walk k (suc n)).node) (sym e) one
+          | inl e ↦ subst (λ v. rank (walk k v).node < rank (walk k (suc n)).node) (sym e) one
           | inr o ↦ (let more = walk_rises k m n (omega arith) (λ j b. h j (omega arith)) in omega arith)
         ]
 
@@ -89,33 +89,34 @@ module _ (key : ℕ → ℕ) (child : ℕ → Bool → ℕ) (top : ℕ) where
         let wq = ordered.within x c d q in
         let u = on_walk (key x) r wr.0 wr.1 in
         let v = on_walk (key x) q wq.0 wq.1 in
-        let i = ap (λ p. p.node) u.1 in
-        let j = ap (λ p. p.node) v.1 in
+        let i = ap (λ p. rank p.node) u.1 in
+        let j = ap (λ p. rank p.node) v.1 in
         elim (cases_order u.0 v.0) [
           | inl e ↦ same_place (key x) u.0 v.0 e u.1 v.1
           | inr (inl o) ↦ (let up = walk_rises (key x) u.0 v.0 o v.2 in absurd (omega arith))
           | inr (inr o) ↦ (let up = walk_rises (key x) v.0 u.0 o u.2 in absurd (omega arith))
         ]
 
-    node_order : (k m n : ℕ) → m ≤ n → Inner k n → (walk k m).node ≤ (walk k n).node
+    node_order : (k m n : ℕ) → m ≤ n → Inner k n → rank (walk k m).node ≤ rank (walk k n).node
     node_order k m n c h = elim (cases_order m n) [
-      | inl e ↦ subst (λ v. (walk k m).node ≤ (walk k v).node) e (omega arith)
+      | inl e ↦ subst (λ v. rank (walk k m).node ≤ rank (walk k v).node) e (omega arith)
       | inr (inl o) ↦ (let up = walk_rises k m n o h in omega arith)
       | inr (inr o) ↦ absurd (omega arith)
     ]
 
     -- no node on the walk for k lies between g and the next one
     pub no_between : {x g w a b c d : ℕ} (k : ℕ) → Spans key child top x a b → a ≤ k → k < b → Spans key child top g c d
-        → c ≤ k → k < d → IsInternal g → w ≡ child g (nat_le (key g) k) → x < w → x ≤ g
+        → c ≤ k → k < d → IsInternal g → w ≡ child g (nat_le (key g) k) → rank x < rank w → rank x ≤ rank g
     no_between {x = x} {g = g} {w = w} k r a1 a2 q b1 b2 i e up =
         let u = on_walk k r a1 a2 in
         let v = on_walk k q b1 b2 in
-        let ux = ap (λ p. p.node) u.1 in
-        let vg = ap (λ p. p.node) v.1 in
+        let ux = ap (λ p. rank p.node) u.1 in
+        let vg = ap (λ p. rank p.node) v.1 in
         elim (cases_lt v.0 u.0) [
           | inl o ↦
               let h = node_order k (suc v.0) u.0 (omega arith) u.2 in
-              let f = ap (λ p. p.node) (at_next k v.0 ∙ ap (move k) v.1) in
+              let f = ap (λ p. rank p.node) (at_next k v.0 ∙ ap (move k) v.1) in
+              let to = ap rank e in
               absurd (omega arith)
           | inr o ↦ (let h = node_order k u.0 v.0 o v.2 in omega arith)
         ]

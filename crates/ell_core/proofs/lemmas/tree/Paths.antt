@@ -1,9 +1,10 @@
-use Rattle.std.proofs.Common.{◌≡◌, ℕ, ◌%◌, ◌<◌, ◌≤◌, ◌⊎◌, inl, inr, Bool, true, false, List, [], ◌∷◌, ◌++◌, arith, refl, subst}
+use Rattle.std.proofs.Common.{◌≡◌, ℕ, ◌%◌, ◌<◌, ◌≤◌, ◌⊎◌, inl, inr, Bool, true, false, List, [], ◌∷◌, ◌++◌, arith, refl, ap, subst}
 use Rattle.std.proofs.lemmas.Bool.{cases_eq}
 use Rattle.std.proofs.lemmas.List.{append_cancel_left}
 use Rattle.ell_word.specs.Node.{IsInternal}
 use Rattle.ell_layout.specs.Words.{Words, IsLeaf}
 use Rattle.ell_core.specs.tree.Tree.{Leads, Below, Reached, IsLawful}
+use Rattle.ell_core.specs.tree.Rank.{rank}
 
 -- a node is internal or a leaf
 pub internal_or_leaf : (x : ℕ) → IsInternal x ⊎ IsLeaf x
@@ -75,19 +76,19 @@ Reached-below w x y reached below = Below-trans w 0 x y reached below
 pub Reached-child : (w : Words) (x : ℕ) (right : Bool) → Reached w x → IsInternal x → Reached w (w.child x right)
 Reached-child w x right reached inner = Reached-below w x (w.child x right) reached (Below-child w x right inner)
 
--- in a lawful tree no node below a reached one has a lesser number
-pub Below-le : (w : Words) → IsLawful w → (x y : ℕ) → Reached w x → Below w x y → x ≤ y
+-- in a lawful tree no node below a reached one has a lesser rank
+pub Below-le : (w : Words) → IsLawful w → (x y : ℕ) → Reached w x → Below w x y → rank x ≤ rank y
 Below-le w lawful x y reached below = by_path x below.path reached below.leads
   where
-    by_path : (x : ℕ) (p : List Bool) → Reached w x → Leads w x p y → x ≤ y
-    by_path x [] reached leads = omega arith
+    by_path : (x : ℕ) (p : List Bool) → Reached w x → Leads w x p y → rank x ≤ rank y
+    by_path x [] reached leads = let same = ap rank leads in omega arith
     by_path x (right ∷ p) reached leads =
         let up = lawful.rises x right reached leads.0 in
         let rest = by_path (w.child x right) p (Reached-child w x right reached leads.0) leads.1 in
         omega arith
 
 -- in a lawful tree no node is below its child
-pub Below-child-lt : (w : Words) → IsLawful w → (x y : ℕ) (right : Bool) → Reached w x → IsInternal x → Below w (w.child x right) y → x < y
+pub Below-child-lt : (w : Words) → IsLawful w → (x y : ℕ) (right : Bool) → Reached w x → IsInternal x → Below w (w.child x right) y → rank x < rank y
 Below-child-lt w lawful x y right reached inner below =
     let up = lawful.rises x right reached inner in
     let rest = Below-le w lawful (w.child x right) y (Reached-child w x right reached inner) below in

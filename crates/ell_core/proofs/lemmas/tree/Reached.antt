@@ -7,6 +7,7 @@ use Rattle.ell_core.specs.tree.Ranges as ranges
 use Rattle.ell_core.specs.history.Invariant.{top, IsIn, IsOut, LeadsTo, LeadsToValue, IsOnCourse}
 use Rattle.ell_core.proofs.lemmas.tree.Bounds.{leaf_holds, Meets-map, child_within, side_of, leaf_is_met}
 use Rattle.ell_core.proofs.lemmas.tree.Paths.{Below-refl, Below-from_child, Reached-child}
+use Rattle.ell_core.specs.tree.Rank.{rank}
 
 -- a node that has a range is reached
 pub Spans-reached : (w : Words) {x low high : ℕ} → Spans w.key w.child top x low high → Reached w x
@@ -68,7 +69,7 @@ pub record SpansIn (w : Words) (y low high : ℕ) : Type 0 where
   pub to : last ≤ high
 
 -- an ordered tree
-module _ (w : Words) (ordered : IsOrdered w.key w.child top) where
+module _ (w : Words) (ordered : IsOrdered w.key w.child top rank) where
   -- what is below a node has its range in the node's
   pub spans_below : (x low high : ℕ) (p : List Bool) (y : ℕ) → Spans w.key w.child top x low high
       → Leads w x p y → SpansIn w y low high

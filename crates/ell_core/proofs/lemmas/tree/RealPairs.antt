@@ -8,6 +8,7 @@ use Rattle.ell_core.specs.tree.Tree.{Reached, IsLawful, ListsTreePairs, ListsKey
 use Rattle.ell_core.proofs.lemmas.tree.Pairs.{Contains-none, Contains-first, Contains-later, Contains-cons_cases, Contains-keys_of, Contains-from_keys_of, IsStrictlyIncreasing-keys_of, AllPairs-none, AllPairs-append, AllPairs-single}
 use Rattle.ell_core.proofs.lemmas.tree.Paths.{internal_or_leaf, Below-refl, Reached-child}
 use Rattle.ell_core.proofs.lemmas.tree.Nodes.{nodes_below, nodes_below-none, nodes_below-leaf, nodes_below-inner, nodes_below-only, nodes_below-all}
+use Rattle.ell_core.specs.tree.Rank.{rank}
 
 -- a node's key with its value
 abbrev pub pair_at : Words → ℕ → ℕ × ℕ
@@ -159,8 +160,8 @@ real_pairs-ascend w lawful (suc fuel) x reached = elim (kind_of w x) [
       (subst (AllPairs KeyLess) (sym (real_pairs-infinite w x [] outer above ∙ real_pairs-none w)) (AllPairs-none KeyLess))
 ]
 
--- the pairs of all nodes of a lawful tree whose reached nodes are less than n are the keys of the tree with their values
-pub ListsTreePairs-all : (w : Words) (n : ℕ) → IsLawful w → ((x : ℕ) → Reached w x → x < n) → ListsTreePairs w (real_pairs w (nodes_below w n 0))
+-- the pairs of all nodes of a lawful tree whose reached nodes have ranks less than n are the keys of the tree with their values
+pub ListsTreePairs-all : (w : Words) (n : ℕ) → IsLawful w → ((x : ℕ) → Reached w x → rank x < n) → ListsTreePairs w (real_pairs w (nodes_below w n 0))
 ListsTreePairs-all w n lawful inside = record {
   ascending = IsStrictlyIncreasing-keys_of (real_pairs w (nodes_below w n 0)) (real_pairs-ascend w lawful n 0 (Below-refl w 0));
   each = λ key value. (

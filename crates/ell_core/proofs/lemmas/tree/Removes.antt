@@ -29,7 +29,7 @@ pub record Removes (key : ℕ → ℕ) (child after : ℕ → Bool → ℕ) (top
   pub other : child p t ≡ w
 
 module _ (key : ℕ → ℕ) (child after : ℕ → Bool → ℕ) (top g : ℕ) (s : Bool) (p : ℕ) (t : Bool) (l w : ℕ)
-    (shape : Removes key child after top g s p t l w) (ordered : IsOrdered key child top) where
+    (shape : Removes key child after top g s p t l w) {rank : ℕ → ℕ} (ordered : IsOrdered key child top rank) where
   low_mono : (u : Bool) (a b m : ℕ) → a ≤ b → low_of u a m ≤ low_of u b m
   low_mono true a b m h = omega arith
   low_mono false a b m h = h
@@ -79,7 +79,7 @@ module _ (key : ℕ → ℕ) (child after : ℕ → Bool → ℕ) (top g : ℕ) 
   Spans-remove (goes u r i e f h) = remove_step _ _ _ _ _ _ u (Spans-remove r) i e f h
 
   -- the tree stays in order
-  pub IsOrdered-remove : IsOrdered key after top
+  pub IsOrdered-remove : IsOrdered key after top rank
   IsOrdered-remove = record {
     within = λ x low high r.
         let v = Spans-remove r in let b = ordered.within x v.a v.b v.reached in (omega arith, omega arith);
@@ -91,9 +91,10 @@ module _ (key : ℕ → ℕ) (child after : ℕ → Bool → ℕ) (top g : ℕ) 
           let j = ordered.rising p _ _ t q shape.inner in
           let there = shape.relinks.there in
           let same = ap (λ v. child v u) o.0 ∙ (ap (child g) o.1 ∙ shape.parent) in
-          let up : x < after g s = omega (arith, shape.other, there, same) in
-          subst (λ n. x < after n u) (sym o.0) (subst (λ n. x < after g n) (sym o.1) up)
-      | inr o ↦ subst (λ n. x < n) (sym o) (ordered.rising x v.a v.b u v.reached i)
+          let o2 = ap rank shape.other in let t2 = ap rank there in let s2 = ap rank same in
+          let up : rank x < rank (after g s) = omega arith in
+          subst (λ n. rank x < rank (after n u)) (sym o.0) (subst (λ n. rank x < rank (after g n)) (sym o.1) up)
+      | inr o ↦ subst (λ n. rank x < rank n) (sym o) (ordered.rising x v.a v.b u v.reached i)
     ];
   }
 
@@ -193,13 +194,14 @@ module _ (key : ℕ → ℕ) (child after : ℕ → Bool → ℕ) (top g : ℕ) 
     ]
 
     -- below g all children are as they were
-    frame : {holds : ℕ → Type 0} (j : ℕ) {x : ℕ} {a b : ℕ} → Spans key child top x a b → g < x → FindsLeaf key after holds j x → FindsLeaf key child holds j x
+    frame : {holds : ℕ → Type 0} (j : ℕ) {x : ℕ} {a b : ℕ} → Spans key child top x a b → rank g < rank x → FindsLeaf key after holds j x → FindsLeaf key child holds j x
     frame j r c (at_leaf h e p) = at_leaf h e p
     frame j {x} {a} {b} r c (below {y = y} i e f) = elim (shape.relinks.others x (nat_le (key x) j)) [
-      | inl o ↦ absurd (omega arith)
+      | inl o ↦ absurd (let same = ap rank o.0 in omega arith)
       | inr o ↦
           let up = ordered.rising x a b (nat_le (key x) j) r i in
           let q : y ≡ child x (nat_le (key x) j) = e ∙ o in
+          let q2 = ap rank q in
           below i q (frame j (goes (nat_le (key x) j) r i q refl refl) (omega arith) f)
     ]
 
@@ -218,10 +220,10 @@ module _ (key : ℕ → ℕ) (child after : ℕ → Bool → ℕ) (top g : ℕ) 
               let at_g = Meets-down key after top IsOrdered-remove v.reached (omega arith) (omega arith) f in
               let next = sym (ap (after g) side ∙ shape.relinks.there) in
               let at_w = below_of key after top IsOrdered-remove shape.node next at_g in
-              let at_w_before = frame (key l) w_spans (omega (arith, shape.parent, shape.other)) at_w in
+              let at_w_before = frame (key l) w_spans (omega (arith, ap rank shape.parent, ap rank shape.other)) at_w in
               let c = Meets-within key child top ordered at_w_before w_spans in
               disjoint t (key p) _ _ (key l) c.0 c.1 b.0 b.1
-          | was_p e v ↦ absurd (omega (arith, shape.parent))
+          | was_p e v ↦ absurd (omega (arith, ap rank shape.parent, ap rank e))
           | was_l e ↦ absurd (shape.leaf (cc))
         ]
 

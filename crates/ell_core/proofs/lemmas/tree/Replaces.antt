@@ -5,15 +5,16 @@ use Rattle.ell_core.proofs.lemmas.tree.Bounds.{leaf_key, Meets-up}
 use Rattle.ell_core.proofs.lemmas.tree.OneRange.{two_leaves}
 
 -- the shape of the change: the child of p on the side s, a leaf l, becomes another leaf q of the same key
-pub record Replaces (key : ℕ → ℕ) (child after : ℕ → Bool → ℕ) (p : ℕ) (s : Bool) (l q : ℕ) : Type 0 where
+pub record Replaces (rank key : ℕ → ℕ) (child after : ℕ → Bool → ℕ) (p : ℕ) (s : Bool) (l q : ℕ) : Type 0 where
   pub relinks : Relinked child after p s q
   pub was : child p s ≡ l
   pub leaf : ¬ IsInternal l
   pub node : ¬ IsInternal q
-  pub rises : p < q
+  pub rises : rank p < rank q
   pub same : key q ≡ key l
 
-module _ (key : ℕ → ℕ) (child after : ℕ → Bool → ℕ) (top p : ℕ) (s : Bool) (l q : ℕ) (shape : Replaces key child after p s l q) where
+module _ {rank : ℕ → ℕ} (key : ℕ → ℕ) (child after : ℕ → Bool → ℕ) (top p : ℕ) (s : Bool) (l q : ℕ)
+    (shape : Replaces rank key child after p s l q) where
   replace_step : (x low high y a b : ℕ) (t : Bool) → Spans key child top x low high ⊎ ((x ≡ q) × Spans key child top l low high)
       → IsInternal x → y ≡ after x t → a ≡ low_of t low (key x) → b ≡ high_of t high (key x)
       → Spans key child top y a b ⊎ ((y ≡ q) × Spans key child top l a b)
@@ -42,7 +43,7 @@ module _ (key : ℕ → ℕ) (child after : ℕ → Bool → ℕ) (top p : ℕ) 
   ]
 
   -- the tree stays in order
-  pub IsOrdered-replace : IsOrdered key child top → IsOrdered key after top
+  pub IsOrdered-replace : IsOrdered key child top rank → IsOrdered key after top rank
   IsOrdered-replace ordered = record {
     within = λ x low high r. elim (Spans-replace r) [
       | inl d ↦ ordered.within x low high d
@@ -53,9 +54,9 @@ module _ (key : ℕ → ℕ) (child after : ℕ → Bool → ℕ) (top p : ℕ) 
       | inr d ↦ absurd (shape.node (subst IsInternal d.0 i))
     ];
     rising = λ x low high t r i. elim (shape.relinks.others x t) [
-      | inl h ↦ subst (λ v. v < after v t) (sym h.0)
-          (subst (λ u. p < after p u) (sym h.1) (subst (λ v. p < v) (sym shape.relinks.there) shape.rises))
-      | inr h ↦ subst (λ v. x < v) (sym h) (elim (Spans-replace r) [
+      | inl h ↦ subst (λ v. rank v < rank (after v t)) (sym h.0)
+          (subst (λ u. rank p < rank (after p u)) (sym h.1) (subst (λ v. rank p < rank v) (sym shape.relinks.there) shape.rises))
+      | inr h ↦ subst (λ v. rank x < rank v) (sym h) (elim (Spans-replace r) [
         | inl d ↦ ordered.rising x low high t d i
         | inr d ↦ absurd (shape.node (subst IsInternal d.0 i))
       ])
@@ -81,7 +82,7 @@ module _ (key : ℕ → ℕ) (child after : ℕ → Bool → ℕ) (top p : ℕ) 
       | inr h ↦ below i (e ∙ h) (Meets-unreplaced j ne f)
     ]
 
-  module _ (ordered : IsOrdered key child top) (low high : ℕ) (reached : Spans key child top p low high) (internal : IsInternal p) where
+  module _ (ordered : IsOrdered key child top rank) (low high : ℕ) (reached : Spans key child top p low high) (internal : IsInternal p) where
     -- the old leaf's range
     pub l_spans : Spans key child top l (low_of s low (key p)) (high_of s high (key p))
     l_spans = goes s reached internal (sym shape.was) refl refl

@@ -1,4 +1,4 @@
-use Rattle.std.proofs.Common.{◌≡◌, ℕ, ◌+◌, ◌*◌, ◌<◌, ◌≤◌, true, false, List, [], ◌∷◌, ◌++◌, All, Some, length, arith, refl, ap, ap₂, sym, subst, ◌∙◌, append_assoc, append-nil, length-append}
+use Rattle.std.proofs.Common.{◌≡◌, ℕ, ◌+◌, ◌-◌, ◌*◌, ◌<◌, ◌≤◌, true, false, List, [], ◌∷◌, ◌++◌, All, Some, length, arith, refl, ap, ap₂, sym, subst, ◌∙◌, append_assoc, append-nil, length-append}
 use Rattle.std.proofs.lemmas.List.Elements.{All-nil, All-push, All-pop}
 use Rattle.std.proofs.lemmas.Map.Entries.{length-keys_of}
 use Rattle.std.specs.Map.{keys_of}
@@ -11,6 +11,8 @@ use Rattle.ell_core.proofs.lemmas.tree.Paths.{Below-refl, Reached-child}
 use Rattle.ell_core.proofs.lemmas.tree.Nodes.{nodes_below, nodes_below-leaf, nodes_below-inner, nodes_below-more}
 use Rattle.ell_core.proofs.lemmas.tree.RealPairs.{real_pairs, real_pairs-none, real_pairs-inner, real_pairs-real, real_pairs-infinite, ListsTreePairs-all, ListsKeys-of_pairs}
 use Rattle.ell_core.proofs.lemmas.tree.Stacks.{Stacked, Stacked-rest, Stacked-children, Stacked-length}
+use Rattle.ell_core.proofs.lemmas.tree.Ranks.{rank_most}
+use Rattle.ell_core.specs.tree.Rank.{rank}
 
 -- the nodes below those of a stack, whose last node is its top, in the order in which the walk comes to them
 unfoldable pub pending : Words → ℕ → List ℕ → List ℕ
@@ -43,16 +45,16 @@ pub record Turned (w : Words) (places : ℕ) (old waiting : List ℕ) (pairs : L
 
 -- a lawful tree, and so many places on the stack
 module _ (w : Words) (places : ℕ) (lawful : IsLawful w) (room : HasRoom w places) where
-  -- each reached node is less than three times the places
-  inside : (x : ℕ) → Reached w x → x < 4 * places
-  inside x reached = let h = room x reached in omega arith
+  -- the rank of each reached node is less than four times the places
+  inside : (x : ℕ) → Reached w x → rank x < 4 * places
+  inside x reached = let h = room x reached in let most = rank_most x (places - 2) (omega arith) in omega arith
 
   -- the walk begins with node 0 on its stack
   pub Walked-begin : Walked w places (0 ∷ []) []
   Walked-begin =
       let whole = pending-push w (4 * places) [] 0 ∙ ap (λ nodes. nodes_below w (4 * places) 0 ++ nodes) (pending-none w (4 * places)) ∙ append-nil (nodes_below w (4 * places) 0) in record {
         reached = All-push (Reached w) [] 0 (All-nil (Reached w)) (Below-refl w 0);
-        stacked = (omega arith, tt);
+        stacked = (record { any = omega arith; inner = λ e. omega arith }, tt);
         listed = ap (real_pairs w) whole;
       }
 
@@ -144,5 +146,6 @@ module _ (w : Words) (places : ℕ) (lawful : IsLawful w) (room : HasRoom w plac
       length rest + 2 ≤ places
   Walked-room x old rest pairs walked taken inner =
       let few = Stacked-length rest x (subst (Stacked 0) taken walked.stacked) inner in
-      let most = room x (Walked-top x old rest pairs walked taken) in
+      let on = room x (Walked-top x old rest pairs walked taken) in
+      let most = rank_most x (places - 2) (omega arith) in
       omega arith

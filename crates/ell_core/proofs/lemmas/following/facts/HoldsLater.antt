@@ -16,6 +16,8 @@ use Rattle.ell_core.proofs.lemmas.following.facts.Claimed.{is_delete-by_child, n
 use Rattle.ell_core.proofs.lemmas.stages.LaterKeys.{root_born, side_later, insert_key_later, top_child_later, insert_info}
 use Rattle.ell_core.proofs.lemmas.stages.Order.{marked_cases}
 use Rattle.ell_core.proofs.lemmas.stages.Waiting.{start-born}
+use Rattle.ell_core.proofs.lemmas.tree.Ranks.{rank_least}
+use Rattle.ell_core.specs.tree.Rank.{rank}
 
 -- a card that counts as an insert's has a left child
 left_child : (w : Words) (c : ℕ) → is_delete_card w c ≡ false → w.child (internal c) false ≢ 0
@@ -39,7 +41,8 @@ counts_as_delete w stage c sound kinds below h = elim (cases_Bool (is_start (sta
   | inl e ↦ absurd (let at : card (internal c) ≡ c = omega arith in
       let born = ap (λ n. is_node_born (stage n) (internal c % 4)) at ∙ start-born (stage c) (internal c % 4) (omega arith) e in
       let up = (sound.children (internal c) (omega arith) born).rising false in
-      let none = eqb-true (w.child (internal c) false) 0 h in
+      let none = ap rank (eqb-true (w.child (internal c) false) 0 h) in
+      let least = rank_least (internal c) in
       omega arith)
   | inr n ↦ elim (kinds.kinds c below n) [
     | inl insert ↦ absurd (((sound.cards c).insert insert).left_child (eqb-true (w.child (internal c) false) 0 h))
@@ -92,6 +95,7 @@ module _ (old new : Words) (stage stages : Stages) (before : WordsAreSound old s
       let side = is_right new (new.p c) (card_key new c) in
       let up = (after.children 0 refl (root_born new stages after)).rising side in
       let same : new.child (new.p c) side ≡ new.child 0 side = ap (λ n. new.child n side) parent in
+      let none = ap rank (sym same ∙ (e ∙ leaf)) in
       omega arith
 
   -- the child of an insert's parent on the card's side, later and before

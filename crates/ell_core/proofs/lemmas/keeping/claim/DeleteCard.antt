@@ -12,6 +12,7 @@ use Rattle.ell_core.specs.history.Invariant.{delete_key, IsInnerBorn, IsLeafBorn
 use Rattle.ell_layout.proofs.lemmas.Writes.{put_same}
 use Rattle.ell_core.proofs.lemmas.keeping.claim.Filling.{claimed_claims, claimed_delete, IsFilledDelete}
 use Rattle.ell_core.proofs.lemmas.keeping.claim.Frames.{earlier_word, earlier_node, Claiming, blank, born_kept, key_kept}
+use Rattle.ell_core.specs.tree.Rank.{rank}
 
 -- a worker stands at a leaf of its key below a parent and a grandparent that it saw
 pub record DeleteSeen (w : Words) (stage : Stages) (v : Worker) (k leaf : ℕ) (parent grandparent : Seen) : Type 0 where
@@ -64,8 +65,8 @@ module _ (w : Words) (stage : Stages) (v : Worker) (k leaf : ℕ) (parent grandp
       outer = h.outer;
       born = born_kept w after stage DClaimed claiming leaf h.stand.born;
     });
-    first = let a = h.above.less in let g = filled.gp_is in let p = filled.p_is in omega arith;
-    above = let a = h.seen.less in let p = filled.p_is in let l = filled.l_is in omega arith;
+    first = let a = h.above.less in let g = ap rank filled.gp_is in let p = ap rank filled.p_is in omega arith;
+    above = let a = h.seen.less in let p = ap rank filled.p_is in let l = ap rank filled.l_is in omega arith;
     before = let a = earlier_node w stage h.words leaf h.stand.born in let l = filled.l_is in omega arith;
     real = subst (λ n. n ≤ greatest_key) (sym own_key) h.real;
     calm = subst IsClean (sym filled.was_is) h.calm;

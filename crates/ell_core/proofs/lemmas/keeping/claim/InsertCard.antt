@@ -14,6 +14,7 @@ use Rattle.ell_layout.proofs.lemmas.Writes.{put_same}
 use Rattle.ell_core.proofs.lemmas.words.Sides.{key_of_three}
 use Rattle.ell_core.proofs.lemmas.keeping.claim.Filling.{claimed_claims, claimed_insert, IsFilledInsert}
 use Rattle.ell_core.proofs.lemmas.keeping.claim.Frames.{earlier_word, earlier_node, Claiming, blank, born_kept, key_kept, value_kept, child_kept}
+use Rattle.ell_core.specs.tree.Rank.{rank}
 
 -- of the lesser and the greater of two keys, the one that is not the leaf's is the other one
 own_of_two : (k leaf : ℕ) → key_of_three (min k leaf) (max k leaf) leaf ≡ k
@@ -115,7 +116,7 @@ module _ (w : Words) (stage : Stages) (v : Worker) (k value leaf : ℕ) (parent 
       outer = h.outer;
       born = born_kept w after stage IClaimed claiming leaf h.stand.born;
     });
-    above = let a = h.seen.less in let p = filled.p in let l = filled.l in omega arith;
+    above = let a = h.seen.less in let p = ap rank filled.p in let l = ap rank filled.l in omega arith;
     before = let a = earlier_node w stage h.words leaf h.stand.born in let l = filled.l in omega arith;
     ordered = let a = filled.left_key in let b = filled.right_key in omega arith;
     node_key = filled.key ∙ sym filled.right_key;

@@ -14,6 +14,7 @@ use Rattle.ell_core.proofs.lemmas.keeping.going_on.Cards.{GoesOn, card_on}
 use Rattle.ell_core.proofs.lemmas.keeping.going_on.Stages.{no_insert, no_delete, insert_stage_on, delete_stage_on}
 use Rattle.ell_core.proofs.lemmas.stages.Order.{insert_open-insert, delete_open-delete, insert_waits-insert, delete_waits-delete}
 use Rattle.ell_core.proofs.lemmas.stages.LaterKeys.{root_born, start_there}
+use Rattle.ell_core.specs.tree.Rank.{rank}
 
 module _ (w after : Words) (stage : Stages) (new : Stage) (h : Claiming w after stage new) where
   -- the stages after the claim
@@ -74,8 +75,7 @@ module _ (w after : Words) (stage : Stages) (new : Stage) (h : Claiming w after 
       record {
         born = λ right. subst (Born stages) (sym (child_kept w after stage new h x right born))
             (born_kept w after stage new h (w.child x right) (old.born right));
-        rising = λ right. (let less = old.rising right in let e = child_kept w after stage new h x right born in
-            omega arith);
+        rising = λ right. subst (λ n. rank x < rank n) (sym (child_kept w after stage new h x right born)) (old.rising right);
         left_less = let less = old.left_less in let e = child_key false in omega arith;
         right_more = let more = old.right_more in let e = child_key true in omega arith;
       }

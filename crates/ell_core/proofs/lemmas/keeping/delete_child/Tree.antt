@@ -12,6 +12,7 @@ use Rattle.ell_core.proofs.lemmas.words.Later.{child_there, child_elsewhere}
 use Rattle.ell_core.proofs.lemmas.tree.Bounds.{leaf_is_met}
 use Rattle.ell_core.proofs.lemmas.tree.Removes.{Removes, stays, was_p, was_l, Spans-left, Spans-remove, IsOrdered-remove, Meets-removed, Meets-kept, gone, met_before}
 use Rattle.ell_core.proofs.lemmas.tree.Courses.{OnCourse-remove}
+use Rattle.ell_core.specs.tree.Rank.{rank}
 
 -- the words after the delete of card c has cut: its sibling stands at the grandparent in the parent's place
 abbrev pub cut_words : Words → ℕ → Words
@@ -29,8 +30,8 @@ pub record CutsAt (w : Words) (stage : Stages) (c : ℕ) : Type 0 where
   pub leaf_there : w.child (w.p c) (leaf_side w c) ≡ w.l c
   pub sibling_there : w.child (w.p c) (not (leaf_side w c)) ≡ sibling w c
   pub side : exchange_side w (w.gp c) (sibling w c) ≡ delete_side w c
-  pub first : w.gp c < w.p c
-  pub above : w.p c < sibling w c
+  pub first : rank (w.gp c) < rank (w.p c)
+  pub above : rank (w.p c) < rank (sibling w c)
   pub real : delete_key w c ≤ greatest_key
 
 -- the child that is not the leaf is the one on the other side
@@ -64,14 +65,14 @@ cuts_at w stage sound c at =
       sibling_there = other;
       side = mark.side;
       first = card.first;
-      above = subst (λ n. w.p c < n) other (children.rising (not (leaf_side w c)));
+      above = subst (λ n. rank (w.p c) < rank n) other (children.rising (not (leaf_side w c)));
       real = card.real;
     }
 
 -- what the exchange of the grandparent's child does to the tree: it stays in order, all that was in it but parent and leaf
 -- stays, the parent goes, courses stay, and the delete's key is gone alone
 pub record CutTree (w : Words) (c : ℕ) : Type 0 where
-  pub ordered : IsOrdered w.key (cut_words w c).child top
+  pub ordered : IsOrdered w.key (cut_words w c).child top rank
   pub stays : (x : ℕ) → IsInternal x → x ≢ w.p c → IsIn w x → IsIn (cut_words w c) x
   pub out : IsOut (cut_words w c) (w.p c)
   pub still_out : (x : ℕ) → IsOut w x → IsOut (cut_words w c) x
@@ -80,7 +81,7 @@ pub record CutTree (w : Words) (c : ℕ) : Type 0 where
   pub gone : ¬ LeadsTo (cut_words w c) (delete_key w c) 0
   pub there : LeadsToValue w (delete_key w c) (delete_value w c) 0
 
-module _ (w : Words) (stage : Stages) (c : ℕ) (at : CutsAt w stage c) (ordered : IsOrdered w.key w.child top) where
+module _ (w : Words) (stage : Stages) (c : ℕ) (at : CutsAt w stage c) (ordered : IsOrdered w.key w.child top rank) where
   -- the children after the exchange
   abbrev after : ℕ → Bool → ℕ
   after = (cut_words w c).child
@@ -105,7 +106,7 @@ module _ (w : Words) (stage : Stages) (c : ℕ) (at : CutsAt w stage c) (ordered
   }
 
   -- the tree stays in order
-  ordered_after : IsOrdered w.key after top
+  ordered_after : IsOrdered w.key after top rank
   ordered_after =
       IsOrdered-remove w.key w.child after top (w.gp c) (delete_side w c) (w.p c) other (w.l c) (sibling w c)
       cuts_out ordered
@@ -113,7 +114,7 @@ module _ (w : Words) (stage : Stages) (c : ℕ) (at : CutsAt w stage c) (ordered
   -- the leaf is the parent's child still
   leaf_after : after (w.p c) (leaf_side w c) ≡ w.l c
   leaf_after = elim (child_elsewhere w (w.gp c) (sibling w c) (delete_side w c) (w.p c) (leaf_side w c)) [
-    | inl e ↦ absurd (let a = e.0 in let b = at.first in omega arith)
+    | inl e ↦ absurd (let a = ap rank e.0 in let b = at.first in omega arith)
     | inr e ↦ e ∙ at.leaf_there
   ]
 

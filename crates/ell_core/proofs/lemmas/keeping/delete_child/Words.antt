@@ -15,6 +15,8 @@ use Rattle.ell_core.proofs.lemmas.keeping.delete_child.Tree.{cut_words, CutsAt, 
 use Rattle.ell_core.proofs.lemmas.keeping.going_on.Cards.{GoesOn, card_on}
 use Rattle.ell_core.proofs.lemmas.keeping.going_on.Stages.{marked_on, no_insert, delete_stage_same, insert_stage_on, delete_stage_on}
 use Rattle.ell_core.proofs.lemmas.words.CleanWords.{clean_remainder}
+use Rattle.ell_core.proofs.lemmas.tree.Ranks.{number_rises}
+use Rattle.ell_core.specs.tree.Rank.{rank}
 
 -- the children after
 module _ (w : Words) (stage : Stages) (c : ℕ) (at : CutsAt w stage c) where
@@ -28,7 +30,7 @@ module _ (w : Words) (stage : Stages) (c : ℕ) (at : CutsAt w stage c) where
   -- the words are later
   pub cut_words_later : WordsLater w (cut_words w c)
   cut_words_later = words_child w (w.gp c) (sibling w c) (delete_side w c)
-      (let waits = at.waits in let above = at.above in omega arith) (λ d e. let flag = at.flag in omega arith)
+      (let waits = at.waits in let above = number_rises (w.p c) (sibling w c) at.above in omega arith) (λ d e. let flag = at.flag in omega arith)
 
 -- the words after
 module _ (w : Words) (stage : Stages) (sound : WordsAreSound w stage) (c : ℕ) (now : stage c ≡ DMarked)
@@ -97,7 +99,8 @@ module _ (w : Words) (stage : Stages) (sound : WordsAreSound w stage) (c : ℕ) 
     unmarkable = λ g. absurd (false≢true g);
     marked = λ g. marked_on w after stage new cut_goes_on c (ap is_delete now) ((sound.deletes c).marked (ap is_marked now));
     cut = λ g. record {
-      past = subst (λ n. w.p c < n) (sym (child_there w (w.gp c) (sibling w c) (delete_side w c))) at.above;
+      past = subst (λ n. w.p c < n) (sym (child_there w (w.gp c) (sibling w c) (delete_side w c)))
+          (number_rises (w.p c) (sibling w c) at.above);
       out = tree.out;
     };
   }
@@ -136,12 +139,16 @@ module _ (w : Words) (stage : Stages) (sound : WordsAreSound w stage) (c : ℕ) 
   put_right x e side = subst (λ n. w.key n ≤ w.key (sibling w c)) (sym e)
       (leb-true (w.key (w.gp c)) (w.key (sibling w c)) (at.side ∙ sym side))
 
+  -- its rank is greater
+  put_below : (x : ℕ) → x ≡ w.gp c → rank x < rank (sibling w c)
+  put_below x e = let from = ap rank e in let first = at.first in let above = at.above in omega arith
+
   -- the children of each node are sound
   children_after : (x : ℕ) → IsInternal x → Born new x → ChildrenAreSound after new x
   children_after x inner born = let h = sound.children x inner (before (λ s. is_node_born s (x % 4)) refl (card x) born) in record {
     born = λ right. child_cases x right (Born new)
         (λ e f. later.born (sibling w c) sibling_born) (later.born (w.child x right) (h.born right));
-    rising = λ right. (let up = (cut_words_later w stage c at).child x right in let more = h.rising right in omega arith);
+    rising = λ right. child_cases x right (λ n. rank x < rank n) (λ e side. put_below x e) (h.rising right);
     left_less = child_cases x false (λ n. w.key n < w.key x) (put_left x) h.left_less;
     right_more = child_cases x true (λ n. w.key x ≤ w.key n) (put_right x) h.right_more;
   }

@@ -1,4 +1,4 @@
-use Rattle.std.proofs.Common.{◌≡◌, ℕ, ◌%◌, ◌<◌, ◌≤◌, ◌↔◌, nat_le, Bool, true, false, inl, inr, refl, sym, ◌∙◌, subst, arith}
+use Rattle.std.proofs.Common.{◌≡◌, ℕ, ◌%◌, ◌<◌, ◌≤◌, ◌↔◌, nat_le, Bool, true, false, inl, inr, refl, sym, ◌∙◌, subst, arith, ap}
 use Rattle.std.proofs.lemmas.Bool.{false≢true}
 use Rattle.ell_ops.specs.Meaning.{greatest_key}
 use Rattle.ell_word.specs.Node.{card, internal, left_leaf, right_leaf}
@@ -10,6 +10,7 @@ use Rattle.ell_core.specs.history.Invariant.{IsOut, IsOnCourse, insert_side, IsI
 use Rattle.ell_core.specs.history.Later.{SaysTheSame, WordsLater, StagesLater}
 use Rattle.ell_core.proofs.lemmas.stages.Order.{unclaimed-unborn, delete-unborn, inner-born, all-born}
 use Rattle.ell_core.proofs.lemmas.stages.LaterKeys.{insert_info, insert_node_key, insert_parent_key, insert_leaf_key, insert_node_value, insert_leaf_value, insert_key_later, delete_info, delete_key_later, insert_child_later}
+use Rattle.ell_core.specs.tree.Rank.{rank}
 
 -- a node has an update word that it had, and the children that it had
 pub record IsCalm (old new : Words) (x word : ℕ) : Type 0 where
@@ -81,7 +82,7 @@ module _ (old new : Words) (stage stages : Stages) (h : GoesOn old new stage sta
           was = same.was ∙ said.was;
           parent = inner_on (old.p c) (new.p c) same.p said.parent;
           leaf = leaf_on (old.l c) (new.l c) same.l said.leaf;
-          above = let a = said.above in let p = same.p in let l = same.l in omega arith;
+          above = let a = said.above in let p = ap rank same.p in let l = ap rank same.l in omega arith;
           before = let a = said.before in let l = same.l in omega arith;
           ordered = let a = said.ordered in omega arith;
           node_key = node_key ∙ (said.node_key ∙ sym right_key);
@@ -109,8 +110,8 @@ module _ (old new : Words) (stage stages : Stages) (h : GoesOn old new stage sta
           grandparent = inner_on (old.gp c) (new.gp c) same.gp said.grandparent;
           parent = inner_on (old.p c) (new.p c) same.p said.parent;
           leaf = leaf_on (old.l c) (new.l c) same.l said.leaf;
-          first = let a = said.first in let g = same.gp in let p = same.p in omega arith;
-          above = let a = said.above in let p = same.p in let l = same.l in omega arith;
+          first = let a = said.first in let g = ap rank same.gp in let p = ap rank same.p in omega arith;
+          above = let a = said.above in let p = ap rank same.p in let l = ap rank same.l in omega arith;
           before = let a = said.before in let l = same.l in omega arith;
           real = subst (λ k. k ≤ greatest_key) (sym (delete_key_later old new stage h.sound h.words c deletes)) said.real;
           calm = subst IsClean (sym same.was) said.calm;

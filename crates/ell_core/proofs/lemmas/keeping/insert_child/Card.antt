@@ -11,6 +11,7 @@ use Rattle.ell_core.proofs.lemmas.tree.Bounds.{side_within}
 use Rattle.ell_core.proofs.lemmas.tree.OneRange.{unique}
 use Rattle.ell_core.proofs.lemmas.tree.Courses.{OnCourse-range}
 use Rattle.std.proofs.lemmas.Bool.{false≢true}
+use Rattle.ell_core.specs.tree.Rank.{rank}
 
 -- the words after the child exchange of an insert's card that brings node q to the parent
 abbrev pub ichild_words : Words → ℕ → ℕ → Words
@@ -31,12 +32,13 @@ pub record NewInner (w after : Words) (stages : Stages) (x : ℕ) : Type 0 where
 pub record Brings (w : Words) (stage : Stages) (c q : ℕ) (now : Stage) : Type 0 where
   pub fresh : (now ≡ IChanged) ⊎ (now ≡ RChanged)
   pub above : w.l c < q
+  pub rises : rank (w.p c) < rank q
   pub on_card : card q ≡ c
   pub born : is_node_born now (q % 4) ≡ true
   pub key : w.key q ≡ w.key (internal c)
   pub kind : is_born now ≡ not (is_replace_card w c)
   pub inner : (x : ℕ) → IsInternal x → card x ≡ c → is_node_born now (x % 4) ≡ true → NewInner w (ichild_words w c q) (ichild_stages stage c now) x
-  pub ordered : IsOrdered w.key (ichild_words w c q).child top
+  pub ordered : IsOrdered w.key (ichild_words w c q).child top rank
   pub course : (k x : ℕ) → Born stage x → IsOnCourse w k x → IsOnCourse (ichild_words w c q) k x
   pub out : (x : ℕ) → Born stage x → IsOut w x → IsOut (ichild_words w c q) x
   pub inside : (x : ℕ) → IsInternal x → IsIn w x → IsIn (ichild_words w c q) x

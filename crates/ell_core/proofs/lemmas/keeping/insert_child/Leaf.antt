@@ -9,6 +9,8 @@ use Rattle.ell_core.specs.history.Invariant.{top, IsIn, IsOut, LeadsToValue, IsO
 use Rattle.ell_core.proofs.lemmas.tree.Reached.{one_value}
 use Rattle.ell_core.proofs.lemmas.tree.Replaces.{Replaces, Spans-still, IsOrdered-replace, Meets-replaced, Meets-unreplaced, Meets-old, Meets-new, OnCourse-replace, stays_out}
 use Rattle.ell_core.proofs.lemmas.keeping.insert_child.Card.{Brings, ichild_words, ichild_stages, its_card, its_child, its_relinks, parent_in, closed, not_born}
+use Rattle.ell_core.proofs.lemmas.tree.Ranks.{rank_rises}
+use Rattle.ell_core.specs.tree.Rank.{rank}
 
 -- numbers that a test finds to be one
 one_of : (a b : ℕ) → (a == b) ≡ true → a ≡ b
@@ -45,8 +47,8 @@ module _ (w : Words) (stage : Stages) (sound : WordsAreSound w stage) (c : ℕ) 
   new_key = elim card_said.copy [ inl left ↦ sym same_keys ∙ left.key | inr right ↦ right.key ]
 
   -- what the exchange does to the tree
-  its_shape : Replaces w.key w.child leaf_words.child (w.p c) (insert_side w c) (w.l c) (right_leaf c)
-  its_shape = let above = card_said.above in let before = card_said.before in record {
+  its_shape : Replaces rank w.key w.child leaf_words.child (w.p c) (insert_side w c) (w.l c) (right_leaf c)
+  its_shape = let above = card_said.above in let before = card_said.before in let up = rank_rises (w.l c) (right_leaf c) (omega arith) in record {
     relinks = its_relinks w stage sound c flagged (right_leaf c);
     was = its_child w stage sound c flagged;
     leaf = card_said.leaf.outer;
@@ -106,6 +108,7 @@ module _ (w : Words) (stage : Stages) (sound : WordsAreSound w stage) (c : ℕ) 
   brings_leaf = let before = card_said.before in record {
     fresh = inr refl;
     above = omega arith;
+    rises = its_shape.rises;
     on_card = omega arith;
     born = place_two (right_leaf c % 4) (omega arith);
     key = sym card_said.node_key;

@@ -13,6 +13,8 @@ use Rattle.ell_core.proofs.lemmas.tree.Reached.{leads_any, one_value}
 use Rattle.ell_core.proofs.lemmas.tree.Inserts.{Inserts, Spans-stays, IsOrdered-insert, Meets-inserted, Meets-before, Meets-new, absent_before}
 use Rattle.ell_core.proofs.lemmas.tree.Courses.{OnCourse-insert, stays_out}
 use Rattle.ell_core.proofs.lemmas.keeping.insert_child.Card.{Brings, NewInner, ichild_words, ichild_stages, its_card, its_nodes, its_child, its_relinks, parent_in, key_range, leaf_range, closed, not_born}
+use Rattle.ell_core.proofs.lemmas.tree.Ranks.{rank_rises}
+use Rattle.ell_core.specs.tree.Rank.{rank}
 
 -- numbers in order that are not one
 strictly : (a b : ℕ) → a ≤ b → (a == b) ≡ false → a < b
@@ -87,7 +89,7 @@ module _ (w : Words) (stage : Stages) (sound : WordsAreSound w stage) (c : ℕ) 
 
   -- what the exchange does to the tree
   pub its_shape :
-      Inserts w.key w.child node_words.child top (w.p c) (insert_side w c) (w.l c) (internal c) (insert_key w c)
+      Inserts rank w.key w.child node_words.child top (w.p c) (insert_side w c) (w.l c) (internal c) (insert_key w c)
   its_shape =
       let a = ap w.key nodes_said.left in
       let b = ap w.key nodes_said.right in
@@ -95,15 +97,16 @@ module _ (w : Words) (stage : Stages) (sound : WordsAreSound w stage) (c : ℕ) 
       let greater = card_said.node_key in
       let above = card_said.above in
       let before = card_said.before in
+      let up = rank_rises (w.l c) (internal c) before in
       record {
         relinks = its_relinks w stage sound c flagged (internal c);
         was = its_child w stage sound c flagged;
         leaf = card_said.leaf.outer;
         node = omega arith;
         leaves = λ right. elim (new_child right) [ inl e ↦ (λ h. omega arith) | inr e ↦ (λ h. omega arith) ];
-        apart = λ h. omega arith;
+        apart = λ h. let same = ap rank h in omega arith;
         rises = omega arith;
-        above = λ right. elim (new_child right) [ inl e ↦ omega arith | inr e ↦ omega arith ];
+        above = λ right. rank_rises (internal c) (w.child (internal c) right) (elim (new_child right) [ inl e ↦ omega arith | inr e ↦ omega arith ]);
         left_low = omega arith;
         right_high = b ∙ sym greater;
         old_key = goes_to (w.key (w.l c)) (elim its_keys [ inl h ↦ inl (sym h.0) | inr h ↦ inr (sym h.1) ]);
@@ -113,7 +116,7 @@ module _ (w : Words) (stage : Stages) (sound : WordsAreSound w stage) (c : ℕ) 
       }
 
   -- the tree is in order afterwards
-  pub ordered_after : IsOrdered w.key node_words.child top
+  pub ordered_after : IsOrdered w.key node_words.child top rank
   ordered_after =
       IsOrdered-insert w.key w.child node_words.child top (w.p c) (insert_side w c) (w.l c) (internal c)
       (insert_key w c) its_shape sound.tree.ordered
@@ -248,7 +251,7 @@ module _ (w : Words) (stage : Stages) (sound : WordsAreSound w stage) (c : ℕ) 
 
   new_kept : (right : Bool) → node_words.child (internal c) right ≡ w.child (internal c) right
   new_kept right = elim ((its_relinks w stage sound c flagged (internal c)).others (internal c) right) [
-    | inl h ↦ (let a = card_said.above in let b = card_said.before in let e = h.0 in absurd (omega arith))
+    | inl h ↦ (let a = card_said.above in let b = rank_rises (w.l c) (internal c) card_said.before in let e = ap rank h.0 in absurd (omega arith))
     | inr h ↦ h
   ]
 
@@ -269,7 +272,8 @@ module _ (w : Words) (stage : Stages) (sound : WordsAreSound w stage) (c : ℕ) 
       record {
         born = both (λ right. Born node_stages (node_words.child (internal c) right))
             (born_here _ (omega arith) (omega arith)) (born_here _ (omega arith) (omega arith));
-        rising = both (λ right. internal c < node_words.child (internal c) right) (omega arith) (omega arith);
+        rising = both (λ right. rank (internal c) < rank (node_words.child (internal c) right))
+            (rank_rises (internal c) (node_words.child (internal c) false) (omega arith)) (rank_rises (internal c) (node_words.child (internal c) true) (omega arith));
         left_less = omega arith;
         right_more = omega arith;
       }
@@ -287,6 +291,7 @@ module _ (w : Words) (stage : Stages) (sound : WordsAreSound w stage) (c : ℕ) 
   brings_node = record {
     fresh = inl refl;
     above = card_said.before;
+    rises = its_shape.rises;
     on_card = omega arith;
     born = all-born IChanged (internal c % 4) (omega arith) refl;
     key = refl;

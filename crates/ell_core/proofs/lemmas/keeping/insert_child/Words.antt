@@ -9,7 +9,8 @@ use Rattle.ell_core.specs.history.Invariant.{IsIn, insert_key, insert_side, Chil
 use Rattle.ell_core.proofs.lemmas.tree.Reached.{leads_any, leads_some}
 use Rattle.ell_layout.proofs.lemmas.Writes.{put_same, put_other}
 use Rattle.ell_core.proofs.lemmas.keeping.insert_child.Card.{Brings, just_changed, ichild_words, ichild_stages, its_card, its_child, its_relinks}
-use Rattle.ell_core.proofs.lemmas.keeping.insert_child.Cards.{as_before, still, stages_after, words_after, card_after, insert_after, delete_after}
+use Rattle.ell_core.proofs.lemmas.keeping.insert_child.Cards.{as_before, still, stages_after, card_after, insert_after, delete_after}
+use Rattle.ell_core.specs.tree.Rank.{rank}
 
 -- a key and one that is at least the node's are not on the same side if the key is less
 not_same_side : (at k old : ℕ) → k < at → old ≡ at → nat_le at k ≡ nat_le at old → ⊥
@@ -69,6 +70,12 @@ module _ (w : Words) (stage : Stages) (sound : WordsAreSound w stage) (c : ℕ) 
     | inr e ↦ (let more = (sound.children x inner born).right_more in let a = ap w.key e in omega arith)
   ]
 
+  rising_after : (x : ℕ) → IsInternal x → Born stage x → (right : Bool) → rank x < rank (after.child x right)
+  rising_after x inner born right = elim ((its_relinks w stage sound c flagged q).others x right) [
+    | inl h ↦ (let up = b.rises in let at = ap rank h.0 in let to = ap rank (new_there x right h) in omega arith)
+    | inr e ↦ (let less = (sound.children x inner born).rising right in let to = ap rank e in omega arith)
+  ]
+
   -- the children of each node are sound afterwards
   pub children_after : (x : ℕ) → IsInternal x → Born stages x
       → ChildrenAreSound after stages x
@@ -76,10 +83,7 @@ module _ (w : Words) (stage : Stages) (sound : WordsAreSound w stage) (c : ℕ) 
     | inl e ↦ (b.inner x inner e.0 e.1).children
     | inr old ↦ record {
       born = λ right. born_child x right inner old;
-      rising = λ right.
-          let up = (words_after w stage sound c flagged q now b).child x right in
-          let less = (sound.children x inner old).rising right in
-          omega arith;
+      rising = rising_after x inner old;
       left_less = left_after x inner old;
       right_more = right_after x inner old;
     }

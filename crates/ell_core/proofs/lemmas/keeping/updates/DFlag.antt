@@ -27,6 +27,7 @@ use Rattle.ell_core.proofs.lemmas.stages.Advances.{dflag_later, dflag_kind, Stag
 use Rattle.ell_core.proofs.lemmas.words.CleanWords.{clean_remainder}
 use Rattle.ell_core.specs.declared.view.Entry.TheVariants.{Present}
 use Rattle.ell_core.specs.soundness.Sound.{WorkerOwns}
+use Rattle.ell_core.specs.tree.Rank.{rank}
 
 module _ (m : Machine) (stage : Stages) (i k c : ℕ) (grandparent : Seen) (there : i < m.count) (sound : Invariant m stage)
     (h : HoldsCard m i c (Delete k)) (above : (m.worker i).search.grandparent ≡ Some grandparent) where
@@ -92,7 +93,7 @@ module _ (m : Machine) (stage : Stages) (i k c : ℕ) (grandparent : Seen) (ther
     -- the parent's word is as it was
     parent_same : after.update (m.words.p c) ≡ m.words.update (m.words.p c)
     parent_same = put_other m.words.update grandparent.node (dflag c) (m.words.p c) (λ e. let less = said.first in
-        let same = node in omega arith)
+        let same = ap rank node in let other = ap rank e in omega arith)
 
     markable : Markable after c
     markable = record {

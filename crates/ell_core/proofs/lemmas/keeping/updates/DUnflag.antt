@@ -26,6 +26,7 @@ use Rattle.ell_layout.proofs.lemmas.Writes.{put_same, put_other}
 use Rattle.ell_core.proofs.lemmas.keeping.going_on.Stages.{no_insert}
 use Rattle.ell_core.proofs.lemmas.words.Exchanged.{update_found, update_missed}
 use Rattle.ell_core.proofs.lemmas.stages.Advances.{dunflag_kind, backtrack_kind, StageLater, wins_put, dunflag_later, backtrack_later, SameKind}
+use Rattle.ell_core.specs.tree.Rank.{rank}
 
 -- the unflag of a card with a flag that stands leads to this stage, at which a fact may be known
 pub record Unflags (old new : Stage) (fact : Fact) (c : ℕ) : Type 0 where
@@ -80,7 +81,7 @@ module _ (m : Machine) (stage : Stages) (i c : ℕ) (there : i < m.count) (sound
 
     -- the word of the parent stays
     pub parent_stays : m.words.p c ≢ m.words.gp c
-    parent_stays h = let first = ((sound.words.cards c).delete (delete_open-delete (stage c) u.stands)).first in omega arith
+    parent_stays h = let first = ((sound.words.cards c).delete (delete_open-delete (stage c) u.stands)).first in let same = ap rank h in omega arith
 
     -- a won unflag
     wins : (a : Act) → DeleteStage unflagged (λ d. new) c

@@ -26,6 +26,7 @@ use Rattle.ell_core.proofs.lemmas.keeping.going_on.Stages.{no_insert}
 use Rattle.ell_core.proofs.lemmas.words.Exchanged.{update_found, update_missed}
 use Rattle.ell_core.proofs.lemmas.stages.Advances.{mark_kind, unmarkable_kind, StageLater, wins_put, wins_kept, mark_later, unmarkable_later, SameKind, stages_put}
 use Rattle.ell_core.proofs.lemmas.words.CleanWords.{clean_remainder}
+use Rattle.ell_core.specs.tree.Rank.{rank}
 
 -- from a flagged delete no flag is set that did not stand
 opens_none : (new : Stage) → is_delete new ≡ true → OpensNone DFlagged new
@@ -47,7 +48,7 @@ module _ (m : Machine) (stage : Stages) (i c : ℕ) (there : i < m.count) (sound
 
   -- the parent is not the grandparent
   apart : m.words.gp c ≢ m.words.p c
-  apart h = let first = card.first in omega arith
+  apart h = let first = card.first in let same = ap rank h in omega arith
 
   -- it is not the opening tree's
   not_opening : stage c ≢ Opening

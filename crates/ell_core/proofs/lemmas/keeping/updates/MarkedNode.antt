@@ -45,7 +45,7 @@ pub with_update_there : (w : Words) (x value : ℕ) → w.update x ≡ value →
 with_update_there w x value h = λ t. record w { update = λ y. put_there w x value h y t }
 
 -- what is below a child has its key on the child's side of the node
-grandchild_side : (key : ℕ → ℕ) (child : ℕ → Bool → ℕ) (limit : ℕ) → IsOrdered key child limit
+grandchild_side : (key : ℕ → ℕ) (child : ℕ → Bool → ℕ) (limit : ℕ) {rank : ℕ → ℕ} → IsOrdered key child limit rank
     → (x y z low high : ℕ) (first second : Bool)
     → Spans key child limit x low high → IsInternal x → y ≡ child x first → IsInternal y → z ≡ child y second
     → nat_le (key x) (key z) ≡ first
