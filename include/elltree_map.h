@@ -56,7 +56,7 @@
      function of an allocator.
    - A thread that is inside a call is not ended alone, as by pthread_cancel with the asynchronous type: other calls might wait for it forever.
 
-   Link with -lelltree (pkg-config elltree); docs/GUIDE.md has the line for a folder in which the system does not look for libraries. clang 14
+   Link with -lelltree (pkg-config elltree); docs/MAP.md has the line for a folder in which the system does not look for libraries. clang 14
    gives no warning about this header with -Weverything, in C and in C++; later versions have -Wunsafe-buffer-usage, which warns about any
    array. A program that counts cards itself, and never waits, may use trees without a map: elltree.h has the calls. */
 #ifndef ELLTREE_MAP_H

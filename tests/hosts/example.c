@@ -1,4 +1,4 @@
-/* The program in C of docs/GUIDE.md: two handles of one tree. */
+/* The program in C of docs/HANDLES.md: two handles of one tree. */
 #include <elltree.h>
 #include <stdio.h>
 

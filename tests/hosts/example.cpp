@@ -1,4 +1,4 @@
-// The program in C++ of docs/GUIDE.md: four threads count together, each through a handle of its own.
+// The program in C++ of docs/HANDLES.md: four threads count together, each through a handle of its own.
 #include <cstdio>
 #include <elltree.hpp>
 #include <thread>

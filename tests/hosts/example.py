@@ -1,4 +1,4 @@
-"""The program in Python of docs/GUIDE.md for trees: two threads with a handle each."""
+"""The program in Python of docs/HANDLES.md for trees: two threads with a handle each."""
 
 import threading
 

@@ -218,8 +218,8 @@ static void range_beside_changes() {
     other.join();
 }
 
-/* What the guide shows. */
-static void guide() {
+/* What docs/MAP.md shows. */
+static void shown() {
     auto map = elltree::map::from_sorted({{1, 10}, {2, 20}, {5, 50}});
     auto [there, is_new] = map.get_or_insert(7, 70);
     for (auto [key, value] : map.range(2, 6)) // 2 is in it, and 6 is not
@@ -233,7 +233,7 @@ int main() {
     members();
     updates();
     moves();
-    guide();
+    shown();
     composed();
     too_great();
     ranges();

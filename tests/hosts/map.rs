@@ -238,7 +238,7 @@ fn panics() -> Result<(), MapError> {
     Ok(())
 }
 
-/// What the guide shows of keys and values that have types of their own.
+/// What docs/MAP.md shows of keys and values that have types of their own.
 fn typed() -> Result<(), MapError> {
     let bids = elltree::TypedMap::<i64, u32>::try_from_iter([(-5, 50), (7, 70), (-20, 200)])?;
     assert_eq!(bids.range(-10..).collect::<Vec<_>>(), [(-5, 50), (7, 70)]);

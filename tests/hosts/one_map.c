@@ -1,4 +1,4 @@
-/* The example of docs/GUIDE.md: four threads count in one map. */
+/* The example of docs/MAP.md: four threads count in one map. */
 #include <elltree_map.h>
 #include <pthread.h>
 #include <stdio.h>

@@ -1,4 +1,4 @@
-"""The example of docs/GUIDE.md: threads that share one map."""
+"""The example of docs/MAP.md: threads that share one map."""
 import threading
 
 import elltree

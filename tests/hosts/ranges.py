@@ -153,7 +153,7 @@ def refusals():
 
 
 def example():
-    """What the guide shows, as it stands there."""
+    """A range of a map, the keys around it, and all of it."""
     shared = elltree.Map({99: 1, 100: 2, 200: 3, 201: 4})
     for key, value in shared.range(100, 200):  # 100 is in it, and 200 is not
         print(key, value)

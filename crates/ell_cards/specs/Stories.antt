@@ -18,10 +18,9 @@ calls_of [] = []
 calls_of (x ∷ xs) = (x.op, x.reply) ∷ calls_of xs
 
 -- What a pass may know of all that was done with its table up to now, by whichever passes: it is one history, which is
--- linearizable. Its sequence has each call that this pass was answered, it and the passes that were joined to it, as
--- often as they were; and no other, where every key is shared but the plan's, if this pass has the whole share, so that
--- all others were joined to it, and nothing in hand. And of the calls of which the pass knows each stands where it took
--- what it took, and after those that had ended before it began
+-- linearizable. Its sequence has each call that this pass was answered, it and all that were joined to it, as often as
+-- they were; and no other, where only the plan's keys have owners and the pass has the whole share and nothing in hand.
+-- And each call of which it knows stands where it took what it took, and after those that had ended before it began
 pub record HasStory (plan : TablePlan) (v : View) : Type 0 where
   pub history : List Event
   pub linear : IsLinearizable (contents_of plan.start) history

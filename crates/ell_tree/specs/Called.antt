@@ -9,8 +9,7 @@ use Rattle.ell_cards.specs.Changes.{deed_of, deed_taking}
 use Rattle.ell_cards.specs.Models.{PassModel}
 use Rattle.ell_tree.specs.declared.operations.NotDone.{NotDone}
 
--- what a pass was answered by a call that took nothing: this, after all of which it knew; or nothing, where the call has
--- no answer
+-- what a pass was answered by a call that took nothing: this, or nothing, where the call has no answer
 abbrev pub IsCalled : Op → PassModel → PassModel → Result Reply NotDone → Type 0
 IsCalled op old new (Ok said) = new.view.answers ≡ deed_of op said old.view.answers ∷ old.view.answers
 IsCalled op old new (Err why) = new.view.answers ≡ old.view.answers
