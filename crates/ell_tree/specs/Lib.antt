@@ -61,3 +61,10 @@ pub mod Cursors
 pub use Rattle.ell_cards.specs.Looking
 -- what a pass was answered by a call
 pub mod Called
+-- what passes were answered, as of one thread, and the history of a tree
+pub use Rattle.ell_cards.specs.Accounts
+pub use Rattle.ell_cards.specs.Stories
+pub use Rattle.ell_cards.specs.Stepping
+pub use Rattle.ell_cards.specs.declared.view.Deed
+-- which keys are shared, as a pass knows
+pub use Rattle.ell_core.specs.state.Machine
