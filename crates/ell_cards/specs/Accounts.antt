@@ -38,8 +38,7 @@ AreBelow zero place places = Unit {0}
 AreBelow (suc n) place [] = ⊥
 AreBelow (suc n) place (p ∷ ps) = (p < place) × AreBelow n place ps
 
--- a call that took a value took it at this place: where these are the contents first, one thread that made the calls
--- before it has the key with that value
+-- one thread that made the calls before this place has the key of a call there, with the value that the call took
 abbrev pub TookThere : Contents → List (Op × Reply) → Deed → ℕ → Type 0
 TookThere start order d p =
     (value : ℕ) → d.took ≡ Some value → final start (ops_in (take p order)) (key_of d.op) ≡ Some value

@@ -212,13 +212,13 @@ taken_by (Some (Delete key)) (Some c) Yes told =
     option_and_then (λ leaf. last_told (tells_value_of leaf) told) (last_told (tells_leaf_of c) told)
 taken_by _ _ _ told = None
 
--- a call that is answered now, and took this: all that its pass knows of had ended before it began
-abbrev pub deed_taking : Op → Reply → Option ℕ → List Deed → Deed
-deed_taking op said took answers = record { op = op; said = said; took = took; before = length answers; own = true }
-
--- and one that took nothing
+-- a call that is answered now, and took nothing: all that its pass knows of had ended before it began
 abbrev pub deed_of : Op → Reply → List Deed → Deed
-deed_of op said answers = deed_taking op said None answers
+deed_of op said answers = record { op = op; said = said; took = None; before = length answers; own = true }
+
+-- and one that took this
+abbrev pub deed_taking : Op → Reply → Option ℕ → List Deed → Deed
+deed_taking op said took answers = record (deed_of op said answers) { took = took }
 
 -- what was answered, with the answer to the operation that was in hand
 abbrev pub with_answer : Option Op → Reply → Option ℕ → List Deed → List Deed

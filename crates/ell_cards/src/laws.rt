@@ -287,7 +287,8 @@ pub fn histories_are_linearizable()
 /// that each pass was answered.
 pub fn stories_are_told()
     // All that was done with a table is one linearizable history, in whose sequence are the calls that a pass was
-    // answered, each as often as it was, and no others if all passes were joined to it.
+    // answered, each as often as it was, and no others if all passes were joined to it. Each delete stands where the key
+    // had the value that it took.
     ensures { StoriesAreTold }
 {}
 

@@ -18,7 +18,8 @@ impl<A: Allocator + Copy> CardTable<A> {
     pub fn story(&self, pass: &mut Pass<A>)
         requires own { pass.old.table ≡ self.now.id }
         // All that was done with the table is one linearizable history. Its sequence has the calls that the pass was
-        // answered, it and the passes that were joined to it, and no others if it has the whole share.
+        // answered, it and the passes that were joined to it, and no others if it has the whole share. Each delete
+        // stands where the key had the value that it took.
         ensures story { HasStory self.now.plan pass.new.view }
         // It loads the claim word.
         ensures step { (n : ℕ) × Sees pass.old pass.new (after call.Next n pass.old.view) }

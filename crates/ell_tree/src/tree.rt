@@ -777,7 +777,8 @@ impl<A: Allocator + Copy> Tree<A> {
     pub fn story(&self, pass: &mut Pass<A>)
         requires own { pass.old.table ≡ self.now.id }
         // All that was done with the tree is one history, which is linearizable. Its order has the calls that the pass
-        // was answered, it and the passes that were joined to it, and no others if it has the whole share.
+        // was answered, it and the passes that were joined to it, and no others if it has the whole share. Each delete
+        // stands where the key had the value that it took.
         ensures story { HasStory self.now.plan pass.new.view }
         // It makes one step. Otherwise the pass is unchanged.
         ensures table { pass.new.table ≡ pass.old.table }

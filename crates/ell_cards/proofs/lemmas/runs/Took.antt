@@ -32,7 +32,7 @@ use Rattle.ell_cards.proofs.lemmas.runs.LinearizingLists.{right_map, in_at, plac
 use Rattle.ell_cards.proofs.lemmas.runs.Linearizing.{all_calls, sequence, every_change, every_reading, same_change, crossed}
 use Rattle.ell_cards.proofs.lemmas.runs.LinearizingPoints.{same_begin, Changed, after_turns, kept, map_after, is_map, first_map, made, slice, run_slice, changed_of, change_before, settled_at, point_at}
 
--- what was told of such the last time was told
+-- what entries tell so the last time one of them tells
 pub was_told : (such : Told → Option ℕ) (told : List Told) (n : ℕ) → last_told such told ≡ Some n → (e : Told) × Has told e × (such e ≡ Some n)
 was_told such [] n e = absurd cc
 was_told such (d ∷ told) n e = by (such d) refl (was_told such told n) e
@@ -42,7 +42,7 @@ was_told such (d ∷ told) n e = by (such d) refl (was_told such told n) e
     by None is rest e = (let h = rest e in (h.0, earlier h.0 d told h.1, h.2))
     by (Some m) is rest e = (d, latest d told, is ∙ e)
 
--- and what was told of such, if it was told one thing, is what was told the last time
+-- and where they tell one thing, what one of them tells is that
 pub told_last : (such : Told → Option ℕ) (told : List Told) (n : ℕ) → ((e : Told) (m : ℕ) → Has told e → such e ≡ Some m → m ≡ n) → (e : Told) → Has told e → such e ≡ Some n
     → last_told such told ≡ Some n
 told_last such [] n one e has is = elim has [ ]
@@ -53,7 +53,7 @@ told_last such (_ ∷ told) n one e (earlier _ d _ has) is = by (such d) refl (t
     by None none rest = rest
     by (Some m) is rest = ap Some (one d m (latest d told) is)
 
--- a leaf of a card, and a value of a leaf
+-- the entry that tells a leaf of a card, and the one that tells a value of a leaf
 leaf_is : (c : ℕ) (e : Told) (leaf : ℕ) → tells_leaf_of c e ≡ Some leaf → e ≡ Info c field.L leaf
 leaf_is c (Info d field.L x) leaf e = by (d == c) refl e
   where
@@ -148,23 +148,24 @@ module _ (plan : TablePlan) (opened : TableState) (starts : Starts plan opened) 
         had = (is_map plan opened starts turns s' run q key (card_value (own_words (state q)) c.changes.card)).0 finds ∙ ap Some (ap (card_value (own_words (state q))) mine ∙ same);
       }
 
-  -- so does not one that answers at a leaf
+  -- one that answers at a leaf does not say yes
   no_leaf_yes : (key : ℕ) (there : Option ℕ) → leaf_answer (Delete key) there ≡ Some Yes → ⊥
   no_leaf_yes key None e = cc
   no_leaf_yes key (Some value) e = cc
 
-  abbrev Takes : ℕ → ℕ → View → ℕ → Op → Reply → Type 0
-  Takes i p v value op said =
+  -- what a call takes that ends in a turn
+  abbrev TakesAt : ℕ → ℕ → View → ℕ → Op → Reply → Type 0
+  TakesAt i p v value op said =
       (h : IsAnswered turns i p op said) → get_elem? (state p).views h.seat ≡ some v → Does v op → TakesBy op v.worker.card said v.told value → HasTaken i op value
 
-  -- what a pass that answers was told
+  -- a call takes what the pass that answers it was told of its card's leaf
   pub has_taken : (i p : ℕ) (op : Op) (said : Reply) (h : IsAnswered turns i p op said) (v : View) → get_elem? (state p).views h.seat ≡ some v → Does v op
       → (value : ℕ) → taken_by (Some op) v.worker.card said v.told ≡ Some value → HasTaken i op value
   has_taken i p op said h v there does value taken =
       let t = takes_by op v.worker.card said v.told value taken in
-      subst (λ r. Takes i p v value op r) (sym t.says) (subst (λ o. Takes i p v value o Yes) (sym t.deletes) (base t.key)) h there does t
+      subst (λ r. TakesAt i p v value op r) (sym t.says) (subst (λ o. TakesAt i p v value o Yes) (sym t.deletes) (base t.key)) h there does t
     where
-      base : (key : ℕ) → Takes i p v value (Delete key) Yes
+      base : (key : ℕ) → TakesAt i p v value (Delete key) Yes
       base key h there does t = elim (point_at plan opened starts turns s' run i p (Delete key) Yes h) [
         | inl leaf ↦ absurd (no_leaf_yes key leaf.0.there leaf.0.says)
         | inr card ↦ by_change i card.1.change p key h card.1.changes v there does value t
