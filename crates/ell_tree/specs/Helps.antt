@@ -1,6 +1,5 @@
 use Rattle.std.specs.Prelude.{◌≡◌, ℕ, ◌+◌, ◌-◌, ◌*◌, ◌<◌, ◌≤◌, if◌then◌else◌, Option, Some, None, Result, Ok, Err, List, ◌∷◌, length}
 use Rattle.ell_word.specs.declared.update.Update.{Update}
-use Rattle.ell_word.specs.Node.{card}
 use Rattle.ell_core.specs.declared.fact.Fact.TheVariants as fact
 use Rattle.ell_layout.specs.declared.field.Field.TheVariants as field
 use Rattle.ell_cards.specs.declared.view.Told.TheVariants.{Info, Key, Met}
@@ -16,6 +15,8 @@ use Rattle.ell_tree.specs.declared.helping.Ending.{Ending}
 use Rattle.ell_tree.specs.declared.helping.Ending.TheVariants.{Done, Backed, Behind}
 use Rattle.ell_tree.specs.Hindrances.{Meets, MeetsUpTo}
 use Rattle.ell_tree.specs.Keeping.{KeepsAllButMet, IsInnerMet, IsSeenAt}
+use Rattle.ell_tree.specs.Levels.{level}
+use Rattle.ell_core.specs.tree.Rank.{rank}
 
 -- the flag of an insert is known, and where its card goes
 pub record IsInsert (v : View) (c p l k j : ℕ) : Type 0 where
@@ -82,19 +83,19 @@ DeleteEnds last c p old new (Behind flag) =
 -- one delete is helped to its end, which leads to another's flag that is deeper, or there is no more to do
 abbrev pub HelpEnds : ℕ → DeleteFlag → PassModel → PassModel → Ending → Type 0
 HelpEnds last flag old new Done =
-    KeepsAllButMet old new 12 × Meets old.view new.view × (card flag.grandparent + 1 ≤ last)
+    KeepsAllButMet old new 12 × Meets old.view new.view × (level flag.grandparent + 1 ≤ last)
     × Knows new.view (fact.DOver flag.card)
 HelpEnds last flag old new Backed =
-    KeepsAllButMet old new 12 × Meets old.view new.view × (card flag.grandparent + 1 ≤ last)
+    KeepsAllButMet old new 12 × Meets old.view new.view × (level flag.grandparent + 1 ≤ last)
     × Knows new.view (fact.Backed flag.card)
 HelpEnds last flag old new (Behind next) =
     KeepsAllButMet old new 4 × MeetsUpTo next.card old.view new.view × IsFlag last new.view next
-    × (flag.grandparent < next.grandparent)
+    × (rank flag.grandparent < rank next.grandparent)
     × Knows new.view (fact.Backed flag.card)
 
 -- the most steps of a chain of helps that begins with a delete's flag at this node
 abbrev pub chain_steps : ℕ → ℕ → ℕ
-chain_steps last gp = 4 * (last - card gp) + 8
+chain_steps last gp = 4 * (last - level gp) + 8
 
 -- the most steps of a help
 abbrev pub help_steps : ℕ → ℕ

@@ -1,5 +1,6 @@
 //! The search (paper of 2010, figure 8: Search).
 ghost use Rattle.std.specs.Prelude.{◌≡◌, ◌<◌, ◌+◌, ◌*◌, None};
+ghost use Rattle.ell_core.specs.tree.Rank.{rank};
 ghost use Rattle.ell_cards.specs.Models.{Does, InTable, IsTold, StandsAt};
 ghost use Rattle.ell_cards.specs.declared.view.Told.TheVariants.{Met};
 ghost use Rattle.ell_tree.specs.Counts.{CountsAll, HasUncounted};
@@ -121,7 +122,7 @@ fn descend<A: Allocator + Copy, G: StepGate>(
     ensures keeps_but_search { KeepsAllButSearch pass.old pass.new 3 }
     ensures uncounted { HasUncounted pass.old pass.new 3 }
     ensures here { result.0.node ≡ node }
-    ensures deeper { node < result.1 }
+    ensures deeper { rank node < rank result.1 }
     ensures there { InTable table.now.plan.last_card result.1 }
     ensures search { pass.new.view.worker.search ≡ below result.1 result.0 pass.old.view.worker.search.parent }
     ensures met { IsTold pass.new.view (Met result.1) }

@@ -1,4 +1,4 @@
-use Rattle.std.proofs.Common.{◌≡◌, ℕ, ◌+◌, ◌*◌, ◌/◌, ◌<◌, ◌≤◌, ◌⊎◌, inl, inr, Bool, true, false, nat_le, min, max, if◌then◌else◌, Option, Some, None, List, length, get_or, set, replicate, refl, sym, ap, ◌∙◌, subst, arith, eq-eqb, eqb-true, ◌==◌, get_or-set_other, get_or-set_same}
+use Rattle.std.proofs.Common.{◌≡◌, ℕ, ◌+◌, ◌*◌, ◌<◌, ◌≤◌, ◌⊎◌, inl, inr, Bool, true, false, nat_le, min, max, if◌then◌else◌, Option, Some, None, List, length, get_or, set, replicate, refl, sym, ap, ◌∙◌, subst, arith, eq-eqb, eqb-true, ◌==◌, get_or-set_other, get_or-set_same}
 use Rattle.std.proofs.lemmas.Bool.{cases_eq, cases_lt, false≢true}
 use Rattle.std.proofs.lemmas.List.{get_or-replicate, length-replicate, length-set}
 use Rattle.std.proofs.Math.Nat.{max-eq_left, max-eq_right, min-eq_left, min-eq_right}
@@ -25,6 +25,9 @@ use Rattle.ell_tree.specs.Cursors.{AreKept, BeginsALook, FindsAbout, IsAmong, Ma
 use Rattle.ell_tree.specs.Looks.{stretch_steps}
 use Rattle.ell_tree.specs.Scans.{TellsItsOwn, value_there}
 use Rattle.ell_tree.proofs.lemmas.Looks.{come_part, reads_mine, only_trans, only_none_yet, look_only, down_only, key_only, value_only, only_counted}
+use Rattle.ell_tree.proofs.lemmas.Levels.{inner_above, above_rises, above_within}
+use Rattle.ell_core.proofs.lemmas.tree.Ranks.{ranked_apart}
+use Rattle.ell_core.specs.tree.Rank.{rank}
 
 -- a look that goes on, and on
 pub on_trans : (a b c : PassModel) (m n k : ℕ) → KeepsLooking a b m → KeepsLooking b c n → m + n ≤ k → KeepsLooking a c k
@@ -120,7 +123,7 @@ begins_look old seen new child s counts = record {
   one = ap (λ (m : PassModel). m.view.looks) counts ∙ ap (λ (v : View). v.looks) (view_seen old seen (after_look child old.view) s);
 }
 
-pub first_kept : (cards : ℕ) (old new : PassModel) (child : ℕ) → Sees old new (after_look child old.view) → 0 < child → InTable cards child
+pub first_kept : (cards : ℕ) (old new : PassModel) (child : ℕ) → Sees old new (after_look child old.view) → rank 0 < rank child → InTable cards child
     → MayGoOnFrom cards new.view (record { node = child; low = 0; high = greatest_key + 1 })
 first_kept cards old new child s low there =
     let view = view_seen old new (after_look child old.view) s in
@@ -187,7 +190,7 @@ one_kept cards v c d j g room first each new k = record {
 pub record GoesDown (cards : ℕ) (old new : PassModel) (key : ℕ) (here : Glance) (cursor : Cursor) : Type 0 where
   pub count : ℕ
   pub on : KeepsLooking old new count
-  pub few : count + 2 ≤ 2 * ((here.node + 3) / 4)
+  pub few : count + 2 ≤ 2 * inner_above here.node
   pub stands : MayGoOnFrom cards new.view here
   pub from : here.low ≤ key
   pub upto : key < here.high
@@ -200,7 +203,7 @@ keeps_first cards old key here c d kept among from upto first same =
     record {
       count = 0;
       on = on_none old;
-      few = (let below = stands.below in omega arith);
+      few = (let above = above_rises 0 here.node refl stands.below in omega arith);
       stands = stands;
       from = from;
       upto = upto;
@@ -249,21 +252,21 @@ module _ (cards : ℕ) (old a b : PassModel) (key : ℕ) (here : Glance) (cursor
   may_go_down inner = record { come = stands_still.come; met = stands_still.met; inner = inner; told = told_key }
 
   pub goes_down : (d : PassModel) (right : Bool) (child : ℕ) (after : Cursor) → Sees b d (after_look_down here k right child b.view) → IsInternal here.node
-      → here.node < child → InTable cards child → right ≡ nat_le k key → AreKept cards b.view after → GoesDown cards old d key (glance_down here k right child) after
+      → rank here.node < rank child → InTable cards child → right ≡ nat_le k key → AreKept cards b.view after → GoesDown cards old d key (glance_down here k right child) after
   goes_down d right child after s inner deeper there side kept =
       let view = view_seen b d (after_look_down here k right child b.view) s in
       let on = down_on b d here k right child s in
-      let is : IsNodeKey cards d.view k = record { node = here.node; inner = inner; there = at.stands.there; below = at.stands.below; told = on.only.told (Key here.node k) told_key } in
+      let is : IsNodeKey cards d.view k = record { node = here.node; inner = inner; there = at.stands.there; below = (let other = ranked_apart 0 here.node at.stands.below in omega arith); told = on.only.told (Key here.node k) told_key } in
       record {
         count = at.count + 2;
         on = on_trans old a d at.count 2 (at.count + 2) at.on (on_trans a b d 1 1 2 asked_on on (omega arith)) (omega arith);
-        few = (let few = at.few in omega arith);
+        few = (let few = at.few in let above = above_rises here.node child inner deeper in omega arith);
         stands = record {
           come = subst (λ (v : View). HasCome v child (from_of right here.low k) (upto_of right here.high k)) (sym view)
               (record { glance = glance_down here k right child; among = latest _ _; there = refl; from = omega arith; upto = omega arith });
           met = subst (λ (v : View). IsTold v (Met child)) (sym view) (latest (Met child) b.view.told);
           there = there;
-          below = omega (arith, deeper);
+          below = (let above = at.stands.below in omega arith);
           lower = lower_down right cards d.view here.low k (lower_on cards b d 1 here.low on stands_still.lower) is;
           upper = upper_down right cards d.view here.high k (upper_on cards b d 1 here.high on stands_still.upper) is;
           real = upto_real right here.high k (greatest_key + 1) at.stands.real;
@@ -324,7 +327,7 @@ module _ (cards : ℕ) (a b : PassModel) (key : ℕ) (leaf : Glance) (k : ℕ) (
 pub keeps_found : (cards : ℕ) (old a b : PassModel) (key : ℕ) (here : Glance) (cursor : Cursor) → GoesDown cards old a key here cursor → KeepsLooking a b 2
     → KeepsLooking old b (stretch_steps cards)
 keeps_found cards old a b key here cursor at on =
-    on_trans old a b at.count 2 (stretch_steps cards) at.on on (let few = at.few in let room = at.stands.there in omega arith)
+    on_trans old a b at.count 2 (stretch_steps cards) at.on on (let few = at.few in let room = above_within cards here.node at.stands.there in omega arith)
 
 -- what a look has found of a stretch it has found of each key of it
 pub found_of_key : (v : View) (low high key : ℕ) (there : Option (ℕ × ℕ)) → HasFoundBetween v low high there → low ≤ key → key < high

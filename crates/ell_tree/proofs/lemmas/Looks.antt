@@ -1,4 +1,4 @@
-use Rattle.std.proofs.Common.{◌≡◌, ◌≢◌, ℕ, ◌+◌, ◌*◌, ◌/◌, ◌<◌, ◌≤◌, Bool, nat_le, Option, Some, None, List, refl, sym, ap, ◌∙◌, subst, arith}
+use Rattle.std.proofs.Common.{◌≡◌, ◌≢◌, ℕ, ◌+◌, ◌*◌, ◌<◌, ◌≤◌, Bool, nat_le, Option, Some, None, List, refl, sym, ap, ◌∙◌, subst, arith}
 use Rattle.ell_ops.specs.Meaning.{greatest_key}
 use Rattle.ell_word.specs.Node.{IsInternal}
 use Rattle.ell_core.specs.statements.Readers.{from_of, upto_of}
@@ -20,6 +20,8 @@ use Rattle.ell_tree.proofs.lemmas.Counts.{took_counted}
 use Rattle.ell_tree.specs.Ledgers.{Owns, present_in}
 use Rattle.ell_cards.proofs.lemmas.views.Steps.{view_seen}
 use Rattle.ell_tree.specs.Looks.{OnlyLooks, look_steps}
+use Rattle.ell_tree.proofs.lemmas.Levels.{inner_above, above_rises, above_within}
+use Rattle.ell_core.specs.tree.Rank.{rank}
 
 pub only_trans : (a b c : PassModel) (m n k : ℕ) → OnlyLooks a b m → OnlyLooks b c n → m + n ≤ k → OnlyLooks a c k
 only_trans a b c m n k h h' le = record {
@@ -137,20 +139,20 @@ value_only old new x value s = only_step old new _ _ _ _ s (λ e h. earlier e _ 
 pub record Comes (cards : ℕ) (old new : PassModel) (key node : ℕ) : Type 0 where
   pub count : ℕ
   pub only : OnlyLooks old new count
-  pub few : count + 1 ≤ 2 * ((node + 3) / 4)
+  pub few : count + 1 ≤ 2 * inner_above node
   pub come : HasCome new.view node key (key + 1)
   pub met : IsTold new.view (Met node)
   pub there : InTable cards node
   pub one : new.view.looks ≡ old.view.looks + 1
 
-pub comes_first : (cards : ℕ) (old new : PassModel) (key child : ℕ) → key ≤ greatest_key → Sees old new (after_look child old.view) → 0 < child
+pub comes_first : (cards : ℕ) (old new : PassModel) (key child : ℕ) → key ≤ greatest_key → Sees old new (after_look child old.view) → rank 0 < rank child
     → InTable cards child → Comes cards old new key child
 comes_first cards old new key child real s low there =
     let view = view_seen old new (after_look child old.view) s in
     record {
       count = 1;
       only = look_only old new child s;
-      few = omega arith;
+      few = (let above = above_rises 0 child refl low in omega arith);
       come = subst (λ (v : View). HasCome v child key (key + 1)) (sym view)
           (record { glance = record { node = child; low = 0; high = greatest_key + 1 }; among = latest _ _; there = refl; from = omega arith; upto = omega arith });
       met = subst (λ (v : View). IsTold v (Met child)) (sym view) (latest (Met child) old.view.told);
@@ -194,7 +196,7 @@ module _ (cards : ℕ) (old a b : PassModel) (key node k : ℕ) (at : Comes card
   may_down inner = record { come = come_still; met = met_still; inner = inner; told = told_key }
 
   pub comes_down : (d : PassModel) (child : ℕ)
-      → Sees b d (after_look_down (record { node = node; low = key; high = key + 1 }) k (nat_le k key) child b.view) → IsInternal node → node < child
+      → Sees b d (after_look_down (record { node = node; low = key; high = key + 1 }) k (nat_le k key) child b.view) → IsInternal node → rank node < rank child
       → InTable cards child → Comes cards old d key child
   comes_down d child s inner deeper there =
       let from : Glance = record { node = node; low = key; high = key + 1 } in
@@ -206,7 +208,7 @@ module _ (cards : ℕ) (old a b : PassModel) (key node k : ℕ) (at : Comes card
         count = at.count + 2;
         only = only_trans old a d at.count 2 (at.count + 2) at.only
             (only_trans a b d 1 1 2 (key_only a b node k asked) (down_only b d from k (nat_le k key) child s) (omega arith)) (omega arith);
-        few = (let few = at.few in omega arith);
+        few = (let few = at.few in let above = above_rises node child inner deeper in omega arith);
         come = subst (λ (v : View). HasCome v child key (key + 1)) (sym view)
             (record { glance = next; among = latest _ _; there = refl; from = low; upto = omega arith });
         met = subst (λ (v : View). IsTold v (Met child)) (sym view) (latest (Met child) b.view.told);
@@ -219,7 +221,7 @@ module _ (cards : ℕ) (old a b : PassModel) (key node k : ℕ) (at : Comes card
 
   pub only_none : OnlyLooks old b (look_steps cards)
   only_none = only_trans old a b at.count 1 (look_steps cards) at.only (key_only a b node k asked)
-      (let few = at.few in let room = at.there in omega arith)
+      (let few = at.few in let room = above_within cards node at.there in omega arith)
 
   pub found_some : (d : PassModel) (value : ℕ) → Sees b d (after_value_of node value b.view) → IsLeaf node → k ≡ key → HasFound d.view key (Some value)
   found_some d value s outer same =
@@ -242,7 +244,7 @@ module _ (cards : ℕ) (old a b : PassModel) (key node k : ℕ) (at : Comes card
   pub only_some : (d : PassModel) (value : ℕ) → Sees b d (after_value_of node value b.view) → OnlyLooks old d (look_steps cards)
   only_some d value s = only_trans old a d at.count 2 (look_steps cards) at.only
       (only_trans a b d 1 1 2 (key_only a b node k asked) (value_only b d node value s) (omega arith))
-      (let few = at.few in let room = at.there in omega arith)
+      (let few = at.few in let room = above_within cards node at.there in omega arith)
 
   pub one_some : (d : PassModel) (value : ℕ) → Sees b d (after_value_of node value b.view) → d.view.looks ≡ old.view.looks + 1
   one_some d value s = ap (λ (v : View). v.looks) (view_seen b d (after_value_of node value b.view) s) ∙ one_none

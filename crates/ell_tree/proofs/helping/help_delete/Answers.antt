@@ -1,5 +1,4 @@
 use Rattle.std.proofs.Common.{rules, ◌≡◌, ◌⊎◌, ℕ, ◌+◌, ◌*◌, ◌-◌, ◌≤◌, inl, inr, refl, subst, arith}
-use Rattle.ell_word.specs.Node.{card}
 use Rattle.ell_tree.specs.declared.helping.DeleteFlag.{DeleteFlag}
 use Rattle.ell_tree.specs.declared.helping.Ending.{Ending}
 use Rattle.ell_tree.specs.declared.helping.Ending.TheVariants.{Done, Backed, Behind}
@@ -10,6 +9,8 @@ use Rattle.ell_tree.specs.Keeping.{KeepsAllButMet}
 use Rattle.ell_tree.proofs.lemmas.Keeping.{keeps_but_met_trans}
 use Rattle.ell_tree.proofs.lemmas.Meeting.{delete_ended_still, up_to_none, up_to_trans, up_to_end}
 use Rattle.ell_tree.proofs.helping.help_delete.Goals as goal
+use Rattle.ell_tree.proofs.lemmas.Levels.{level_rises, rank_within}
+use Rattle.ell_tree.specs.Levels.{level}
 
 pub loop-next-init : goal.loop-next-init
 loop-next-init g c = record {
@@ -38,14 +39,19 @@ loop-next-preserved g c =
       ended = inr (still_ended c.args.flag c.loop-next.flag c.loop-next.pass c.help_one_delete.new.pass 4 h.0 i.ended (inr h.4));
       meets = up_to_trans c.loop-next.flag.card c.in-Behind.next.card c.args.pass.now.view c.loop-next.pass.view c.help_one_delete.new.pass.view i.meets h.1
           (inr h.4);
-      keeps_but_met = keeps_but_met_trans c.args.pass.now c.loop-next.pass c.help_one_delete.new.pass (4 * (card c.loop-next.flag.grandparent - card c.args.flag.grandparent)) 4
-          (4 * (card c.in-Behind.next.grandparent - card c.args.flag.grandparent)) i.keeps_but_met h.0
-          (omega (arith, i.down, h.3, h.2.node.inner, i.flag.node.inner));
+      keeps_but_met = keeps_but_met_trans c.args.pass.now c.loop-next.pass c.help_one_delete.new.pass (4 * (level c.loop-next.flag.grandparent - level c.args.flag.grandparent)) 4
+          (4 * (level c.in-Behind.next.grandparent - level c.args.flag.grandparent)) i.keeps_but_met h.0
+          (omega (arith, i.down, level_rises c.loop-next.flag.grandparent c.in-Behind.next.grandparent i.flag.node.inner h.2.node.inner h.3));
     }
+
+pub loop-next-smaller : goal.loop-next-smaller
+loop-next-smaller g c =
+    let h = c.in-Behind.ensures in
+    omega (arith, h.3, rank_within c.args.table.now.plan.last_card c.in-Behind.next.grandparent h.2.node.there)
 
 -- the last delete of a chain
 last_ends : (cards : ℕ) (flag : DeleteFlag) (old new : PassModel) (r : Ending) → HelpEnds cards flag old new r → ((next : DeleteFlag) → r ≡ Behind next → ⊥)
-    → KeepsAllButMet old new 12 × Meets old.view new.view × (card flag.grandparent + 1 ≤ cards) × IsDeleteEnded new.view flag.card
+    → KeepsAllButMet old new 12 × Meets old.view new.view × (level flag.grandparent + 1 ≤ cards) × IsDeleteEnded new.view flag.card
 last_ends cards flag old new Done h last = (h.0, h.1, h.2, inl h.3)
 last_ends cards flag old new Backed h last = (h.0, h.1, h.2, inr h.3)
 last_ends cards flag old new (Behind next) h last = absurd (last next refl)
@@ -56,7 +62,7 @@ returns g c =
     let new = c.help_one_delete.new.pass in
     let last = last_ends c.args.table.now.plan.last_card c.loop-next.flag c.loop-next.pass new c.help_one_delete.result c.help_one_delete.ensures c.in_default.not-Behind in
     record {
-      keeps_but_met = keeps_but_met_trans c.args.pass.now c.loop-next.pass new (4 * (card c.loop-next.flag.grandparent - card c.args.flag.grandparent)) 12
+      keeps_but_met = keeps_but_met_trans c.args.pass.now c.loop-next.pass new (4 * (level c.loop-next.flag.grandparent - level c.args.flag.grandparent)) 12
           (chain_steps c.args.table.now.plan.last_card c.args.flag.grandparent) i.keeps_but_met last.0 (omega (arith, i.down, last.2));
       meets = up_to_end c.loop-next.flag.card c.args.pass.now.view c.loop-next.pass.view new.view i.meets last.1 last.3;
       ended = still_ended c.args.flag c.loop-next.flag c.loop-next.pass new 12 last.0 i.ended last.3;

@@ -5,6 +5,7 @@ use Rattle.ell_cards.proofs.lemmas.views.Afters.{after_look, after_key_of, after
 use Rattle.ell_tree.proofs.lemmas.Counts.{uncounted_one, uncounted_trans}
 use Rattle.ell_tree.proofs.lemmas.Looks.{comes_first, met_still, may_down, comes_down, found_none, only_none, found_some, only_some, one_none, one_some, key_only, reads_mine}
 use Rattle.ell_tree.proofs.reading.walk.Goals as goal
+use Rattle.ell_tree.proofs.lemmas.Levels.{above_within, rank_within}
 
 pub loop-pass-init : goal.loop-pass-init
 loop-pass-init g c =
@@ -37,7 +38,7 @@ pub loop-pass-smaller : goal.loop-pass-smaller
 loop-pass-smaller g c =
     let d = c.look_down-node in
     let deeper = d.ensures.greater in
-    let room = d.ensures.there in
+    let room = rank_within c.args.table.now.plan.last_card d.result d.ensures.there in
     omega arith
 
 pub loop-pass-preserved : goal.loop-pass-preserved
@@ -161,10 +162,16 @@ pub overflow_add-result : goal.overflow_add-result
 overflow_add-result g c =
     let i = c.loop-pass.invariant in
     let room = c.facts_stay_inside.ensures.room in
-    omega (arith, i.uncounted.made, i.comes.only.made, i.comes.few, i.comes.there, room)
+    omega (arith, i.uncounted.made, i.comes.only.made, i.comes.few, above_within c.args.table.now.plan.last_card c.loop-pass.node i.comes.there, room)
 
 pub overflow_add-result-2 : goal.overflow_add-result-2
 overflow_add-result-2 g c =
     let i = c.loop-pass.invariant in
     let room = c.facts_stay_inside.ensures.room in
-    omega (arith, i.uncounted.made, i.comes.only.made, i.comes.few, i.comes.there, room)
+    omega (arith, i.uncounted.made, i.comes.only.made, i.comes.few, above_within c.args.table.now.plan.last_card c.loop-pass.node i.comes.there, room)
+
+pub overflow_add-steps : goal.overflow_add-steps
+overflow_add-steps g c =
+    let i = c.loop-pass.invariant in
+    let room = c.facts_stay_inside.ensures.room in
+    omega (arith, i.uncounted.made, i.comes.only.made, i.comes.few, above_within c.args.table.now.plan.last_card c.loop-pass.node i.comes.there, room)

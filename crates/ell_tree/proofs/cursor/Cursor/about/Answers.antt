@@ -10,6 +10,8 @@ use Rattle.ell_tree.proofs.lemmas.Counts.{counted_all, uncounted_none, uncounted
 use Rattle.ell_tree.proofs.lemmas.Cursors.{GoesDown, all_on, keeps_first, goes_down, keeps_found, on_counted, key_on, kept_still, may_go_down, one_kept, stands_still}
 use Rattle.ell_tree.proofs.cursor.Cursor.about.Goals as goal
 use Rattle.ell_tree.proofs.cursor.Cursor.about.Goals.{then-not-right, else-not-right}
+use Rattle.ell_tree.proofs.lemmas.Levels.{above_within, rank_within}
+use Rattle.ell_core.specs.tree.Rank.{rank}
 
 pub loop-pass-init : goal.loop-pass-init
 loop-pass-init g c =
@@ -54,8 +56,8 @@ pub loop-pass-smaller : goal.loop-pass-smaller
 loop-pass-smaller g c =
     let d = c.look_down-child in
     let deeper = d.ensures.greater in
-    let room = d.ensures.there in
-    let is = ap (λ (h : Glance). h.node) c.down-here.ensures in
+    let room = rank_within c.args.table.now.plan.last_card d.result d.ensures.there in
+    let is = ap (λ (h : Glance). rank h.node) c.down-here.ensures in
     omega arith
 
 pub key_of-node_key-requires-clause-own : goal.key_of-node_key-requires-clause-own
@@ -91,4 +93,10 @@ pub overflow_add-steps-2 : goal.overflow_add-steps-2
 overflow_add-steps-2 g c =
     let i = c.loop-pass.invariant in
     let room = c.facts_stay_inside.ensures.room in
-    omega (arith, i.uncounted.made, i.keeps.on.only.made, i.keeps.few, i.keeps.stands.there, c.found_at-at_the_leaf.ensures.few, room)
+    omega (arith, i.uncounted.made, i.keeps.on.only.made, i.keeps.few, above_within c.args.table.now.plan.last_card c.loop-pass.here.node i.keeps.stands.there, c.found_at-at_the_leaf.ensures.few, room)
+
+pub overflow_add-steps : goal.overflow_add-steps
+overflow_add-steps g c =
+    let i = c.loop-pass.invariant in
+    let room = c.facts_stay_inside.ensures.room in
+    omega (arith, i.uncounted.made, i.keeps.on.only.made, i.keeps.few, above_within c.args.table.now.plan.last_card c.loop-pass.here.node i.keeps.stands.there, room)
