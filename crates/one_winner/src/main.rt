@@ -1,0 +1,63 @@
+//! Pairs of threads insert the same key, round after round: in each round exactly one is told that it added the key,
+//! and its value is found afterwards. And what one thread inserted, another finds as soon as it is told of it.
+#![tactic(auto)]
+
+mod fault;
+mod racing;
+mod sharing;
+mod telling;
+
+use anyhow::Result;
+use ell_tree::KEY_MAX;
+use racing::insert_by_two;
+use telling::insert_and_tell;
+
+const ROUNDS: u64 = 1_000;
+
+// How many rounds ended so.
+#[derive(Clone, Copy)]
+struct Tally {
+    one_winner: u64,
+    winner_found: u64,
+    told_found: u64,
+    first_won: u64,
+    found_early: u64,
+}
+
+fn main(rt: HostRuntime) -> Result<()> {
+    let mut tally = Tally {
+        one_winner: 0,
+        winner_found: 0,
+        told_found: 0,
+        first_won: 0,
+        found_early: 0,
+    };
+    for round in 0..ROUNDS {
+        let key = KEY_MAX - round;
+        let (first, second) = (2 * round, 2 * round + 1);
+        let race = insert_by_two(&rt, rt.alloc(), key, first, second)?;
+        let winner = if race.first_added { first } else { second };
+        tally.one_winner += u64::from(race.first_added != race.second_added);
+        tally.winner_found += u64::from(race.there == Some(winner));
+        tally.first_won += u64::from(race.first_added);
+        let told = insert_and_tell(&rt, rt.alloc(), key, first)?;
+        tally.told_found += u64::from(told.late == Some(first));
+        tally.found_early += u64::from(told.early.is_some());
+    }
+    println!(rt; "rounds: {ROUNDS}")?;
+    println!(rt;
+        "exactly one thread was told that it added the key: {}",
+        tally.one_winner
+    )?;
+    println!(rt; "its value was found afterwards: {}", tally.winner_found)?;
+    println!(rt;
+        "a thread that was told of a key found it: {}",
+        tally.told_found
+    )?;
+    eprintln!(rt; "the first thread added the key: {}", tally.first_won)?;
+    eprintln!(rt;
+        "the key was found before the message: {}",
+        tally.found_early
+    )?;
+    Ok(())
+}

@@ -1,0 +1,60 @@
+//! A tree that starts empty and shares each key, and what one thread does with it.
+ghost use Rattle.std.specs.Prelude.{◌≡◌, IfOk, OnOk};
+ghost use Rattle.ell_ops.specs.declared.op.Op.TheVariants.{Find, Insert};
+ghost use Rattle.ell_ops.specs.Meaning.{found, yes_if};
+ghost use Rattle.ell_cards.specs.Models.{whole_share};
+ghost use Rattle.ell_tree.specs.Ends.{Answers};
+ghost use Rattle.ell_tree.specs.Ledgers.{IsIdlePassOf};
+ghost use Rattle.ell_tree.specs.Promises.{MayDo};
+ghost use Rattle.one_winner.specs.Sharing.{AreFromNothing, SharesEachKey};
+
+use crate::fault::RaceFault;
+use ell_tree::{NoGate, Pass, Tree};
+use std::alloc::Global;
+
+/// How many cards a tree is asked for.
+pub(crate) const CARDS: u64 = 1_000;
+
+// How often an insert is tried before it is `Busy`.
+const TRIES: u32 = 1_000;
+
+/// Inserts a key with a value. Returns the pass, and whether it was told that it added the key.
+pub(crate) fn insert(
+    map: &Tree<Global>,
+    pass: Pass<Global>,
+    key: u64,
+    value: u64,
+) -> Result<(Pass<Global>, bool), RaceFault>
+    requires may { MayDo map.now key pass }
+    // The pass was answered this call and no other.
+    ensures { IfOk result (λ done. Answers map.now (Insert key value) (yes_if done.1) pass done.0) }
+{
+    let mut pass = pass;
+    let added = map.insert(&mut pass, key, value, TRIES, &NoGate)?;
+    Ok((pass, added))
+}
+
+/// Finds a key. Returns the pass, and the value that it found.
+pub(crate) fn find(map: &Tree<Global>, pass: Pass<Global>, key: u64) -> (Pass<Global>, Option<u64>)
+    requires may { MayDo map.now key pass }
+    // The pass was answered this call and no other.
+    ensures { Answers map.now (Find key) (found result.1) pass result.0 }
+{
+    let mut pass = pass;
+    let there = map.find(&mut pass, key, &NoGate);
+    (pass, there)
+}
+
+/// Ends the tree, given the pass that all others were joined to.
+pub(crate) fn close(map: Tree<Global>, pass: Pass<Global>) -> Result<(), RaceFault>
+    requires may { IsIdlePassOf map pass }
+    requires shares { SharesEachKey map }
+    requires whole { pass.view.share ≡ whole_share }
+    // What the pass was answered is what one thread is answered that begins with an empty map.
+    ensures { OnOk result (AreFromNothing pass.view.answers) }
+{
+    match map.close(pass) {
+        Ok(_pairs) => Ok(()),
+        Err((_map, _pass, fault)) => Err(RaceFault::Memory(fault)),
+    }
+}
