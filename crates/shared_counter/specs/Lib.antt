@@ -1,0 +1,2 @@
+-- what calls add to the value of a key
+pub mod Adding
