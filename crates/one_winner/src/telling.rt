@@ -88,6 +88,7 @@ pub fn insert_and_tell<R: Threads>(
             ensures { Answers shared.entry.now (Find key) (found result.1) second result.0 }
         { find(shared, second, key) },
     );
+    // This thread is the second one, and has the message by the join.
     let (first, message) = first?;
     let (second, early) = second;
     let (second, late) = hear(&map, second, message, key)?;
