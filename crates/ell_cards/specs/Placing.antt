@@ -1,12 +1,9 @@
 use Rattle.std.specs.Prelude.{◌≡◌, ℕ, ◌<◌, ◌≤◌, Option, List, length, take}
-use mathlib.Core.Option.{some}
-use lib.ListN.{get_elem?}
 use Rattle.ell_ops.specs.Contents.{Contents, contents_of}
 use Rattle.ell_ops.specs.Meaning.{final}
-use Rattle.ell_cards.specs.declared.call.Call.TheVariants as call
 use Rattle.ell_cards.specs.Models.{TablePlan}
 use Rattle.ell_cards.specs.States.{TableState}
-use Rattle.ell_cards.specs.Turns.{Turn, Makes, TableRun}
+use Rattle.ell_cards.specs.Turns.{Turn, TableRun}
 use Rattle.ell_cards.specs.Starts.{Starts}
 use Rattle.ell_cards.specs.Looking.{FoundInRun, HasThere}
 use Rattle.ell_cards.specs.Linearizing.{IsAnswered, Item, ops_of, StandsIn, IsLinearized}

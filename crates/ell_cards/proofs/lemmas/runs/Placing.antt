@@ -1,4 +1,4 @@
-use Rattle.std.proofs.Common.{◌≡◌, ◌≢◌, ℕ, zero, suc, ◌<◌, ◌≤◌, ◌+◌, ◌-◌, ◌⊎◌, Option, List, [], ◌∷◌, length, take, drop, inl, inr, refl, sym, ap, ◌∙◌, subst, arith}
+use Rattle.std.proofs.Common.{◌≡◌, ℕ, zero, suc, ◌<◌, ◌≤◌, ◌+◌, ◌-◌, ◌⊎◌, Option, List, [], ◌∷◌, length, take, drop, inl, inr, sym, ap, ◌∙◌, subst, arith}
 use Rattle.std.proofs.lemmas.Bool.{cases_lt}
 use Rattle.std.proofs.lemmas.List.{drop-take}
 use mathlib.Core.Option.{some, some-injective, some-ne-none}
@@ -17,7 +17,7 @@ use Rattle.ell_cards.specs.Placing.{HasPlace, IsLook, LooksHavePlaces, began}
 use Rattle.ell_cards.proofs.lemmas.runs.AsMap.{map_has}
 use Rattle.ell_cards.proofs.lemmas.runs.LinearizingLists.{Placed, items_of, AreRight, low_in, in_at, placed_at}
 use Rattle.ell_cards.proofs.lemmas.runs.LinearizingStates.{run_same, run_to, turn_same}
-use Rattle.ell_cards.proofs.lemmas.runs.LinearizingPoints.{after_turns, slice, made, map_after, is_map, first_map, take_fewer, state_between}
+use Rattle.ell_cards.proofs.lemmas.runs.LinearizingPoints.{after_turns, made, map_after, is_map, first_map, take_fewer, state_between}
 use Rattle.ell_cards.proofs.lemmas.runs.Linearizing.{all_calls, sequence, before_end, after_begin, linearized}
 
 -- how many calls of a sequence are before a state: they leave its map
