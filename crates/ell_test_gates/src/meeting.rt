@@ -31,53 +31,39 @@ pub fn sixteen_threads_meet<R: Threads + Sync>(rt: &R) -> bool {
 /// Whether sixty-four threads met, halved so six times.
 pub fn sixty_four_threads_meet<R: Threads + Sync>(rt: &R) -> bool {
     let come = AtomicU64::new(0);
-    let (some, others) = join(
-        rt,
-        || meet_by_thirty_two(rt, &come, 64),
-        || meet_by_thirty_two(rt, &come, 64),
-    );
+    let half = || meet_by_thirty_two(rt, &come, 64);
+    let (some, others) = join(rt, half, half);
     some && others
 }
 
 fn meet_by_thirty_two<R: Threads + Sync>(rt: &R, come: &AtomicU64, all: u64) -> bool {
-    let (some, others) = join(
-        rt,
-        || meet_by_sixteen(rt, come, all),
-        || meet_by_sixteen(rt, come, all),
-    );
+    let half = || meet_by_sixteen(rt, come, all);
+    let (some, others) = join(rt, half, half);
     some && others
 }
 
 fn meet_by_sixteen<R: Threads + Sync>(rt: &R, come: &AtomicU64, all: u64) -> bool {
-    let (some, others) = join(
-        rt,
-        || meet_by_eight(rt, come, all),
-        || meet_by_eight(rt, come, all),
-    );
+    let half = || meet_by_eight(rt, come, all);
+    let (some, others) = join(rt, half, half);
     some && others
 }
 
 fn meet_by_eight<R: Threads + Sync>(rt: &R, come: &AtomicU64, all: u64) -> bool {
-    let (some, others) = join(
-        rt,
-        || meet_by_four(rt, come, all),
-        || meet_by_four(rt, come, all),
-    );
+    let half = || meet_by_four(rt, come, all);
+    let (some, others) = join(rt, half, half);
     some && others
 }
 
 fn meet_by_four<R: Threads + Sync>(rt: &R, come: &AtomicU64, all: u64) -> bool {
-    let (some, others) = join(
-        rt,
-        || meet_by_two(rt, come, all),
-        || meet_by_two(rt, come, all),
-    );
+    let half = || meet_by_two(rt, come, all);
+    let (some, others) = join(rt, half, half);
     some && others
 }
 
 // Whether two threads that come here saw so many come in time.
 fn meet_by_two<R: Threads>(rt: &R, come: &AtomicU64, all: u64) -> bool {
-    let (one, other) = join(rt, || meets(come, all), || meets(come, all));
+    let comes = || meets(come, all);
+    let (one, other) = join(rt, comes, comes);
     one && other
 }
 

@@ -5,7 +5,7 @@ use std::sync::atomic::{AtomicBool, AtomicU64, Ordering};
 
 /// How far a worker goes in its turn: until it has come to its next steps of a kind, to so many of them, before the last of which it
 /// stops; or until an operation of it has ended.
-#[derive(Clone, Copy, Debug, PartialEq, Eq)]
+#[derive(Clone, Copy)]
 pub enum Until {
     Comes(Kind, u64),
     Ends,
@@ -98,7 +98,7 @@ impl StepGate for Turns<'_> {
     }
 
     fn after(&self, worker: u32, _answered: bool) {
-        if self.turn_of(worker) == Some(Until::Ends) {
+        if let Some(Until::Ends) = self.turn_of(worker) {
             self.end_turn();
         }
     }
