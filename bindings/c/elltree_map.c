@@ -1,4 +1,4 @@
-/* The map of elltree_map.h: its calls. docs/GATE.md has the protocol, whose steps are numbered there, and the argument that it is right. */
+/* The map of elltree_map.h: its calls. docs/BARRIER.md has the protocol, whose steps are numbered there, and the argument that it is right. */
 #define _GNU_SOURCE
 #include "map/looks.h"
 #include <pthread.h>
@@ -69,7 +69,7 @@ static inline __attribute__((always_inline)) int32_t call(struct elltree_map *ma
     int32_t code;
     shown(order_of(map, request->key));
     do {
-        struct place *place = enter(&map->gate);
+        struct place *place = enter(&map->barrier);
         struct section *section = section_of(directory_of(map), request->key);
         struct elltree_slot *slot = slot_of(section, place);
         struct heirs *heirs = atomic_load(&section->heirs);
@@ -155,7 +155,7 @@ int32_t elltree_map_get(struct elltree_map *map, uint64_t key, uint64_t *value) 
     struct section *section;
     if (code != ELLTREE_YES)
         return code;
-    place = take_place(&map->gate, READS);
+    place = take_place(&map->barrier, READS);
     do {
         section = section_of(directory_of(map), key);
         code = elltree_slot_look(slot_of(section, place), key, &found);
@@ -301,7 +301,7 @@ int32_t elltree_map_next_at_least(struct elltree_map *map, uint64_t key, uint64_
     struct place *place;
     if (code != ELLTREE_YES)
         return code;
-    place = take_place(&map->gate, READS);
+    place = take_place(&map->barrier, READS);
     do
         code = search_upwards(map, place, &it);
     while (code == ELLTREE_NO && it.at < UINT64_MAX);
@@ -321,7 +321,7 @@ int32_t elltree_map_last_at_most(struct elltree_map *map, uint64_t key, uint64_t
     struct place *place;
     if (code != ELLTREE_YES)
         return code;
-    place = take_place(&map->gate, READS);
+    place = take_place(&map->barrier, READS);
     do
         code = search_downwards(map, place, &it);
     while (code == ELLTREE_NO);
@@ -341,7 +341,7 @@ int32_t elltree_map_last(struct elltree_map *map, uint64_t *found, uint64_t *val
 
 /* A part of a range, in one section, by one call of the library. */
 static int32_t range_part(struct elltree_map *map, uint64_t upto, struct elltree_pair *out, size_t room, size_t *count, uint64_t *next) {
-    struct place *place = take_place(&map->gate, READS);
+    struct place *place = take_place(&map->barrier, READS);
     struct section *section;
     uint64_t following;
     int32_t code;
@@ -375,8 +375,8 @@ int32_t elltree_map_range(struct elltree_map *map, uint64_t from, uint64_t upto,
 /* The sum of what the calls on each place have added and taken. */
 static int64_t count_keys(struct elltree_map *map) {
     int64_t keys = 0;
-    for (uint32_t i = 0; i <= map->gate.mask; i++)
-        keys += atomic_load_explicit(&map->gate.places[i].added, memory_order_relaxed);
+    for (uint32_t i = 0; i <= map->barrier.mask; i++)
+        keys += atomic_load_explicit(&map->barrier.places[i].added, memory_order_relaxed);
     return keys > 0 ? keys : 0; /* beside writers, a key may be seen taken and not added */
 }
 
@@ -421,11 +421,11 @@ int32_t elltree_map_pairs(struct elltree_map *map, struct elltree_pair *out, siz
     size_t keys;
     if (code != ELLTREE_YES)
         return code;
-    place = take_place(&map->gate, READS); /* which no renewal waits for in the pause */
-    close_gate_at_last(&map->gate);
+    place = take_place(&map->barrier, READS); /* which no renewal waits for in the pause */
+    close_barrier_at_last(&map->barrier);
     keys = (size_t)count_keys(map);
     code = keys > room ? ELLTREE_NO_ROOM : keys ? list(map, place, out, keys) : ELLTREE_YES;
-    open_gate(&map->gate);
+    open_barrier(&map->barrier);
     give_back(place);
     see_all(map);
     if (count)
@@ -437,7 +437,7 @@ int32_t elltree_map_pairs(struct elltree_map *map, struct elltree_pair *out, siz
 
 /* Renews the section of this key, or waits until another thread has, and tells where the next section begins. */
 static int32_t renew_at(struct elltree_map *map, uint64_t key, uint64_t *upto) {
-    struct place *place = take_place(&map->gate, READS);
+    struct place *place = take_place(&map->barrier, READS);
     struct section *section = section_of(directory_of(map), key);
     const uint32_t ended = atomic_load(&map->ended);
     const bool taken = take_renewal(section);
@@ -510,8 +510,8 @@ static struct elltree_map *new_map(const struct elltree_map_settings *settings) 
         all[i] = (struct place){.number = i, .until = 1 + i % SAMPLE, .chance = chance + i * UINT32_C(2654435769)};
     map->settings = *settings;
     map->forks = atomic_load(&forks);
-    map->gate.mask = places - 1;
-    map->gate.places = all;
+    map->barrier.mask = places - 1;
+    map->barrier.places = all;
     return map;
 }
 
@@ -522,7 +522,7 @@ static void free_left(struct elltree_map *map) {
         if (it->stage == AWAITS_READS)
             end_replaced(map, it);
         else if (it->heirs)
-            free_heirs(&map->gate, it->heirs);
+            free_heirs(&map->barrier, it->heirs);
         free_renewal(it);
     }
 }
@@ -535,9 +535,9 @@ int32_t elltree_map_free(struct elltree_map *map) {
     directory = atomic_load(&map->directory);
     free_left(map);
     for (uint32_t i = 0; directory && i < directory->count; i++)
-        free_section(&map->gate, directory->sections[i]);
+        free_section(&map->barrier, directory->sections[i]);
     free(directory);
-    free_lines(map->gate.places);
+    free_lines(map->barrier.places);
     free_lines(map);
     return code;
 }
@@ -551,15 +551,15 @@ static bool ascend(const struct elltree_pair *pairs, size_t count) {
 
 /* Gives a new map its first sections, with these pairs. */
 static int32_t fill(struct elltree_map *map, const struct elltree_pair *pairs, size_t count) {
-    const uint64_t began = time_at_work(), cards = part_of_cards(first_cards(map, count), number_of_parts(&map->gate, count));
+    const uint64_t began = time_at_work(), cards = part_of_cards(first_cards(map, count), number_of_parts(&map->barrier, count));
     struct heirs *heirs;
     struct directory *directory;
-    int32_t code = make_heirs(&map->gate, &heirs, 0, UINT64_MAX, pairs, count, cards);
+    int32_t code = make_heirs(&map->barrier, &heirs, 0, UINT64_MAX, pairs, count, cards);
     if (code != ELLTREE_YES)
         return code;
     directory = new_directory(heirs->count);
     if (!directory) {
-        free_heirs(&map->gate, heirs);
+        free_heirs(&map->barrier, heirs);
         return ELLTREE_NO_MEMORY;
     }
     append_heirs(directory, heirs);
@@ -570,7 +570,7 @@ static int32_t fill(struct elltree_map *map, const struct elltree_pair *pairs, s
     }
     map->sections = heirs->count;
     map->cards = cards * heirs->count;
-    map->gate.places[0].added = (int64_t)count;
+    map->barrier.places[0].added = (int64_t)count;
     free(heirs);
     return code;
 }

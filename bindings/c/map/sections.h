@@ -2,7 +2,7 @@
 #ifndef ELLTREE_MAP_SECTIONS_H
 #define ELLTREE_MAP_SECTIONS_H
 #include "elltree.h"
-#include "gate.h"
+#include "barrier.h"
 
 enum {
     SECTION_KEYS = 4096, /* a section with more keys is parted at its next renewal, into parts of half as many */
@@ -72,7 +72,7 @@ static inline uint32_t index_of(const struct directory *directory, uint64_t key)
 static inline struct section *section_of(const struct directory *directory, uint64_t key) { return directory->sections[index_of(directory, key)]; }
 
 /* How many keys a section may have without being parted. */
-static uint64_t section_keys(const struct gate *gate) { return at_least(SECTION_KEYS, KEYS_OF_A_PLACE * (gate->mask + UINT64_C(1))); }
+static uint64_t section_keys(const struct barrier *barrier) { return at_least(SECTION_KEYS, KEYS_OF_A_PLACE * (barrier->mask + UINT64_C(1))); }
 
 /* How many steps a find takes at most in a tree of so many keys that is not deep: three for each level, of which there are half as many again as in
    a balanced tree, which is about what keys in random order make. */
@@ -84,12 +84,14 @@ static uint64_t allowed_steps(uint64_t keys) {
 }
 
 /* How many seats a section has. */
-static uint64_t number_of_seats(const struct gate *gate) { return gate->mask + UINT64_C(2); }
+static uint64_t number_of_seats(const struct barrier *barrier) { return barrier->mask + UINT64_C(2); }
 
 static inline struct elltree_slot *slot_of(struct section *section, const struct place *place) { return &section->seats[place->number].slot; }
 
 /* The slot that only the thread has that renews the section. */
-static struct elltree_slot *slot_to_renew(const struct gate *gate, struct section *section) { return &section->seats[gate->mask + UINT64_C(1)].slot; }
+static struct elltree_slot *slot_to_renew(const struct barrier *barrier, struct section *section) {
+    return &section->seats[barrier->mask + UINT64_C(1)].slot;
+}
 
 /* Opens a tree with these pairs, with a slot for each seat. If it is refused, no slot holds anything. */
 static int32_t open_seats(struct seat *seats, uint64_t seat_count, const struct elltree_pair *pairs, size_t count, uint64_t cards) {
@@ -103,10 +105,10 @@ static int32_t open_seats(struct seat *seats, uint64_t seat_count, const struct 
 }
 
 /* A section of these keys, which begins with these pairs. If it is refused, nothing is made. */
-static int32_t make_section(const struct gate *gate, struct section **made, uint64_t first, uint64_t upto, const struct elltree_pair *pairs,
+static int32_t make_section(const struct barrier *barrier, struct section **made, uint64_t first, uint64_t upto, const struct elltree_pair *pairs,
                             size_t count, uint64_t cards) {
-    struct section *section = new_lines(sizeof *section + number_of_seats(gate) * sizeof *section->seats);
-    const int32_t code = section ? open_seats(section->seats, number_of_seats(gate), pairs, count, cards) : ELLTREE_NO_MEMORY;
+    struct section *section = new_lines(sizeof *section + number_of_seats(barrier) * sizeof *section->seats);
+    const int32_t code = section ? open_seats(section->seats, number_of_seats(barrier), pairs, count, cards) : ELLTREE_NO_MEMORY;
     if (code != ELLTREE_YES) {
         free_lines(section);
         return code;
@@ -122,29 +124,29 @@ static int32_t make_section(const struct gate *gate, struct section **made, uint
     return code;
 }
 
-static void free_section(const struct gate *gate, struct section *section) {
-    for (uint64_t i = 0; i < number_of_seats(gate); i++)
+static void free_section(const struct barrier *barrier, struct section *section) {
+    for (uint64_t i = 0; i < number_of_seats(barrier); i++)
         elltree_slot_free(&section->seats[i].slot);
     free_lines(section);
 }
 
-static void free_heirs(const struct gate *gate, struct heirs *heirs) {
+static void free_heirs(const struct barrier *barrier, struct heirs *heirs) {
     for (uint32_t i = 0; i < heirs->count; i++)
-        free_section(gate, heirs->sections[i]);
+        free_section(barrier, heirs->sections[i]);
     free(heirs);
 }
 
 /* Into how many sections so many keys are parted. */
-static uint32_t number_of_parts(const struct gate *gate, uint64_t keys) {
-    const uint64_t most = section_keys(gate), half = most / 2;
+static uint32_t number_of_parts(const struct barrier *barrier, uint64_t keys) {
+    const uint64_t most = section_keys(barrier), half = most / 2;
     return keys > most ? (uint32_t)((keys + half - 1) / half) : 1;
 }
 
 /* Makes sections of about the same number of pairs each, for all keys from one on and below another. Each has these cards. If it is refused,
    nothing is made. */
-static int32_t make_heirs(const struct gate *gate, struct heirs **made, uint64_t first, uint64_t upto, const struct elltree_pair *pairs, size_t count,
-                          uint64_t cards) {
-    const uint32_t parts = number_of_parts(gate, count);
+static int32_t make_heirs(const struct barrier *barrier, struct heirs **made, uint64_t first, uint64_t upto, const struct elltree_pair *pairs,
+                          size_t count, uint64_t cards) {
+    const uint32_t parts = number_of_parts(barrier, count);
     struct heirs *heirs = malloc(sizeof *heirs + parts * sizeof(struct section *));
     int32_t code = heirs ? ELLTREE_YES : ELLTREE_NO_MEMORY;
     if (!heirs)
@@ -152,11 +154,11 @@ static int32_t make_heirs(const struct gate *gate, struct heirs **made, uint64_t
     atomic_init(&heirs->failed, false);
     for (heirs->count = 0; code == ELLTREE_YES && heirs->count < parts; heirs->count += code == ELLTREE_YES) {
         const size_t from = count * heirs->count / parts, end = count * (heirs->count + UINT64_C(1)) / parts;
-        code = make_section(gate, &heirs->sections[heirs->count], heirs->count ? pairs[from].key : first, end < count ? pairs[end].key : upto,
+        code = make_section(barrier, &heirs->sections[heirs->count], heirs->count ? pairs[from].key : first, end < count ? pairs[end].key : upto,
                             count ? pairs + from : NULL, end - from, cards);
     }
     if (code != ELLTREE_YES)
-        free_heirs(gate, heirs);
+        free_heirs(barrier, heirs);
     else
         *made = heirs;
     return code;

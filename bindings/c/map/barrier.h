@@ -1,7 +1,8 @@
-/* The gate of a map, and its places. docs/GATE.md has the protocol, whose steps are numbered there, and the argument that it is right. No function is
-   a cancellation point of POSIX: a thread that is cancelled ends between two calls. So threads sleep by calls of the system, and not by nanosleep. */
-#ifndef ELLTREE_MAP_GATE_H
-#define ELLTREE_MAP_GATE_H
+/* The barrier of a map, and its places. docs/BARRIER.md has the protocol, whose steps are numbered there, and the argument that it is right. No
+   function is a cancellation point of POSIX: a thread that is cancelled ends between two calls. So threads sleep by calls of the system, and not by
+   nanosleep. */
+#ifndef ELLTREE_MAP_BARRIER_H
+#define ELLTREE_MAP_BARRIER_H
 #include "memory.h"
 #include "order.h"
 #include <linux/futex.h>
@@ -16,11 +17,11 @@ enum {
     SPINS = 100,
     YIELDS = 200,
     REST_NANOSECONDS = 50000,
-    PAUSE_LEAST = 200000, /* how long the gate is closed for calls under way at first, in nanoseconds */
+    PAUSE_LEAST = 200000, /* how long the barrier is closed for calls under way at first, in nanoseconds */
     PAUSE_MOST = 8000000  /* and at most, as each time in vain is followed by one of twice the length */
 };
 
-/* What a thread does with a place: the last two bits of `busy`. Whoever reads doesn't look at the gate. */
+/* What a thread does with a place: the last two bits of `busy`. Whoever reads doesn't look at the barrier. */
 enum kind { FREE, READS, CHANGES };
 
 /* A place has lines of its own. A thread has it while its kind is not FREE, and then it alone touches the members below, but for `added`, which
@@ -33,8 +34,8 @@ struct place {
     _Atomic int64_t added; /* keys added less keys taken, by calls on this place */
 };
 
-/* The gate is even if it is open, and odd if it is closed. */
-struct gate {
+/* The barrier is even if it is open, and odd if it is closed. */
+struct barrier {
     _Alignas(LINE) _Atomic uint32_t word;
     uint32_t mask; /* the number of places is a power of two, and this is one less */
     struct place *places;
@@ -108,39 +109,39 @@ static inline void give_back(struct place *place) {
 }
 
 /* A place behind the one that another thread has, or that a thread without a number would have. */
-static __attribute__((noinline, cold)) struct place *take_another_place(struct gate *gate, enum kind kind) {
+static __attribute__((noinline, cold)) struct place *take_another_place(struct barrier *barrier, enum kind kind) {
     unsigned tries = 0;
     if (!hint)
         hint = atomic_fetch_add_explicit(&threads, 1, memory_order_relaxed);
     for (;;) {
-        struct place *place = &gate->places[++hint & gate->mask];
+        struct place *place = &barrier->places[++hint & barrier->mask];
         if (take(place, kind))
             return place;
-        if (++tries > gate->mask) /* each place had a call on it when it was looked at */
+        if (++tries > barrier->mask) /* each place had a call on it when it was looked at */
             rest(tries);
     }
 }
 
-static inline __attribute__((always_inline)) struct place *take_place(struct gate *gate, enum kind kind) {
-    struct place *place = &gate->places[hint & gate->mask];
-    return hint && take(place, kind) ? place : take_another_place(gate, kind);
+static inline __attribute__((always_inline)) struct place *take_place(struct barrier *barrier, enum kind kind) {
+    struct place *place = &barrier->places[hint & barrier->mask];
+    return hint && take(place, kind) ? place : take_another_place(barrier, kind);
 }
 
 /* Calls that change keys. */
 
-static inline bool is_closed(uint32_t gate) { return gate % 2 != 0; }
+static inline bool is_closed(uint32_t barrier) { return barrier % 2 != 0; }
 
-/* Steps 1 to 4 of such a call: a place that is the caller's, with the gate open. */
-static inline __attribute__((always_inline)) struct place *enter(struct gate *gate) {
+/* Steps 1 to 4 of such a call: a place that is the caller's, with the barrier open. */
+static inline __attribute__((always_inline)) struct place *enter(struct barrier *barrier) {
     for (;;) {
-        struct place *place = take_place(gate, CHANGES);
-        const uint32_t word = atomic_load(&gate->word);
+        struct place *place = take_place(barrier, CHANGES);
+        const uint32_t word = atomic_load(&barrier->word);
         if (__builtin_expect(!is_closed(word), 1)) {
-            seen(&gate->word);
+            seen(&barrier->word);
             return place;
         }
         give_back(place);
-        wait_while(&gate->word, word);
+        wait_while(&barrier->word, word);
     }
 }
 
@@ -162,39 +163,39 @@ static bool has_ended(struct place *place, uint64_t *busy, enum kind kind, uint6
 
 /* Waits for every call of this kind, or a later one, that was under way when the wait began, but not beyond a time: whether they have ended. Calls
    that begin later see what the thread has stored before the wait, in a sequentially consistent way. */
-static bool await_calls(struct gate *gate, struct wait *wait, enum kind kind, uint64_t until) {
-    for (; wait->number <= gate->mask; wait->number++, wait->busy = 0)
-        if (!has_ended(&gate->places[wait->number], &wait->busy, kind, until))
+static bool await_calls(struct barrier *barrier, struct wait *wait, enum kind kind, uint64_t until) {
+    for (; wait->number <= barrier->mask; wait->number++, wait->busy = 0)
+        if (!has_ended(&barrier->places[wait->number], &wait->busy, kind, until))
             return false;
     return true;
 }
 
-static void open_gate(struct gate *gate) {
-    shown(&gate->word);
-    advance(&gate->word);
+static void open_barrier(struct barrier *barrier) {
+    shown(&barrier->word);
+    advance(&barrier->word);
 }
 
-/* Closes the gate, once it is open, and waits a while until no call is at work that changes keys. If one still is, the gate is opened again, and the
-   wait tells its place. */
-static bool close_gate(struct gate *gate, struct wait *wait, uint64_t pause) {
-    uint32_t word = atomic_load(&gate->word);
-    while (is_closed(word) || !atomic_compare_exchange_strong(&gate->word, &word, word + 1)) {
-        wait_while(&gate->word, word | 1);
-        word = atomic_load(&gate->word);
+/* Closes the barrier, once it is open, and waits a while until no call is at work that changes keys. If one still is, the barrier is opened again,
+   and the wait tells its place. */
+static bool close_barrier(struct barrier *barrier, struct wait *wait, uint64_t pause) {
+    uint32_t word = atomic_load(&barrier->word);
+    while (is_closed(word) || !atomic_compare_exchange_strong(&barrier->word, &word, word + 1)) {
+        wait_while(&barrier->word, word | 1);
+        word = atomic_load(&barrier->word);
     }
-    seen(&gate->word);
+    seen(&barrier->word);
     *wait = (struct wait){0, 0};
-    if (await_calls(gate, wait, CHANGES, now() + pause))
+    if (await_calls(barrier, wait, CHANGES, now() + pause))
         return true;
-    open_gate(gate);
+    open_barrier(barrier);
     return false;
 }
 
-/* Closes the gate, however long calls take that are under way. Other calls go on while the thread waits for one that seems to be stopped. */
-static void close_gate_at_last(struct gate *gate) {
+/* Closes the barrier, however long calls take that are under way. Other calls go on while the thread waits for one that seems to be stopped. */
+static void close_barrier_at_last(struct barrier *barrier) {
     struct wait wait;
-    for (uint64_t pause = PAUSE_LEAST; !close_gate(gate, &wait, pause); pause = pause < PAUSE_MOST ? 2 * pause : PAUSE_MOST)
-        (void)has_ended(&gate->places[wait.number], &wait.busy, CHANGES, UINT64_MAX);
+    for (uint64_t pause = PAUSE_LEAST; !close_barrier(barrier, &wait, pause); pause = pause < PAUSE_MOST ? 2 * pause : PAUSE_MOST)
+        (void)has_ended(&barrier->places[wait.number], &wait.busy, CHANGES, UINT64_MAX);
 }
 
 #endif
