@@ -1,4 +1,4 @@
-//! One map object that all threads share, over `elltree_map.c`.
+//! One map object that all threads share, over the calls of `elltree_map.h`.
 use std::fmt;
 use std::ops::{self, RangeBounds};
 use std::panic::{RefUnwindSafe, UnwindSafe};

@@ -1,63 +1,13 @@
-/* The sections of a map: each has a range of keys and a tree of its own. The directory tells them in the order of their keys. */
-#ifndef ELLTREE_MAP_SECTIONS_H
-#define ELLTREE_MAP_SECTIONS_H
-#include "elltree.h"
-#include "barrier.h"
+/* The sections of a map, with their trees, and the directory. */
+#include "sections.h"
+#include "numbers.h"
+#include <stdlib.h>
+#include <string.h>
 
 enum {
     SECTION_KEYS = 4096, /* a section with more keys is parted at its next renewal, into parts of half as many */
     KEYS_OF_A_PLACE = 32 /* but a map with many places has larger sections, as each has a slot for each place */
 };
-
-struct heirs;
-
-/* A slot of a section's tree, in lines of its own. */
-struct seat {
-    _Alignas(LINE) struct elltree_slot slot;
-};
-
-/* Why a section is renewed. */
-enum reason { NO_REASON, FEW_CARDS, DEEP_TREE, FEW_KEYS, MANY_KEYS, MANY_CARDS, WANTED };
-
-/* What calls read of a section is written before they see it, but for `heirs`, `replaced` and `due`. `renewing` guards what is written later, but for
-   what calls count. */
-struct section {
-    _Alignas(LINE) uint64_t first;        /* its least key */
-    uint64_t upto;                        /* its keys are below this, or without end if it is UINT64_MAX */
-    _Atomic(struct heirs *) heirs;        /* the sections that are to replace it, if it is being renewed */
-    _Atomic bool replaced;                /* whether they have */
-    _Atomic uint32_t due;                 /* the reason of a renewal that a call has left to others */
-    uint64_t allowed;                     /* steps that a find takes if the tree is not deep */
-    uint64_t reserve;                     /* how few cards are left when a renewal is due */
-    uint64_t cards, keys, effort;         /* its cards, the keys that it began with, and the nanoseconds of a processor that it took to make it */
-    uint64_t opened_at, all_effort;       /* when it was made, and what all renewals of the map had taken by then */
-    uint64_t renewals;                    /* how many the map had by then */
-    _Alignas(LINE) _Atomic bool renewing; /* whether a thread renews it, or has renewed it */
-    _Atomic uint64_t excess;              /* steps beyond the allowed ones since it was made */
-    _Atomic uint64_t spent_at;            /* when a call found its cards spent, or 0 */
-    _Atomic int64_t about;                /* how many keys it has, as far as the calls tell that were weighed */
-    struct seat seats[];                  /* one for each place, and the last for the thread that renews the section */
-};
-
-/* The sections that are to replace one, or two. */
-struct heirs {
-    _Atomic bool failed; /* a key could not be carried over to them */
-    uint32_t count;
-    struct section *sections[];
-};
-
-/* Is never written once calls see it. */
-struct directory {
-    uint32_t count, room;
-    struct section **sections;
-    uint64_t firsts[]; /* the least keys of the sections, ascending, so that a search has them side by side */
-};
-
-/* The time that this thread had a processor, so that it does not matter how long it had to wait for one. */
-static uint64_t time_at_work(void) { return time_of(CLOCK_THREAD_CPUTIME_ID); }
-
-static uint64_t at_most(uint64_t number, uint64_t most) { return number < most ? number : most; }
-static uint64_t at_least(uint64_t number, uint64_t least) { return number > least ? number : least; }
 
 /* The number of the section that a key belongs to. */
 static inline uint32_t index_of(const struct directory *directory, uint64_t key) {
@@ -204,5 +154,3 @@ static void fill_directory(struct directory *made, const struct directory *befor
     append_heirs(made, heirs);
     append_sections(made, before, at + count, before->count);
 }
-
-#endif

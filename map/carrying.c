@@ -1,8 +1,8 @@
 /* How keys are carried over from a section that is being renewed to its heirs. docs/BARRIER.md has the protocol, and the argument that it is
    right. */
-#ifndef ELLTREE_MAP_CARRYING_H
-#define ELLTREE_MAP_CARRYING_H
-#include "parts.h"
+#include "carrying.h"
+#include "order.h"
+#include <stdlib.h>
 
 static int32_t grow(struct pairs *pairs) {
     const size_t room = pairs->room ? 2 * pairs->room : PAIRS_AT_ONCE;
@@ -125,5 +125,3 @@ static void carry_changed(const struct barrier *barrier, struct renewal *renewal
             carry_over(renewal->heirs, slot_from(barrier, renewal, it->key), slot_into(barrier, renewal, it->key), it->key, state);
     }
 }
-
-#endif

@@ -1,7 +1,8 @@
-/* What calls find of the section that they are on, and what they do about it: renew it, join it, go on with renewals that were left, or leave a word
-   for later calls. */
-#ifndef ELLTREE_MAP_LOOKS_H
-#define ELLTREE_MAP_LOOKS_H
+/* What calls find of the section that they are on, and what they do about it. */
+#include "looks.h"
+#include "cards.h"
+#include "clock.h"
+#include "numbers.h"
 #include "renewal.h"
 
 /* Whether this call is weighed: one in 64 of the calls on a place, by strides of 1 to 128 that follow no rule, so that no loop of calls has the same
@@ -169,5 +170,3 @@ static int32_t get_fresh(struct elltree_map *map, struct place *place, struct se
         wait_while(&map->ended, ended);
     return ELLTREE_YES;
 }
-
-#endif

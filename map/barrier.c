@@ -1,61 +1,16 @@
 /* The barrier of a map, and its places. docs/BARRIER.md has the protocol, whose steps are numbered there, and the argument that it is right. No
    function is a cancellation point of POSIX: a thread that is cancelled ends between two calls. So threads sleep by calls of the system, and not by
    nanosleep. */
-#ifndef ELLTREE_MAP_BARRIER_H
-#define ELLTREE_MAP_BARRIER_H
-#include "memory.h"
+#include "barrier.h"
+#include "clock.h"
 #include "order.h"
 #include <linux/futex.h>
 #include <sched.h>
-#include <stdatomic.h>
-#include <stdbool.h>
 #include <sys/syscall.h>
 #include <time.h>
 #include <unistd.h>
 
-enum {
-    SPINS = 100,
-    YIELDS = 200,
-    REST_NANOSECONDS = 50000,
-    PAUSE_LEAST = 200000, /* how long the barrier is closed for calls under way at first, in nanoseconds */
-    PAUSE_MOST = 8000000  /* and at most, as each time in vain is followed by one of twice the length */
-};
-
-/* What a thread does with a place: the last two bits of `busy`. Whoever reads doesn't look at the barrier. */
-enum kind { FREE, READS, CHANGES };
-
-/* A place has lines of its own. A thread has it while its kind is not FREE, and then it alone touches the members below, but for `added`, which
-   others read. */
-struct place {
-    _Alignas(LINE) _Atomic uint64_t busy;
-    uint32_t number;       /* of the place, from 0 */
-    uint32_t until;        /* how many calls there are up to the next one that is weighed */
-    uint32_t chance;       /* by which that is chosen */
-    _Atomic int64_t added; /* keys added less keys taken, by calls on this place */
-};
-
-/* The barrier is even if it is open, and odd if it is closed. */
-struct barrier {
-    _Alignas(LINE) _Atomic uint32_t word;
-    uint32_t mask; /* the number of places is a power of two, and this is one less */
-    struct place *places;
-};
-
-/* How far a thread is that waits for the calls under way: those on the places before this one have ended, and this one was busy so when it was looked
-   at, or 0. */
-struct wait {
-    uint32_t number;
-    uint64_t busy;
-};
-
-/* What a clock says, in nanoseconds. */
-static uint64_t time_of(clockid_t clock) {
-    struct timespec time;
-    clock_gettime(clock, &time);
-    return (uint64_t)time.tv_sec * UINT64_C(1000000000) + (uint64_t)time.tv_nsec;
-}
-
-static uint64_t now(void) { return time_of(CLOCK_MONOTONIC); }
+enum { SPINS = 100, YIELDS = 200, REST_NANOSECONDS = 50000 };
 
 /* Waits for a thread that is about to be done: briefly at first, and longer if it seems to be stopped. */
 static void rest(unsigned tries) {
@@ -197,5 +152,3 @@ static void close_barrier_at_last(struct barrier *barrier) {
     for (uint64_t pause = PAUSE_LEAST; !close_barrier(barrier, &wait, pause); pause = pause < PAUSE_MOST ? 2 * pause : PAUSE_MOST)
         (void)has_ended(&barrier->places[wait.number], &wait.busy, CHANGES, UINT64_MAX);
 }
-
-#endif

@@ -1,9 +1,12 @@
 /* Renewals: a section gets a fresh tree, or is parted, or joined with a neighbor, while calls go on. docs/BARRIER.md has the protocol, whose steps
    are numbered there, and the argument that it is right. */
-#ifndef ELLTREE_MAP_RENEWAL_H
-#define ELLTREE_MAP_RENEWAL_H
+#include "renewal.h"
 #include "cards.h"
 #include "carrying.h"
+#include "clock.h"
+#include "numbers.h"
+#include "order.h"
+#include <stdlib.h>
 
 /* Whether this thread is to renew a section, of which a caller with a place knows that it is not freed. */
 static bool take_renewal(struct section *section) { return !atomic_exchange(&section->renewing, true); }
@@ -405,5 +408,3 @@ static int32_t renew_section(struct elltree_map *map, struct section *section, e
     atomic_store(&section->excess, 0); /* also if it is refused: the next try is to be as long after it as after a renewal */
     return waits ? go_on_to_the_end(map, renewal) : go_on_or_leave(map, renewal);
 }
-
-#endif
