@@ -13,7 +13,7 @@ prove: ## prove the program and the library, and build them
 	./elltree --prove
 	cd crates/elltree && env -u RT_ALLOW_C -u RT_BACKEND rt lib
 
-check: ## run the gate: prove, test and run every crate
+check: ## run CI: prove, test and run every crate
 	.ci/run
 
 install: ## prove the program and the library, and install them below PREFIX, which is /usr/local if left out

@@ -2,7 +2,7 @@
    If it only reads, nothing waits for it: the calls of other threads go on, on its key too, through any number of renewals, and so do snapshots.
    If it changes a key, the others' calls go on too, also while a renewal waits for it. A renewal waits only if the thread is inside a call, and ends
    once it goes on. A call that finds no card waits for that renewal, while calls that read go on. The thread makes fewer calls than there are
-   cards, so that it never renews by itself: calls that change keys would wait for a thread that is stopped while it has closed the gate. */
+   cards, so that it never renews by itself: calls that change keys would wait for a thread that is stopped while it has closed the barrier. */
 #define _GNU_SOURCE
 #include "elltree_map.h"
 #include <pthread.h>

@@ -4,7 +4,7 @@
 
    The GIL. All calls let other threads of Python run meanwhile, but for those that only read a tree by a handle.
 
-   Whoever waits at a map's gate waits for a thread that renews, and that one waits for the calls that are under way. None of them needs the GIL
+   Whoever waits at a map's barrier waits for a thread that renews, and that one waits for the calls that are under way. None of them needs the GIL
    before it is done with the map: the map calls nothing of Python, and while a function of Python runs, no call is under way on a map for it.
    (Map.modify makes two calls, and its function runs between them.) So there would be no deadlock if a thread kept the GIL while it waits. But a
    renewal takes milliseconds, and all of Python would stand still meanwhile, also threads that have nothing to do with the map. A call can't know

@@ -1,4 +1,4 @@
-//! One map object that all threads share, over `elltree_map.c`.
+//! One map object that all threads share, over the calls of `elltree_map.h`.
 use std::fmt;
 use std::ops::{self, RangeBounds};
 use std::panic::{RefUnwindSafe, UnwindSafe};
@@ -60,7 +60,7 @@ pub struct MapCounts {
 /// The map consists of sections, each with a tree for its range of keys. Each change takes one of the *cards* of a tree. A change that finds few
 /// cards left *renews* its section: it makes a new tree with fresh cards, while other calls go on, and takes about a millisecond longer. At the end
 /// of a renewal all changes pause, until those of them that are under way have ended, and [`Map::counts`] returns how long. A call that only reads
-/// does not pause, and waits for no other thread, unless more calls are under way than [`MapSettings::calls`] allows. `docs/GATE.md` describes how
+/// does not pause, and waits for no other thread, unless more calls are under way than [`MapSettings::calls`] allows. `docs/BARRIER.md` describes how
 /// calls and renewals keep out of each other's way. That part is tested and not proved; the trees below it are proved.
 ///
 /// A key above [`KEY_MAX`] is absent to calls that read, and [`MapError::BadKey`] to calls that change keys. [`TypedMap`](crate::TypedMap) has keys

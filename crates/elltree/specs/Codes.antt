@@ -37,7 +37,7 @@ said_bad_key = negsuc 5
 abbrev pub said_bad_start : ℤ
 said_bad_start = negsuc 6
 
--- an array has no room for all pairs: this comes from calls on a map of the bindings, and not from a call
+-- an array has no room for all pairs: this comes from the map, and not from an exported function
 abbrev pub said_no_room : ℤ
 said_no_room = negsuc 7
 
@@ -70,7 +70,7 @@ said_in_call = negsuc 14
 abbrev pub said_too_many : ℤ
 said_too_many = negsuc 15
 
--- a map of the bindings is of another process, of which this is a forked child: not from a call
+-- a map is of another process, of which this is a forked child: not from an exported function
 abbrev pub said_forked : ℤ
 said_forked = negsuc 17
 

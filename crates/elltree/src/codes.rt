@@ -23,7 +23,7 @@ pub const BAD_KEY: i32 = -6;
 
 pub const BAD_START: i32 = -7;
 
-// What calls on a map of the bindings return. No exported function returns it.
+// What calls on a map return. No exported function returns it.
 pub const NO_ROOM: i32 = -8;
 
 pub const NO_MEMORY: i32 = -9;
@@ -41,7 +41,7 @@ pub const IN_CALL: i32 = -15;
 
 pub const TOO_MANY_HANDLES: i32 = -16;
 
-// What calls on a map of the bindings return in a forked child. No exported function returns it.
+// What calls on a map return in a forked child. No exported function returns it.
 pub const FORKED: i32 = -18;
 
 /// The code of a refusal.

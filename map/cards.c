@@ -1,7 +1,7 @@
 /* How many cards the sections get that a renewal makes. */
-#ifndef ELLTREE_MAP_CARDS_H
-#define ELLTREE_MAP_CARDS_H
-#include "parts.h"
+#include "cards.h"
+#include "clock.h"
+#include "numbers.h"
 
 /* How many cards each of some sections gets, if they get so many together. */
 static uint64_t part_of_cards(uint64_t cards, uint32_t parts) { return parts > 1 ? at_least(cards / parts, CARDS_LEAST) : cards; }
@@ -74,9 +74,7 @@ static uint64_t cards_of_each(struct elltree_map *map, const struct renewal *ren
 static uint64_t next_reserve(const struct elltree_map *map, const struct renewal *renewal, uint64_t cards) {
     uint64_t left = 0;
     struct section *section = renewal->sections[0];
-    if (atomic_load(&section->spent_at) || elltree_slot_cards_left(slot_to_renew(&map->gate, section), &left) != ELLTREE_YES)
+    if (atomic_load(&section->spent_at) || elltree_slot_cards_left(slot_to_renew(&map->barrier, section), &left) != ELLTREE_YES)
         return cards / 2;
     return at_most(at_least(2 * (renewal->left - at_most(left, renewal->left)), cards / 16), cards / 2);
 }
-
-#endif

@@ -1,63 +1,13 @@
-/* The sections of a map: each has a range of keys and a tree of its own. The directory tells them in the order of their keys. */
-#ifndef ELLTREE_MAP_SECTIONS_H
-#define ELLTREE_MAP_SECTIONS_H
-#include "elltree.h"
-#include "gate.h"
+/* The sections of a map, with their trees, and the directory. */
+#include "sections.h"
+#include "numbers.h"
+#include <stdlib.h>
+#include <string.h>
 
 enum {
     SECTION_KEYS = 4096, /* a section with more keys is parted at its next renewal, into parts of half as many */
     KEYS_OF_A_PLACE = 32 /* but a map with many places has larger sections, as each has a slot for each place */
 };
-
-struct heirs;
-
-/* A slot of a section's tree, in lines of its own. */
-struct seat {
-    _Alignas(LINE) struct elltree_slot slot;
-};
-
-/* Why a section is renewed. */
-enum reason { NO_REASON, FEW_CARDS, DEEP_TREE, FEW_KEYS, MANY_KEYS, MANY_CARDS, WANTED };
-
-/* What calls read of a section is written before they see it, but for `heirs`, `replaced` and `due`. `renewing` guards what is written later, but for
-   what calls count. */
-struct section {
-    _Alignas(LINE) uint64_t first;        /* its least key */
-    uint64_t upto;                        /* its keys are below this, or without end if it is UINT64_MAX */
-    _Atomic(struct heirs *) heirs;        /* the sections that are to replace it, if it is being renewed */
-    _Atomic bool replaced;                /* whether they have */
-    _Atomic uint32_t due;                 /* the reason of a renewal that a call has left to others */
-    uint64_t allowed;                     /* steps that a find takes if the tree is not deep */
-    uint64_t reserve;                     /* how few cards are left when a renewal is due */
-    uint64_t cards, keys, effort;         /* its cards, the keys that it began with, and the nanoseconds of a processor that it took to make it */
-    uint64_t opened_at, all_effort;       /* when it was made, and what all renewals of the map had taken by then */
-    uint64_t renewals;                    /* how many the map had by then */
-    _Alignas(LINE) _Atomic bool renewing; /* whether a thread renews it, or has renewed it */
-    _Atomic uint64_t excess;              /* steps beyond the allowed ones since it was made */
-    _Atomic uint64_t spent_at;            /* when a call found its cards spent, or 0 */
-    _Atomic int64_t about;                /* how many keys it has, as far as the calls tell that were weighed */
-    struct seat seats[];                  /* one for each place, and the last for the thread that renews the section */
-};
-
-/* The sections that are to replace one, or two. */
-struct heirs {
-    _Atomic bool failed; /* a key could not be carried over to them */
-    uint32_t count;
-    struct section *sections[];
-};
-
-/* Is never written once calls see it. */
-struct directory {
-    uint32_t count, room;
-    struct section **sections;
-    uint64_t firsts[]; /* the least keys of the sections, ascending, so that a search has them side by side */
-};
-
-/* The time that this thread had a processor, so that it does not matter how long it had to wait for one. */
-static uint64_t time_at_work(void) { return time_of(CLOCK_THREAD_CPUTIME_ID); }
-
-static uint64_t at_most(uint64_t number, uint64_t most) { return number < most ? number : most; }
-static uint64_t at_least(uint64_t number, uint64_t least) { return number > least ? number : least; }
 
 /* The number of the section that a key belongs to. */
 static inline uint32_t index_of(const struct directory *directory, uint64_t key) {
@@ -72,7 +22,7 @@ static inline uint32_t index_of(const struct directory *directory, uint64_t key)
 static inline struct section *section_of(const struct directory *directory, uint64_t key) { return directory->sections[index_of(directory, key)]; }
 
 /* How many keys a section may have without being parted. */
-static uint64_t section_keys(const struct gate *gate) { return at_least(SECTION_KEYS, KEYS_OF_A_PLACE * (gate->mask + UINT64_C(1))); }
+static uint64_t section_keys(const struct barrier *barrier) { return at_least(SECTION_KEYS, KEYS_OF_A_PLACE * (barrier->mask + UINT64_C(1))); }
 
 /* How many steps a find takes at most in a tree of so many keys that is not deep: three for each level, of which there are half as many again as in
    a balanced tree, which is about what keys in random order make. */
@@ -84,12 +34,14 @@ static uint64_t allowed_steps(uint64_t keys) {
 }
 
 /* How many seats a section has. */
-static uint64_t number_of_seats(const struct gate *gate) { return gate->mask + UINT64_C(2); }
+static uint64_t number_of_seats(const struct barrier *barrier) { return barrier->mask + UINT64_C(2); }
 
 static inline struct elltree_slot *slot_of(struct section *section, const struct place *place) { return &section->seats[place->number].slot; }
 
 /* The slot that only the thread has that renews the section. */
-static struct elltree_slot *slot_to_renew(const struct gate *gate, struct section *section) { return &section->seats[gate->mask + UINT64_C(1)].slot; }
+static struct elltree_slot *slot_to_renew(const struct barrier *barrier, struct section *section) {
+    return &section->seats[barrier->mask + UINT64_C(1)].slot;
+}
 
 /* Opens a tree with these pairs, with a slot for each seat. If it is refused, no slot holds anything. */
 static int32_t open_seats(struct seat *seats, uint64_t seat_count, const struct elltree_pair *pairs, size_t count, uint64_t cards) {
@@ -103,10 +55,10 @@ static int32_t open_seats(struct seat *seats, uint64_t seat_count, const struct 
 }
 
 /* A section of these keys, which begins with these pairs. If it is refused, nothing is made. */
-static int32_t make_section(const struct gate *gate, struct section **made, uint64_t first, uint64_t upto, const struct elltree_pair *pairs,
+static int32_t make_section(const struct barrier *barrier, struct section **made, uint64_t first, uint64_t upto, const struct elltree_pair *pairs,
                             size_t count, uint64_t cards) {
-    struct section *section = new_lines(sizeof *section + number_of_seats(gate) * sizeof *section->seats);
-    const int32_t code = section ? open_seats(section->seats, number_of_seats(gate), pairs, count, cards) : ELLTREE_NO_MEMORY;
+    struct section *section = new_lines(sizeof *section + number_of_seats(barrier) * sizeof *section->seats);
+    const int32_t code = section ? open_seats(section->seats, number_of_seats(barrier), pairs, count, cards) : ELLTREE_NO_MEMORY;
     if (code != ELLTREE_YES) {
         free_lines(section);
         return code;
@@ -122,29 +74,29 @@ static int32_t make_section(const struct gate *gate, struct section **made, uint
     return code;
 }
 
-static void free_section(const struct gate *gate, struct section *section) {
-    for (uint64_t i = 0; i < number_of_seats(gate); i++)
+static void free_section(const struct barrier *barrier, struct section *section) {
+    for (uint64_t i = 0; i < number_of_seats(barrier); i++)
         elltree_slot_free(&section->seats[i].slot);
     free_lines(section);
 }
 
-static void free_heirs(const struct gate *gate, struct heirs *heirs) {
+static void free_heirs(const struct barrier *barrier, struct heirs *heirs) {
     for (uint32_t i = 0; i < heirs->count; i++)
-        free_section(gate, heirs->sections[i]);
+        free_section(barrier, heirs->sections[i]);
     free(heirs);
 }
 
 /* Into how many sections so many keys are parted. */
-static uint32_t number_of_parts(const struct gate *gate, uint64_t keys) {
-    const uint64_t most = section_keys(gate), half = most / 2;
+static uint32_t number_of_parts(const struct barrier *barrier, uint64_t keys) {
+    const uint64_t most = section_keys(barrier), half = most / 2;
     return keys > most ? (uint32_t)((keys + half - 1) / half) : 1;
 }
 
 /* Makes sections of about the same number of pairs each, for all keys from one on and below another. Each has these cards. If it is refused,
    nothing is made. */
-static int32_t make_heirs(const struct gate *gate, struct heirs **made, uint64_t first, uint64_t upto, const struct elltree_pair *pairs, size_t count,
-                          uint64_t cards) {
-    const uint32_t parts = number_of_parts(gate, count);
+static int32_t make_heirs(const struct barrier *barrier, struct heirs **made, uint64_t first, uint64_t upto, const struct elltree_pair *pairs,
+                          size_t count, uint64_t cards) {
+    const uint32_t parts = number_of_parts(barrier, count);
     struct heirs *heirs = malloc(sizeof *heirs + parts * sizeof(struct section *));
     int32_t code = heirs ? ELLTREE_YES : ELLTREE_NO_MEMORY;
     if (!heirs)
@@ -152,11 +104,11 @@ static int32_t make_heirs(const struct gate *gate, struct heirs **made, uint64_t
     atomic_init(&heirs->failed, false);
     for (heirs->count = 0; code == ELLTREE_YES && heirs->count < parts; heirs->count += code == ELLTREE_YES) {
         const size_t from = count * heirs->count / parts, end = count * (heirs->count + UINT64_C(1)) / parts;
-        code = make_section(gate, &heirs->sections[heirs->count], heirs->count ? pairs[from].key : first, end < count ? pairs[end].key : upto,
+        code = make_section(barrier, &heirs->sections[heirs->count], heirs->count ? pairs[from].key : first, end < count ? pairs[end].key : upto,
                             count ? pairs + from : NULL, end - from, cards);
     }
     if (code != ELLTREE_YES)
-        free_heirs(gate, heirs);
+        free_heirs(barrier, heirs);
     else
         *made = heirs;
     return code;
@@ -202,5 +154,3 @@ static void fill_directory(struct directory *made, const struct directory *befor
     append_heirs(made, heirs);
     append_sections(made, before, at + count, before->count);
 }
-
-#endif

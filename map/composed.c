@@ -1,7 +1,5 @@
 /* Calls of a map that are made of its other calls. They hold no place between those, so that no renewal waits for them. */
-#ifndef ELLTREE_MAP_COMPOSED_H
-#define ELLTREE_MAP_COMPOSED_H
-#include "elltree_map.h"
+#include "calls.h"
 
 /* The call takes effect at the get that finds the key, or at the insert that adds it: whatever came before has changed nothing. It begins anew only
    if another thread has added the key after the get, and taken it away before the next one. */
@@ -42,5 +40,3 @@ int32_t elltree_map_pop_first(struct elltree_map *map, uint64_t *key, uint64_t *
 int32_t elltree_map_pop_last(struct elltree_map *map, uint64_t *key, uint64_t *value) {
     return pop(map, elltree_map_last_at_most, elltree_map_last_before, ELLTREE_KEY_MAX, key, value);
 }
-
-#endif

@@ -1,12 +1,8 @@
 /* Memory in cache lines of its own, by malloc and free alone: a program may replace these, and need not replace any other function with them. */
-#ifndef ELLTREE_MAP_MEMORY_H
-#define ELLTREE_MAP_MEMORY_H
+#include "memory.h"
 #include <stdint.h>
 #include <stdlib.h>
 #include <string.h>
-
-/* Two cache lines, since processors fetch lines in pairs. */
-#define LINE 128
 
 /* Memory that begins at a line and is all zeros, or null. The block that it lies in is noted in front of it. */
 static void *new_lines(size_t size) {
@@ -26,5 +22,3 @@ static void free_lines(void *at) {
         memcpy(&block, (char *)at - sizeof block, sizeof block);
     free(block);
 }
-
-#endif

@@ -1,7 +1,8 @@
-/* How keys are carried over from a section that is being renewed to its heirs. docs/GATE.md has the protocol, and the argument that it is right. */
-#ifndef ELLTREE_MAP_CARRYING_H
-#define ELLTREE_MAP_CARRYING_H
-#include "parts.h"
+/* How keys are carried over from a section that is being renewed to its heirs. docs/BARRIER.md has the protocol, and the argument that it is
+   right. */
+#include "carrying.h"
+#include "order.h"
+#include <stdlib.h>
 
 static int32_t grow(struct pairs *pairs) {
     const size_t room = pairs->room ? 2 * pairs->room : PAIRS_AT_ONCE;
@@ -14,15 +15,15 @@ static int32_t grow(struct pairs *pairs) {
 }
 
 /* Adds the pairs of a section, each as it is at a moment of the call. */
-static int32_t append_pairs(const struct gate *gate, struct pairs *pairs, struct section *section) {
+static int32_t append_pairs(const struct barrier *barrier, struct pairs *pairs, struct section *section) {
     uint64_t next = section->first;
     size_t part = 0;
     int32_t code;
     do {
         code = pairs->count < pairs->room ? ELLTREE_YES : grow(pairs);
         if (code == ELLTREE_YES)
-            code = elltree_slot_range(slot_to_renew(gate, section), next, UINT64_MAX, pairs->items + pairs->count, pairs->room - pairs->count, &part,
-                                      &next);
+            code = elltree_slot_range(slot_to_renew(barrier, section), next, UINT64_MAX, pairs->items + pairs->count, pairs->room - pairs->count,
+                                      &part, &next);
         if (code == ELLTREE_YES)
             pairs->count += part;
     } while (code == ELLTREE_YES && next < UINT64_MAX);
@@ -30,11 +31,11 @@ static int32_t append_pairs(const struct gate *gate, struct pairs *pairs, struct
 }
 
 /* The pairs of these sections in place of what the array has. */
-static int32_t read_pairs(const struct gate *gate, struct pairs *pairs, struct section *const *sections, uint32_t count) {
+static int32_t read_pairs(const struct barrier *barrier, struct pairs *pairs, struct section *const *sections, uint32_t count) {
     int32_t code = ELLTREE_YES;
     pairs->count = 0;
     for (uint32_t i = 0; i < count && code == ELLTREE_YES; i++)
-        code = append_pairs(gate, pairs, sections[i]);
+        code = append_pairs(barrier, pairs, sections[i]);
     return code;
 }
 
@@ -68,12 +69,12 @@ static void carry_over(struct heirs *heirs, struct elltree_slot *from, struct el
 }
 
 /* The slots of a key's section and heir that the thread has that renews. */
-static struct elltree_slot *slot_from(const struct gate *gate, struct renewal *renewal, uint64_t key) {
-    return slot_to_renew(gate, renewal->sections[renewal->count > 1 && key >= renewal->sections[1]->first]);
+static struct elltree_slot *slot_from(const struct barrier *barrier, struct renewal *renewal, uint64_t key) {
+    return slot_to_renew(barrier, renewal->sections[renewal->count > 1 && key >= renewal->sections[1]->first]);
 }
 
-static struct elltree_slot *slot_into(const struct gate *gate, struct renewal *renewal, uint64_t key) {
-    return slot_to_renew(gate, heir_of(renewal->heirs, key));
+static struct elltree_slot *slot_into(const struct barrier *barrier, struct renewal *renewal, uint64_t key) {
+    return slot_to_renew(barrier, heir_of(renewal->heirs, key));
 }
 
 /* Notes the keys of which the sections and their heirs were read to differ, ascending, with what the sections have. */
@@ -97,7 +98,7 @@ static int32_t note_differences(struct renewal *renewal) {
 }
 
 /* Stores the differences in the heirs, each half of them before those between, so that keys in order make no list. */
-static void store_differences(const struct gate *gate, struct renewal *renewal) {
+static void store_differences(const struct barrier *barrier, struct renewal *renewal) {
     const size_t count = renewal->difference_count;
     size_t step = 1;
     while (step <= count / 2)
@@ -105,13 +106,13 @@ static void store_differences(const struct gate *gate, struct renewal *renewal) 
     for (; step; step /= 2)
         for (size_t i = step; i <= count; i += 2 * step) {
             const struct difference *it = &renewal->differences[i - 1];
-            if (store(slot_into(gate, renewal, it->key), it->key, it->state.there, it->state.value) < 0)
+            if (store(slot_into(barrier, renewal, it->key), it->key, it->state.there, it->state.value) < 0)
                 atomic_store(&renewal->heirs->failed, true);
         }
 }
 
 /* Carries each of them over of which the sections have since been read to have something else than was stored. */
-static void carry_changed(const struct gate *gate, struct renewal *renewal) {
+static void carry_changed(const struct barrier *barrier, struct renewal *renewal) {
     const struct elltree_pair *there = renewal->there.items, *end = there + renewal->there.count;
     for (size_t i = 0; i < renewal->difference_count; i++) {
         const struct difference *it = &renewal->differences[i];
@@ -121,8 +122,6 @@ static void carry_changed(const struct gate *gate, struct renewal *renewal) {
         if (there < end && there->key == it->key)
             state = (struct state){ELLTREE_YES, there->value};
         if (!are_alike(state, it->state))
-            carry_over(renewal->heirs, slot_from(gate, renewal, it->key), slot_into(gate, renewal, it->key), it->key, state);
+            carry_over(renewal->heirs, slot_from(barrier, renewal, it->key), slot_into(barrier, renewal, it->key), it->key, state);
     }
 }
-
-#endif

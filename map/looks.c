@@ -1,7 +1,8 @@
-/* What calls find of the section that they are on, and what they do about it: renew it, join it, go on with renewals that were left, or leave a word
-   for later calls. */
-#ifndef ELLTREE_MAP_LOOKS_H
-#define ELLTREE_MAP_LOOKS_H
+/* What calls find of the section that they are on, and what they do about it. */
+#include "looks.h"
+#include "cards.h"
+#include "clock.h"
+#include "numbers.h"
 #include "renewal.h"
 
 /* Whether this call is weighed: one in 64 of the calls on a place, by strides of 1 to 128 that follow no rule, so that no loop of calls has the same
@@ -48,7 +49,7 @@ static enum reason weigh_change(struct elltree_map *map, struct section *section
         return FEW_CARDS;
     if (is_deep(section, slot, key))
         return DEEP_TREE;
-    if (more > 0 && keys_about(section) > 2 * section_keys(&map->gate))
+    if (more > 0 && keys_about(section) > 2 * section_keys(&map->barrier))
         return MANY_KEYS;
     return more < 0 && may_be_joined(map, directory_of(map), section) ? FEW_KEYS : NO_REASON;
 }
@@ -65,7 +66,7 @@ static bool has_many_cards(const struct elltree_map *map, const struct section *
    spread evenly over the sections. */
 static void look_at_another(struct elltree_map *map) {
     const uint32_t at = UINT32_C(2654435769) * atomic_fetch_add(&map->swept, 1);
-    struct place *place = take_place(&map->gate, READS);
+    struct place *place = take_place(&map->barrier, READS);
     const struct directory *directory = directory_of(map);
     struct section *section = directory->sections[(uint64_t)at * directory->count >> 32];
     enum reason reason = may_be_joined(map, directory, section) ? FEW_KEYS : NO_REASON;
@@ -119,7 +120,7 @@ static void join_passed(struct elltree_map *map) {
     bool taken;
     if (!passed)
         return;
-    place = take_place(&map->gate, READS);
+    place = take_place(&map->barrier, READS);
     directory = directory_of(map);
     section = section_of(directory, passed - 1);
     taken = may_be_joined(map, directory, section) && take_renewal(section);
@@ -169,5 +170,3 @@ static int32_t get_fresh(struct elltree_map *map, struct place *place, struct se
         wait_while(&map->ended, ended);
     return ELLTREE_YES;
 }
-
-#endif

@@ -1,4 +1,4 @@
-/* What a map and a renewal are made of. docs/GATE.md has the protocol. */
+/* What a map and a renewal are made of. docs/BARRIER.md has the protocol. */
 #ifndef ELLTREE_MAP_PARTS_H
 #define ELLTREE_MAP_PARTS_H
 #include "sections.h"
@@ -25,7 +25,7 @@ enum {
 struct renewal;
 
 struct elltree_map {
-    struct gate gate;
+    struct barrier barrier;
     _Atomic(struct directory *) directory;
     uint32_t forks; /* of the process that made the map */
     struct elltree_map_settings settings;
@@ -82,7 +82,7 @@ struct renewal {
     struct difference *differences;
     size_t difference_count;
     uint64_t effort; /* what it has taken so far, in nanoseconds of a processor */
-    uint64_t pause;  /* for how long it closes the gate next */
+    uint64_t pause;  /* for how long it closes the barrier next */
     uint64_t left;   /* cards of the first section, when it began */
     uint64_t times;  /* so many times the cards that seem right, as heirs have failed */
 };

@@ -1,9 +1,12 @@
-/* Renewals: a section gets a fresh tree, or is parted, or joined with a neighbor, while calls go on. docs/GATE.md has the protocol, whose steps are
-   numbered there, and the argument that it is right. */
-#ifndef ELLTREE_MAP_RENEWAL_H
-#define ELLTREE_MAP_RENEWAL_H
+/* Renewals: a section gets a fresh tree, or is parted, or joined with a neighbor, while calls go on. docs/BARRIER.md has the protocol, whose steps
+   are numbered there, and the argument that it is right. */
+#include "renewal.h"
 #include "cards.h"
 #include "carrying.h"
+#include "clock.h"
+#include "numbers.h"
+#include "order.h"
+#include <stdlib.h>
 
 /* Whether this thread is to renew a section, of which a caller with a place knows that it is not freed. */
 static bool take_renewal(struct section *section) { return !atomic_exchange(&section->renewing, true); }
@@ -17,7 +20,7 @@ static void leave_section(struct elltree_map *map, struct section *section) {
     tell_end(map);
 }
 
-/* The directory, for a thread that has a place, or that has closed the gate. */
+/* The directory, for a thread that has a place, or that has closed the barrier. */
 static inline struct directory *directory_of(struct elltree_map *map) {
     struct directory *directory = atomic_load(&map->directory);
     seen(&map->directory);
@@ -26,10 +29,10 @@ static inline struct directory *directory_of(struct elltree_map *map) {
 
 /* Step 1 of a renewal. */
 
-static bool is_small(const struct elltree_map *map, uint64_t keys) { return keys <= section_keys(&map->gate) / 4; }
+static bool is_small(const struct elltree_map *map, uint64_t keys) { return keys <= section_keys(&map->barrier) / 4; }
 
 /* How many keys two sections have at most that are joined. */
-static uint64_t most_joined(const struct elltree_map *map) { return section_keys(&map->gate) / 4 * 3; }
+static uint64_t most_joined(const struct elltree_map *map) { return section_keys(&map->barrier) / 4 * 3; }
 
 /* About how many keys a section has. */
 static uint64_t keys_about(const struct section *section) {
@@ -50,14 +53,14 @@ static bool may_fit(const struct elltree_map *map, const struct section *neighbo
 
 /* Notes how many cards are left of the section that tells how many the heirs get. */
 static void note_left(const struct elltree_map *map, struct renewal *renewal) {
-    (void)!elltree_slot_cards_left(slot_to_renew(&map->gate, renewal->sections[0]), &renewal->left);
+    (void)!elltree_slot_cards_left(slot_to_renew(&map->barrier, renewal->sections[0]), &renewal->left);
 }
 
 /* Takes a neighbor of the section along, the next one if that may be, and else the one before. Sections that are not replaced stand side by side as
    long as this thread has them. */
 static void take_neighbor(struct elltree_map *map, struct renewal *renewal) {
     struct section *section = renewal->sections[0], *next, *before;
-    struct place *place = take_place(&map->gate, READS);
+    struct place *place = take_place(&map->barrier, READS);
     const struct directory *directory = directory_of(map);
     const uint32_t at = index_of(directory, section->first);
     next = section_after(directory, at);
@@ -75,14 +78,14 @@ static void take_neighbor(struct elltree_map *map, struct renewal *renewal) {
 static int32_t read_both(struct elltree_map *map, struct renewal *renewal, struct section *section) {
     struct section *neighbor = renewal->sections[renewal->sections[0] == section];
     const uint64_t own = renewal->there.count;
-    int32_t code = read_pairs(&map->gate, &renewal->there, renewal->sections, renewal->count);
+    int32_t code = read_pairs(&map->barrier, &renewal->there, renewal->sections, renewal->count);
     note_left(map, renewal);
     if (code != ELLTREE_YES || renewal->there.count <= most_joined(map))
         return code;
     atomic_store(&neighbor->about, (int64_t)(renewal->there.count - own));
     renewal->sections[0] = section;
     renewal->count = 1;
-    code = read_pairs(&map->gate, &renewal->there, renewal->sections, renewal->count);
+    code = read_pairs(&map->barrier, &renewal->there, renewal->sections, renewal->count);
     note_left(map, renewal);
     leave_section(map, neighbor);
     return code;
@@ -91,7 +94,7 @@ static int32_t read_both(struct elltree_map *map, struct renewal *renewal, struc
 /* Reads the pairs that the sections have, each key as it is at a moment of the call: ELLTREE_NO if the section stays as it is. */
 static int32_t read_first(struct elltree_map *map, struct renewal *renewal) {
     struct section *section = renewal->sections[0];
-    int32_t code = read_pairs(&map->gate, &renewal->there, renewal->sections, renewal->count);
+    int32_t code = read_pairs(&map->barrier, &renewal->there, renewal->sections, renewal->count);
     note_left(map, renewal);
     if (code != ELLTREE_YES || renewal->count > 1)
         return code;
@@ -110,8 +113,8 @@ static int32_t begin(struct elltree_map *map, struct renewal *renewal) {
     int32_t code = read_first(map, renewal);
     if (code != ELLTREE_YES)
         return code;
-    cards = at_most(renewal->times * cards_of_each(map, renewal, number_of_parts(&map->gate, renewal->there.count)), ELLTREE_CARDS_MAX);
-    code = make_heirs(&map->gate, &renewal->heirs, renewal->sections[0]->first, renewal->sections[renewal->count - 1]->upto, renewal->there.items,
+    cards = at_most(renewal->times * cards_of_each(map, renewal, number_of_parts(&map->barrier, renewal->there.count)), ELLTREE_CARDS_MAX);
+    code = make_heirs(&map->barrier, &renewal->heirs, renewal->sections[0]->first, renewal->sections[renewal->count - 1]->upto, renewal->there.items,
                       renewal->there.count, cards);
     if (code != ELLTREE_YES)
         return code;
@@ -125,17 +128,17 @@ static int32_t begin(struct elltree_map *map, struct renewal *renewal) {
 
 /* Step 4: from here on the heirs have what the sections have, but for keys that calls are carrying over. */
 static int32_t compare(struct elltree_map *map, struct renewal *renewal) {
-    int32_t code = read_pairs(&map->gate, &renewal->there, renewal->sections, renewal->count);
+    int32_t code = read_pairs(&map->barrier, &renewal->there, renewal->sections, renewal->count);
     if (code == ELLTREE_YES)
-        code = read_pairs(&map->gate, &renewal->copied, renewal->heirs->sections, renewal->heirs->count);
+        code = read_pairs(&map->barrier, &renewal->copied, renewal->heirs->sections, renewal->heirs->count);
     if (code == ELLTREE_YES)
         code = note_differences(renewal);
     if (code == ELLTREE_YES && renewal->difference_count) {
-        store_differences(&map->gate, renewal);
-        code = read_pairs(&map->gate, &renewal->there, renewal->sections, renewal->count);
+        store_differences(&map->barrier, renewal);
+        code = read_pairs(&map->barrier, &renewal->there, renewal->sections, renewal->count);
     }
     if (code == ELLTREE_YES)
-        carry_changed(&map->gate, renewal);
+        carry_changed(&map->barrier, renewal);
     free(renewal->differences);
     renewal->differences = NULL;
     renewal->stage = AWAITS_PAUSE;
@@ -144,7 +147,7 @@ static int32_t compare(struct elltree_map *map, struct renewal *renewal) {
     return code;
 }
 
-/* What a renewal was, for the settings of the next ones, while the gate is closed and no call sees the heirs. */
+/* What a renewal was, for the settings of the next ones, while the barrier is closed and no call sees the heirs. */
 static void note_renewal(struct elltree_map *map, struct renewal *renewal, uint64_t effort) {
     const uint64_t at = now(), all_effort = effort + atomic_fetch_add(&map->all_effort, effort);
     for (uint32_t i = 0; i < renewal->heirs->count; i++) {
@@ -164,7 +167,7 @@ static void note_renewal(struct elltree_map *map, struct renewal *renewal, uint6
     map->early_renewals += renewal->reason == DEEP_TREE;
 }
 
-/* How long calls have waited, since the gate was closed, or since the cards were spent. */
+/* How long calls have waited, since the barrier was closed, or since the cards were spent. */
 static void note_pause(struct elltree_map *map, const struct renewal *renewal, uint64_t closed_at) {
     uint64_t from = closed_at, pause;
     for (uint32_t i = 0; i < renewal->count; i++) {
@@ -176,7 +179,7 @@ static void note_pause(struct elltree_map *map, const struct renewal *renewal, u
     map->longest_pause = at_least(map->longest_pause, pause);
 }
 
-/* Sees to it that there is room for the directory to come, before the gate is closed: no memory is asked for while it is. */
+/* Sees to it that there is room for the directory to come, before the barrier is closed: no memory is asked for while it is. */
 static int32_t make_room(struct elltree_map *map, struct renewal *renewal) {
     const uint64_t needed = atomic_load(&map->sections) + renewal->heirs->count;
     if (renewal->directory && renewal->directory->room >= needed)
@@ -197,15 +200,15 @@ static void replace(struct elltree_map *map, struct renewal *renewal) {
     renewal->directory = old;
 }
 
-/* Steps 5 to 8: ELLTREE_BUSY if the heirs have failed, and ELLTREE_NO if a call is at work, for which the gate was not closed any longer. */
+/* Steps 5 to 8: ELLTREE_BUSY if the heirs have failed, and ELLTREE_NO if a call is at work, for which the barrier was not closed any longer. */
 static int32_t replace_in_pause(struct elltree_map *map, struct renewal *renewal, uint64_t began) {
     const uint64_t closed_at = now();
     int32_t code = make_room(map, renewal);
     if (code != ELLTREE_YES)
         return code;
-    if (renewal->wait.busy && !has_ended(&map->gate.places[renewal->wait.number], &renewal->wait.busy, CHANGES, now() + PAUSE_LEAST))
+    if (renewal->wait.busy && !has_ended(&map->barrier.places[renewal->wait.number], &renewal->wait.busy, CHANGES, now() + PAUSE_LEAST))
         return ELLTREE_NO;
-    if (!close_gate(&map->gate, &renewal->wait, renewal->pause)) {
+    if (!close_barrier(&map->barrier, &renewal->wait, renewal->pause)) {
         renewal->pause = at_most(2 * renewal->pause, PAUSE_MOST);
         return ELLTREE_NO;
     }
@@ -219,7 +222,7 @@ static int32_t replace_in_pause(struct elltree_map *map, struct renewal *renewal
         replace(map, renewal);
         note_pause(map, renewal, closed_at);
     }
-    open_gate(&map->gate);
+    open_barrier(&map->barrier);
     return code;
 }
 
@@ -259,7 +262,7 @@ static void begin_anew(struct renewal *renewal) {
 static void end_replaced(struct elltree_map *map, struct renewal *renewal) {
     for (uint32_t i = 0; i < renewal->count; i++) {
         atomic_fetch_sub(&map->waiting, renewal->sections[i]->cards);
-        free_section(&map->gate, renewal->sections[i]);
+        free_section(&map->barrier, renewal->sections[i]);
     }
     free(renewal->heirs);
     renewal->stage = IS_DONE;
@@ -283,7 +286,7 @@ static void free_renewal(struct renewal *renewal) {
 
 /* Waits a while for the calls under way that change keys: whether they have ended. */
 static bool await_changes(struct elltree_map *map, struct renewal *renewal) {
-    return await_calls(&map->gate, &renewal->wait, CHANGES, now() + PAUSE_LEAST);
+    return await_calls(&map->barrier, &renewal->wait, CHANGES, now() + PAUSE_LEAST);
 }
 
 /* The next steps of a renewal: whether they are done, or else some call has not ended in time. If memory is refused, all is to be as it was. */
@@ -306,14 +309,14 @@ static bool make_steps(struct elltree_map *map, struct renewal *renewal, uint64_
             wait_for_reads(map, renewal);
         break;
     case AWAITS_READS:
-        if (!await_calls(&map->gate, &renewal->wait, READS, 0))
+        if (!await_calls(&map->barrier, &renewal->wait, READS, 0))
             return false;
         end_replaced(map, renewal);
         break;
     default:
         if (!await_changes(map, renewal))
             return false;
-        free_heirs(&map->gate, renewal->heirs);
+        free_heirs(&map->barrier, renewal->heirs);
         renewal->heirs = NULL;
         if (renewal->code == ELLTREE_BUSY)
             begin_anew(renewal);
@@ -405,5 +408,3 @@ static int32_t renew_section(struct elltree_map *map, struct section *section, e
     atomic_store(&section->excess, 0); /* also if it is refused: the next try is to be as long after it as after a renewal */
     return waits ? go_on_to_the_end(map, renewal) : go_on_or_leave(map, renewal);
 }
-
-#endif

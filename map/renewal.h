@@ -1,0 +1,33 @@
+/* Renewals: a section gets a fresh tree, or is parted, or joined with a neighbor, while calls go on. */
+#ifndef ELLTREE_MAP_RENEWAL_H
+#define ELLTREE_MAP_RENEWAL_H
+#include "parts.h"
+
+/* The directory, for a thread that has a place, or that has closed the barrier. */
+static struct directory *directory_of(struct elltree_map *map);
+/* The next section, or null. */
+static struct section *section_after(const struct directory *directory, uint32_t at);
+/* The section before, or null. */
+static struct section *section_before(const struct directory *directory, uint32_t at);
+/* About how many keys a section has. */
+static uint64_t keys_about(const struct section *section);
+/* Whether so many keys are few for a section. */
+static bool is_small(const struct elltree_map *map, uint64_t keys);
+/* Whether a neighbor may be joined with a section of so many keys, as far as is known. */
+static bool may_fit(const struct elltree_map *map, const struct section *neighbor, uint64_t keys);
+
+/* Whether this thread is to renew a section, of which a caller with a place knows that it is not freed. */
+static bool take_renewal(struct section *section);
+/* Leaves a section as it is that was taken so. */
+static void leave_section(struct elltree_map *map, struct section *section);
+/* Renews a section that was taken so, and leaves the renewal where it would have to wait, unless the caller waits. */
+static int32_t renew_section(struct elltree_map *map, struct section *section, enum reason reason, bool waits);
+/* Goes on with all renewals that were left, and with that of a section to its end: whether it was among them. */
+static bool take_up(struct elltree_map *map, const struct section *section);
+
+/* Frees the sections that were replaced. */
+static void end_replaced(struct elltree_map *map, struct renewal *renewal);
+/* Frees what a renewal itself has. */
+static void free_renewal(struct renewal *renewal);
+
+#endif
