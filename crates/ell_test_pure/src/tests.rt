@@ -3,7 +3,6 @@ mod machine;
 mod operations;
 mod orders;
 mod parts;
-mod reading;
 mod replaying;
 mod shared;
 mod tracing;

@@ -37,24 +37,35 @@ fn are_parts(parts: &Parts<'_, Global>, wants: &[Want]) -> bool {
     true
 }
 
+const THREES: Want = (&[(0, Op::Insert(3, 1)), (2, Op::Insert(3, 0))], &[3]);
+
+const FOURS: Want = (&[(1, Op::Insert(4, 5)), (4, Op::Find(4))], &[4]);
+
+const EIGHTS: Want = (&[(3, Op::Delete(8))], &[8]);
+
+const NONE: Want = (&[], &[]);
+
+static STRIPES: [Want; 2] = [
+    (
+        &[(1, Op::Insert(4, 5)), (3, Op::Delete(8)), (4, Op::Find(4))],
+        &[4, 8],
+    ),
+    THREES,
+];
+
+static RANGES: [Want; 3] = [THREES, FOURS, EIGHTS];
+
+static OWNED: [Want; 3] = [EIGHTS, THREES, FOURS];
+
+static EMPTY: [Want; 3] = [NONE, NONE, NONE];
+
 #[test]
 fn a_list_is_parted_in_three_ways(rt: HostRuntime) {
-    let threes: &[(usize, Op)] = &[(0, Op::Insert(3, 1)), (2, Op::Insert(3, 0))];
-    let fours: &[(usize, Op)] = &[(1, Op::Insert(4, 5)), (4, Op::Find(4))];
-    let eights: &[(usize, Op)] = &[(3, Op::Delete(8))];
-    let fours_and_eights: &[(usize, Op)] = &[
-        (1, Op::Insert(4, 5)),
-        (3, Op::Delete(8)),
-        (4, Op::Find(4)),
-    ];
-    let striped = Parts::striped(rt.alloc(), &FIVE, 2);
-    assert!(rt; is_parted(striped, &[(fours_and_eights, &[4, 8]), (threes, &[3])]));
-    let ranged = Parts::ranged(rt.alloc(), &FIVE, 3);
-    assert!(rt; is_parted(ranged, &[(threes, &[3]), (fours, &[4]), (eights, &[8])]));
-    let owned = Parts::by_owner(rt.alloc(), &FIVE, &[1, 2, 1, 0, 2], 3);
-    assert!(rt; is_parted(owned, &[(eights, &[8]), (threes, &[3]), (fours, &[4])]));
-    let none: Want = (&[], &[]);
-    assert!(rt; is_parted(Parts::ranged(rt.alloc(), &[], 3), &[none, none, none]));
+    let alloc = rt.alloc();
+    let owned = Parts::by_owner(alloc, &FIVE, &[1, 2, 1, 0, 2], 3);
+    let is_so = is_parted(Parts::striped(alloc, &FIVE, 2), &STRIPES) && is_parted(owned, &OWNED);
+    assert!(rt; is_so && is_parted(Parts::ranged(alloc, &FIVE, 3), &RANGES));
+    assert!(rt; is_parted(Parts::ranged(alloc, &[], 3), &EMPTY));
 }
 
 #[test]
@@ -64,25 +75,33 @@ fn parts_have_a_length(rt: HostRuntime) {
     assert!(rt; Parts::ranged(rt.alloc(), &[], 3).map(length) == Ok((0, true)));
 }
 
+const SPLIT: PartFault = PartFault::KeySplit {
+    first: 0,
+    second: 2,
+};
+
+// Owners of operations, how many workers there are, and the fault.
+static REFUSED: [(&[u32], u32, PartFault); 4] = [
+    (&[0, 1, 1, 0, 1], 2, SPLIT),
+    (&[0, 1], 2, PartFault::OwnerCount),
+    (&[0, 2, 0, 0, 0], 2, PartFault::StrangerOwner { at: 1 }),
+    (&[0, 2], 0, PartFault::BadWorkers),
+];
+
+// Whether so many workers are refused by both ways that need no owners.
+fn are_refused(alloc: Global, workers: u32) -> bool {
+    let striped = Parts::striped(alloc, &FIVE, workers).err();
+    let ranged = Parts::ranged(alloc, &FIVE, workers).err();
+    striped == Some(PartFault::BadWorkers) && ranged == striped
+}
+
 #[test]
 fn lists_that_are_not_parted(rt: HostRuntime) {
-    let (first, second) = (0, 2);
-    let rows: [(&[u32], u32, PartFault); 4] = [
-        (&[0, 1, 1, 0, 1], 2, PartFault::KeySplit { first, second }),
-        (&[0, 1], 2, PartFault::OwnerCount),
-        (&[0, 2, 0, 0, 0], 2, PartFault::StrangerOwner { at: 1 }),
-        (&[0, 2], 0, PartFault::BadWorkers),
-    ];
-    for row in 0..4 {
-        let (owners, workers, fault) = rows[row];
-        let refused = Parts::by_owner(rt.alloc(), &FIVE, owners, workers).err();
-        assert!(rt; refused == Some(fault), "row {row}");
+    for (owners, workers, fault) in &REFUSED {
+        let refused = Parts::by_owner(rt.alloc(), &FIVE, owners, *workers).err();
+        assert!(rt; refused == Some(*fault), "{fault}");
     }
-    for workers in [0, 65] {
-        let striped = Parts::striped(rt.alloc(), &FIVE, workers).err();
-        let ranged = Parts::ranged(rt.alloc(), &FIVE, workers).err();
-        assert!(rt; striped == Some(PartFault::BadWorkers) && ranged == striped);
-    }
+    assert!(rt; are_refused(rt.alloc(), 0) && are_refused(rt.alloc(), 65));
 }
 
 // A position, and its reply.
@@ -125,18 +144,18 @@ fn replies_come_together(rt: HostRuntime) {
     assert!(rt; is_gathered(rt.alloc(), 5, &pieces, Ok(&replies)));
 }
 
+static UNFIT: [(&[Item], GatherFault); 3] = [
+    (&[(0, Yes), (0, Yes)], GatherFault::Doubled { at: 0 }),
+    (&[(2, Yes)], GatherFault::Stranger { at: 2 }),
+    (&[(1, Yes)], GatherFault::Missing { at: 0 }),
+];
+
 #[test]
 fn replies_that_do_not_fit(rt: HostRuntime) {
-    let rows: [(&[Item], GatherFault); 3] = [
-        (&[(0, Yes), (0, Yes)], GatherFault::Doubled { at: 0 }),
-        (&[(2, Yes)], GatherFault::Stranger { at: 2 }),
-        (&[(1, Yes)], GatherFault::Missing { at: 0 }),
-    ];
-    for row in 0..3 {
-        let (piece, fault) = rows[row];
+    for (piece, fault) in &UNFIT {
         assert!(rt;
-            is_gathered(rt.alloc(), 2, &[piece], Err(fault)),
-            "row {row}"
+            is_gathered(rt.alloc(), 2, &[piece], Err(*fault)),
+            "{fault}"
         );
     }
 }

@@ -1,5 +1,4 @@
-//! What tests of several crates share: values and their texts, a long text, and events.
-use ell_core::{Act, Event};
+//! What tests of several crates share: values and their texts, and a long text.
 use std::alloc::{AllocError, Global};
 use std::fmt::Display;
 use std::process::Abort;
@@ -25,9 +24,4 @@ pub fn repeated(
     }
     text.extend_from_slice(ending)?;
     Ok(text)
-}
-
-/// An event, by its worker and its act.
-pub const fn event(worker: u32, act: Act) -> Event {
-    Event { worker, act }
 }

@@ -5,19 +5,22 @@ use ell_word::{
     right_leaf_of, unpack,
 };
 
+const WORDS: [(u64, State, u64); 4] = [
+    (3, State::Clean, 0),
+    (4, State::IFlag, 1),
+    (10, State::Mark, 2),
+    (13, State::DFlag, 3),
+];
+
 #[test]
 fn words_are_packed(rt: HostRuntime) {
-    let rows = [
-        (3, State::Clean, 0),
-        (4, State::IFlag, 1),
-        (10, State::Mark, 2),
-        (13, State::DFlag, 3),
-    ];
-    for row in 0..4 {
-        let (word, state, card) = rows[row];
-        let update = Update { state, card };
-        assert!(rt; unpack(word) == update, "row {row}");
-        assert!(rt; card <= CARD_MAX && pack(update) == word, "row {row}");
+    for (word, state, card) in &WORDS {
+        let update = Update {
+            state: *state,
+            card: *card,
+        };
+        let is_so = *card <= CARD_MAX && pack(update) == *word;
+        assert!(rt; is_so && unpack(*word) == update, "word {word}");
     }
 }
 

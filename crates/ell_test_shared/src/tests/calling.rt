@@ -1,6 +1,7 @@
 //! Calls of passes of a tree of shared keys, some of which may have owners.
 ghost use Rattle.std.specs.Prelude.{◌≡◌, ◌≤◌};
 ghost use Rattle.ell_ops.specs.KeySet.{set_of};
+ghost use Rattle.ell_tree.specs.Promises.{MayDo};
 ghost use Rattle.ell_test_shared.specs.Sharing.{IsMember};
 
 use ell_ops::{KEY_MAX, Op, Reply};
@@ -13,7 +14,7 @@ use std::sync::atomic::{AtomicU64, Ordering};
 const TRIES: u32 = 1_000;
 
 /// A call on a key.
-#[derive(Clone, Copy, Debug)]
+#[derive(Clone, Copy)]
 pub enum KeyCall {
     Ask(Op),
     Take(u64),
@@ -40,8 +41,17 @@ pub fn is_among(key: u64, keys: &[u64]) -> bool
     keys.iter().any(|other| key == *other)
 }
 
+// Has the test fail unless a pass may change a key, which is one of its own, or shared.
+#[tactic(auto, using(crate::proofs::lemmas::Sharers::may_own, crate::proofs::lemmas::Sharers::may_share))]
+fn claim(rt: &impl Abort, tree: &Tree<Global>, pass: &Pass<Global>, owned: &[u64], key: u64)
+    requires { IsMember owned.now tree.now pass.now }
+    ensures { MayDo tree.now key pass.now }
+{
+    assert!(rt; pass.owns(key) || (key <= KEY_MAX && !is_among(key, owned)));
+}
+
 /// Makes an operation on a key of the pass, or on a shared one, where these keys may have owners.
-#[tactic(auto, using(crate::proofs::lemmas::Sharers::may_own, crate::proofs::lemmas::Sharers::may_share, crate::proofs::lemmas::Sharers::member_answered, crate::proofs::lemmas::Sharers::member_laid_down))]
+#[tactic(auto, using(crate::proofs::lemmas::Sharers::member_answered, crate::proofs::lemmas::Sharers::member_laid_down))]
 pub fn ask<G: StepGate>(
     rt: &impl Abort,
     tree: &Tree<Global>,
@@ -55,8 +65,7 @@ pub fn ask<G: StepGate>(
     requires tries { 1 ≤ tries }
     ensures { IsMember owned.now tree.now pass.new }
 {
-    let key = op.key();
-    assert!(rt; pass.owns(key) || (key <= KEY_MAX && !is_among(key, owned)));
+    claim(rt, tree, pass, owned, op.key());
     match op {
         Op::Find(key) => Ok(Reply::found(tree.find(pass, key, gate))),
         Op::Insert(key, value) => Ok(Reply::yes_if(tree.insert(pass, key, value, tries, gate)?)),
@@ -69,7 +78,7 @@ pub fn ask<G: StepGate>(
 }
 
 // Takes such a key away: the value that it took.
-#[tactic(auto, using(crate::proofs::lemmas::Sharers::may_own, crate::proofs::lemmas::Sharers::may_share, crate::proofs::lemmas::Sharers::member_answered, crate::proofs::lemmas::Sharers::member_laid_down))]
+#[tactic(auto, using(crate::proofs::lemmas::Sharers::member_answered, crate::proofs::lemmas::Sharers::member_laid_down))]
 fn take<G: StepGate>(
     rt: &impl Abort,
     tree: &Tree<Global>,
@@ -83,12 +92,12 @@ fn take<G: StepGate>(
     requires tries { 1 ≤ tries }
     ensures { IsMember owned.now tree.now pass.new }
 {
-    assert!(rt; pass.owns(key) || (key <= KEY_MAX && !is_among(key, owned)));
+    claim(rt, tree, pass, owned, key);
     tree.take(pass, key, tries, gate)
 }
 
 // Puts a value at such a key: the value that it had.
-#[tactic(auto, using(crate::proofs::lemmas::Sharers::may_own, crate::proofs::lemmas::Sharers::may_share, crate::proofs::lemmas::Sharers::member_put, crate::proofs::lemmas::Sharers::member_not_done))]
+#[tactic(auto, using(crate::proofs::lemmas::Sharers::member_put, crate::proofs::lemmas::Sharers::member_not_done))]
 fn put<G: StepGate>(
     rt: &impl Abort,
     tree: &Tree<Global>,
@@ -103,12 +112,12 @@ fn put<G: StepGate>(
     requires tries { 1 ≤ tries }
     ensures { IsMember owned.now tree.now pass.new }
 {
-    assert!(rt; pass.owns(key) || (key <= KEY_MAX && !is_among(key, owned)));
+    claim(rt, tree, pass, owned, key);
     tree.put(pass, key, value, tries, gate)
 }
 
 // Adds to the value of such a key: the value that it had.
-#[tactic(auto, using(crate::proofs::lemmas::Sharers::may_own, crate::proofs::lemmas::Sharers::may_share, crate::proofs::lemmas::Sharers::member_updated, crate::proofs::lemmas::Sharers::member_not_done))]
+#[tactic(auto, using(crate::proofs::lemmas::Sharers::member_updated, crate::proofs::lemmas::Sharers::member_not_done))]
 fn add<G: StepGate>(
     rt: &impl Abort,
     tree: &Tree<Global>,
@@ -123,13 +132,13 @@ fn add<G: StepGate>(
     requires tries { 1 ≤ tries }
     ensures { IsMember owned.now tree.now pass.new }
 {
-    assert!(rt; pass.owns(key) || (key <= KEY_MAX && !is_among(key, owned)));
+    claim(rt, tree, pass, owned, key);
     tree.fetch_add(pass, key, addend, tries, gate)
 }
 
 /// Updates the value of such a key to the one that `next_value` makes of it, and counts how often it is called: the
 /// value that it had.
-#[tactic(auto, using(crate::proofs::lemmas::Sharers::may_own, crate::proofs::lemmas::Sharers::may_share, crate::proofs::lemmas::Sharers::member_updated, crate::proofs::lemmas::Sharers::member_not_done))]
+#[tactic(auto, using(crate::proofs::lemmas::Sharers::member_updated, crate::proofs::lemmas::Sharers::member_not_done))]
 pub fn update<G: StepGate>(
     rt: &impl Abort,
     tree: &Tree<Global>,
@@ -144,7 +153,7 @@ pub fn update<G: StepGate>(
     requires tries { 1 ≤ tries }
     ensures { IsMember owned.now tree.now pass.new }
 {
-    assert!(rt; pass.owns(key) || (key <= KEY_MAX && !is_among(key, owned)));
+    claim(rt, tree, pass, owned, key);
     let next = |value: u64| {
         called.fetch_add(1, Ordering::SeqCst);
         next_value(value)
@@ -153,7 +162,7 @@ pub fn update<G: StepGate>(
 }
 
 // Removes such a key if it has a value: the value that it had.
-#[tactic(auto, using(crate::proofs::lemmas::Sharers::may_own, crate::proofs::lemmas::Sharers::may_share, crate::proofs::lemmas::Sharers::member_removed, crate::proofs::lemmas::Sharers::member_not_done))]
+#[tactic(auto, using(crate::proofs::lemmas::Sharers::member_removed, crate::proofs::lemmas::Sharers::member_not_done))]
 fn remove_if<G: StepGate>(
     rt: &impl Abort,
     tree: &Tree<Global>,
@@ -168,7 +177,7 @@ fn remove_if<G: StepGate>(
     requires tries { 1 ≤ tries }
     ensures { IsMember owned.now tree.now pass.new }
 {
-    assert!(rt; pass.owns(key) || (key <= KEY_MAX && !is_among(key, owned)));
+    claim(rt, tree, pass, owned, key);
     tree.remove_if(pass, key, was, tries, gate)
 }
 

@@ -29,11 +29,8 @@ fn steps_of(
     let before = pass.steps();
     let sight = tell(rt, tree, pass, ask, &gate);
     let steps = pass.steps().saturating_sub(before);
-    assert!(rt; sight.pairs.len() == count, "{ask:?}");
-    assert!(rt;
-        gate.tally(0).steps == steps && gate.count(0, Kind::Look) == steps,
-        "{ask:?}"
-    );
+    assert!(rt; sight.pairs.len() == count);
+    assert!(rt; gate.tally(0).steps == steps && gate.count(0, Kind::Look) == steps);
     steps
 }
 
@@ -42,12 +39,13 @@ fn steps_of(
 fn a_scan_of_balanced_keys_takes_6_steps_a_key(rt: HostRuntime) {
     let start = list(&rt, KEYS, true);
     let (tree, mut pass) = opened(&rt, &start, 1);
-    let steps = steps_of(&rt, &tree, &mut pass, Scan(0, END, 5_000), KEYS as usize);
-    assert!(rt; steps <= 6 * KEYS, "{steps}");
+    let all = steps_of(&rt, &tree, &mut pass, Scan(0, END, 5_000), KEYS as usize);
     let half = steps_of(&rt, &tree, &mut pass, Scan(0, 6_144, 5_000), 2_048);
-    assert!(rt; half <= 6 * KEYS / 2 + 30, "{half}");
     let few = steps_of(&rt, &tree, &mut pass, Scan(6_000, END, 10), 10);
-    assert!(rt; few <= 6 * 10 + 30, "{few}");
+    assert!(rt;
+        all <= 6 * KEYS && half <= 6 * KEYS / 2 + 30 && few <= 6 * 10 + 30,
+        "{all}, {half} and {few} steps"
+    );
 }
 
 // One step to begin, and two for each of twelve or thirteen inner nodes, and two for the leaf.
@@ -56,10 +54,9 @@ fn a_call_for_one_of_balanced_keys_takes_about_30_steps(rt: HostRuntime) {
     let start = list(&rt, KEYS, true);
     let (tree, mut pass) = opened(&rt, &start, 1);
     for key in [0, 1, 6_000, 6_001, 12_284] {
-        let steps = steps_of(&rt, &tree, &mut pass, About(key), 1);
-        assert!(rt; steps <= 30, "{key}: {steps}");
-        let steps = steps_of(&rt, &tree, &mut pass, After(key), 1);
-        assert!(rt; steps <= 60, "{key}: {steps}");
+        let about = steps_of(&rt, &tree, &mut pass, About(key), 1);
+        let after = steps_of(&rt, &tree, &mut pass, After(key), 1);
+        assert!(rt; about <= 30 && after <= 60, "{key}");
     }
     assert!(rt; steps_of(&rt, &tree, &mut pass, First, 1) <= 30);
 }
@@ -83,9 +80,10 @@ fn a_look_at_the_end_of_a_list_takes_2_steps_a_card_and_3(rt: HostRuntime) {
     for (upwards, key) in [(true, 3 * CARDS - 3), (false, 0)] {
         let (tree, mut pass) = grown(&rt, upwards);
         let before = pass.steps();
-        assert!(rt; tree.look(&mut pass, key, &NoGate).is_some());
-        assert!(rt; pass.steps().saturating_sub(before) == 2 * CARDS + 3);
-        assert!(rt; steps_of(&rt, &tree, &mut pass, About(key), 1) == 2 * CARDS + 3);
+        let is_there = tree.look(&mut pass, key, &NoGate).is_some();
+        let look = pass.steps().saturating_sub(before);
+        let about = steps_of(&rt, &tree, &mut pass, About(key), 1);
+        assert!(rt; is_there && look == 2 * CARDS + 3 && about == look);
     }
 }
 
@@ -95,6 +93,6 @@ fn a_scan_of_a_list_takes_less_than_a_search_for_each_key(rt: HostRuntime) {
     for upwards in [true, false] {
         let (tree, mut pass) = grown(&rt, upwards);
         let steps = steps_of(&rt, &tree, &mut pass, Scan(0, END, 200), CARDS as usize);
-        assert!(rt; steps <= 10 * CARDS, "{steps}");
+        assert!(rt; steps <= 10 * CARDS);
     }
 }

@@ -18,18 +18,18 @@ fn look_up(rt: &(impl Abort + AllocGlobal), start: &[(u64, u64)], rows: &[Row]) 
     for (ask, from, upto, pairs) in rows {
         let sight = tell(rt, &tree, &mut pass, *ask, &NoGate);
         let is_so = sight.from == *from && sight.upto == *upto && sight.pairs.as_slice() == *pairs;
-        assert!(rt; is_so, "{ask:?}: {sight:?}");
+        assert!(rt; is_so, "from {from} up to {upto}");
     }
 }
 
-const OF_NONE: [Row<'static>; 4] = [
+static OF_NONE: [Row<'static>; 4] = [
     (Scan(0, END, 4), 0, END, &[]),
     (About(5), 0, END, &[]),
     (First, 0, END, &[]),
     (Last, 0, END, &[]),
 ];
 
-const OF_NEIGHBORS: [Row<'static>; 10] = [
+static OF_NEIGHBORS: [Row<'static>; 10] = [
     (Scan(0, END, 4), 0, END, &[(4, 40), (5, 50), (6, 60)]),
     (Scan(5, 6, 1), 5, 6, &[(5, 50)]),
     (Scan(4, 7, 1), 4, 5, &[(4, 40)]),
@@ -44,7 +44,7 @@ const OF_NEIGHBORS: [Row<'static>; 10] = [
 
 const AT_THE_ENDS: [(u64, u64); 3] = [(0, 1), (KEY_MAX - 1, 2), (KEY_MAX, 3)];
 
-const OF_ENDS: [Row<'static>; 14] = [
+static OF_ENDS: [Row<'static>; 14] = [
     (Scan(0, END, 4), 0, END, &AT_THE_ENDS),
     (Scan(0, KEY_MAX, 4), 0, KEY_MAX, &[(0, 1), (KEY_MAX - 1, 2)]),
     (Scan(KEY_MAX, END, 1), KEY_MAX, END, &[(KEY_MAX, 3)]),

@@ -1,15 +1,10 @@
 //! A worker that is held at each kind of step in turn, while another makes whole calls on the same key.
-ghost use Rattle.std.specs.Prelude.{◌≤◌, length};
-ghost use Rattle.std.specs.List.{All};
-ghost use Rattle.std.specs.List.Sorted.{IsStrictlyIncreasing};
-ghost use Rattle.std.specs.Map.{keys_of};
-ghost use Rattle.ell_tree.specs.Meaning.{greatest_key};
-ghost use Rattle.ell_tree.specs.Node.{most_start};
 ghost use Rattle.ell_test_shared.specs.Sharing.{IsMember};
 
 use super::calling::KeyCall::{self, Ask};
 use super::calling::{answer, close};
 use super::parting::{joined, parted};
+use super::telling::opened_for;
 use ell_ops::Op::{Delete, Find, Insert};
 use ell_ops::Reply;
 use ell_ops::Reply::{Found, No, Yes};
@@ -55,19 +50,31 @@ pub struct Meeting<'a> {
     pub end: &'a [(u64, u64)],
 }
 
-/// Has the two meet: worker 0 is held at this kind of step until worker 1 has ended so many operations, of which a put
-/// or an update makes two or more.
-pub fn meet<R: Threads + Abort + AllocGlobal + Sync>(rt: &R, at: Kind, ends: u64, meeting: Meeting)
-    requires ascending { IsStrictlyIncreasing (keys_of meeting.start.now) }
-    requires real { All (λ k. k ≤ greatest_key) (keys_of meeting.start.now) }
-    requires few { length meeting.start.now ≤ most_start }
-    requires owned { IsStrictlyIncreasing meeting.owned.now }
-    requires owned_real { All (λ k. k ≤ greatest_key) meeting.owned.now }
-    requires by_zero { IsStrictlyIncreasing meeting.by_zero.now }
-{
-    let gate = Holding::until(at, ends);
-    meet_under(rt, &gate, meeting);
-    assert!(rt; gate.has_held(), "{at:?}");
+/// Kinds of step, at each of which worker 0 is held until worker 1 has ended so many operations, of which a put or an
+/// update makes two or more; and how the two meet.
+pub type Meetings<'a> = (&'a [Kind], u64, Meeting<'a>);
+
+/// Has the two meet in each of these ways.
+pub fn meet_all<R: Threads + Abort + AllocGlobal + Sync>(rt: &R, rows: &[Meetings]) {
+    if !two_threads_meet(rt) {
+        return;
+    }
+    for (kinds, ends, meeting) in rows {
+        meet_at_each(rt, kinds, *ends, *meeting);
+    }
+}
+
+fn meet_at_each<R: Threads + Abort + AllocGlobal + Sync>(
+    rt: &R,
+    kinds: &[Kind],
+    ends: u64,
+    meeting: Meeting,
+) {
+    for at in kinds {
+        let gate = Holding::until(*at, ends);
+        meet_under(rt, &gate, meeting);
+        assert!(rt; gate.has_held(), "{at:?}");
+    }
 }
 
 // Has the two make their calls under a gate.
@@ -75,17 +82,9 @@ fn meet_under<R: Threads + Abort + AllocGlobal + Sync, G: StepGate + Sync>(
     rt: &R,
     gate: &G,
     meeting: Meeting,
-)
-    requires ascending { IsStrictlyIncreasing (keys_of meeting.start.now) }
-    requires real { All (λ k. k ≤ greatest_key) (keys_of meeting.start.now) }
-    requires few { length meeting.start.now ≤ most_start }
-    requires owned { IsStrictlyIncreasing meeting.owned.now }
-    requires owned_real { All (λ k. k ≤ greatest_key) meeting.owned.now }
-    requires by_zero { IsStrictlyIncreasing meeting.by_zero.now }
-{
+) {
     let (owned, held, rows) = (meeting.owned, [meeting.held], meeting.rows);
-    let made = Tree::reserve_shared(rt.alloc(), meeting.start, owned, 100);
-    let (tree, pass) = made.expect(rt, "tree");
+    let (tree, pass) = opened_for(rt, meeting.start, owned, 100);
     let (zero, mut one) = parted(rt, &tree, pass, owned, meeting.by_zero);
     one.relabel(1);
     let (shared, held) = (&tree, &held);
@@ -162,21 +161,15 @@ const BEHIND_ITS_EXCHANGE: Meeting = Meeting {
     ..BEFORE_ITS_FLAG
 };
 
+static AN_INSERT: [Meetings<'static>; 3] = [
+    (&TO_INSERT, 6, BEFORE_ITS_FLAG),
+    (&[Kind::Exchange(Exchange::IChild)], 6, BEHIND_ITS_FLAG),
+    (&[Kind::Exchange(Exchange::IUnflag)], 5, BEHIND_ITS_EXCHANGE),
+];
+
 #[test]
 fn others_go_past_an_insert_of_their_key(rt: HostRuntime) {
-    if !two_threads_meet(&rt) {
-        return;
-    }
-    for at in TO_INSERT {
-        meet(&rt, at, 6, BEFORE_ITS_FLAG);
-    }
-    meet(&rt, Kind::Exchange(Exchange::IChild), 6, BEHIND_ITS_FLAG);
-    meet(
-        &rt,
-        Kind::Exchange(Exchange::IUnflag),
-        5,
-        BEHIND_ITS_EXCHANGE,
-    );
+    meet_all(&rt, &AN_INSERT);
 }
 
 // Worker 0 has not flagged yet: it is as if its delete began behind the others.
@@ -222,26 +215,27 @@ const BEHIND_ITS_CUT: Meeting = Meeting {
     ..BEHIND_ITS_DELETE_FLAG
 };
 
+static A_DELETE: [Meetings<'static>; 3] = [
+    (&TO_DELETE, 7, BEFORE_ITS_DELETE),
+    (
+        &[
+            Kind::Exchange(Exchange::Mark),
+            Kind::Exchange(Exchange::DChild),
+        ],
+        5,
+        BEHIND_ITS_DELETE_FLAG,
+    ),
+    (&[Kind::Exchange(Exchange::DUnflag)], 4, BEHIND_ITS_CUT),
+];
+
 #[test]
 fn others_go_past_a_delete_of_their_key(rt: HostRuntime) {
-    if !two_threads_meet(&rt) {
-        return;
-    }
-    for at in TO_DELETE {
-        meet(&rt, at, 7, BEFORE_ITS_DELETE);
-    }
-    for at in [
-        Kind::Exchange(Exchange::Mark),
-        Kind::Exchange(Exchange::DChild),
-    ] {
-        meet(&rt, at, 5, BEHIND_ITS_DELETE_FLAG);
-    }
-    meet(&rt, Kind::Exchange(Exchange::DUnflag), 4, BEHIND_ITS_CUT);
+    meet_all(&rt, &A_DELETE);
 }
 
 // Between the flag of worker 0 and its mark, worker 1 adds a neighbor at its place: so the mark is lost. Worker 0 is
 // held again before it takes its flag back, and then deletes what it finds.
-const BEHIND_A_LOST_MARK: Meeting = Meeting {
+static BEHIND_A_LOST_MARK: Meeting = Meeting {
     held: (Ask(Delete(5)), Yes),
     rows: &[
         (Ask(Insert(6, 60)), Yes),

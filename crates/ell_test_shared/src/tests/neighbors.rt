@@ -1,11 +1,8 @@
 //! The owner of a key, or of its neighbors, beside a worker that is held in the middle of a change.
-ghost use Rattle.std.specs.Prelude.{[]};
-
 use super::calling::KeyCall::Ask;
-use super::holding::{Meeting, TO_DELETE, TO_INSERT, meet};
+use super::holding::{Meeting, Meetings, TO_DELETE, TO_INSERT, meet_all};
 use ell_ops::Op::{Delete, Find, Insert};
 use ell_ops::Reply::{Found, No, Yes};
-use ell_test_gates::two_threads_meet;
 use ell_tree::{Exchange, Kind};
 
 // The owner of a key is held in the middle of a change, and its shared neighbors come and go beside.
@@ -67,25 +64,29 @@ const GUEST_DELETES: Meeting = Meeting {
     ..OWNER_DELETES
 };
 
+const BEHIND_AN_INSERT: [Kind; 2] = [
+    Kind::Exchange(Exchange::IChild),
+    Kind::Exchange(Exchange::IUnflag),
+];
+
+const BEHIND_A_DELETE: [Kind; 3] = [
+    Kind::Exchange(Exchange::Mark),
+    Kind::Exchange(Exchange::DChild),
+    Kind::Exchange(Exchange::DUnflag),
+];
+
+static NEIGHBORS: [Meetings<'static>; 8] = [
+    (&TO_INSERT, 8, OWNER_ADDS),
+    (&TO_INSERT, 8, GUEST_ADDS),
+    (&BEHIND_AN_INSERT, 8, OWNER_ADDS),
+    (&BEHIND_AN_INSERT, 8, GUEST_ADDS),
+    (&TO_DELETE, 6, OWNER_DELETES),
+    (&TO_DELETE, 6, GUEST_DELETES),
+    (&BEHIND_A_DELETE, 6, OWNER_DELETES),
+    (&BEHIND_A_DELETE, 6, GUEST_DELETES),
+];
+
 #[test]
 fn shared_neighbors_come_and_go_beside_an_owner_that_is_held(rt: HostRuntime) {
-    if !two_threads_meet(&rt) {
-        return;
-    }
-    for at in TO_INSERT {
-        meet(&rt, at, 8, OWNER_ADDS);
-        meet(&rt, at, 8, GUEST_ADDS);
-    }
-    for at in [Exchange::IChild, Exchange::IUnflag] {
-        meet(&rt, Kind::Exchange(at), 8, OWNER_ADDS);
-        meet(&rt, Kind::Exchange(at), 8, GUEST_ADDS);
-    }
-    for at in TO_DELETE {
-        meet(&rt, at, 6, OWNER_DELETES);
-        meet(&rt, at, 6, GUEST_DELETES);
-    }
-    for at in [Exchange::Mark, Exchange::DChild, Exchange::DUnflag] {
-        meet(&rt, Kind::Exchange(at), 6, OWNER_DELETES);
-        meet(&rt, Kind::Exchange(at), 6, GUEST_DELETES);
-    }
+    meet_all(&rt, &NEIGHBORS);
 }

@@ -1,15 +1,10 @@
 //! Two workers that make the same call on one key at once, again and again: just one of them changes the map each time.
-ghost use Rattle.std.specs.Prelude.{◌≡◌, ◌≤◌, [], length};
-ghost use Rattle.std.specs.List.{All};
-ghost use Rattle.std.specs.List.Sorted.{IsStrictlyIncreasing};
-ghost use Rattle.std.specs.Map.{keys_of};
-ghost use Rattle.ell_tree.specs.Meaning.{greatest_key};
-ghost use Rattle.ell_tree.specs.Node.{most_start};
 ghost use Rattle.ell_test_shared.specs.Sharing.{IsSharer};
 
 use super::calling::KeyCall::{self, Ask, Take};
 use super::calling::{answer, close};
 use super::parting::{joined, parted};
+use super::telling::opened_for;
 use ell_ops::Op::{Delete, Insert};
 use ell_ops::Reply;
 use ell_ops::Reply::{Found, No, Yes};
@@ -40,20 +35,18 @@ fn run<G: StepGate>(
     (pass, said)
 }
 
-// Two workers come to a kind of step, and go on at once: what both answer, and the keys at the end with their values.
+// What both calls of a race answer, and the keys at the end with their values.
+type Raced = (Option<Reply>, Option<Reply>, Vec<(u64, u64)>);
+
+// Two workers come to a kind of step, and go on at once.
 fn race<R: Threads + Abort + AllocGlobal + Sync>(
     rt: &R,
     at: Kind,
     start: &[(u64, u64)],
     calls: (KeyCall, KeyCall),
-) -> (Option<Reply>, Option<Reply>, Vec<(u64, u64)>)
-    requires ascending { IsStrictlyIncreasing (keys_of start.now) }
-    requires real { All (λ k. k ≤ greatest_key) (keys_of start.now) }
-    requires few { length start.now ≤ most_start }
-{
+) -> Raced {
     let gate = Gathering::at(rt.alloc(), at, 2).expect(rt, "memory");
-    let made = Tree::reserve_shared(rt.alloc(), start, &[], 100);
-    let (tree, pass) = made.expect(rt, "tree");
+    let (tree, pass) = opened_for(rt, start, &[], 100);
     let (one, mut other) = parted(rt, &tree, pass, &[], &[]);
     other.relabel(1);
     let (shared, told) = (&tree, &gate);
@@ -67,32 +60,49 @@ fn race<R: Threads + Abort + AllocGlobal + Sync>(
     (said, also, close(rt, tree, pass, &[]))
 }
 
+const TO_ADD: [Kind; 6] = [
+    Kind::Begin,
+    Kind::Look,
+    Kind::Exchange(Exchange::Claim),
+    Kind::Fill,
+    Kind::Exchange(Exchange::IFlag),
+    Kind::Exchange(Exchange::IChild),
+];
+
+// Has two inserts add key 5 at once, again and again: each time one says yes, whose value is there.
+fn add_at_once<R: Threads + Abort + AllocGlobal + Sync>(rt: &R, at: Kind) {
+    for _ in 0..RACES {
+        let raced = race(rt, at, &[], (Ask(Insert(5, 50)), Ask(Insert(5, 51))));
+        let value = if is_race(&raced, (Yes, No)) { 50 } else { 51 };
+        assert!(rt;
+            (value == 50 || is_race(&raced, (No, Yes)))
+                && raced.2.as_slice() == [(5, value)].as_slice(),
+            "not one of both at {at:?}"
+        );
+    }
+}
+
 #[test]
 fn of_two_inserts_at_once_one_adds_the_key(rt: HostRuntime) {
     if !two_threads_meet(&rt) {
         return;
     }
-    for at in [
-        Kind::Begin,
-        Kind::Look,
-        Kind::Exchange(Exchange::Claim),
-        Kind::Fill,
-        Kind::Exchange(Exchange::IFlag),
-        Kind::Exchange(Exchange::IChild),
-    ] {
-        for _ in 0..RACES {
-            let raced = race(&rt, at, &[], (Ask(Insert(5, 50)), Ask(Insert(5, 51))));
-            let added = match (raced.0, raced.1) {
-                (Some(Yes), Some(No)) => 50,
-                (Some(No), Some(Yes)) => 51,
-                _ => panic!(rt; "not one of both at {at:?}"),
-            };
-            assert!(rt; raced.2.as_slice() == [(5, added)].as_slice(), "{at:?}");
-        }
+    for at in &TO_ADD {
+        add_at_once(&rt, *at);
     }
 }
 
 const START: [(u64, u64); 2] = [(5, 50), (6, 60)];
+
+const TO_TAKE_AWAY: [Kind; 7] = [
+    Kind::Begin,
+    Kind::Look,
+    Kind::Exchange(Exchange::Claim),
+    Kind::Fill,
+    Kind::Exchange(Exchange::DFlag),
+    Kind::Exchange(Exchange::Mark),
+    Kind::Exchange(Exchange::DChild),
+];
 
 // Has two calls take key 5 away at once from each kind of step, of which one answers as it does if it takes the key.
 fn take_away_at_each<R: Threads + Abort + AllocGlobal + Sync>(
@@ -103,16 +113,8 @@ fn take_away_at_each<R: Threads + Abort + AllocGlobal + Sync>(
     if !two_threads_meet(rt) {
         return;
     }
-    for at in [
-        Kind::Begin,
-        Kind::Look,
-        Kind::Exchange(Exchange::Claim),
-        Kind::Fill,
-        Kind::Exchange(Exchange::DFlag),
-        Kind::Exchange(Exchange::Mark),
-        Kind::Exchange(Exchange::DChild),
-    ] {
-        take_away(rt, at, calls, [(wants.0, No), (No, wants.1)]);
+    for at in &TO_TAKE_AWAY {
+        take_away(rt, *at, calls, [(wants.0, No), (No, wants.1)]);
     }
 }
 
@@ -131,6 +133,11 @@ fn of_a_take_and_a_delete_at_once_one_takes_the_key_away(rt: HostRuntime) {
     take_away_at_each(&rt, (Take(5), Ask(Delete(5))), (Found(50), Yes));
 }
 
+// Whether both calls of a race were answered so.
+fn is_race(raced: &Raced, want: (Reply, Reply)) -> bool {
+    raced.0 == Some(want.0) && raced.1 == Some(want.1)
+}
+
 // Has two calls take key 5 away again and again: each time both answer as one of these rows says.
 fn take_away<R: Threads + Abort + AllocGlobal + Sync>(
     rt: &R,
@@ -140,8 +147,10 @@ fn take_away<R: Threads + Abort + AllocGlobal + Sync>(
 ) {
     for _ in 0..RACES {
         let raced = race(rt, at, &START, calls);
-        let is_one = |want: &(Reply, Reply)| raced.0 == Some(want.0) && raced.1 == Some(want.1);
-        assert!(rt; wants.iter().any(is_one), "not one of both at {at:?}");
-        assert!(rt; raced.2.as_slice() == [(6, 60)].as_slice(), "{at:?}");
+        let is_one = is_race(&raced, wants[0]) || is_race(&raced, wants[1]);
+        assert!(rt;
+            is_one && raced.2.as_slice() == [(6, 60)].as_slice(),
+            "not one of both at {at:?}"
+        );
     }
 }

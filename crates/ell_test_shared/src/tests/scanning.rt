@@ -136,10 +136,19 @@ fn value_behind(op: Op, there: Option<u64>) -> Option<u64> {
     }
 }
 
+// The value of a key at the start.
+fn value_at_start(key: u64) -> Option<u64> {
+    for pair in &START {
+        if pair.0 == key {
+            return Some(pair.1);
+        }
+    }
+    None
+}
+
 // Whether a key had this value at the start, or behind some of the first of these operations.
 fn was_so(ops: &[Op], first: u64, key: u64, told: Option<u64>) -> bool {
-    let start = START.iter().find(|pair| pair.0 == key);
-    let mut there = start.map(|pair| pair.1);
+    let mut there = value_at_start(key);
     let mut was = there == told;
     for op in ops.iter().take(first as usize) {
         if op.key() == key {
@@ -162,7 +171,7 @@ fn hold_at_each<R: Threads + Abort + AllocGlobal + Sync>(rt: &R, ops: &[Op], ask
             let is_so = keys.all(|key| was_so(ops, woven, key, sight.value_of(key)));
             assert!(rt;
                 1 <= woven && is_so && sight.is_in_order(),
-                "{ask:?}, {first}: {sight:?}"
+                "held at {first}"
             );
         }
     }
@@ -215,7 +224,7 @@ const SMALL: [(u64, u64); 3] = [(5, 50), (10, 100), (20, 200)];
 // The step before which the scan is held, what another pass does then, and what the scan tells.
 type Scene<'a> = (u64, &'a [Op], &'a [(u64, u64)]);
 
-const SCENES: [Scene<'static>; 13] = [
+static SCENES: [Scene<'static>; 13] = [
     // All keys go, and another comes, before the scan begins.
     (
         1,
@@ -280,10 +289,10 @@ fn a_scan_that_is_held_goes_on_from_nodes_that_were_cut_out(rt: HostRuntime) {
     for (number, (first, ops, want)) in SCENES.iter().enumerate() {
         let gate = Weaving::new(*first, 0, ops.len() as u64);
         let sight = meet(&rt, &SMALL, ops, ALL, &gate);
-        assert!(rt; gate.woven() == Some(ops.len() as u64), "scene {number}");
+        let is_woven = gate.woven() == Some(ops.len() as u64);
         assert!(rt;
-            sight.upto == END && sight.pairs.as_slice() == *want,
-            "scene {number}: {sight:?}"
+            is_woven && sight.upto == END && sight.pairs.as_slice() == *want,
+            "scene {number}"
         );
     }
 }
@@ -324,7 +333,7 @@ fn pass_by<R: Threads + Abort + AllocGlobal + Sync>(
     let sight = meet(rt, &SMALL, &[op], ALL, &gate);
     assert!(rt;
         gate.are_over() && sight.pairs.as_slice() == want,
-        "{op:?}, {kind:?}"
+        "{kind:?}"
     );
 }
 

@@ -1,12 +1,9 @@
 //! Swaps, puts, sums and removals of one key, each held at each kind of step in turn, while another worker changes the
 //! key.
-ghost use Rattle.std.specs.Prelude.{[]};
-
 use super::calling::KeyCall::{Add, Ask, Look, Put, RemoveIf, Take};
-use super::holding::{Meeting, TO_INSERT, meet};
+use super::holding::{Meeting, Meetings, TO_INSERT, meet_all};
 use ell_ops::Op::{Delete, Find, Insert, Swap};
 use ell_ops::Reply::{Found, No, Yes};
-use ell_test_gates::two_threads_meet;
 use ell_tree::{Exchange, Kind};
 
 // The kinds of the steps of a call that finds the value first, once it has found it.
@@ -70,17 +67,16 @@ const ANEW: Meeting = Meeting {
     ..BEFORE_ITS_FLAG
 };
 
+static A_SWAP: [Meetings<'static>; 4] = [
+    (&TO_INSERT, 7, BEFORE_ITS_FLAG),
+    (&TO_INSERT, 4, BACK_AGAIN),
+    (&TO_INSERT, 3, GONE),
+    (&TO_INSERT, 3, ANEW),
+];
+
 #[test]
 fn a_swap_goes_by_the_value_that_the_key_has_last(rt: HostRuntime) {
-    if !two_threads_meet(&rt) {
-        return;
-    }
-    for at in TO_INSERT {
-        meet(&rt, at, 7, BEFORE_ITS_FLAG);
-        meet(&rt, at, 4, BACK_AGAIN);
-        meet(&rt, at, 3, GONE);
-        meet(&rt, at, 3, ANEW);
-    }
+    meet_all(&rt, &A_SWAP);
 }
 
 // Its flag stands: another swap makes its exchange for it, and finds its value.
@@ -148,27 +144,20 @@ const BEHIND_ITS_EXCHANGE: Meeting = Meeting {
     ..BEHIND_ITS_FLAG
 };
 
+const AT_ITS_CHILD: [Kind; 1] = [Kind::Exchange(Exchange::IChild)];
+
+static PAST_A_SWAP: [Meetings<'static>; 6] = [
+    (&AT_ITS_CHILD, 7, BEHIND_ITS_FLAG),
+    (&AT_ITS_CHILD, 4, HELPED_BY_A_TAKE),
+    (&AT_ITS_CHILD, 2, HELPED_BY_AN_INSERT),
+    (&AT_ITS_CHILD, 5, HELPED_BY_A_PUT),
+    (&AT_ITS_CHILD, 5, HELPED_BY_A_SUM),
+    (&[Kind::Exchange(Exchange::IUnflag)], 7, BEHIND_ITS_EXCHANGE),
+];
+
 #[test]
 fn others_go_past_a_swap_of_their_key(rt: HostRuntime) {
-    if !two_threads_meet(&rt) {
-        return;
-    }
-    meet(&rt, Kind::Exchange(Exchange::IChild), 7, BEHIND_ITS_FLAG);
-    meet(&rt, Kind::Exchange(Exchange::IChild), 4, HELPED_BY_A_TAKE);
-    meet(
-        &rt,
-        Kind::Exchange(Exchange::IChild),
-        2,
-        HELPED_BY_AN_INSERT,
-    );
-    meet(&rt, Kind::Exchange(Exchange::IChild), 5, HELPED_BY_A_PUT);
-    meet(&rt, Kind::Exchange(Exchange::IChild), 5, HELPED_BY_A_SUM);
-    meet(
-        &rt,
-        Kind::Exchange(Exchange::IUnflag),
-        7,
-        BEHIND_ITS_EXCHANGE,
-    );
+    meet_all(&rt, &PAST_A_SWAP);
 }
 
 // Others change the key between the find of a put, an update or a sum and its flag.
@@ -203,18 +192,17 @@ const PUTS_ON_AN_INSERT: Meeting = Meeting {
     ..PUTS
 };
 
+static A_PUT_OR_A_SUM: [Meetings<'static>; 5] = [
+    (&ONCE_FOUND, 2, PUTS),
+    (&ONCE_FOUND, 2, ADDS),
+    (&ONCE_FOUND, 2, PUTS_ANEW),
+    (&ONCE_FOUND, 2, ADDS_TO_NOTHING),
+    (&ONCE_FOUND, 2, PUTS_ON_AN_INSERT),
+];
+
 #[test]
 fn a_put_or_a_sum_goes_by_the_value_that_the_key_has_last(rt: HostRuntime) {
-    if !two_threads_meet(&rt) {
-        return;
-    }
-    for at in ONCE_FOUND {
-        meet(&rt, at, 2, PUTS);
-        meet(&rt, at, 2, ADDS);
-        meet(&rt, at, 2, PUTS_ANEW);
-        meet(&rt, at, 2, ADDS_TO_NOTHING);
-        meet(&rt, at, 2, PUTS_ON_AN_INSERT);
-    }
+    meet_all(&rt, &A_PUT_OR_A_SUM);
 }
 
 // The kinds of the steps of a removal between its search and its flag, its own step included.
@@ -250,14 +238,13 @@ const REMOVES_NOTHING: Meeting = Meeting {
     ..REMOVES
 };
 
+static A_REMOVAL: [Meetings<'static>; 3] = [
+    (&BEFORE_ITS_REMOVAL, 2, LEAVES),
+    (&BEFORE_ITS_REMOVAL, 4, REMOVES),
+    (&BEFORE_ITS_REMOVAL, 3, REMOVES_NOTHING),
+];
+
 #[test]
 fn a_removal_goes_by_the_value_that_the_key_has_last(rt: HostRuntime) {
-    if !two_threads_meet(&rt) {
-        return;
-    }
-    for at in BEFORE_ITS_REMOVAL {
-        meet(&rt, at, 2, LEAVES);
-        meet(&rt, at, 4, REMOVES);
-        meet(&rt, at, 3, REMOVES_NOTHING);
-    }
+    meet_all(&rt, &A_REMOVAL);
 }

@@ -1,6 +1,6 @@
 //! Trees of shared keys, and the calls that tell of many keys: what each tells, in one form.
 ghost use Rattle.std.specs.Prelude.{◌≡◌, ◌≤◌};
-ghost use Rattle.ell_test_shared.specs.Sharing.{IsSharer};
+ghost use Rattle.ell_test_shared.specs.Sharing.{IsMember, IsSharer};
 ghost use Rattle.ell_tree.specs.Ledgers.{IsIdlePassOf};
 ghost use Rattle.ell_tree.specs.Meaning.{greatest_key};
 
@@ -18,7 +18,7 @@ const BLANK: Pair = Pair {
 };
 
 /// A call that tells of keys.
-#[derive(Clone, Copy, Debug)]
+#[derive(Clone, Copy)]
 pub enum Ask {
     /// A scan from the first number on and below the second, with room for so many pairs.
     Scan(u64, u64, usize),
@@ -32,7 +32,7 @@ pub enum Ask {
 }
 
 /// What a call tells: of all keys from one on and below another, these are there with their values, and no others.
-#[derive(Debug, Drop)]
+#[derive(Drop)]
 pub struct Sight {
     pub from: u64,
     pub upto: u64,
@@ -40,7 +40,6 @@ pub struct Sight {
 }
 
 /// A tree in which all keys are shared, with these start keys, and its pass.
-#[tactic(auto, using(crate::proofs::lemmas::Starts::start_real))]
 pub fn opened(
     rt: &(impl Abort + AllocGlobal),
     start: &[(u64, u64)],
@@ -48,8 +47,23 @@ pub fn opened(
 ) -> (Tree<Global>, Pass<Global>)
     ensures { IsSharer result.0 result.1 }
 {
+    opened_for(rt, start, &[], cards)
+}
+
+/// One in which all keys but these are shared, and its pass, which owns these.
+#[tactic(auto, using(crate::proofs::lemmas::Starts::start_real, crate::proofs::lemmas::Starts::themselves_ascend))]
+pub fn opened_for(
+    rt: &(impl Abort + AllocGlobal),
+    start: &[(u64, u64)],
+    owned: &[u64],
+    cards: u64,
+) -> (Tree<Global>, Pass<Global>)
+    ensures member { IsMember owned.now result.0 result.1 }
+    ensures keys { result.0.plan.keys ≡ owned.now }
+{
     assert!(rt; ascend(start) && all_fit(start) && start.len() <= START_MAX as usize);
-    let made = Tree::reserve_shared(rt.alloc(), start, &[], cards);
+    assert!(rt; ascend(owned) && all_fit(owned));
+    let made = Tree::reserve_shared(rt.alloc(), start, owned, cards);
     made.expect(rt, "tree")
 }
 
@@ -76,10 +90,7 @@ pub fn insert_all(
 {
     for (key, value) in pairs {
         let call = Call(Op::Insert(*key, *value));
-        assert!(rt;
-            answer(rt, tree, pass, &[], call, &NoGate) == Ok(Reply::Yes),
-            "{key}"
-        );
+        assert!(rt; answer(rt, tree, pass, &[], call, &NoGate) == Ok(Reply::Yes));
     }
 }
 
@@ -132,13 +143,20 @@ fn sight_of(
 
 // That this is the least key from one on that is there, or that there is none.
 fn next_of(rt: &(impl Abort + AllocGlobal), from: u64, found: Option<(u64, u64)>) -> Sight {
-    let upto = found.map_or(KEY_MAX + 1, |pair| pair.0.saturating_add(1));
+    let upto = match found {
+        Some(pair) => pair.0.saturating_add(1),
+        None => KEY_MAX + 1,
+    };
     sight_of(rt, from, upto, found)
 }
 
 // That this is the greatest key below one that is there, or that there is none.
 fn last_of(rt: &(impl Abort + AllocGlobal), upto: u64, found: Option<(u64, u64)>) -> Sight {
-    sight_of(rt, found.map_or(0, |pair| pair.0), upto, found)
+    let from = match found {
+        Some(pair) => pair.0,
+        None => 0,
+    };
+    sight_of(rt, from, upto, found)
 }
 
 // The key of a call, or 0.
@@ -183,13 +201,21 @@ pub fn tell<G: StepGate>(
 impl Sight {
     /// The value that it tells of a key.
     pub fn value_of(&self, key: u64) -> Option<u64> {
-        let pair = self.pairs.iter().find(|pair| pair.0 == key)?;
-        Some(pair.1)
+        for pair in &self.pairs {
+            if pair.0 == key {
+                return Some(pair.1);
+            }
+        }
+        None
     }
 
     /// Whether its keys lie in its range, and ascend strictly.
     pub fn is_in_order(&self) -> bool {
-        let lies_within = |pair: &(u64, u64)| self.from <= pair.0 && pair.0 < self.upto;
-        ascend(&self.pairs) && self.pairs.iter().all(lies_within)
+        for pair in &self.pairs {
+            if pair.0 < self.from || self.upto <= pair.0 {
+                return false;
+            }
+        }
+        ascend(&self.pairs)
     }
 }

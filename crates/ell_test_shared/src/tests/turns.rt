@@ -4,7 +4,8 @@ ghost use Rattle.ell_test_shared.specs.Sharing.{IsMember};
 use super::calling::KeyCall::{self, Add, Ask, Look, Put, Take, Update};
 use super::calling::{answer, close};
 use super::parting::{joined, parted};
-use ell_ops::Op::{Find, Insert, Swap};
+use super::telling::opened_for;
+use ell_ops::Op::{Delete, Find, Insert, Swap};
 use ell_ops::Reply;
 use ell_ops::Reply::{Found, No, Yes};
 use ell_tree::{NoGate, NotDone, Pass, Tree};
@@ -39,18 +40,29 @@ fn take_turns(
     (owner, guest)
 }
 
-// The owner of keys 1 and 3 and a guest take turns on a tree of so many cards, where keys 1 and 2 are there from the
-// first on, with values 10 and 20: these keys with their values are there at the end.
-fn take_turns_to(rt: &(impl Abort + AllocGlobal), cards: u64, turns: &[Turn], end: &[(u64, u64)]) {
-    let (owned, start) = ([1, 3], [(1, 10), (2, 20)]);
-    let made = Tree::reserve_shared(rt.alloc(), &start, &owned, cards);
-    let (tree, pass) = made.expect(rt, "tree");
-    let passes = parted(rt, &tree, pass, &owned, &owned);
-    let (owner, guest) = take_turns(rt, &tree, &owned, passes, turns);
-    let pass = joined(rt, &tree, &owned, owner, guest);
-    let pairs = close(rt, tree, pass, &owned);
+// The owner of keys and a guest take turns on a tree of so many cards with start keys: these keys with their values are
+// there at the end.
+fn take_turns_to(
+    rt: &(impl Abort + AllocGlobal),
+    owned: &[u64],
+    start: &[(u64, u64)],
+    cards: u64,
+    turns: &[Turn],
+    end: &[(u64, u64)],
+) {
+    let (tree, pass) = opened_for(rt, start, owned, cards);
+    assert!(rt; pass.keys() == owned && pass.has_whole_share());
+    let passes = parted(rt, &tree, pass, owned, owned);
+    let (owner, guest) = take_turns(rt, &tree, owned, passes, turns);
+    let pass = joined(rt, &tree, owned, guest, owner);
+    let pairs = close(rt, tree, pass, owned);
     assert!(rt; pairs.as_slice() == end);
 }
+
+// Keys that have an owner, and start keys, of which the first is one of those.
+const OWNED: [u64; 2] = [1, 3];
+
+const START: [(u64, u64); 2] = [(1, 10), (2, 20)];
 
 const TAKES: [Turn; 15] = [
     (true, Take(1), Ok(Found(10))),
@@ -72,7 +84,7 @@ const TAKES: [Turn; 15] = [
 
 #[test]
 fn a_take_answers_the_value_that_goes(rt: HostRuntime) {
-    take_turns_to(&rt, 20, &TAKES, &[(3, 30), (4, 40)]);
+    take_turns_to(&rt, &OWNED, &START, 20, &TAKES, &[(3, 30), (4, 40)]);
 }
 
 const REPLACES: [Turn; 22] = [
@@ -102,7 +114,8 @@ const REPLACES: [Turn; 22] = [
 
 #[test]
 fn a_swap_a_put_an_update_and_a_sum_answer_the_value_that_was_there(rt: HostRuntime) {
-    take_turns_to(&rt, 30, &REPLACES, &[(1, 51), (2, 24), (3, 30)]);
+    let end = [(1, 51), (2, 24), (3, 30)];
+    take_turns_to(&rt, &OWNED, &START, 30, &REPLACES, &end);
 }
 
 // Two cards, which two changes take.
@@ -127,5 +140,22 @@ const SPENT: [Turn; 16] = [
 
 #[test]
 fn a_call_that_finds_all_cards_given_out_leaves_all_as_it_was(rt: HostRuntime) {
-    take_turns_to(&rt, 2, &SPENT, &[(1, 12), (2, 20)]);
+    take_turns_to(&rt, &OWNED, &START, 2, &SPENT, &[(1, 12), (2, 20)]);
+}
+
+// Two parts of a pass change the same keys, none of which has an owner.
+const BOTH: [Turn; 7] = [
+    (true, Ask(Delete(2)), Ok(Yes)),
+    (false, Ask(Delete(2)), Ok(No)),
+    (false, Ask(Insert(2, 22)), Ok(Yes)),
+    (true, Ask(Insert(2, 21)), Ok(No)),
+    (true, Ask(Find(2)), Ok(Found(22))),
+    (true, Ask(Insert(1 << 40, 1)), Ok(Yes)),
+    (false, Ask(Find(4)), Ok(Found(40))),
+];
+
+#[test]
+fn each_part_sees_what_the_others_change(rt: HostRuntime) {
+    let end = [(2, 22), (4, 40), (1 << 40, 1)];
+    take_turns_to(&rt, &[], &[(2, 20), (4, 40)], 10, &BOTH, &end);
 }

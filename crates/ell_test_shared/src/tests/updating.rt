@@ -1,11 +1,11 @@
 //! An update whose worker is held, while another makes a call of one try.
-ghost use Rattle.std.specs.Prelude.{[]};
 ghost use Rattle.ell_test_shared.specs.Sharing.{IsSharer};
 
 use super::calling::KeyCall::{self, Add, Ask, Put, Update};
 use super::calling::{answer_by, close, next_value, update};
 use super::parting::{joined, parted};
 use super::swapping::ONCE_FOUND;
+use super::telling::opened_for;
 use ell_ops::Op::{Delete, Swap};
 use ell_ops::Reply;
 use ell_ops::Reply::{Found, No, Yes};
@@ -51,22 +51,22 @@ fn run_once<G: StepGate>(
     (pass, said)
 }
 
+// What both workers are answered, and how often the closure is called.
+type Met = (Result<Reply, NotDone>, Result<Reply, NotDone>, u64);
+
 // Worker 0 updates key 5 from 50, and is held at a kind of step, while worker 1 makes a call of one try, in so many
-// operations: what both answer, how often the closure was called, and the value at the end.
+// operations: so both are answered, so often the closure is called, and these keys with their values are there at the
+// end.
 fn meet_update<R: Threads + Abort + AllocGlobal + Sync>(
     rt: &R,
     at: Kind,
     ends: u64,
     call: KeyCall,
-) -> (
-    Result<Reply, NotDone>,
-    Result<Reply, NotDone>,
-    u64,
-    Option<u64>,
+    want: Met,
+    end: &[(u64, u64)],
 ) {
     let (gate, called) = (Holding::until(at, ends), AtomicU64::new(0));
-    let made = Tree::reserve_shared(rt.alloc(), &[(5, 50)], &[], 100);
-    let (tree, pass) = made.expect(rt, "tree");
+    let (tree, pass) = opened_for(rt, &[(5, 50)], &[], 100);
     let (zero, mut one) = parted(rt, &tree, pass, &[], &[]);
     one.relabel(1);
     let (shared, told, count) = (&tree, &gate, &called);
@@ -78,8 +78,8 @@ fn meet_update<R: Threads + Abort + AllocGlobal + Sync>(
     assert!(rt; gate.has_held());
     let pass = joined(rt, &tree, &[], zero, one);
     let pairs = close(rt, tree, pass, &[]);
-    let value = pairs.first().map(|pair| pair.1);
-    (said, also, called.load(Ordering::SeqCst), value)
+    let is_so = said == want.0 && also == want.1 && called.load(Ordering::SeqCst) == want.2;
+    assert!(rt; is_so && pairs.as_slice() == end);
 }
 
 #[test]
@@ -87,32 +87,32 @@ fn an_update_calls_its_closure_anew_for_each_value_that_it_finds(rt: HostRuntime
     if !two_threads_meet(&rt) {
         return;
     }
-    for at in ONCE_FOUND {
-        let lost = meet_update(&rt, at, 1, Ask(Swap(5, 50, 60)));
-        let want = (Ok(Found(60)), Ok(Found(50)), 2, Some(next_value(60)));
-        assert!(rt; lost == want);
-        let other = meet_update(&rt, at, 1, Ask(Swap(5, 51, 60)));
-        let want = (Ok(Found(50)), Ok(Found(50)), 1, Some(next_value(50)));
-        assert!(rt; other == want);
-        let gone = meet_update(&rt, at, 1, Ask(Delete(5)));
-        assert!(rt; gone == (Ok(No), Ok(Yes), 1, None));
+    for at in &ONCE_FOUND {
+        let (lost, end) = ((Ok(Found(60)), Ok(Found(50)), 2), [(5, next_value(60))]);
+        meet_update(&rt, *at, 1, Ask(Swap(5, 50, 60)), lost, &end);
+        let (other, end) = ((Ok(Found(50)), Ok(Found(50)), 1), [(5, next_value(50))]);
+        meet_update(&rt, *at, 1, Ask(Swap(5, 51, 60)), other, &end);
+        meet_update(&rt, *at, 1, Ask(Delete(5)), (Ok(No), Ok(Yes), 1), &[]);
     }
 }
+
+// Calls of one try, and of how many operations.
+const CALLS: [(KeyCall, u64); 5] = [
+    (Ask(Swap(5, 50, 60)), 1),
+    (Put(5, 60), 2),
+    (Add(5, 1), 2),
+    (Update(5), 2),
+    (Ask(Delete(5)), 1),
+];
 
 #[test]
 fn a_call_of_one_try_that_meets_a_flag_is_busy_and_changes_nothing(rt: HostRuntime) {
     if !two_threads_meet(&rt) {
         return;
     }
-    for (call, ends) in [
-        (Ask(Swap(5, 50, 60)), 1),
-        (Put(5, 60), 2),
-        (Add(5, 1), 2),
-        (Update(5), 2),
-        (Ask(Delete(5)), 1),
-    ] {
-        let met = meet_update(&rt, Kind::Exchange(Exchange::IChild), ends, call);
-        let want = (Ok(Found(50)), Err(NotDone::Busy), 1, Some(next_value(50)));
-        assert!(rt; met == want);
+    let (at, end) = (Kind::Exchange(Exchange::IChild), [(5, next_value(50))]);
+    for (call, ends) in &CALLS {
+        let want = (Ok(Found(50)), Err(NotDone::Busy), 1);
+        meet_update(&rt, at, *ends, *call, want, &end);
     }
 }
