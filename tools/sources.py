@@ -11,7 +11,7 @@ from pathlib import Path
 ROOT = Path(__file__).resolve().parent.parent
 CRATES = ROOT / "crates"
 # Crates that promise nothing to others.
-OTHERS = re.compile(r"\w*test\w*|shared_map|score_board")
+OTHERS = re.compile(r"\w*test\w*|shared_map|score_board|one_winner|shared_counter")
 FUNCTION = re.compile(r"( *)(pub )?(?:pub\((?:crate|super)\) )?(?:const )?(?:extern \"C\" )?fn (\w+)")
 IMPL = re.compile(r"impl(?:<.*?>)? (?:.* for )?(\w+)")
 CLAUSE = re.compile(r"\s*(ensures|requires)\s*(\w*)\s*(\{.*)")
