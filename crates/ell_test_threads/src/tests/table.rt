@@ -6,6 +6,7 @@ use ell_cards::{CardFault, CardTable, Closed, Pass};
 use ell_layout::Field;
 use ell_tree::NotDone;
 use std::alloc::Global;
+use std::fmt::Display;
 use std::process::Abort;
 
 const INF1: u64 = 18_446_744_073_709_551_614;
@@ -27,7 +28,15 @@ const OPENING: [[u64; 12]; 5] = [
 
 // Whether a card has these words.
 fn has_words(closed: &Closed<Global>, card: u64, words: &[u64; 12]) -> bool {
-    card <= closed.last_card() && (0..12).all(|at| closed.word(card, Field::ALL[at]) == words[at])
+    if closed.last_card() < card {
+        return false;
+    }
+    for at in 0..12 {
+        if closed.word(card, Field::ALL[at]) != words[at] {
+            return false;
+        }
+    }
+    true
 }
 
 // The pass that two are joined to.
@@ -71,24 +80,28 @@ fn a_table_without_start_keys_has_one_inner_node(rt: HostRuntime) {
     assert!(rt; has_words(&closed, 0, &root) && has_words(&closed, 1, &[0; 12]));
 }
 
-#[test]
-fn faults_have_texts(rt: HostRuntime) {
-    for (fault, text) in [
-        (CardFault::BadCards, "cards are not 1 to 1000000"),
-        (CardFault::NoMemory, "out of memory"),
-    ] {
-        let said = fault.to_string(rt.alloc()).expect(&rt, "memory");
-        assert!(rt; said.as_str() == text);
+// Each value has its text.
+fn have_texts<T: Display>(rt: &(impl Abort + AllocGlobal), rows: &[(T, &str)]) {
+    for (value, text) in rows {
+        let said = value.to_string(rt.alloc()).expect(rt, "memory");
+        assert!(rt; said.as_str() == *text);
     }
 }
 
 #[test]
+fn faults_have_texts(rt: HostRuntime) {
+    let rows = [
+        (CardFault::BadCards, "cards are not 1 to 1000000"),
+        (CardFault::NoMemory, "out of memory"),
+    ];
+    have_texts(&rt, &rows);
+}
+
+#[test]
 fn held_changes_have_texts(rt: HostRuntime) {
-    for (held, text) in [
+    let rows = [
         (NotDone::Busy, "something was in the way of each try"),
         (NotDone::Spent, "all cards are given out"),
-    ] {
-        let said = held.to_string(rt.alloc()).expect(&rt, "memory");
-        assert!(rt; said.as_str() == text);
-    }
+    ];
+    have_texts(&rt, &rows);
 }

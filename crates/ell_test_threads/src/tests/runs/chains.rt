@@ -1,12 +1,11 @@
 //! Chains of workers, each held in the middle of a delete behind the next, and one that passes and finishes what it finds.
 use super::scenes::{
     AT_DCHILD, AT_DUNFLAG, AT_ICHILD, AT_IUNFLAG, AT_MARK, DELETE, HELP_DELETE, HELP_INSERT,
-    HELP_UNMARKED, INSERT, Made, Scene, play_scene,
+    HELP_UNMARKED, INSERT, Scene, play_all,
 };
-use ell_ops::Op::{self, Delete, Find, Insert};
+use ell_ops::Op::{Delete, Find, Insert};
 use ell_test_gates::Until::Ends;
-use ell_test_gates::{Until, WorkerTurn, four_threads_meet};
-use std::process::Abort;
+use ell_test_gates::four_threads_meet;
 
 // The delete of 10 flags node 20 and marks node 10, the one of 5 flags node 10 and marks node 5, and so on down: each is in the way of
 // the mark above it. A delete of 20 flags node 20 too. Keys 4, 3 and 2 are not there at the start.
@@ -24,29 +23,23 @@ use std::process::Abort;
 //      2   3
 const START: [(u64, u64); 3] = [(5, 50), (10, 100), (20, 200)];
 
-// What workers do; which of them, one after the other, make their first insert before; where workers 0, 1 and so on are held, while
-// worker 4 passes; and what the last of those and worker 4 come to. Workers above the last one come to their marks later, and lose
+// Workers make their first inserts, one after the other; then workers 0, 1 and so on are held, and worker 4 passes.
+// Told is what the last of those and worker 4 come to. Workers above the last one come to their marks later, and lose
 // them as well.
-#[derive(Clone, Copy)]
-struct Chain {
-    ops: &'static [Op],
-    owners: &'static [u32],
-    before: &'static [u32],
-    at: &'static [Until],
-    last: &'static [Made],
-    passing: &'static [Made],
-}
-
-const TWO: Chain = Chain {
+const TWO: Scene = Scene {
     ops: &[Delete(10), Insert(4, 40), Delete(5), Delete(20)],
     owners: &[0, 4, 1, 4],
-    before: &[4],
-    at: &[AT_MARK, AT_MARK],
-    last: &[DELETE],
-    passing: &[INSERT, HELP_UNMARKED, HELP_DELETE, DELETE],
+    turns: &[(4, Ends), (0, AT_MARK), (1, AT_MARK), (4, Ends)],
+    cards: 32,
+    tries: 8,
+    late: 0,
+    made: &[
+        (1, &[DELETE]),
+        (4, &[INSERT, HELP_UNMARKED, HELP_DELETE, DELETE]),
+    ],
 };
 
-const THREE: Chain = Chain {
+const THREE: Scene = Scene {
     ops: &[
         Delete(10),
         Delete(5),
@@ -56,14 +49,26 @@ const THREE: Chain = Chain {
         Delete(20),
     ],
     owners: &[0, 1, 2, 4, 2, 4],
-    before: &[2, 4],
-    at: &[AT_MARK, AT_MARK, AT_MARK],
-    last: &[INSERT, DELETE],
-    passing: &[INSERT, HELP_UNMARKED, HELP_UNMARKED, HELP_DELETE, DELETE],
+    turns: &[
+        (2, Ends),
+        (4, Ends),
+        (0, AT_MARK),
+        (1, AT_MARK),
+        (2, AT_MARK),
+        (4, Ends),
+    ],
+    made: &[
+        (2, &[INSERT, DELETE]),
+        (
+            4,
+            &[INSERT, HELP_UNMARKED, HELP_UNMARKED, HELP_DELETE, DELETE],
+        ),
+    ],
+    ..TWO
 };
 
 // The insert flags node 5.
-const TO_INSERT: Chain = Chain {
+const TO_INSERT: Scene = Scene {
     ops: &[
         Delete(10),
         Insert(4, 40),
@@ -72,25 +77,50 @@ const TO_INSERT: Chain = Chain {
         Delete(20),
     ],
     owners: &[0, 4, 1, 2, 4],
-    before: &[4],
-    at: &[AT_MARK, AT_MARK, AT_ICHILD],
-    last: &[INSERT],
-    passing: &[INSERT, HELP_UNMARKED, HELP_UNMARKED, HELP_INSERT, DELETE],
+    turns: &[
+        (4, Ends),
+        (0, AT_MARK),
+        (1, AT_MARK),
+        (2, AT_ICHILD),
+        (4, Ends),
+    ],
+    made: &[
+        (2, &[INSERT]),
+        (
+            4,
+            &[INSERT, HELP_UNMARKED, HELP_UNMARKED, HELP_INSERT, DELETE],
+        ),
+    ],
+    ..TWO
 };
 
-static CHAINS: [Chain; 8] = [
+static CHAINS: [Scene; 8] = [
     TWO,
     THREE,
-    Chain {
-        at: &[AT_MARK, AT_MARK, AT_DCHILD],
+    Scene {
+        turns: &[
+            (2, Ends),
+            (4, Ends),
+            (0, AT_MARK),
+            (1, AT_MARK),
+            (2, AT_DCHILD),
+            (4, Ends),
+        ],
         ..THREE
     },
-    Chain {
-        at: &[AT_MARK, AT_MARK, AT_DUNFLAG],
+    Scene {
+        turns: &[
+            (2, Ends),
+            (4, Ends),
+            (0, AT_MARK),
+            (1, AT_MARK),
+            (2, AT_DUNFLAG),
+            (4, Ends),
+        ],
         ..THREE
     },
     // A find goes by all of them.
-    Chain {
+    Scene {
         ops: &[
             Delete(10),
             Delete(5),
@@ -99,10 +129,10 @@ static CHAINS: [Chain; 8] = [
             Delete(4),
             Find(3),
         ],
-        passing: &[INSERT],
+        made: &[(2, &[INSERT, DELETE]), (4, &[INSERT])],
         ..THREE
     },
-    Chain {
+    Scene {
         ops: &[
             Delete(10),
             Delete(5),
@@ -114,52 +144,48 @@ static CHAINS: [Chain; 8] = [
             Delete(20),
         ],
         owners: &[0, 1, 2, 3, 4, 2, 3, 4],
-        before: &[2, 3, 4],
-        at: &[AT_MARK, AT_MARK, AT_MARK, AT_MARK],
-        last: &[INSERT, DELETE],
-        passing: &[
-            INSERT,
-            HELP_UNMARKED,
-            HELP_UNMARKED,
-            HELP_UNMARKED,
-            HELP_DELETE,
-            DELETE,
+        turns: &[
+            (2, Ends),
+            (3, Ends),
+            (4, Ends),
+            (0, AT_MARK),
+            (1, AT_MARK),
+            (2, AT_MARK),
+            (3, AT_MARK),
+            (4, Ends),
         ],
+        made: &[
+            (3, &[INSERT, DELETE]),
+            (
+                4,
+                &[
+                    INSERT,
+                    HELP_UNMARKED,
+                    HELP_UNMARKED,
+                    HELP_UNMARKED,
+                    HELP_DELETE,
+                    DELETE,
+                ],
+            ),
+        ],
+        ..TWO
     },
     TO_INSERT,
-    Chain {
-        at: &[AT_MARK, AT_MARK, AT_IUNFLAG],
+    Scene {
+        turns: &[
+            (4, Ends),
+            (0, AT_MARK),
+            (1, AT_MARK),
+            (2, AT_IUNFLAG),
+            (4, Ends),
+        ],
         ..TO_INSERT
     },
 ];
 
-// The turns of the workers of a chain.
-fn turns_of(rt: &(impl Abort + AllocGlobal), chain: &Chain) -> Vec<WorkerTurn> {
-    let before = chain.before.iter().map(|worker| (*worker, Ends));
-    let held = (0u32..4).zip(chain.at).map(|(worker, at)| (worker, *at));
-    let turns = before.chain(held).chain([(4, Ends)]);
-    turns.collect(rt.alloc()).expect(rt, "memory")
-}
-
 #[test]
 fn who_passes_finishes_a_chain_of_deletes(rt: HostRuntime) {
-    if !four_threads_meet(&rt) {
-        return;
-    }
-    for (row, chain) in CHAINS.iter().enumerate() {
-        let (turns, last) = (
-            turns_of(&rt, chain),
-            (chain.at.len() as u32).saturating_sub(1),
-        );
-        let scene = Scene {
-            ops: chain.ops,
-            owners: chain.owners,
-            turns: &turns,
-            cards: 32,
-            tries: 8,
-            late: 0,
-            made: &[(last, chain.last), (4, chain.passing)],
-        };
-        play_scene(&rt, &START, scene, row);
+    if four_threads_meet(&rt) {
+        play_all(&rt, &START, &CHAINS);
     }
 }

@@ -32,58 +32,63 @@ fn crowd_ops(rt: &(impl Abort + AllocGlobal), workers: u32) -> Vec<Op> {
     let mut ops = Vec::new(rt.alloc());
     for worker in 0..workers {
         let key = worker as u64;
-        for op in [
+        let more = [
             Insert(key, key.wrapping_add(100)),
             Find(key),
             Delete(key),
             Insert(key, key.wrapping_add(200)),
-        ] {
-            ops.push(op).expect(rt, "memory");
-        }
+        ];
+        ops.extend_from_slice(&more).expect(rt, "memory");
     }
     ops
 }
 
-// Has workers stop at each of these steps in turn, and then go on at once: each answers as one thread, and nothing is late.
-fn stop_at<R: Threads + Abort + AllocGlobal + Sync>(rt: &R, workers: u32, stops: [Stop; 4]) {
+// Has workers stop at each of these steps in turn, and then go on at once: each answers as one thread, and nothing is
+// late.
+fn stop_at<R: Threads + Abort + AllocGlobal + Sync>(rt: &R, workers: u32, stops: &[Stop]) {
     let ops = crowd_ops(rt, workers);
     let parts = Parts::striped(rt.alloc(), &ops, workers).expect(rt, "parts");
     for (kind, own, is_for_one) in stops {
-        let gathering = Gathering::at(rt.alloc(), kind, workers).expect(rt, "memory");
+        let gathering = Gathering::at(rt.alloc(), *kind, workers).expect(rt, "memory");
         let gate = Counting::new(rt.alloc(), workers, gathering).expect(rt, "memory");
         let outcome = run_from(rt, &[], &ops, &parts, (100_000, 1_000), &gate);
-        assert!(rt;
-            gate.behind().has_gathered() && outcome.late == 0,
-            "{workers} workers at {kind:?}"
-        );
-        let others = (is_for_one as u64).wrapping_mul((workers as u64).wrapping_sub(1));
+        let is_well = gate.behind().has_gathered() && outcome.late == 0;
+        let others = (*is_for_one as u64).wrapping_mul((workers as u64).wrapping_sub(1));
         let least = own.wrapping_mul(workers as u64).wrapping_add(others);
-        let come = (0..workers).map(|worker| gate.count(worker, kind));
         assert!(rt;
-            least <= come.fold(0, u64::wrapping_add),
+            is_well && least <= count_all(&gate, workers, *kind),
             "{workers} workers at {kind:?}"
         );
     }
+}
+
+// How often all workers came to a kind of step.
+fn count_all(gate: &Counting<Gathering>, workers: u32, kind: Kind) -> u64 {
+    let mut all: u64 = 0;
+    for worker in 0..workers {
+        all = all.wrapping_add(gate.count(worker, kind));
+    }
+    all
 }
 
 #[test]
 fn sixteen_workers_in_the_middle_of_operations_answer_as_one_thread(rt: HostRuntime) {
     if sixteen_threads_meet(&rt) {
-        stop_at(&rt, 16, INSERTING);
-        stop_at(&rt, 16, DELETING);
+        stop_at(&rt, 16, &INSERTING);
+        stop_at(&rt, 16, &DELETING);
     }
 }
 
 #[test]
 fn sixty_four_workers_in_the_middle_of_inserts_answer_as_one_thread(rt: HostRuntime) {
     if sixty_four_threads_meet(&rt) {
-        stop_at(&rt, 64, INSERTING);
+        stop_at(&rt, 64, &INSERTING);
     }
 }
 
 #[test]
 fn sixty_four_workers_in_the_middle_of_deletes_answer_as_one_thread(rt: HostRuntime) {
     if sixty_four_threads_meet(&rt) {
-        stop_at(&rt, 64, DELETING);
+        stop_at(&rt, 64, &DELETING);
     }
 }

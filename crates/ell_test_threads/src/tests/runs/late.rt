@@ -1,7 +1,7 @@
 //! Runs with few cards or few tries: how many operations are done after the workers have ended.
 use super::scenes::{
     AT_CLAIM, AT_ICHILD, AT_IFLAG, AT_MARK, HELP_INSERT, INSERT, LOST_CLAIM, LOST_INSERT,
-    LOST_MARK, Scene, play_scene,
+    LOST_MARK, Scene, play_all,
 };
 use ell_ops::Op::{Delete, Find, Insert};
 use ell_test_gates::Until::{Comes, Ends};
@@ -94,14 +94,12 @@ static FEW: [Scene; 9] = [
 #[test]
 fn as_many_operations_are_late_as_a_person_worked_out(rt: HostRuntime) {
     if two_threads_meet(&rt) {
-        for (row, scene) in FEW.iter().enumerate() {
-            play_scene(&rt, &[], *scene, row);
-        }
+        play_all(&rt, &[], &FEW);
     }
 }
 
 // Worker 0 is held at the mark of its delete until five operations of the others have ended.
-const CROWD: Scene = Scene {
+static CROWD: [Scene; 1] = [Scene {
     ops: &[
         Insert(5, 50),
         Insert(7, 70),
@@ -125,11 +123,11 @@ const CROWD: Scene = Scene {
     tries: 1_000,
     late: 0,
     made: &[(1, &[INSERT])],
-};
+}];
 
 #[test]
 fn three_workers_go_by_one_at_its_mark(rt: HostRuntime) {
     if four_threads_meet(&rt) {
-        play_scene(&rt, &[], CROWD, 0);
+        play_all(&rt, &[], &CROWD);
     }
 }

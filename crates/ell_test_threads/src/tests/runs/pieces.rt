@@ -32,9 +32,10 @@ fn work_by<R: Threads + Abort + AllocGlobal + Sync>(
 
 // Whether the piece of a worker is this one.
 fn is_piece(pieces: &[Piece], worker: usize, want: &[(usize, Reply)]) -> bool {
-    pieces
-        .get(worker)
-        .is_some_and(|piece| piece.as_slice() == want)
+    match pieces.get(worker) {
+        Some(piece) => piece.as_slice() == want,
+        None => false,
+    }
 }
 
 #[test]
@@ -43,8 +44,8 @@ fn workers_leave_their_pieces(rt: HostRuntime) {
     let ops = [Insert(5, 50), Insert(7, 70), Find(5)];
     let parts = Parts::by_owner(rt.alloc(), &ops, &[0, 1, 0], 2).expect(&rt, "parts");
     let (pass, pieces) = work_by(&rt, &tree, pass, &ops, &parts);
-    assert!(rt; is_piece(&pieces, 0, &[(0, Yes), (2, Found(50))]));
-    assert!(rt; pieces.len() == 2 && is_piece(&pieces, 1, &[(1, Yes)]));
+    let is_first = is_piece(&pieces, 0, &[(0, Yes), (2, Found(50))]);
+    assert!(rt; is_first && pieces.len() == 2 && is_piece(&pieces, 1, &[(1, Yes)]));
     // One card is left.
     let ops = [Delete(5), Insert(5, 51), Find(7), Find(5)];
     let parts = Parts::by_owner(rt.alloc(), &ops, &[0, 0, 1, 0], 2).expect(&rt, "parts");

@@ -1,4 +1,5 @@
 //! What workers do at once on one tree, one at a time, in turns, and how often each then comes to each kind of exchange.
+ghost use Rattle.std.specs.Prelude.{◌<◌};
 ghost use Rattle.std.specs.List.Sorted.{IsStrictlyIncreasing};
 ghost use Rattle.std.specs.Map.{keys_of};
 
@@ -82,8 +83,20 @@ pub struct Scene<'a> {
     pub made: &'a [(u32, &'a [Made])],
 }
 
-/// Plays a scene, over start keys, in which each worker is to come to what it says.
-pub fn play_scene<R: Threads + Abort + AllocGlobal + Sync>(
+/// Plays scenes, each over these start keys, in which each worker is to come to what it says.
+pub fn play_all<R: Threads + Abort + AllocGlobal + Sync>(
+    rt: &R,
+    start: &[(u64, u64)],
+    scenes: &[Scene],
+)
+    requires { IsStrictlyIncreasing (keys_of start.now) }
+{
+    for (row, scene) in scenes.iter().enumerate() {
+        play_scene(rt, start, *scene, row);
+    }
+}
+
+fn play_scene<R: Threads + Abort + AllocGlobal + Sync>(
     rt: &R,
     start: &[(u64, u64)],
     scene: Scene,
@@ -110,8 +123,21 @@ pub fn play_scene<R: Threads + Abort + AllocGlobal + Sync>(
 
 // Whether a worker came to the sum of these.
 fn has_made(gate: &Counting<Turns>, worker: u32, made: &[Made]) -> bool {
-    (0..9).all(|at| {
-        let want = made.iter().map(|one| one[at]).fold(0, u64::wrapping_add);
-        gate.count(worker, Kind::Exchange(EXCHANGES[at])) == want
-    })
+    for at in 0..9 {
+        if gate.count(worker, Kind::Exchange(EXCHANGES[at])) != sum_at(made, at) {
+            return false;
+        }
+    }
+    true
+}
+
+// The sum of the counts of one kind of exchange.
+fn sum_at(made: &[Made], at: usize) -> u64
+    requires { at < 9 }
+{
+    let mut sum: u64 = 0;
+    for one in made {
+        sum = sum.wrapping_add(one[at]);
+    }
+    sum
 }

@@ -7,7 +7,7 @@ use std::io::{Read, Write};
 use std::thread::Threads;
 
 /// A run, as of the command if it is told nothing else, or a replay.
-#[derive(Clone, Copy, Debug)]
+#[derive(Clone, Copy)]
 pub(super) enum Call {
     Run,
     Replay,

@@ -23,14 +23,13 @@ fn is_left<R: Threads + Sync>(
 // Each number of bytes with an error that others try again after, and with one of the other kinds.
 #[test]
 fn a_read_that_fails_once_ends_the_call(rt: HostRuntime) {
-    for call in CALLS {
+    for call in &CALLS {
         for count in 0..=call.text().len() {
-            for kind in [ErrorKind::Interrupted, KINDS[count % 6]] {
-                assert!(rt;
-                    is_left(&rt, rt.alloc(), call, count, kind),
-                    "{call:?}: {kind} after {count}"
-                );
-            }
+            assert!(rt;
+                is_left(&rt, rt.alloc(), *call, count, ErrorKind::Interrupted)
+                    && is_left(&rt, rt.alloc(), *call, count, KINDS[count % 6]),
+                "after {count}"
+            );
         }
     }
 }
@@ -52,29 +51,26 @@ fn is_cut<R: Threads + Sync>(
 
 #[test]
 fn a_write_that_fails_once_ends_the_call(rt: HostRuntime) {
-    for call in CALLS {
+    for call in &CALLS {
         for count in 0..call.answer().len() {
-            for failure in [None, Some(ErrorKind::Interrupted), Some(KINDS[count % 6])] {
-                assert!(rt;
-                    is_cut(&rt, rt.alloc(), call, count, failure),
-                    "{call:?}: after {count}"
-                );
-            }
+            assert!(rt;
+                is_cut(&rt, rt.alloc(), *call, count, None)
+                    && is_cut(&rt, rt.alloc(), *call, count, Some(ErrorKind::Interrupted))
+                    && is_cut(&rt, rt.alloc(), *call, count, Some(KINDS[count % 6])),
+                "after {count}"
+            );
         }
     }
 }
 
 #[test]
 fn bytes_that_come_and_go_one_by_one_are_all_answered(rt: HostRuntime) {
-    for call in CALLS {
+    for call in &CALLS {
         let mut reader = ByteByByte { left: call.text() };
         let mut out = Slow {
             taken: Vec::new(rt.alloc()),
         };
         let end = call.make(&rt, rt.alloc(), &mut reader, &mut out);
-        assert!(rt;
-            end == End::Answered && out.taken.as_slice() == call.answer(),
-            "{call:?}"
-        );
+        assert!(rt; end == End::Answered && out.taken.as_slice() == call.answer());
     }
 }
