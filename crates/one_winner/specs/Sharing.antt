@@ -1,7 +1,7 @@
 use Rattle.std.specs.Prelude.{◌≡◌, true, List, []}
-use Rattle.ell_ops.specs.Contents.{Contents, nothing}
-use Rattle.ell_cards.specs.declared.view.Deed.{Deed}
-use Rattle.ell_cards.specs.Accounts.{AreOfOneThread}
+use Rattle.ell_tree.specs.Contents.{Contents, nothing}
+use Rattle.ell_tree.specs.Deed.{Deed}
+use Rattle.ell_tree.specs.Accounts.{AreOfOneThread}
 use Rattle.ell_tree.specs.Ledgers.{TreeModel}
 
 -- each key of a tree is shared, and it starts empty

@@ -1,7 +1,7 @@
 use Rattle.std.specs.Prelude.{ℕ, Bool, Option, []}
-use Rattle.ell_ops.specs.declared.op.Op.TheVariants.{Find, Insert}
-use Rattle.ell_ops.specs.Meaning.{found, yes_if}
-use Rattle.ell_cards.specs.Models.{PassModel}
+use Rattle.ell_tree.specs.Op.TheVariants.{Find, Insert}
+use Rattle.ell_tree.specs.Meaning.{found, yes_if}
+use Rattle.ell_tree.specs.Models.{PassModel}
 use Rattle.ell_tree.specs.Ends.{Answers}
 use Rattle.ell_tree.specs.Ledgers.{TreeModel}
 use Rattle.ell_tree.specs.PassParts.{IsLeftPart, IsRightPart, IsUnion}

@@ -1,7 +1,7 @@
 //! Two threads insert one key, each with a value of its own.
 ghost use Rattle.std.specs.Prelude.{◌≡◌, ◌≢◌, ◌≤◌, if◌then◌else◌, IfOk, Some};
-ghost use Rattle.ell_ops.specs.declared.op.Op.TheVariants.{Insert};
-ghost use Rattle.ell_ops.specs.Meaning.{greatest_key, yes_if};
+ghost use Rattle.ell_tree.specs.Op.TheVariants.{Insert};
+ghost use Rattle.ell_tree.specs.Meaning.{greatest_key, yes_if};
 ghost use Rattle.ell_tree.specs.Ends.{Answers};
 ghost use Rattle.ell_tree.specs.Promises.{MayDo};
 

@@ -1,8 +1,8 @@
 //! A tree that starts empty and shares each key, and what one thread does with it.
 ghost use Rattle.std.specs.Prelude.{◌≡◌, IfOk, OnOk};
-ghost use Rattle.ell_ops.specs.declared.op.Op.TheVariants.{Find, Insert};
-ghost use Rattle.ell_ops.specs.Meaning.{found, yes_if};
-ghost use Rattle.ell_cards.specs.Models.{whole_share};
+ghost use Rattle.ell_tree.specs.Op.TheVariants.{Find, Insert};
+ghost use Rattle.ell_tree.specs.Meaning.{found, yes_if};
+ghost use Rattle.ell_tree.specs.Models.{whole_share};
 ghost use Rattle.ell_tree.specs.Ends.{Answers};
 ghost use Rattle.ell_tree.specs.Ledgers.{IsIdlePassOf};
 ghost use Rattle.ell_tree.specs.Promises.{MayDo};

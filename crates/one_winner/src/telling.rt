@@ -1,7 +1,7 @@
 //! One thread inserts a key, and tells another of it.
 ghost use Rattle.std.specs.Prelude.{◌≡◌, ◌≤◌, IfOk, IfSome, Some};
-ghost use Rattle.ell_ops.specs.declared.op.Op.TheVariants.{Find};
-ghost use Rattle.ell_ops.specs.Meaning.{found, greatest_key};
+ghost use Rattle.ell_tree.specs.Op.TheVariants.{Find};
+ghost use Rattle.ell_tree.specs.Meaning.{found, greatest_key};
 ghost use Rattle.ell_tree.specs.Ends.{Answers};
 ghost use Rattle.ell_tree.specs.Promises.{MayDo};
 ghost use Rattle.one_winner.specs.Telling.{Heard, Tells};

@@ -1,12 +1,12 @@
 use Rattle.std.specs.Prelude.{◌≡◌, ℕ, ◌+◌, ◌-◌, ◌%◌, ◌^◌, ◌<◌, ◌==◌, if◌then◌else◌, Bool, true, false, not, nat_lt, Some, []}
 use Rattle.std.specs.List.{sum_by}
-use Rattle.ell_ops.specs.declared.op.Op.{Op}
-use Rattle.ell_ops.specs.declared.op.Op.TheVariants.{Delete, Insert, Swap}
-use Rattle.ell_ops.specs.declared.reply.Reply.{Reply}
-use Rattle.ell_ops.specs.declared.reply.Reply.TheVariants.{Yes, Found}
-use Rattle.ell_cards.specs.Accounts.{count_such, own_calls}
-use Rattle.ell_cards.specs.Models.{PassModel}
-use Rattle.ell_cards.specs.Stepping.{SameShare}
+use Rattle.ell_tree.specs.Op.{Op}
+use Rattle.ell_tree.specs.Op.TheVariants.{Delete, Insert, Swap}
+use Rattle.ell_tree.specs.Reply.{Reply}
+use Rattle.ell_tree.specs.Reply.TheVariants.{Yes, Found}
+use Rattle.ell_tree.specs.Accounts.{count_such, own_calls}
+use Rattle.ell_tree.specs.Models.{PassModel}
+use Rattle.ell_tree.specs.Stepping.{SameShare}
 use Rattle.ell_tree.specs.Ledgers.{IsIdle, IsIdlePassOf, TreeModel}
 
 -- whether a call has changed the map, by its answer

@@ -1,6 +1,6 @@
 //! Four threads add to one counter.
 ghost use Rattle.std.specs.Prelude.{◌≡◌, ◌+◌, ◌*◌, ◌%◌, ◌^◌, ◌<◌, IfOk, sum};
-ghost use Rattle.ell_ops.specs.Contents.{contents_of};
+ghost use Rattle.ell_tree.specs.Contents.{contents_of};
 ghost use Rattle.shared_counter.specs.Adding.{HasAdded, MayAdd};
 
 use crate::adding::{COUNTER, add_often};

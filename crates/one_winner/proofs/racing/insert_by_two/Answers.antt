@@ -1,10 +1,10 @@
 use Rattle.std.proofs.Common.{rules, ◌≡◌, List, [], ◌∷◌, ◌++◌, ap, ap₂, ◌∙◌}
-use Rattle.ell_ops.specs.declared.op.Op.TheVariants.{Find, Insert}
-use Rattle.ell_ops.specs.Meaning.{found, yes_if}
-use Rattle.ell_cards.specs.declared.view.Deed.{Deed}
-use Rattle.ell_cards.specs.Changes.{deed_of, inherited}
+use Rattle.ell_tree.specs.Op.TheVariants.{Find, Insert}
+use Rattle.ell_tree.specs.Meaning.{found, yes_if}
+use Rattle.ell_tree.specs.Deed.{Deed}
+use Rattle.ell_tree.specs.Changes.{deed_of, inherited}
 use Rattle.ell_tree.specs.Ends.{Answers}
-use Rattle.one_winner.proofs.OneWinner.{has_winner}
+use Rattle.one_winner.proofs.lemmas.OneWinner.{has_winner}
 use Rattle.one_winner.proofs.racing.insert_by_two.Goals as goal
 
 -- what both were answered, and then the find, is of one thread

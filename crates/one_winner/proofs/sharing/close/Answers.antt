@@ -1,6 +1,6 @@
 use Rattle.std.proofs.Common.{ℕ, List, subst}
-use Rattle.ell_ops.specs.Contents.{contents_of}
-use Rattle.ell_cards.specs.Accounts.{AreOfOneThread}
+use Rattle.ell_tree.specs.Contents.{contents_of}
+use Rattle.ell_tree.specs.Accounts.{AreOfOneThread}
 use Rattle.one_winner.proofs.sharing.close.Goals as goal
 
 pub returns-in-Ok : goal.returns-in-Ok

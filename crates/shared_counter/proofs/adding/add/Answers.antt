@@ -1,7 +1,7 @@
 use Rattle.std.proofs.Common.{rules, Some, ◌<◌, ◌^◌, arith}
 use Rattle.ell_tree.specs.Computing.{IsSum, UpdatesValue}
 use Rattle.shared_counter.specs.declared.adding.TheConstants.{COUNTER}
-use Rattle.shared_counter.proofs.Additions.{added_both, added_nothing, added_once}
+use Rattle.shared_counter.proofs.lemmas.Additions.{added_both, added_nothing, added_once}
 use Rattle.shared_counter.proofs.adding.add.Goals as goal
 
 -- the calls before have added nothing, and this one the addend

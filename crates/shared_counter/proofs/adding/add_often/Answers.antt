@@ -1,7 +1,7 @@
 use Rattle.std.proofs.Common.{◌≡◌, ℕ, ◌+◌, ◌*◌, subst, arith}
 use Rattle.shared_counter.specs.Adding.{HasAdded}
 use Rattle.shared_counter.specs.declared.adding.TheConstants.{COUNTER}
-use Rattle.shared_counter.proofs.Additions.{added_both, added_none, may_after}
+use Rattle.shared_counter.proofs.lemmas.Additions.{added_both, added_none, may_after}
 use Rattle.shared_counter.proofs.adding.add_often.Goals as goal
 
 pub loop-round-init : goal.loop-round-init

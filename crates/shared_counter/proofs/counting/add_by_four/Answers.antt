@@ -1,7 +1,7 @@
 use Rattle.std.proofs.Common.{rules, ◌≡◌, ℕ, ◌+◌, ◌*◌, List, [], ◌∷◌, length, get_or, sum, ap, ◌∙◌, arith}
 use Rattle.shared_counter.specs.Adding.{HasAdded}
 use Rattle.shared_counter.specs.declared.adding.TheConstants.{COUNTER}
-use Rattle.shared_counter.proofs.Additions.{added_by_parts}
+use Rattle.shared_counter.proofs.lemmas.Additions.{added_by_parts}
 use Rattle.shared_counter.proofs.counting.add_by_four.Goals as goal
 
 sum_of_four : (xs : List ℕ) → length xs ≡ 4 → sum xs ≡ get_or xs 0 0 + get_or xs 1 0 + (get_or xs 2 0 + get_or xs 3 0)

@@ -1,7 +1,7 @@
 use Rattle.std.proofs.Common.{rules, ◌≡◌, ◌+◌, ◌*◌, arith}
 use Rattle.shared_counter.specs.Adding.{HasAdded}
 use Rattle.shared_counter.specs.declared.adding.TheConstants.{COUNTER}
-use Rattle.shared_counter.proofs.Additions.{added_by_parts}
+use Rattle.shared_counter.proofs.lemmas.Additions.{added_by_parts}
 use Rattle.shared_counter.proofs.counting.add_by_two.Goals as goal
 
 -- both parts together have added what each has

@@ -1,7 +1,7 @@
 use Rattle.std.proofs.Common.{rules, ◌≡◌, ℕ, ◌*◌, ◌^◌, ◌<◌, Option, Some, sum, sym, refl, subst, arith}
 use Rattle.std.specs.Option.{IsSome}
 use Rattle.shared_counter.specs.declared.adding.TheConstants.{COUNTER}
-use Rattle.shared_counter.proofs.Totals.{found_total}
+use Rattle.shared_counter.proofs.lemmas.Totals.{found_total}
 use Rattle.shared_counter.proofs.counting.count_by_four.Goals as goal
 
 pub unwrap-requires : goal.unwrap-requires

@@ -1,5 +1,5 @@
 use Rattle.std.proofs.Common.{◌≡◌, drop}
-use Rattle.ell_ops.specs.Contents.{contents_of}
+use Rattle.ell_tree.specs.Contents.{contents_of}
 use Rattle.shared_counter.proofs.counting.value_of.Given as goal
 
 abbrev pub invariant-loop-other : goal.invariant-loop-other

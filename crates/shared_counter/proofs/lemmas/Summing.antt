@@ -3,13 +3,13 @@ use Rattle.std.specs.List.{sum_by}
 use Rattle.std.proofs.Math.Nat.{mod-add-mod, add-mod-mod, add-mod_right, mod-eq_of_lt, mod-lt}
 use Rattle.std.proofs.lemmas.Bool.{false≢true, ltb-true, ne_eqb}
 use Rattle.std.proofs.lemmas.List.Sums.{sum_by-cons}
-use Rattle.ell_ops.specs.declared.op.Op.{Op}
-use Rattle.ell_ops.specs.declared.op.Op.TheVariants.{Delete, Find, Insert, Swap}
-use Rattle.ell_ops.specs.declared.reply.Reply.{Reply}
-use Rattle.ell_ops.specs.declared.reply.Reply.TheVariants.{Yes, Found}
-use Rattle.ell_ops.specs.Contents.{Contents, swapped}
-use Rattle.ell_ops.specs.Meaning.{reply_of, after, replies, final, yes_if, found}
-use Rattle.ell_cards.specs.Accounts.{ops_in, replies_in, count_such}
+use Rattle.ell_tree.specs.Op.{Op}
+use Rattle.ell_tree.specs.Op.TheVariants.{Delete, Find, Insert, Swap}
+use Rattle.ell_tree.specs.Reply.{Reply}
+use Rattle.ell_tree.specs.Reply.TheVariants.{Yes, Found}
+use Rattle.ell_tree.specs.Contents.{Contents, swapped}
+use Rattle.ell_tree.specs.Meaning.{reply_of, after, replies, final, yes_if, found}
+use Rattle.ell_tree.specs.Accounts.{ops_in, replies_in, count_such}
 use Rattle.shared_counter.specs.Adding.{has_changed, added, only_swaps}
 
 -- the difference of two values of 64 bits leads from one to the other

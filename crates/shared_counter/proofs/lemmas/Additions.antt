@@ -4,17 +4,17 @@ use Rattle.std.specs.Option.{option_or}
 use Rattle.std.proofs.Math.Nat.{add-mod_right, mod-eq_of_lt, mod-lt}
 use Rattle.std.proofs.lemmas.Bool.{le-leb, lt-ltb, cases_lt}
 use Rattle.std.proofs.lemmas.List.Sums.{sum_by-append, sum_by-cons}
-use Rattle.ell_ops.specs.declared.op.Op.{Op}
-use Rattle.ell_ops.specs.declared.op.Op.TheVariants.{Delete, Find, Insert, Swap}
-use Rattle.ell_ops.specs.declared.reply.Reply.{Reply}
-use Rattle.ell_ops.specs.declared.reply.Reply.TheVariants.{No, Yes, Found}
-use Rattle.ell_ops.specs.Meaning.{greatest_key}
-use Rattle.ell_core.specs.state.Machine.{shared_of}
-use Rattle.ell_core.specs.statements.Effects.{reply_of_change}
-use Rattle.ell_cards.specs.declared.view.Deed.{Deed}
-use Rattle.ell_cards.specs.Accounts.{count_such, own_calls}
-use Rattle.ell_cards.specs.Models.{PassModel, given_share}
-use Rattle.ell_cards.proofs.lemmas.runs.Deeds.{none_own, own_both}
+use Rattle.ell_tree.specs.Op.{Op}
+use Rattle.ell_tree.specs.Op.TheVariants.{Delete, Find, Insert, Swap}
+use Rattle.ell_tree.specs.Reply.{Reply}
+use Rattle.ell_tree.specs.Reply.TheVariants.{No, Yes, Found}
+use Rattle.ell_tree.specs.Meaning.{greatest_key}
+use Rattle.ell_tree.specs.Machine.{shared_of}
+use Rattle.ell_tree.specs.Effects.{reply_of_change}
+use Rattle.ell_tree.specs.Deed.{Deed}
+use Rattle.ell_tree.specs.Accounts.{count_such, own_calls}
+use Rattle.ell_tree.specs.Changes.{inherited}
+use Rattle.ell_tree.specs.Models.{PassModel, given_share}
 use Rattle.ell_tree.specs.Called.{AreNoChanges}
 use Rattle.ell_tree.specs.Computing.{IsSum, IsUntouched, UpdatesValue}
 use Rattle.ell_tree.specs.Ledgers.{TreeModel}
@@ -212,6 +212,20 @@ same_or (Some keys) = refl
 count_both : (such : Op × Reply → Bool) (xs ys : List (Op × Reply)) → count_such such (xs ++ ys) ≡ count_such such xs + count_such such ys
 count_both such [] ys = omega arith
 count_both such (x ∷ xs) ys = let h = count_both such xs ys in omega arith
+
+-- what a right part knows of is not its own, and a join has what both made
+none_own : (ds : List Deed) → own_calls (inherited ds) ≡ []
+none_own [] = refl
+none_own (d ∷ ds) = none_own ds
+
+own_both : (ds bs : List Deed) → own_calls (ds ++ bs) ≡ own_calls ds ++ own_calls bs
+own_both [] bs = refl
+own_both (d ∷ ds) bs = by d.own (own_both ds bs)
+  where
+    by : (b : Bool) → own_calls (ds ++ bs) ≡ own_calls ds ++ own_calls bs
+        → (if b then (d.op, d.said) ∷ own_calls (ds ++ bs) else own_calls (ds ++ bs)) ≡ (if b then (d.op, d.said) ∷ own_calls ds else own_calls ds) ++ own_calls bs
+    by true rest = ap (λ (l : List (Op × Reply)). (d.op, d.said) ∷ l) rest
+    by false rest = rest
 
 -- what two parts of a pass have added, the pass has added that they were joined to
 pub added_by_parts : (t : TreeModel) (key a b sum : ℕ) (p left right left' right' both : PassModel) → sum ≡ a + b → MayAdd t p

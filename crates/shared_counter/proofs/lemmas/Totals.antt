@@ -1,12 +1,12 @@
 use Rattle.std.proofs.Common.{◌≡◌, ℕ, ◌+◌, ◌%◌, ◌^◌, ◌<◌, if◌then◌else◌, not, true, Option, Some, None, List, [], ◌∷◌, refl, eq-eqb, ap, ◌∙◌, arith}
 use Rattle.std.specs.List.{sum_by}
-use Rattle.ell_ops.specs.Contents.{Contents, contents_of}
-use Rattle.ell_cards.specs.declared.view.Deed.{Deed}
-use Rattle.ell_cards.specs.Accounts.{AreOfOneThread, count_such, own_calls}
-use Rattle.ell_cards.specs.Models.{PassModel, TablePlan}
+use Rattle.ell_tree.specs.Contents.{Contents, contents_of}
+use Rattle.ell_tree.specs.Deed.{Deed}
+use Rattle.ell_tree.specs.Accounts.{AreOfOneThread, count_such, own_calls}
+use Rattle.ell_tree.specs.Models.{PassModel, TablePlan}
 use Rattle.shared_counter.specs.Adding.{HasAdded, added, only_swaps}
-use Rattle.shared_counter.proofs.SameSums.{same_sums}
-use Rattle.shared_counter.proofs.Summing.{sums}
+use Rattle.shared_counter.proofs.lemmas.SameSums.{same_sums}
+use Rattle.shared_counter.proofs.lemmas.Summing.{sums}
 
 -- where one thread could have been answered what a pass was, the key ends with what it had first and what was added
 pub total : (key start amount : ℕ) (pairs : List (ℕ × ℕ)) (first last : PassModel) (left : Contents)

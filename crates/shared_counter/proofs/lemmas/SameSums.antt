@@ -2,9 +2,9 @@ use Rattle.std.proofs.Common.{◌≡◌, ℕ, zero, suc, ◌+◌, ◌<◌, ◌�
 use Rattle.std.specs.List.{sum_by}
 use Rattle.std.proofs.lemmas.Bool.{false≢true, ltb-true, lt-ltb}
 use Rattle.std.proofs.lemmas.List.Sums.{sum_by-cons}
-use Rattle.ell_ops.specs.declared.op.Op.{Op}
-use Rattle.ell_ops.specs.declared.reply.Reply.{Reply}
-use Rattle.ell_cards.specs.Accounts.{count_such}
+use Rattle.ell_tree.specs.Op.{Op}
+use Rattle.ell_tree.specs.Reply.{Reply}
+use Rattle.ell_tree.specs.Accounts.{count_such}
 
 -- the sum of a list, of each number no more than so much
 abbrev capped : (Op × Reply → ℕ) → ℕ → List (Op × Reply) → ℕ

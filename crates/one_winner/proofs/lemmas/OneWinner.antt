@@ -2,16 +2,16 @@ use Rattle.std.proofs.Common.{◌≡◌, ◌≢◌, ℕ, ◌+◌, ◌<◌, ◌�
 use Rattle.std.proofs.lemmas.Bool.{false≢true}
 use mathlib.Core.Option.{some}
 use lib.ListN.{get_elem?}
-use Rattle.ell_ops.specs.declared.op.Op.{Op}
-use Rattle.ell_ops.specs.declared.op.Op.TheVariants.{Find, Insert}
-use Rattle.ell_ops.specs.declared.reply.Reply.{Reply}
-use Rattle.ell_ops.specs.Contents.{nothing}
-use Rattle.ell_ops.specs.Meaning.{yes_if, found}
-use Rattle.ell_cards.specs.declared.view.Deed.{Deed}
-use Rattle.ell_cards.specs.Changes.{deed_of, inherited}
-use Rattle.ell_cards.specs.Accounts.{count_such, StandAt}
+use Rattle.ell_tree.specs.Op.{Op}
+use Rattle.ell_tree.specs.Op.TheVariants.{Find, Insert}
+use Rattle.ell_tree.specs.Reply.{Reply}
+use Rattle.ell_tree.specs.Contents.{nothing}
+use Rattle.ell_tree.specs.Meaning.{yes_if, found}
+use Rattle.ell_tree.specs.Deed.{Deed}
+use Rattle.ell_tree.specs.Changes.{deed_of, inherited}
+use Rattle.ell_tree.specs.Accounts.{count_such, StandAt}
 use Rattle.one_winner.specs.Sharing.{AreFromNothing}
-use Rattle.one_winner.proofs.FirstInsert.{one_if, is_on, is_insert, is_yes, adds, AreOn, HasFirst, has_first, not_yes}
+use Rattle.one_winner.proofs.lemmas.FirstInsert.{one_if, is_on, is_insert, is_yes, adds, AreOn, HasFirst, has_first, not_yes}
 
 -- three calls on a key
 three_on : (key : ℕ) (b : Bool) → b ≡ true → (if not b then 1 else 0) + ((if not b then 1 else 0) + ((if not b then 1 else 0) + 0)) ≡ 0
@@ -59,10 +59,10 @@ record StandAfter (order : List (Op × Reply)) (key value : ℕ) (said : Bool) (
   find : get_elem? order place ≡ some (Find key, found there)
 
 race_stands : (order : List (Op × Reply)) (key first second : ℕ) (one other : Bool) (there : Option ℕ) (places : List ℕ)
-    → StandAt order (race_of key first second one other there) places → StandAfter order key first one there
+    → StandAt nothing order (race_of key first second one other there) places → StandAfter order key first one there
 race_stands order key first second one other there [] h = absurd h
-race_stands order key first second one other there (a ∷ []) h = absurd h.2
-race_stands order key first second one other there (a ∷ b ∷ rest) h = record { before = b; place = a; less = h.1.0; insert = h.2.0; find = h.0 }
+race_stands order key first second one other there (a ∷ []) h = absurd h.3
+race_stands order key first second one other there (a ∷ b ∷ rest) h = record { before = b; place = a; less = h.2.0; insert = h.3.0; find = h.0 }
 
 -- what a find finds that stands after an insert
 found_after : (key value : ℕ) (said : Bool) (there : Option ℕ) (order : List (Op × Reply)) (f : HasFirst key order)
@@ -101,14 +101,14 @@ told_of key value added early late =
     inserted key value added ∷ deed_of (Find key) (found late) message ∷ message
 
 told_stands : (order : List (Op × Reply)) (key value : ℕ) (added : Bool) (early late : Option ℕ) (places : List ℕ)
-    → StandAt order (told_of key value added early late) places
+    → StandAt nothing order (told_of key value added early late) places
     → StandAfter order key value added late × ((place : ℕ) × (get_elem? order place ≡ some (Find key, found early)))
 told_stands order key value added early late [] h = absurd h
-told_stands order key value added early late (a ∷ []) h = absurd h.2
-told_stands order key value added early late (a ∷ b ∷ []) h = absurd h.2.2
-told_stands order key value added early late (a ∷ b ∷ c ∷ []) h = absurd h.2.2.2
+told_stands order key value added early late (a ∷ []) h = absurd h.3
+told_stands order key value added early late (a ∷ b ∷ []) h = absurd h.3.3
+told_stands order key value added early late (a ∷ b ∷ c ∷ []) h = absurd h.3.3.3
 told_stands order key value added early late (a ∷ b ∷ c ∷ d ∷ rest) h =
-    (record { before = d; place = b; less = h.2.1.1.0; insert = h.2.2.2.0; find = h.2.0 }, (c, h.2.2.0))
+    (record { before = d; place = b; less = h.3.2.1.0; insert = h.3.3.3.0; find = h.3.0 }, (c, h.3.3.0))
 
 only_value : (key value other : ℕ) (said : Bool) → 1 ≤ one_if (adds other (Insert key value) (yes_if said)) → other ≡ value
 only_value key value other false h = absurd (omega arith)
