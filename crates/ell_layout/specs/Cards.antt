@@ -5,7 +5,7 @@ use Rattle.ell_word.specs.Word.{packed}
 use Rattle.ell_layout.specs.declared.field.Field.{Field}
 use Rattle.ell_layout.specs.declared.field.Field.TheVariants.{Gp, P, L, Was, Key, Left, Right, Update, LeftLeafKey, RightLeafKey, LeftValue, RightValue}
 use Rattle.ell_layout.specs.Layout.{place, address}
-use Rattle.ell_layout.specs.Words.{Words, written}
+use Rattle.ell_layout.specs.Words.{Words, put, written, table_written}
 
 -- the update words of a card
 abbrev pub iflag : ℕ → ℕ
@@ -27,6 +27,10 @@ is_right w node key = nat_le (w.key node) key
 -- the child of a node on a key's side
 abbrev pub child_for : Words → ℕ → ℕ → ℕ
 child_for w key node = w.child node (is_right w node key)
+
+-- its tag
+abbrev pub tag_for : Words → ℕ → ℕ → ℕ
+tag_for w key node = w.tag node (is_right w node key)
 
 -- the side on which an exchange puts a new child: that of the new child's key
 abbrev pub exchange_side : Words → ℕ → ℕ → Bool
@@ -67,6 +71,10 @@ brought w c = brought_by c (is_replace_card w c)
 abbrev pub card_child : Words → ℕ → ℕ → ℕ
 card_child w c node = child_for w (card_key w c) node
 
+-- its tag
+abbrev pub card_tag : Words → ℕ → ℕ → ℕ
+card_tag w c node = tag_for w (card_key w c) node
+
 -- the fields of an insert's card for key k at a leaf: a node of the greater key, and two leaves, the lesser key's left
 abbrev pub insert_filling : ℕ → ℕ → ℕ → ℕ → ℕ → ℕ → ℕ → List (Field × ℕ)
 insert_filling c k value parent leaf leaf_key leaf_value =
@@ -94,6 +102,16 @@ abbrev pub filled_list : List ℕ → ℕ → List (Field × ℕ) → List ℕ
 filled_list words c [] = words
 filled_list words c (e ∷ es) = filled_list (slice_set words (address c e.0) e.1) c es
 
--- the next card is claimed and filled
-abbrev pub claimed : Words → List (Field × ℕ) → Words
-claimed w filling = record (filled w w.next filling) { next = w.next + 1 }
+-- the next card is claimed and filled, and expects a child word of this tag
+abbrev pub claimed : Words → ℕ → List (Field × ℕ) → Words
+claimed w tag filling =
+    record (filled w w.next filling) { next = w.next + 1; expects = put w.expects w.next tag }
+
+-- the words after these words of a table were written to the fields of a card
+abbrev pub table_filled : Words → ℕ → List (Field × ℕ) → Words
+table_filled w c [] = w
+table_filled w c (e ∷ es) = table_filled (table_written w c e.0 e.1) c es
+
+-- the next card is claimed, and these words of a table are written to it
+abbrev pub table_claimed : Words → List (Field × ℕ) → Words
+table_claimed w filling = record (table_filled w w.next filling) { next = w.next + 1 }

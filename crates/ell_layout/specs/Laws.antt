@@ -1,16 +1,17 @@
 use Rattle.std.specs.Prelude.{◌≡◌, ◌≢◌, ◌%◌, Bool, slice_index, ℕ, ◌<◌, ◌≤◌, List, length, slice_set}
-use Rattle.ell_word.specs.Node.{IsInternal, IsNode, card}
+use Rattle.ell_word.specs.Node.{IsInternal, IsNode, card, greatest_card}
+use Rattle.ell_word.specs.Link.{linked, tag_unit}
 use Rattle.ell_layout.specs.declared.field.Field.{Field}
 use Rattle.ell_layout.specs.declared.field.Field.TheVariants.{Update}
 use Rattle.ell_layout.specs.Layout.{address, table_size, listed}
-use Rattle.ell_layout.specs.Words.{Words, IsLeaf, word, written, words_of, key_field, value_field, child_field}
-use Rattle.ell_layout.specs.Cards.{filled, filled_list, stored}
+use Rattle.ell_layout.specs.Words.{Words, IsLeaf, word, written, table_word, table_written, words_of, key_field, value_field, child_field}
+use Rattle.ell_layout.specs.Cards.{filled, filled_list, stored, claimed, table_filled, table_claimed, insert_filling, delete_filling}
 
 -- where a list has the machine's word at a field, it has it after the same write in both, at every address
 abbrev pub SameAfterSameWrite : Type 0
 SameAfterSameWrite = (words : List ℕ) (w : Words) (c : ℕ) (field : Field) (d : ℕ) (other : Field) (value : ℕ)
-    → address d other < length words → listed words c field ≡ word w c field
-    → listed (slice_set words (address d other) value) c field ≡ word (written w d other value) c field
+    → address d other < length words → listed words c field ≡ table_word w c field
+    → listed (slice_set words (address d other) value) c field ≡ table_word (table_written w d other value) c field
 
 -- each field of each card of a table has an address there, after that of the claim word
 abbrev pub AddressesAreInside : Type 0
@@ -23,13 +24,25 @@ AddressesAreApart = (c d : ℕ) (field other : Field) → address c field ≡ ad
 
 -- the words that a list is have at each field the list's word
 abbrev pub WordsAreListed : Type 0
-WordsAreListed = (words : List ℕ) (c : ℕ) (field : Field) → word (words_of words) c field ≡ listed words c field
+WordsAreListed = (words : List ℕ) (c : ℕ) (field : Field) → table_word (words_of words) c field ≡ listed words c field
 
 -- after these fields of a card were written to a list of a table's size, it has the words with that card filled
 abbrev pub FilledListsAreFilled : Type 0
 FilledListsAreFilled =
     (words : List ℕ) (cards c : ℕ) (fields : List (Field × ℕ)) → length words ≡ table_size cards → c ≤ cards
-    → words_of (filled_list words c fields) ≡ filled (words_of words) c fields
+    → words_of (filled_list words c fields) ≡ table_filled (words_of words) c fields
+
+-- a table whose next card is filled for an insert or a delete, with the tag at the leaf's node, has claimed the card
+pub record FillingsAreClaims (w : Words) (parent leaf tag : ℕ) : Type 0 where
+  pub insert : (key value leaf_key leaf_value : ℕ) → w.next ≤ greatest_card
+      → table_claimed w (insert_filling w.next key value parent (linked (record { node = leaf; tag = tag })) leaf_key leaf_value)
+      ≡ claimed w tag (insert_filling w.next key value parent leaf leaf_key leaf_value)
+  pub delete : (grandparent was : ℕ)
+      → table_claimed w (delete_filling grandparent parent (linked (record { node = leaf; tag = tag })) was)
+      ≡ claimed w tag (delete_filling grandparent parent leaf was)
+
+abbrev pub TablesClaim : Type 0
+TablesClaim = (w : Words) (parent leaf tag : ℕ) → leaf < tag_unit → FillingsAreClaims w parent leaf tag
 
 -- each field of a filled card has what was written to it last, or what it had
 abbrev pub FilledCardsSay : Type 0

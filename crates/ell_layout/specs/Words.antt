@@ -1,5 +1,6 @@
-use Rattle.std.specs.Prelude.{ℕ, ◌%◌, ◌==◌, ◌||◌, if◌then◌else◌, Bool, true, false, zero, suc, List, slice_index}
+use Rattle.std.specs.Prelude.{ℕ, ◌+◌, ◌%◌, ◌==◌, ◌||◌, if◌then◌else◌, Bool, true, false, zero, suc, List, slice_index}
 use Rattle.ell_word.specs.Node.{card, internal, left_leaf, right_leaf, IsInternal}
+use Rattle.ell_word.specs.Link.{linked, link_in}
 use Rattle.ell_layout.specs.Layout.{listed}
 use Rattle.ell_layout.specs.declared.field.Field.{Field}
 use Rattle.ell_layout.specs.declared.field.Field.TheVariants.{Gp, P, L, Was, Key, Left, Right, Update, LeftLeafKey, RightLeafKey, LeftValue, RightValue}
@@ -8,19 +9,22 @@ use Rattle.ell_layout.specs.declared.field.Field.TheVariants.{Gp, P, L, Was, Key
 abbrev pub IsLeaf : ℕ → Type 0
 IsLeaf node = ¬ IsInternal node
 
--- the claim word; what each card says of its search; and of nodes the keys, values, children (true: right) and updates
+-- the claim word; what each card says of its search, and the tag that its child exchange expects; and of nodes the
+-- keys, values, children (true: right) with their tags, which count the changes of each child word, and updates
 pub record Words : Type 0 where
   pub next : ℕ
   pub gp : ℕ → ℕ
   pub p : ℕ → ℕ
   pub l : ℕ → ℕ
+  pub expects : ℕ → ℕ
   pub was : ℕ → ℕ
   pub key : ℕ → ℕ
   pub value : ℕ → ℕ
   pub child : ℕ → Bool → ℕ
+  pub tag : ℕ → Bool → ℕ
   pub update : ℕ → ℕ
 
--- the word of a field of a card
+-- what a field of a card says: a child, and the leaf where a search ended, without their tags
 abbrev pub word : Words → ℕ → Field → ℕ
 word w c Gp = w.gp c
 word w c P = w.p c
@@ -34,6 +38,14 @@ word w c LeftLeafKey = w.key (left_leaf c)
 word w c RightLeafKey = w.key (right_leaf c)
 word w c LeftValue = w.value (left_leaf c)
 word w c RightValue = w.value (right_leaf c)
+
+-- the word that a table has at a field of a card: a child stands with its tag, and the leaf where a search ended with
+-- the tag that the card expects
+abbrev pub table_word : Words → ℕ → Field → ℕ
+table_word w c L = linked (record { node = w.l c; tag = w.expects c })
+table_word w c Left = linked (record { node = w.child (internal c) false; tag = w.tag (internal c) false })
+table_word w c Right = linked (record { node = w.child (internal c) true; tag = w.tag (internal c) true })
+table_word w c field = word w c field
 
 -- a function with another value at x
 abbrev pub put : {A : Type 0} → (ℕ → A) → ℕ → A → ℕ → A
@@ -54,6 +66,14 @@ with_update w node value = record w { update = put w.update node value }
 abbrev pub with_child : Words → ℕ → Bool → ℕ → Words
 with_child w node right value = record w { child = put w.child node (put_side (w.child node) right value) }
 
+-- the words with another tag of a child
+abbrev pub with_tag : Words → ℕ → Bool → ℕ → Words
+with_tag w node right value = record w { tag = put w.tag node (put_side (w.tag node) right value) }
+
+-- the words after a change of a child word: another child, and a tag that is greater by one
+abbrev pub relinked : Words → ℕ → Bool → ℕ → Words
+relinked w node right value = with_tag (with_child w node right value) node right (w.tag node right + 1)
+
 -- the words with another key of a node
 abbrev pub with_key : Words → ℕ → ℕ → Words
 with_key w node value = record w { key = put w.key node value }
@@ -62,20 +82,29 @@ with_key w node value = record w { key = put w.key node value }
 abbrev pub with_value : Words → ℕ → ℕ → Words
 with_value w leaf value = record w { value = put w.value leaf value }
 
--- the words after a write to a field of a card
+-- the words where a field of a card says another thing; a child that is written has tag 0
 abbrev pub written : Words → ℕ → Field → ℕ → Words
 written w c Gp value = record w { gp = put w.gp c value }
 written w c P value = record w { p = put w.p c value }
 written w c L value = record w { l = put w.l c value }
 written w c Was value = record w { was = put w.was c value }
 written w c Key value = with_key w (internal c) value
-written w c Left value = with_child w (internal c) false value
-written w c Right value = with_child w (internal c) true value
+written w c Left value = with_tag (with_child w (internal c) false value) (internal c) false 0
+written w c Right value = with_tag (with_child w (internal c) true value) (internal c) true 0
 written w c Update value = with_update w (internal c) value
 written w c LeftLeafKey value = with_key w (left_leaf c) value
 written w c RightLeafKey value = with_key w (right_leaf c) value
 written w c LeftValue value = with_value w (left_leaf c) value
 written w c RightValue value = with_value w (right_leaf c) value
+
+-- the words after a write of a table's word to a field of a card: a child word says a node and its tag
+abbrev pub table_written : Words → ℕ → Field → ℕ → Words
+table_written w c L value = record w { l = put w.l c (link_in value).node; expects = put w.expects c (link_in value).tag }
+table_written w c Left value = with_tag (with_child w (internal c) false (link_in value).node)
+    (internal c) false (link_in value).tag
+table_written w c Right value = with_tag (with_child w (internal c) true (link_in value).node)
+    (internal c) true (link_in value).tag
+table_written w c field value = written w c field value
 
 -- the field that has the key of a node, by the remainder of its number
 abbrev pub key_field : ℕ → Field
@@ -93,20 +122,33 @@ abbrev pub child_field : Bool → Field
 child_field true = Right
 child_field false = Left
 
--- the words by the cards' fields: an internal node has no value, a leaf no child and no update word, a non-node nothing
+-- the words by what the cards' fields say: an internal node has no value, a leaf no child and no update word, a
+-- non-node nothing; all tags are 0
 abbrev pub words_from : ℕ → (ℕ → Field → ℕ) → Words
 words_from next at = record {
   next = next;
   gp = λ c. at c Gp;
   p = λ c. at c P;
   l = λ c. at c L;
+  expects = λ c. 0;
   was = λ c. at c Was;
   key = λ x. if x % 4 == 3 then 0 else at (card x) (key_field (x % 4));
   value = λ x. if x % 4 == 0 || x % 4 == 3 then 0 else at (card x) (value_field (x % 4));
   child = λ x right. if x % 4 == 0 then at (card x) (child_field right) else 0;
+  tag = λ x right. 0;
   update = λ x. if x % 4 == 0 then at (card x) Update else 0;
+}
+
+-- the same by the words that a table has at them: a child word, and that of the leaf where a search ended, are read as
+-- a node and a tag
+abbrev pub table_words : ℕ → (ℕ → Field → ℕ) → Words
+table_words next at = record (words_from next at) {
+  l = λ c. (link_in (at c L)).node;
+  expects = λ c. (link_in (at c L)).tag;
+  child = λ x right. if x % 4 == 0 then (link_in (at (card x) (child_field right))).node else 0;
+  tag = λ x right. if x % 4 == 0 then (link_in (at (card x) (child_field right))).tag else 0;
 }
 
 -- the words that a list of all words is
 unfoldable pub words_of : List ℕ → Words
-words_of words = words_from (slice_index words 0) (listed words)
+words_of words = table_words (slice_index words 0) (listed words)

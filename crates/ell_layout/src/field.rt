@@ -1,9 +1,10 @@
 //! The twelve words of a card, and where they stand.
 ghost use Rattle.std.specs.Prelude.{◌≡◌, ◌≤◌, ◌%◌, ℕ};
+ghost use Rattle.ell_word.specs.Link.{linked};
 ghost use Rattle.ell_word.specs.Node.{greatest_card, card, IsInternal, IsNode};
 ghost use Rattle.ell_word.specs.Word.{packed};
 ghost use Rattle.ell_layout.specs.Layout.{place, address, table_size};
-ghost use Rattle.ell_layout.specs.Words.{Words, word, key_field, value_field, child_field, IsLeaf};
+ghost use Rattle.ell_layout.specs.Words.{table_word, Words, word, key_field, value_field, child_field, IsLeaf};
 
 use ell_word::{State, Update, pack};
 
@@ -137,6 +138,11 @@ pub fn child_field(right: bool) -> Field
     // Returns the field that has the child of an internal node on this side.
     ensures field { result ≡ child_field right }
     ensures word { (w : Words) (node : ℕ) → IsInternal node → word w (card node) result ≡ w.child node right }
+    // A table has the child's word there, with its tag.
+    ensures table { (w : Words) (node : ℕ) → IsInternal node → table_word w (card node) result ≡ linked (record {
+      node = w.child node right;
+      tag = w.tag node right;
+    }) }
 {
     if right { Field::Right } else { Field::Left }
 }

@@ -1,6 +1,6 @@
 //! Laws of the words, and of the balanced tree over keys that are there at the start. Each is the contract of a function that does nothing.
 ghost use Rattle.ell_layout.specs.Balanced.{BranchesAreHalves, TreeIsShallow};
-ghost use Rattle.ell_layout.specs.Laws.{SameAfterSameWrite, WordsAreListed, AddressesAreInside, AddressesAreApart, FilledListsAreFilled, FilledCardsSay, ListsAreWritten, WordsAreWritten, NodesAreOnCards};
+ghost use Rattle.ell_layout.specs.Laws.{SameAfterSameWrite, WordsAreListed, AddressesAreInside, AddressesAreApart, FilledListsAreFilled, FilledCardsSay, TablesClaim, ListsAreWritten, WordsAreWritten, NodesAreOnCards};
 
 /// Each field of each card of a table has an address there, after that of the claim word, and no two share an address.
 pub fn each_word_has_its_address()
@@ -20,6 +20,8 @@ pub fn same_words()
     // last.
     ensures filled { FilledListsAreFilled }
     ensures cards { FilledCardsSay }
+    // A table whose next card is filled for an insert or a delete has claimed the card.
+    ensures claims { TablesClaim }
 {}
 
 /// A write to a list of words, or to the machine's, is read at its own address and leaves all other words and the claim

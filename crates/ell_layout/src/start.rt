@@ -3,7 +3,7 @@ ghost use Rattle.std.specs.Prelude.{◌≡◌, ◌+◌, ◌<◌, ◌≤◌, leng
 ghost use Rattle.ell_word.specs.Node.{greatest_card};
 ghost use Rattle.ell_layout.specs.Layout.{table_size};
 ghost use Rattle.ell_layout.specs.Words.{words_of};
-ghost use Rattle.ell_layout.specs.Cards.{filled};
+ghost use Rattle.ell_layout.specs.Cards.{table_filled};
 ghost use Rattle.ell_layout.specs.Start.{start_leaf, start_value, start_words, branch_filling};
 
 use crate::branch::{Branch, branch_of};
@@ -52,7 +52,7 @@ fn write_branch(words: &mut [u64], start: &[(u64, u64)], branch: Branch)
     requires leaves { branch.first + branch.left ≤ length start.now + 1 }
     requires most { branch.card + branch.left ≤ greatest_card }
     requires card { branch.card < greatest_card }
-    ensures { words_of words.new ≡ filled (words_of words.old) branch.card (branch_filling (start_leaf start.now)
+    ensures { words_of words.new ≡ table_filled (words_of words.old) branch.card (branch_filling (start_leaf start.now)
         (start_value start.now) branch) }
 {
     let middle = leaf_of(start, branch.first + branch.left);
@@ -95,7 +95,7 @@ fn leaf_of(start: &[(u64, u64)], leaf: u64) -> (u64, u64)
 fn write_fields(words: &mut [u64], card: u64, fields: &[(Field, u64)])
     requires inside { table_size card ≤ length words.old }
     requires most { card ≤ greatest_card }
-    ensures { words_of words.new ≡ filled (words_of words.old) card fields.now }
+    ensures { words_of words.new ≡ table_filled (words_of words.old) card fields.now }
 {
     for (field, value) in fields {
         words[field.address(card)] = *value;

@@ -1,0 +1,18 @@
+use Rattle.std.specs.Prelude.{ℕ, ◌+◌, ◌*◌, ◌/◌, ◌%◌, ◌^◌, ◌-◌}
+use Rattle.ell_word.specs.declared.link.Link.{Link}
+
+-- a child word has the node in its low 26 bits, and the tag above
+abbrev pub tag_unit : ℕ
+tag_unit = 67108864
+
+-- the greatest tag: it has 38 bits
+abbrev pub greatest_tag : ℕ
+greatest_tag = 2 ^ 38 - 1
+
+-- the word of a link
+abbrev pub linked : Link → ℕ
+linked link = 67108864 * link.tag + link.node
+
+-- the link that a word says
+abbrev pub link_in : ℕ → Link
+link_in word = record { node = word % 67108864; tag = word / 67108864 }

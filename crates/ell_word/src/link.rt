@@ -1,0 +1,49 @@
+//! The child word of an internal node: a node, and a tag that counts how often the word has changed.
+ghost use Rattle.std.specs.Prelude.{◌≡◌, ◌≤◌, ◌<◌};
+ghost use Rattle.ell_word.specs.Link.{greatest_tag, tag_unit, linked, link_in};
+ghost use Rattle.ell_word.specs.declared.link.Link.{Link};
+
+// Node numbers are below this one, so that a mask gives the node, which is asked at each node of a search.
+const TAG_UNIT: u64 = 67_108_864;
+
+/// What a child word says. The tag counts the changes of the word, so that no two of its values are the same, even if
+/// a node comes back.
+#[derive(Clone, Copy, Debug, PartialEq, Eq)]
+pub struct Link {
+    pub node: u64,
+    pub tag: u64,
+}
+
+impl Link {
+    /// Returns the word: 2^26 times the tag plus the node. Conditions: the node is below 2^26, and the tag below 2^38.
+    #[inline(always)]
+    pub fn word(self) -> u64
+        requires node { self.node < tag_unit }
+        requires tag { self.tag ≤ greatest_tag }
+        // Returns the word of the node and the tag.
+        ensures { result ≡ linked self }
+    {
+        TAG_UNIT * self.tag + self.node
+    }
+
+    /// Returns what a word says, whichever word it is.
+    #[inline(always)]
+    pub fn of(word: u64) -> Link
+        // Returns the node and the tag that the word says.
+        ensures link { result ≡ link_in word }
+        // The node is below 2^26 and the tag below 2^38, and their word is this one.
+        ensures node { result.node < tag_unit }
+        ensures tag { result.tag ≤ greatest_tag }
+        ensures again { linked result ≡ word }
+    {
+        Link {
+            node: word % TAG_UNIT,
+            tag: word / TAG_UNIT,
+        }
+    }
+}
+
+/// Linking and its reading undo each other for nodes below 2^26: each such node has with each tag a word of its own.
+pub fn links()
+    ensures back { (link : Link) → link.node < tag_unit → link_in (linked link) ≡ link }
+{}
