@@ -6,11 +6,12 @@ use crate::fact::Fact;
 use ell_ops::Op;
 use std::collections::LinkedList;
 
-/// An internal node with the update word that was read there.
+/// An internal node with the update word that was read there, and the tag of the child word that was read after it.
 #[derive(Clone, Copy)]
 pub struct Seen {
     pub node: u64,
     pub word: u64,
+    pub tag: u64,
 }
 
 /// Where a worker's search stands.
@@ -20,9 +21,9 @@ pub struct Search {
     pub node: Option<u64>,
     /// The update word that it has read there.
     pub read: Option<u64>,
-    /// The node before, with the update word that was read there.
+    /// The node before, with what was read there.
     pub parent: Option<Seen>,
-    /// The node before that, with the update word that was read there.
+    /// The node before that, with what was read there.
     pub grandparent: Option<Seen>,
 }
 

@@ -2,6 +2,7 @@ use Rattle.std.specs.Prelude.{ℕ, ◌+◌, ◌==◌, if◌then◌else◌, Bool,
 use Rattle.ell_word.specs.declared.update.State.TheVariants as state
 use Rattle.ell_word.specs.Node.{internal, left_leaf, right_leaf}
 use Rattle.ell_word.specs.Word.{packed}
+use Rattle.ell_word.specs.Link.{linked}
 use Rattle.ell_layout.specs.declared.field.Field.{Field}
 use Rattle.ell_layout.specs.declared.field.Field.TheVariants.{Gp, P, L, Was, Key, Left, Right, Update, LeftLeafKey, RightLeafKey, LeftValue, RightValue}
 use Rattle.ell_layout.specs.Layout.{place, address}
@@ -106,6 +107,11 @@ filled_list words c (e ∷ es) = filled_list (slice_set words (address c e.0) e.
 abbrev pub claimed : Words → ℕ → List (Field × ℕ) → Words
 claimed w tag filling =
     record (filled w w.next filling) { next = w.next + 1; expects = put w.expects w.next tag }
+
+-- what a table has at a field of which a claim has this: a leaf with the tag that the card expects
+abbrev pub tagged_for : Field → ℕ → ℕ → ℕ
+tagged_for L tag node = linked (record { node = node; tag = tag })
+tagged_for field tag value = value
 
 -- the words after these words of a table were written to the fields of a card
 abbrev pub table_filled : Words → ℕ → List (Field × ℕ) → Words

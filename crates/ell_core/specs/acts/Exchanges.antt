@@ -1,4 +1,4 @@
-use Rattle.std.specs.Prelude.{◌≡◌, ℕ, ◌==◌, if◌then◌else◌, Bool, true, false, Option, Some, None}
+use Rattle.std.specs.Prelude.{◌≡◌, ℕ, ◌==◌, ◌&&◌, if◌then◌else◌, Bool, true, false, Option, Some, None}
 use Rattle.ell_ops.specs.declared.op.Op.{Op}
 use Rattle.ell_ops.specs.declared.op.Op.TheVariants.{Delete}
 use Rattle.ell_core.specs.acts.Searching.{put_of}
@@ -9,7 +9,8 @@ use Rattle.ell_core.specs.declared.fact.Fact.TheVariants.{IFlagged, IChanged, IO
 use Rattle.ell_core.specs.declared.put.Put.{Put}
 use Rattle.ell_core.specs.declared.view.Seen.{Seen}
 use Rattle.ell_core.specs.declared.view.WorkerOf.{WorkerOf}
-use Rattle.ell_layout.specs.Words.{Words, with_update, with_child}
+use Rattle.ell_word.specs.declared.link.Link.{Link}
+use Rattle.ell_layout.specs.Words.{Words, with_update, relinked}
 use Rattle.ell_core.specs.state.Facts.{Knowledge, learned, learned_any, told_by}
 use Rattle.ell_core.specs.state.Machine.{Worker, Scene}
 use Rattle.ell_layout.specs.Cards.{iflag, dflag, marked, clean, exchange_side, sibling, brought}
@@ -27,10 +28,18 @@ exchanged_update w node expected new = if w.update node == expected then with_up
 abbrev pub found_child : Words → ℕ → ℕ → ℕ
 found_child w node new = w.child node (exchange_side w node new)
 
--- the words after an exchange of a node's child
-abbrev pub exchanged_child : Words → ℕ → ℕ → ℕ → Words
+-- its tag
+abbrev pub found_tag : Words → ℕ → ℕ → ℕ
+found_tag w node new = w.tag node (exchange_side w node new)
+
+-- whether that child word is the one that is expected: this node, with this tag
+abbrev pub finds_link : Words → ℕ → Link → ℕ → Bool
+finds_link w node expected new = (found_tag w node new == expected.tag) && (found_child w node new == expected.node)
+
+-- the words after an exchange of a node's child word from the expected one to a new child, with the next tag
+abbrev pub exchanged_child : Words → ℕ → Link → ℕ → Words
 exchanged_child w node expected new =
-    if found_child w node new == expected then with_child w node (exchange_side w node new) new else w
+    if finds_link w node expected new then relinked w node (exchange_side w node new) new else w
 
 -- a worker that knows more
 abbrev pub knowing : {L S K : Type 0} → WorkerOf L S K → K → WorkerOf L S K
@@ -84,12 +93,16 @@ pub record DFlag (s : Scene) (said : Stepped) (after : Scene) : Type 0 where
   pub says : said ≡ won_or_lost (s.words.update grandparent.node == grandparent.word)
   pub gives : after ≡ flags s grandparent (dflag card) (DFlagged card)
 
+-- the child word that a card's exchange expects: this node, with the tag that the card expects
+abbrev pub expected : Words → ℕ → ℕ → Link
+expected w c node = record { node = node; tag = w.expects c }
+
 -- ichild: the card is known flagged; the parent's child is exchanged from the leaf to the node that the card brings
 pub record IChild (c : ℕ) (s : Scene) (said : Stepped) (after : Scene) : Type 0 where
   pub may : s.worker.knows (IFlagged c) ≡ true
-  pub says : said ≡ won_or_lost (found_child s.words (s.words.p c) (brought s.words c) == s.words.l c)
+  pub says : said ≡ won_or_lost (finds_link s.words (s.words.p c) (expected s.words c (s.words.l c)) (brought s.words c))
   pub gives : after ≡ record {
-    words = exchanged_child s.words (s.words.p c) (s.words.l c) (brought s.words c);
+    words = exchanged_child s.words (s.words.p c) (expected s.words c (s.words.l c)) (brought s.words c);
     worker = knowing s.worker (learned s.worker.knows (IChanged c));
   }
 
@@ -121,9 +134,9 @@ pub record Mark (c : ℕ) (s : Scene) (said : Stepped) (after : Scene) : Type 0 
 -- dchild: the card is known marked; the grandparent's child is exchanged from the parent to the sibling of the leaf
 pub record DChild (c : ℕ) (s : Scene) (said : Stepped) (after : Scene) : Type 0 where
   pub may : s.worker.knows (Marked c) ≡ true
-  pub says : said ≡ won_or_lost (found_child s.words (s.words.gp c) (sibling s.words c) == s.words.p c)
+  pub says : said ≡ won_or_lost (finds_link s.words (s.words.gp c) (expected s.words c (s.words.p c)) (sibling s.words c))
   pub gives : after ≡ record {
-    words = exchanged_child s.words (s.words.gp c) (s.words.p c) (sibling s.words c);
+    words = exchanged_child s.words (s.words.gp c) (expected s.words c (s.words.p c)) (sibling s.words c);
     worker = knowing s.worker (learned s.worker.knows (Cut c));
   }
 

@@ -16,7 +16,7 @@ use Rattle.ell_layout.specs.declared.field.Field.{Field}
 use Rattle.ell_layout.specs.Words.{Words, put, IsLeaf}
 use Rattle.ell_core.specs.state.Facts.{Knowledge, learned_any, told_by}
 use Rattle.ell_core.specs.state.Machine.{Ledger, Worker, Scene, no_search}
-use Rattle.ell_layout.specs.Cards.{child_for, insert_filling, delete_filling, claimed}
+use Rattle.ell_layout.specs.Cards.{child_for, tag_for, insert_filling, delete_filling, claimed}
 use Rattle.ell_core.specs.declared.view.Entry.{Entry}
 use Rattle.ell_core.specs.declared.view.Entry.TheVariants.{Present, Absent}
 use Rattle.ell_ops.specs.declared.reply.Reply.{Reply}
@@ -62,11 +62,12 @@ pub record Upd (s : Scene) (said : Stepped) (after : Scene) : Type 0 where
     };
   }
 
--- the search goes down from a node, where it read an update word, to a child
+-- the search goes down from a node, where it read an update word and then a child word, to the child
 abbrev pub gone_down : Search → Seen → ℕ → Search
 gone_down search seen child = record { node = Some child; read = None; parent = Some seen; grandparent = search.parent }
 
--- down: it stands at an internal node whose update word it has read; it goes to the child on its key's side
+-- down: it stands at an internal node whose update word it has read; it reads the child word on its key's side, and goes
+-- to the child
 pub record Down (s : Scene) (said : Stepped) (after : Scene) : Type 0 where
   pub op : Op
   pub seen : Seen
@@ -74,6 +75,7 @@ pub record Down (s : Scene) (said : Stepped) (after : Scene) : Type 0 where
   pub stands : s.worker.search.node ≡ Some seen.node
   pub internal : IsInternal seen.node
   pub read : s.worker.search.read ≡ Some seen.word
+  pub tagged : seen.tag ≡ tag_for s.words (key_of op) seen.node
   pub says : said ≡ Moved
   pub gives : after ≡ record s {
     worker = record (s.worker) {
@@ -93,10 +95,10 @@ pub record AtCleanLeaf (v : Worker) (leaf : ℕ) (parent : Seen) : Type 0 where
 abbrev pub with_card : {L S K : Type 0} → ℕ → WorkerOf L S K → WorkerOf L S K
 with_card c v = record v { card = Some c; flagged = false }
 
--- the next card is claimed, filled, and in hand
-abbrev pub claims : Scene → List (Field × ℕ) → Scene
-claims s filling = record {
-  words = claimed s.words filling;
+-- the next card is claimed, filled, and in hand; it expects a child word of this tag
+abbrev pub claims : Scene → ℕ → List (Field × ℕ) → Scene
+claims s tag filling = record {
+  words = claimed s.words tag filling;
   worker = with_card s.words.next s.worker;
 }
 
@@ -116,7 +118,8 @@ HasPlace key (Some was) leaf_key leaf_value = (leaf_key ≡ key) × (leaf_value 
 abbrev pub TakesPut : Put → ℕ → ℕ → Type 0
 TakesPut what leaf_key leaf_value = HasPlace what.key what.was leaf_key leaf_value
 
--- claim for an insert or a swap: at such a leaf, where there is place for what it puts
+-- claim for an insert or a swap: at such a leaf, where there is place for what it puts; the card expects the parent's
+-- child word
 pub record ClaimPut (s : Scene) (said : Stepped) (after : Scene) : Type 0 where
   pub op : Op
   pub what : Put
@@ -127,10 +130,11 @@ pub record ClaimPut (s : Scene) (said : Stepped) (after : Scene) : Type 0 where
   pub at : AtCleanLeaf s.worker leaf parent
   pub takes : TakesPut what (s.words.key leaf) (s.words.value leaf)
   pub says : said ≡ Moved
-  pub gives : after ≡ claims s
+  pub gives : after ≡ claims s parent.tag
       (insert_filling s.words.next what.key what.value parent.node leaf (s.words.key leaf) (s.words.value leaf))
 
--- claim for a delete: at such a leaf of its key, with a grandparent whose update word it read clean
+-- claim for a delete: at such a leaf of its key, with a grandparent whose update word it read clean, and whose child
+-- word the card expects
 pub record ClaimDelete (s : Scene) (said : Stepped) (after : Scene) : Type 0 where
   pub key : ℕ
   pub leaf : ℕ
@@ -142,7 +146,7 @@ pub record ClaimDelete (s : Scene) (said : Stepped) (after : Scene) : Type 0 whe
   pub above : s.worker.search.grandparent ≡ Some grandparent
   pub calm : IsClean grandparent.word
   pub says : said ≡ Moved
-  pub gives : after ≡ claims s (delete_filling grandparent.node parent.node leaf parent.word)
+  pub gives : after ≡ claims s grandparent.tag (delete_filling grandparent.node parent.node leaf parent.word)
 
 -- an operation is in hand, and its card, if that is flagged, is known backed
 pub record MayStop (v : Worker) : Type 0 where

@@ -11,7 +11,7 @@ use Rattle.ell_core.specs.declared.view.Seen.{Seen}
 use Rattle.ell_layout.specs.Words.{Words, word, IsLeaf}
 use Rattle.ell_core.specs.state.Facts.{card_of_fact}
 use Rattle.ell_core.specs.state.Machine.{Worker, Machine, entry_of}
-use Rattle.ell_layout.specs.Cards.{iflag, dflag, marked, clean, is_right, child_for, exchange_side, sibling, is_replace_card}
+use Rattle.ell_layout.specs.Cards.{iflag, dflag, marked, clean, is_right, child_for, tag_for, exchange_side, sibling, is_replace_card}
 use Rattle.ell_core.specs.acts.Searching.{IsClean}
 use Rattle.ell_core.specs.state.Handovers.{WorkerIsIdle}
 use Rattle.ell_core.specs.soundness.Sound.{WorkerOwns, MayChange, IsNotShared, IsOwned, IsInHand, StrangersAreNobody}
@@ -88,8 +88,8 @@ pub record IsCopy (w : Words) (c leaf : ℕ) : Type 0 where
   pub value : w.value leaf ≡ w.value (w.l c)
 
 -- an insert's card: where it goes, with no grandparent and no update word that was read; two leaves, a copy of the old
--- one and one of its own key, which may be the same key, and which lie on one side of the parent; and the child that it
--- is to replace was not replaced by a lesser node
+-- one and one of its own key, which may be the same key, and which lie on one side of the parent; and the tag that it
+-- expects, which is below its own number and no greater than that of the parent's child word
 pub record InsertCard (w : Words) (stage : Stages) (c : ℕ) : Type 0 where
   pub gp : w.gp c ≡ 0
   pub was : w.was c ≡ 0
@@ -103,9 +103,10 @@ pub record InsertCard (w : Words) (stage : Stages) (c : ℕ) : Type 0 where
   pub real : insert_key w c ≤ greatest_key
   pub side : is_right w (w.p c) (insert_key w c) ≡ is_right w (w.p c) (w.key (w.l c))
   pub left_child : w.child (internal c) false ≢ 0
-  pub at_least : w.l c ≤ w.child (w.p c) (insert_side w c)
+  pub expected : w.expects c < c
+  pub at_least : w.expects c ≤ w.tag (w.p c) (insert_side w c)
 
--- a delete's card: where it cuts, and the update word that its search read at the parent
+-- a delete's card: where it cuts, the update word that its search read at the parent, and the tag that it expects
 pub record DeleteCard (w : Words) (stage : Stages) (c : ℕ) : Type 0 where
   pub grandparent : IsInnerBorn stage (w.gp c)
   pub parent : IsInnerBorn stage (w.p c)
@@ -116,6 +117,7 @@ pub record DeleteCard (w : Words) (stage : Stages) (c : ℕ) : Type 0 where
   pub real : delete_key w c ≤ greatest_key
   pub calm : IsClean (w.was c)
   pub earlier : w.was c < iflag c
+  pub expected : w.expects c < c
   pub no_left_child : w.child (internal c) false ≡ 0
 
 -- the nodes of a card that did not come into the tree: as they were filled
@@ -127,6 +129,7 @@ pub record Unborn (w : Words) (c : ℕ) : Type 0 where
 -- a card that was not claimed: all its words are 0
 pub record Blank (w : Words) (c : ℕ) : Type 0 where
   pub words : (field : Field) → word w c field ≡ 0
+  pub tags : (right : Bool) → w.tag (internal c) right ≡ 0
 
 -- what a card says, by its kind
 pub record CardIsSound (w : Words) (stage : Stages) (c : ℕ) : Type 0 where
@@ -136,14 +139,15 @@ pub record CardIsSound (w : Words) (stage : Stages) (c : ℕ) : Type 0 where
   pub unborn : is_insert (stage c) ≡ true → is_born (stage c) ≡ false → Unborn w c
   pub blank : is_claimed (stage c) ≡ false → Blank w c
 
--- what an insert's stage says of the parent's update word and child; while it waits, the parent is on course for its
--- key
+-- what an insert's stage says of the parent's update word and child word; while it waits, the parent is on course for
+-- its key
 pub record InsertStage (w : Words) (stage : Stages) (c : ℕ) : Type 0 where
   pub flag : insert_open (stage c) ≡ true → w.update (w.p c) ≡ iflag c
   pub over : insert_over (stage c) ≡ true → iflag c < w.update (w.p c)
   pub waits : insert_waits (stage c) ≡ true → w.child (w.p c) (insert_side w c) ≡ w.l c
+  pub tagged : insert_waits (stage c) ≡ true → w.tag (w.p c) (insert_side w c) ≡ w.expects c
   pub course : insert_waits (stage c) ≡ true → IsOnCourse w (insert_key w c) (w.p c)
-  pub changed : is_changed (stage c) ≡ true → w.l c < w.child (w.p c) (insert_side w c)
+  pub changed : is_changed (stage c) ≡ true → w.expects c < w.tag (w.p c) (insert_side w c)
   pub brings : is_changed (stage c) ≡ true → is_born (stage c) ≡ not (is_replace_card w c)
 
 -- the parent of a delete that may still be marked: its update word is the one that the search read, with the leaf still
@@ -159,9 +163,10 @@ pub record IsMarked (w : Words) (c : ℕ) : Type 0 where
   pub leaf : w.child (w.p c) (leaf_side w c) ≡ w.l c
   pub side : exchange_side w (w.gp c) (sibling w c) ≡ delete_side w c
 
--- a delete that has cut: the grandparent's child is past the parent, and the parent is in the tree no longer
+-- a delete that has cut: the grandparent's child word is past the one that it expected, and the parent is in the tree no
+-- longer
 pub record IsCut (w : Words) (c : ℕ) : Type 0 where
-  pub past : w.p c < w.child (w.gp c) (delete_side w c)
+  pub past : w.expects c < w.tag (w.gp c) (delete_side w c)
   pub out : IsOut w (w.p c)
 
 -- what a delete's stage says of the update words and children of grandparent and parent
@@ -169,6 +174,7 @@ pub record DeleteStage (w : Words) (stage : Stages) (c : ℕ) : Type 0 where
   pub flag : delete_open (stage c) ≡ true → w.update (w.gp c) ≡ dflag c
   pub past : delete_past (stage c) ≡ true → dflag c < w.update (w.gp c)
   pub waits : delete_waits (stage c) ≡ true → w.child (w.gp c) (delete_side w c) ≡ w.p c
+  pub tagged : delete_waits (stage c) ≡ true → w.tag (w.gp c) (delete_side w c) ≡ w.expects c
   pub markable : is_markable (stage c) ≡ true → Markable w c
   pub unmarkable : is_unmarkable (stage c) ≡ true → w.was c < w.update (w.p c)
   pub marked : is_marked (stage c) ≡ true → IsMarked w c
@@ -199,9 +205,10 @@ pub record TreeIsSound (w : Words) (stage : Stages) : Type 0 where
   pub last : LeadsTo w infinity1 0
   pub there : (x : ℕ) → IsInternal x → Born stage x → ((c : ℕ) → w.update x ≢ marked c) → IsIn w x
 
--- the words, with the stages of the cards
+-- the words, with the stages of the cards; a child word has changed less often than cards were claimed
 pub record WordsAreSound (w : Words) (stage : Stages) : Type 0 where
   pub opening : stage 0 ≡ Opening
+  pub tags : (x : ℕ) (right : Bool) → w.tag x right < w.next
   pub cards : (c : ℕ) → CardIsSound w stage c
   pub inserts : (c : ℕ) → InsertStage w stage c
   pub deletes : (c : ℕ) → DeleteStage w stage c
@@ -210,14 +217,15 @@ pub record WordsAreSound (w : Words) (stage : Stages) : Type 0 where
   pub tree : TreeIsSound w stage
 
 -- what a search has seen of a node on its way to x: the node has a lesser rank than x, and x's key on k's side; its update word
--- was read before its child; and if that word was clean and still stands, x is still the child
+-- was read before its child word; and if that word was clean and still stands, so does the child word
 pub record SeenIsSound (w : Words) (stage : Stages) (k : ℕ) (seen : Seen) (x : ℕ) : Type 0 where
   pub node : IsInnerBorn stage seen.node
   pub less : rank seen.node < rank x
   pub word : seen.word ≤ w.update seen.node
   pub side : is_right w seen.node (w.key x) ≡ is_right w seen.node k
-  pub at_least : x ≤ child_for w k seen.node
+  pub at_least : seen.tag ≤ tag_for w k seen.node
   pub still : IsClean seen.word → w.update seen.node ≡ seen.word → child_for w k seen.node ≡ x
+  pub tagged : IsClean seen.word → w.update seen.node ≡ seen.word → tag_for w k seen.node ≡ seen.tag
 
 -- a worker that stands at x with an operation on key k
 pub record StandIsSound (w : Words) (stage : Stages) (v : Worker) (k x : ℕ) : Type 0 where
@@ -247,6 +255,7 @@ pub record InsertInHand (w : Words) (stage : Stages) (v : Worker) (what : Put) (
   pub node : parent.node ≡ w.p c
   pub calm : IsClean parent.word
   pub earlier : parent.word < iflag c
+  pub tagged : parent.tag ≡ w.expects c
   pub own : insert_key w c ≡ what.key
   pub own_value : insert_value w c ≡ what.value
   pub kind : IsPutting w c what.was
@@ -264,6 +273,7 @@ pub record DeleteInHand (w : Words) (stage : Stages) (v : Worker) (k c : ℕ) : 
   pub top_node : grandparent.node ≡ w.gp c
   pub calm : IsClean grandparent.word
   pub earlier : grandparent.word < iflag c
+  pub tagged : grandparent.tag ≡ w.expects c
   pub own : delete_key w c ≡ k
 
 -- a card in hand that is not flagged is of the operation's kind
@@ -322,6 +332,7 @@ pub record GoesNowhere (w : Words) (c : ℕ) : Type 0 where
   pub parent : w.p c ≡ 0
   pub leaf : w.l c ≡ 0
   pub was : w.was c ≡ 0
+  pub expects : w.expects c ≡ 0
 
 -- the cards of the opening tree go nowhere, and every other claimed card is an insert's or a delete's
 pub record KindsAreSound (w : Words) (stage : Stages) : Type 0 where

@@ -1,5 +1,5 @@
-use Rattle.std.specs.Prelude.{◌≡◌, ℕ, ◌<◌, ◌≤◌, Bool, true, false, List, [], ◌∷◌, ◌++◌}
-use Rattle.ell_word.specs.Node.{card}
+use Rattle.std.specs.Prelude.{◌≡◌, ◌≢◌, ℕ, ◌<◌, ◌≤◌, Bool, true, false, List, [], ◌∷◌, ◌++◌}
+use Rattle.ell_word.specs.Node.{card, internal}
 use Rattle.ell_core.specs.declared.exchange.Exchange.{Exchange}
 use Rattle.ell_core.specs.declared.exchange.Exchange.TheVariants as exchange
 use Rattle.ell_core.specs.declared.event.Act.{Act}
@@ -19,22 +19,30 @@ pub record SameInfo (old new : Words) (c : ℕ) : Type 0 where
   pub gp : new.gp c ≡ old.gp c
   pub p : new.p c ≡ old.p c
   pub l : new.l c ≡ old.l c
+  pub expects : new.expects c ≡ old.expects c
   pub was : new.was c ≡ old.was c
 
--- all words of a card are as they were
-abbrev pub SaysTheSame : Words → Words → ℕ → Type 0
-SaysTheSame old new c = (field : Field) → word new c field ≡ word old c field
+-- all words of a card are as they were, with their tags
+pub record SaysTheSame (old new : Words) (c : ℕ) : Type 0 where
+  pub words : (field : Field) → word new c field ≡ word old c field
+  pub expects : new.expects c ≡ old.expects c
+  pub tags : (right : Bool) → new.tag (internal c) right ≡ old.tag (internal c) right
 
--- an update word and the children of a node are as they were
+-- an update word and the child words of a node are as they were
 pub record SameNode (old new : Words) (x : ℕ) : Type 0 where
   pub update : new.update x ≡ old.update x
   pub child : (right : Bool) → new.child x right ≡ old.child x right
+  pub tag : (right : Bool) → new.tag x right ≡ old.tag x right
 
--- the words of a later state: the claim word, children and update words rose or stayed, a claimed card goes where it
--- went and its nodes have their keys and values, and a marked node is as it was
+-- the words of a later state: the claim word, the tags of children and the update words rose or stayed, no child became
+-- 0, and a claimed card's is the same while its tag is; it goes where it went and its nodes have their keys and values,
+-- and a marked node is as it was
 pub record WordsLater (old new : Words) : Type 0 where
   pub next : old.next ≤ new.next
-  pub child : (x : ℕ) (right : Bool) → old.child x right ≤ new.child x right
+  pub tag : (x : ℕ) (right : Bool) → old.tag x right ≤ new.tag x right
+  pub child : (x : ℕ) (right : Bool) → card x < old.next → new.tag x right ≡ old.tag x right
+      → new.child x right ≡ old.child x right
+  pub some : (x : ℕ) (right : Bool) → old.child x right ≢ 0 → new.child x right ≢ 0
   pub update : (x : ℕ) → old.update x ≤ new.update x
   pub info : (c : ℕ) → c < old.next → SameInfo old new c
   pub key : (x : ℕ) → card x < old.next → new.key x ≡ old.key x

@@ -6,7 +6,7 @@ use Rattle.ell_core.specs.declared.fact.Fact.{Fact}
 use Rattle.ell_core.specs.declared.fact.Fact.TheVariants as fact
 use Rattle.ell_layout.specs.Words.{Words, put}
 use Rattle.ell_core.specs.state.Machine.{Ledger, Worker}
-use Rattle.ell_layout.specs.Cards.{iflag, dflag, marked, is_delete_card, card_child}
+use Rattle.ell_layout.specs.Cards.{iflag, dflag, marked, is_delete_card, card_tag}
 use Rattle.ell_core.specs.declared.view.Entry.{Entry}
 use Rattle.ell_core.specs.declared.view.Entry.TheVariants.{Present, Absent}
 
@@ -14,9 +14,10 @@ use Rattle.ell_core.specs.declared.view.Entry.TheVariants.{Present, Absent}
 abbrev pub IFlagHolds : Words → ℕ → Type 0
 IFlagHolds w c = (is_delete_card w c ≡ false) × (iflag c ≤ w.update (w.p c))
 
--- the insert's child exchange was made: the parent's child on the card's side is not the leaf any more
+-- the insert's child exchange was made: the parent's child word on the card's side has not the tag any more that the card
+-- expects
 abbrev pub IChangeHolds : Words → ℕ → Type 0
-IChangeHolds w c = IFlagHolds w c × (card_child w c (w.p c) ≢ w.l c)
+IChangeHolds w c = IFlagHolds w c × (card_tag w c (w.p c) ≢ w.expects c)
 
 -- the delete's flag was set: the grandparent's update word is the flag, or past it
 abbrev pub DFlagHolds : Words → ℕ → Type 0
@@ -30,9 +31,10 @@ MarkHolds w c = DFlagHolds w c × (w.update (w.p c) ≡ marked c)
 abbrev pub UnmarkableHolds : Words → ℕ → Type 0
 UnmarkableHolds w c = DFlagHolds w c × (w.was c < w.update (w.p c)) × (w.update (w.p c) ≢ marked c)
 
--- the delete's child exchange was made: the grandparent's child on the card's side is not the parent any more
+-- the delete's child exchange was made: the grandparent's child word on the card's side has not the tag any more that the
+-- card expects
 abbrev pub CutHolds : Words → ℕ → Type 0
-CutHolds w c = MarkHolds w c × (card_child w c (w.gp c) ≢ w.p c)
+CutHolds w c = MarkHolds w c × (card_tag w c (w.gp c) ≢ w.expects c)
 
 -- what a fact says of the words
 abbrev pub Holds : Words → Fact → Type 0
@@ -54,13 +56,13 @@ entry_made (Delete key) changed true = Some Absent
 entry_made (Swap key was value) true cut = Some (Present value)
 entry_made _ _ _ = None
 
--- once an insert's flag was won: whether its child exchange was made, which takes the leaf from the parent forever
+-- once an insert's flag was won: whether its child exchange was made, as the tag that it expects never comes back
 abbrev pub is_changed_in : Words → ℕ → Bool
-is_changed_in w c = not (card_child w c (w.p c) == w.l c)
+is_changed_in w c = not (card_tag w c (w.p c) == w.expects c)
 
--- once a delete's flag was won: whether it has cut, which takes its marked parent from the grandparent forever
+-- once a delete's flag was won: whether it has cut, after its mark, as the tag that it expects never comes back
 abbrev pub is_cut_in : Words → ℕ → Bool
-is_cut_in w c = if w.update (w.p c) == marked c then not (card_child w c (w.gp c) == w.p c) else false
+is_cut_in w c = if w.update (w.p c) == marked c then not (card_tag w c (w.gp c) == w.expects c) else false
 
 -- what an operation has made of its key by the words, once the flag of its card was won
 abbrev pub made_in : Words → Op → ℕ → Option Entry

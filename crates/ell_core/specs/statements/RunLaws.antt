@@ -113,10 +113,17 @@ abbrev pub MarkedNodesAreFrozen : Type 0
 MarkedNodesAreFrozen = (m m' : Machine) → Follow m m' → (x : ℕ) → (unpacked (m.words.update x)).state ≡ state.Mark
     → SameNode m.words m'.words x
 
+-- a child word of the internal node of a card: its tag only rises, and while the tag of a claimed card's stays, so does
+-- the child
+pub record ChildWordRises (old new : Words) (c : ℕ) (right : Bool) : Type 0 where
+  pub tag : old.tag (internal c) right ≤ new.tag (internal c) right
+  pub child : c < old.next → new.tag (internal c) right ≡ old.tag (internal c) right
+      → new.child (internal c) right ≡ old.child (internal c) right
+
 -- the child words and the update word of the internal node of every card only rise
 abbrev pub WordsRise : Type 0
 WordsRise = (m m' : Machine) → Follow m m' → (c : ℕ) →
-    ((right : Bool) → m.words.child (internal c) right ≤ m'.words.child (internal c) right)
+    ((right : Bool) → ChildWordRises m.words m'.words c right)
     × (m.words.update (internal c) ≤ m'.words.update (internal c))
 
 -- knowledge is never lost, and what holds, holds ever after

@@ -36,10 +36,10 @@ IsOfUnended stage word = (unpacked word).state ≢ state.Clean → has_ended (st
 
 -- what a search has read at a node since these words and stages: no less than the word that stood there then, of no
 -- card that had ended then, at no node that was cut out then
-pub record SeenSince (w : Words) (stage : Stages) (seen : Seen) : Type 0 where
-  pub word : w.update seen.node ≤ seen.word
-  pub unended : IsOfUnended stage seen.word
-  pub there : (c : ℕ) → is_cut (stage c) ≡ true → w.p c ≢ seen.node
+pub record SeenSince (w : Words) (stage : Stages) (node word : ℕ) : Type 0 where
+  pub word : w.update node ≤ word
+  pub unended : IsOfUnended stage word
+  pub there : (c : ℕ) → is_cut (stage c) ≡ true → w.p c ≢ node
 
 -- a search that began at these words and stages: its walk goes by no node that was cut out then, and so is all that it
 -- has read
@@ -47,9 +47,9 @@ pub record SearchSince (w : Words) (stage : Stages) (now : Words) (v : Worker) :
   pub walk : (op : Op) (x : ℕ) → v.operation ≡ Some op → v.search.node ≡ Some x
       → Avoids now (cut_at stage) (key_of op) x
   pub read : (x word : ℕ) → v.search.node ≡ Some x → v.search.read ≡ Some word
-      → SeenSince w stage (record { node = x; word = word })
-  pub parent : (seen : Seen) → v.search.parent ≡ Some seen → SeenSince w stage seen
-  pub grandparent : (seen : Seen) → v.search.grandparent ≡ Some seen → SeenSince w stage seen
+      → SeenSince w stage x word
+  pub parent : (seen : Seen) → v.search.parent ≡ Some seen → SeenSince w stage seen.node seen.word
+  pub grandparent : (seen : Seen) → v.search.grandparent ≡ Some seen → SeenSince w stage seen.node seen.word
 
 -- an act that neither begins a search nor ends an operation
 abbrev pub GoesOn : Act → Type 0

@@ -5,9 +5,9 @@ use Rattle.ell_core.specs.declared.event.Event.{Event}
 use Rattle.ell_core.specs.declared.event.Stepped.{Stepped}
 use Rattle.ell_core.specs.declared.event.Stepped.TheVariants.{Won}
 use Rattle.ell_layout.specs.declared.field.Field.{Field}
-use Rattle.ell_layout.specs.Words.{word}
+use Rattle.ell_layout.specs.Words.{table_word}
 use Rattle.ell_core.specs.state.Machine.{Machine}
-use Rattle.ell_layout.specs.Cards.{claimed, stored}
+use Rattle.ell_layout.specs.Cards.{claimed, stored, tagged_for}
 use Rattle.ell_core.specs.acts.Events.{Steps}
 use Rattle.ell_core.specs.history.Stages.{Stages, is_start, Born, waits}
 use Rattle.ell_core.specs.history.Invariant.{Invariant}
@@ -57,7 +57,8 @@ EventsLeaveWaiting =
     (m : Machine) (stage : Stages) (e : Event) (said : Stepped) (m' : Machine) → Invariant m stage → Steps m e said m'
     → (follows : Follows m stage e.act e.worker said m') → LeavesWaiting m stage e said m' follows.stages
 
--- after a claim, each field of the card has what its filling has of it, or 0
+-- after a claim, a table has at each field of the card what its filling has of it, or 0; at the leaf's with the tag that
+-- the card expects
 abbrev pub ClaimedCardsSay : Type 0
-ClaimedCardsSay = (m : Machine) (stage : Stages) (filling : List (Field × ℕ)) (field : Field) → Invariant m stage
-    → word (claimed m.words filling) m.words.next field ≡ stored filling field 0
+ClaimedCardsSay = (m : Machine) (stage : Stages) (tag : ℕ) (filling : List (Field × ℕ)) (field : Field) → Invariant m stage
+    → table_word (claimed m.words tag filling) m.words.next field ≡ tagged_for field tag (stored filling field 0)

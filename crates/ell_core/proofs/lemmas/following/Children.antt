@@ -6,14 +6,15 @@ use Rattle.ell_core.specs.declared.event.Act.{Act}
 use Rattle.ell_core.specs.declared.event.Act.TheVariants as act
 use Rattle.ell_core.specs.declared.event.Event.{Event}
 use Rattle.ell_core.specs.declared.event.Stepped.{Stepped}
-use Rattle.ell_layout.specs.Words.{Words, with_update, with_child}
+use Rattle.ell_layout.specs.Words.{Words, with_update, relinked}
 use Rattle.ell_core.specs.state.Machine.{Machine, Scene, scene}
 use Rattle.ell_layout.specs.Cards.{exchange_side, claimed, insert_filling, delete_filling}
-use Rattle.ell_core.specs.acts.Exchanges.{won_or_lost, exchanged_update, exchanged_child, found_child}
+use Rattle.ell_core.specs.acts.Exchanges.{won_or_lost, exchanged_update, exchanged_child, finds_link}
 use Rattle.ell_core.specs.acts.Events.{Row, Steps}
 use Rattle.ell_core.specs.acts.Wins.{wins_by}
 use Rattle.ell_core.proofs.lemmas.keeping.claim.Filling.{claimed_claims}
 use Rattle.ell_core.proofs.lemmas.stages.Sums.{child_changes, sum_by}
+use Rattle.ell_word.specs.declared.link.Link.{Link}
 
 update_child : (w : Words) (node expected value x : ℕ) (right : Bool) → (exchanged_update w node expected value).child x right ≡ w.child x right
 update_child w node expected value x right = by (w.update node == expected)
@@ -23,10 +24,10 @@ update_child w node expected value x right = by (w.update node == expected)
     by false = refl
 
 -- a lost exchange of a child leaves it
-lost_child : (w : Words) (node expected new x : ℕ) (right : Bool) (b : Bool) → (found_child w node new == expected) ≡ b → b ≡ false
+lost_child : (w : Words) (node : ℕ) (expected : Link) (new x : ℕ) (right : Bool) (b : Bool) → finds_link w node expected new ≡ b → b ≡ false
     → (exchanged_child w node expected new).child x right ≡ w.child x right
 lost_child w node expected new x right b is lost =
-    ap (λ (b : Bool). (if b then with_child w node (exchange_side w node new) new else w).child x right) (is ∙ lost)
+    ap (λ (b : Bool). (if b then relinked w node (exchange_side w node new) new else w).child x right) (is ∙ lost)
 
 -- a card has won the exchange that was won for it
 change_won : (a : Act) (k : Exchange) (c : ℕ) (b : Bool) → child_changes k ≡ 1 → sum_by child_changes (if b then (if c == c then k ∷ [] else []) else []) ≡ 0 → b ≡ false
@@ -35,8 +36,8 @@ change_won a k c true is none =
     let same = ap (λ (t : Bool). sum_by child_changes (if t then k ∷ [] else [])) (eq-eqb c c refl) in
     absurd (omega arith)
 
-claim_child : (w : Words) (filling : _) (x : ℕ) (right : Bool) → card x < w.next → (claimed w filling).child x right ≡ w.child x right
-claim_child w filling x right low = (claimed_claims w filling).others.child x right (λ e. omega arith)
+claim_child : (w : Words) (tag : ℕ) (filling : _) (x : ℕ) (right : Bool) → card x < w.next → (claimed w tag filling).child x right ≡ w.child x right
+claim_child w tag filling x right low = (claimed_claims w tag filling).others.child x right (λ e. omega arith)
 
 -- what an act that exchanges no child leaves of the children of nodes of claimed cards
 row_children : (a : Act) (s : Scene) (said : Stepped) (after : Scene) → Row a s said after → ((d : ℕ) → sum_by child_changes (wins_by a s.worker.card said d) ≡ 0)
@@ -48,9 +49,9 @@ row_children act.Again s said after row none x right low = ap (λ (z : Scene). z
 row_children act.Leave s said after row none x right low = ap (λ (z : Scene). z.words.child x right) row.gives
 row_children act.Answer s said after row none x right low = ap (λ (z : Scene). z.words.child x right) row.gives
 row_children act.Claim s said after (inl row) none x right low = ap (λ (z : Scene). z.words.child x right) row.gives
-    ∙ claim_child s.words (insert_filling s.words.next row.what.key row.what.value row.parent.node row.leaf (s.words.key row.leaf) (s.words.value row.leaf)) x right low
+    ∙ claim_child s.words row.parent.tag (insert_filling s.words.next row.what.key row.what.value row.parent.node row.leaf (s.words.key row.leaf) (s.words.value row.leaf)) x right low
 row_children act.Claim s said after (inr row) none x right low = ap (λ (z : Scene). z.words.child x right) row.gives
-    ∙ claim_child s.words (delete_filling row.grandparent.node row.parent.node row.leaf row.parent.word) x right low
+    ∙ claim_child s.words row.grandparent.tag (delete_filling row.grandparent.node row.parent.node row.leaf row.parent.word) x right low
 row_children act.IFlag s said after row none x right low = ap (λ (z : Scene). z.words.child x right) row.gives ∙ update_child s.words _ _ _ x right
 row_children act.DFlag s said after row none x right low = ap (λ (z : Scene). z.words.child x right) row.gives ∙ update_child s.words _ _ _ x right
 row_children (act.IUnflag c) s said after row none x right low = ap (λ (z : Scene). z.words.child x right) row.gives ∙ update_child s.words _ _ _ x right

@@ -5,10 +5,10 @@ use Rattle.ell_core.specs.declared.event.Act.{Act}
 use Rattle.ell_core.specs.declared.event.Act.TheVariants as act
 use Rattle.ell_core.specs.declared.event.Stepped.{Stepped}
 use Rattle.ell_core.specs.declared.fact.Fact.TheVariants.{IChanged, Cut, Unmarkable}
-use Rattle.ell_layout.specs.Words.{Words, put, with_update, with_child}
+use Rattle.ell_layout.specs.Words.{Words, put, with_update, relinked}
 use Rattle.ell_core.specs.state.Machine.{Machine, Scene, scene, with_scene}
 use Rattle.ell_layout.specs.Cards.{iflag, dflag, marked, clean, exchange_side}
-use Rattle.ell_core.specs.acts.Exchanges.{exchanged_update, exchanged_child, found_child}
+use Rattle.ell_core.specs.acts.Exchanges.{exchanged_update, exchanged_child, finds_link}
 use Rattle.ell_core.specs.acts.Events.{Row}
 use Rattle.ell_core.specs.history.Stages.{Stages, insert_open, delete_open}
 use Rattle.ell_core.specs.history.Invariant.{Invariant, IsInnerBorn}
@@ -17,6 +17,7 @@ use Rattle.ell_core.specs.statements.Since.{has_ended, IsFlaggedAt, CleansSince,
 use Rattle.ell_layout.proofs.lemmas.Writes.{put_same, put_other}
 use Rattle.ell_core.proofs.lemmas.stages.Order.{changed-insert, cut-delete, unmarkable-delete, insert-claimed, delete-claimed}
 use Rattle.ell_core.proofs.lemmas.stages.Ended.{changed-ended, cut-ended, unmarkable-ended, insert_open-unended, delete_open-unended, ends_last, unended_before}
+use Rattle.ell_word.specs.declared.link.Link.{Link}
 
 -- what an act makes of an update word: it stays, or is no clean one of a card that may have a flag, or ends its card
 data Change (old new : Words) (before after : Stages) (x : ℕ) : Type 0 where
@@ -40,10 +41,10 @@ exchange_at w node expected value x = by (w.update node == expected) refl
       | inr n ↦ inl (put_other w.update node value x n)
     ]
 
-child_update : (w : Words) (x expected new y : ℕ) → (exchanged_child w x expected new).update y ≡ w.update y
-child_update w x expected new y = by (found_child w x new == expected)
+child_update : (w : Words) (x : ℕ) (expected : Link) (new y : ℕ) → (exchanged_child w x expected new).update y ≡ w.update y
+child_update w x expected new y = by (finds_link w x expected new)
   where
-    by : (b : Bool) → (if b then with_child w x (exchange_side w x new) new else w).update y ≡ w.update y
+    by : (b : Bool) → (if b then relinked w x (exchange_side w x new) new else w).update y ≡ w.update y
     by true = refl
     by false = refl
 

@@ -5,12 +5,12 @@ use Rattle.ell_core.specs.declared.event.Act.{Act}
 use Rattle.ell_core.specs.declared.event.Act.TheVariants as act
 use Rattle.ell_core.specs.declared.event.Stepped.{Stepped}
 use Rattle.ell_core.specs.declared.fact.Fact.TheVariants.{Cut}
-use Rattle.ell_layout.specs.Words.{Words, with_child}
+use Rattle.ell_layout.specs.Words.{Words, relinked}
 use Rattle.ell_core.specs.state.Machine.{Machine, Scene, scene, with_scene}
 use Rattle.ell_layout.specs.Cards.{marked, is_right, child_for, exchange_side, claimed, insert_filling, delete_filling}
 use Rattle.ell_layout.specs.declared.field.Field.{Field}
 use Rattle.ell_core.specs.acts.Searching.{claims}
-use Rattle.ell_core.specs.acts.Exchanges.{exchanged_child, found_child}
+use Rattle.ell_core.specs.acts.Exchanges.{exchanged_child, finds_link}
 use Rattle.ell_core.specs.acts.Events.{Row}
 use Rattle.ell_core.specs.tree.Tree.{OnWalk, here, next, Reached}
 use Rattle.ell_core.specs.history.Stages.{Stages, Born, IClaimed, is_cut}
@@ -24,6 +24,7 @@ use Rattle.ell_core.proofs.lemmas.keeping.claim.Filling.{claimed_claims}
 use Rattle.ell_core.proofs.lemmas.keeping.claim.Frames.{Claiming, child_kept}
 use Rattle.ell_core.proofs.lemmas.keeping.AllEvents.{steps_follow}
 use Rattle.ell_core.proofs.lemmas.following.TreeKeys.{KeepsLinks, row_links}
+use Rattle.ell_word.specs.declared.link.Link.{Link}
 
 -- a node that is cut out is not reached
 cut_out : (w : Words) (stage : Stages) → WordsAreSound w stage → (c : ℕ) → is_cut (stage c) ≡ true → ¬ Reached w (w.p c)
@@ -64,10 +65,10 @@ marked_or_not u = elim (cases_eq u (marked (u / 4))) [
 ]
 
 -- a child exchange leaves the update words
-child_update : (w : Words) (x expected new y : ℕ) → (exchanged_child w x expected new).update y ≡ w.update y
-child_update w x expected new y = by (found_child w x new == expected)
+child_update : (w : Words) (x : ℕ) (expected : Link) (new y : ℕ) → (exchanged_child w x expected new).update y ≡ w.update y
+child_update w x expected new y = by (finds_link w x expected new)
   where
-    by : (b : Bool) → (if b then with_child w x (exchange_side w x new) new else w).update y ≡ w.update y
+    by : (b : Bool) → (if b then relinked w x (exchange_side w x new) new else w).update y ≡ w.update y
     by true = refl
     by false = refl
 
@@ -83,12 +84,12 @@ module _ (m : Machine) (stage : Stages) (i : ℕ) (said : Stepped) (becomes : Sc
   ]
 
   -- a claim changes no child of a node that came into the tree
-  moved_claim : (filling : List (Field × ℕ)) → becomes ≡ claims (scene m i) filling
+  moved_claim : (tag : ℕ) (filling : List (Field × ℕ)) → becomes ≡ claims (scene m i) tag filling
       → (x : ℕ) (right : Bool) → Born stage x → Moved m.words becomes.words x right
-  moved_claim filling is x right born =
-      let claiming : Claiming m.words (claimed m.words filling) stage IClaimed =
-      record { words = invariant.words; claims = claimed_claims m.words filling; fresh = inl refl } in
-      inl (ap (λ (s : Scene). s.words.child x right) is ∙ child_kept m.words (claimed m.words filling) stage IClaimed claiming x right born)
+  moved_claim tag filling is x right born =
+      let claiming : Claiming m.words (claimed m.words tag filling) stage IClaimed =
+      record { words = invariant.words; claims = claimed_claims m.words tag filling; fresh = inl refl } in
+      inl (ap (λ (s : Scene). s.words.child x right) is ∙ child_kept m.words (claimed m.words tag filling) stage IClaimed claiming x right born)
 
   -- an act that keeps the links changes no child
   moved_links : (a : Act) → KeepsLinks a → Row a (scene m i) said becomes → (x : ℕ) (right : Bool) → Moved m.words becomes.words x right
@@ -98,9 +99,9 @@ module _ (m : Machine) (stage : Stages) (i : ℕ) (said : Stepped) (becomes : Sc
   pub moved_by : (a : Act) → Row a (scene m i) said becomes → Follows m stage a i said (with_scene m i becomes)
       → (x : ℕ) (right : Bool) → IsInternal x → Born stage x → Moved m.words becomes.words x right
   moved_by act.Claim (inl row) follows x right inner born =
-      moved_claim (insert_filling m.words.next row.what.key row.what.value row.parent.node row.leaf (m.words.key row.leaf) (m.words.value row.leaf)) row.gives x right born
+      moved_claim row.parent.tag (insert_filling m.words.next row.what.key row.what.value row.parent.node row.leaf (m.words.key row.leaf) (m.words.value row.leaf)) row.gives x right born
   moved_by act.Claim (inr row) follows x right inner born =
-      moved_claim (delete_filling row.grandparent.node row.parent.node row.leaf row.parent.word) row.gives x right born
+      moved_claim row.grandparent.tag (delete_filling row.grandparent.node row.parent.node row.leaf row.parent.word) row.gives x right born
   moved_by (act.IChild c) row follows x right inner born =
       moved_calm (act.IChild c) follows x right inner born
       (ap (λ (s : Scene). s.words.update x) row.gives ∙ child_update m.words _ _ _ x)

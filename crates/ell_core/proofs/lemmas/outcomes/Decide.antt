@@ -114,6 +114,6 @@ same_value e f = cc
 pub some_not_none : {A : Type 0} {o : Option A} {x : A} → o ≡ Some x → ¬ (o ≡ None)
 some_not_none e f = cc
 
--- a node with an update word is known by both
-pub same_seen : (a : Seen) (node word : ℕ) → a.node ≡ node → a.word ≡ word → a ≡ record { node = node; word = word }
-same_seen a node word e f = ap2 (λ (x y : ℕ). let z : Seen = record { node = x; word = y } in z) e f
+-- what was seen of a node is known by its three numbers
+pub same_seen : (a b : Seen) → a.node ≡ b.node → a.word ≡ b.word → a.tag ≡ b.tag → a ≡ b
+same_seen a b e f g = λ t. record { node = e t; word = f t; tag = g t }

@@ -11,7 +11,7 @@ use Rattle.ell_core.specs.declared.view.Seen.{Seen}
 use Rattle.ell_layout.specs.Cards.{iflag, dflag, marked, clean, sibling, brought}
 use Rattle.ell_core.specs.state.Facts.{learned}
 use Rattle.ell_core.specs.state.Machine.{Scene}
-use Rattle.ell_core.specs.acts.Exchanges.{won_or_lost, exchanged_update, found_child, exchanged_child, knowing, flags, mark_teaches, IFlag, DFlag, IChild, IUnflag, Mark, DChild, DUnflag, Backtrack}
+use Rattle.ell_core.specs.acts.Exchanges.{won_or_lost, exchanged_update, finds_link, expected, exchanged_child, knowing, flags, mark_teaches, IFlag, DFlag, IChild, IUnflag, Mark, DChild, DUnflag, Backtrack}
 use Rattle.ell_core.proofs.lemmas.outcomes.Decide.{Settled, ap2, cases_option, cases_put, cases_delete, same_value, some_not_none}
 
 -- what a flag exchange at this node says
@@ -84,9 +84,9 @@ pub settles_ichild : (c : ℕ) (s : Scene) → Settled (IChild c s)
 settles_ichild c s = elim (cases_Bool (s.worker.knows (IFlagged c))) [
   | inr n ↦ inr (λ said after r. false≢true (sym n ∙ r.may))
   | inl may ↦ inl (record {
-    said = won_or_lost (found_child s.words (s.words.p c) (brought s.words c) == s.words.l c);
+    said = won_or_lost (finds_link s.words (s.words.p c) (expected s.words c (s.words.l c)) (brought s.words c));
     after = record {
-      words = exchanged_child s.words (s.words.p c) (s.words.l c) (brought s.words c);
+      words = exchanged_child s.words (s.words.p c) (expected s.words c (s.words.l c)) (brought s.words c);
       worker = knowing s.worker (learned s.worker.knows (IChanged c));
     };
     row = record { may = may; says = refl; gives = refl };
@@ -129,9 +129,9 @@ pub settles_dchild : (c : ℕ) (s : Scene) → Settled (DChild c s)
 settles_dchild c s = elim (cases_Bool (s.worker.knows (Marked c))) [
   | inr n ↦ inr (λ said after r. false≢true (sym n ∙ r.may))
   | inl may ↦ inl (record {
-    said = won_or_lost (found_child s.words (s.words.gp c) (sibling s.words c) == s.words.p c);
+    said = won_or_lost (finds_link s.words (s.words.gp c) (expected s.words c (s.words.p c)) (sibling s.words c));
     after = record {
-      words = exchanged_child s.words (s.words.gp c) (s.words.p c) (sibling s.words c);
+      words = exchanged_child s.words (s.words.gp c) (expected s.words c (s.words.p c)) (sibling s.words c);
       worker = knowing s.worker (learned s.worker.knows (Cut c));
     };
     row = record { may = may; says = refl; gives = refl };

@@ -7,7 +7,7 @@ use Rattle.ell_core.specs.declared.event.Stepped.TheVariants.{Moved, Answered}
 use Rattle.ell_core.specs.declared.fact.Fact.TheVariants.{Backed}
 use Rattle.ell_core.specs.declared.put.Put.{Put}
 use Rattle.ell_core.specs.declared.view.Seen.{Seen}
-use Rattle.ell_layout.specs.Cards.{child_for, insert_filling, delete_filling}
+use Rattle.ell_layout.specs.Cards.{child_for, insert_filling, delete_filling, tag_for}
 use Rattle.ell_core.specs.state.Facts.{learned_any, told_by}
 use Rattle.ell_core.specs.state.Machine.{Worker, Scene}
 use Rattle.ell_core.specs.acts.Searching.{put_of, TakesPut, IsClean, Begin, Upd, Down, AtCleanLeaf, ClaimPut, ClaimDelete, MayStop, Again, Leave, value_at, leaf_answer, card_answer, AnswersAtLeaf, AnswersByCard, HasAnswer, Answer, begun, ended, with_read, gone_down, claims, ledger_after}
@@ -69,15 +69,20 @@ settles_down_at : (s : Scene) (op : Op) (node word : ℕ) → s.worker.operation
 settles_down_at s op node word busy stands read = elim (decides_internal node) [
   | inl i ↦ inl (record {
     said = Moved;
-    after = down_from s op (record { node = node; word = word });
-    row = record { op = op; seen = record { node = node; word = word }; busy = busy; stands = stands; internal = i; read = read; says = refl; gives = refl };
+    after = down_from s op seen;
+    row = record { op = op; seen = seen; busy = busy; stands = stands; internal = i; read = read; tagged = refl; says = refl; gives = refl };
     only = λ other later r. (
       r.says,
-      r.gives ∙ ap2 (down_from s) (same_value r.busy busy) (same_seen r.seen node word (same_value r.stands stands) (same_value r.read read)),
+      (let same_op = same_value r.busy busy in let same_node = same_value r.stands stands in
+      r.gives ∙ ap2 (down_from s) same_op (same_seen r.seen seen same_node (same_value r.read read)
+      (r.tagged ∙ (λ t. tag_for s.words (key_of (same_op t)) (same_node t))))),
     );
   })
   | inr n ↦ inr (λ said after r. n (ap (λ x. x % 4) (same_value stands r.stands) ∙ r.internal))
 ]
+  where
+    seen : Seen
+    seen = record { node = node; word = word; tag = tag_for s.words (key_of op) node }
 
 -- down has one outcome or none
 pub settles_down : (s : Scene) → Settled (Down s)
@@ -135,7 +140,7 @@ same_delete e f = cc
 -- the scene after a claim for an insert or a swap
 abbrev put_claimed : Scene → Put → ℕ → Seen → Scene
 put_claimed s what leaf parent =
-    claims s (insert_filling s.words.next what.key what.value parent.node leaf (s.words.key leaf) (s.words.value leaf))
+    claims s parent.tag (insert_filling s.words.next what.key what.value parent.node leaf (s.words.key leaf) (s.words.value leaf))
 
 -- two claims of one operation put the same
 same_put : {o : Option Op} {op other : Op} {what then : Put} → o ≡ Some op → o ≡ Some other → put_of op ≡ Some what → put_of other ≡ Some then
@@ -176,7 +181,7 @@ settles_claim_put s = elim (cases_option s.worker.operation) [
 
 -- the scene after a claim for a delete
 abbrev delete_claimed : Scene → Seen → ℕ → Seen → Scene
-delete_claimed s grandparent leaf parent = claims s (delete_filling grandparent.node parent.node leaf parent.word)
+delete_claimed s grandparent leaf parent = claims s grandparent.tag (delete_filling grandparent.node parent.node leaf parent.word)
 
 -- a claim for a delete at a leaf of its key has one outcome or none
 settles_claim_delete_at : (s : Scene) (key : ℕ) (a : CleanLeaf s.worker) (grandparent : Seen) → s.worker.operation ≡ Some (Delete key) → s.words.key a.leaf ≡ key

@@ -10,7 +10,7 @@ use Rattle.ell_core.specs.declared.fact.Fact.TheVariants as fact
 use Rattle.ell_layout.specs.Words.{Words}
 use Rattle.ell_core.specs.state.Facts.{card_of_fact}
 use Rattle.ell_core.specs.state.Machine.{Ledger, Worker}
-use Rattle.ell_layout.specs.Cards.{iflag, dflag, marked, is_right, is_delete_card, card_child}
+use Rattle.ell_layout.specs.Cards.{iflag, dflag, marked, is_right, is_delete_card, card_child, card_tag, card_key}
 use Rattle.ell_core.specs.soundness.Holds.{IFlagHolds, IChangeHolds, DFlagHolds, MarkHolds, UnmarkableHolds, CutHolds, Holds, entry_made, is_changed_in, is_cut_in, made_in, with_made, effective_of, effective}
 use Rattle.ell_core.specs.history.Stages.{Stage, Stages, is_insert, is_delete, insert_won, insert_open, insert_waits, is_changed, insert_over, delete_won, delete_open, delete_waits, is_unmarkable, is_marked, is_cut, delete_past, delete_over, is_backed, allows, made_by_stage, effective_at_of, effective_at}
 use Rattle.ell_core.specs.history.Stages as at
@@ -62,34 +62,34 @@ made_delete : (k : ℕ) (cut : Bool) (changed changed' : Bool) → entry_made (D
 made_delete k true changed changed' = refl
 made_delete k false changed changed' = refl
 
--- an insert that won its flag has changed the child or waits for it
-changed_by_child : (s : Stage) (child leaf : ℕ) → insert_won s ≡ true
-    → (insert_waits s ≡ true → child ≡ leaf) → (is_changed s ≡ true → leaf < child) → not (child == leaf) ≡ is_changed s
-changed_by_child at.IFlagged child leaf won waits changed = let b = waits refl in grind (arith, nat_tests)
-changed_by_child at.IChanged child leaf won waits changed = let b = changed refl in grind (arith, nat_tests)
-changed_by_child at.IOver child leaf won waits changed = let b = changed refl in grind (arith, nat_tests)
-changed_by_child at.RChanged child leaf won waits changed = let b = changed refl in grind (arith, nat_tests)
-changed_by_child at.ROver child leaf won waits changed = let b = changed refl in grind (arith, nat_tests)
-changed_by_child _ child leaf won waits changed = absurd (false≢true won)
+-- an insert that won its flag has changed the child word or waits for it
+changed_by_tag : (s : Stage) (tag expected : ℕ) → insert_won s ≡ true
+    → (insert_waits s ≡ true → tag ≡ expected) → (is_changed s ≡ true → expected < tag) → not (tag == expected) ≡ is_changed s
+changed_by_tag at.IFlagged tag expected won waits changed = let b = waits refl in grind (arith, nat_tests)
+changed_by_tag at.IChanged tag expected won waits changed = let b = changed refl in grind (arith, nat_tests)
+changed_by_tag at.IOver tag expected won waits changed = let b = changed refl in grind (arith, nat_tests)
+changed_by_tag at.RChanged tag expected won waits changed = let b = changed refl in grind (arith, nat_tests)
+changed_by_tag at.ROver tag expected won waits changed = let b = changed refl in grind (arith, nat_tests)
+changed_by_tag _ tag expected won waits changed = absurd (false≢true won)
 
 -- a delete that won its flag has cut if it is marked and does not wait
-cut_by_child : (s : Stage) (below mark child parent : ℕ) → delete_won s ≡ true
-    → (delete_waits s ≡ true → child ≡ parent) → (is_cut s ≡ true → parent < child)
+cut_by_tag : (s : Stage) (below mark tag expected : ℕ) → delete_won s ≡ true
+    → (delete_waits s ≡ true → tag ≡ expected) → (is_cut s ≡ true → expected < tag)
     → (is_marked s ≡ true → below ≡ mark) → (below ≡ mark → is_marked s ≡ true)
-    → (if below == mark then not (child == parent) else false) ≡ is_cut s
-cut_by_child at.DFlagged below mark child parent won waits cut marks marked =
+    → (if below == mark then not (tag == expected) else false) ≡ is_cut s
+cut_by_tag at.DFlagged below mark tag expected won waits cut marks marked =
     elim (cases_eq below mark) [ inl e ↦ absurd (false≢true (marked e)) | inr n ↦ grind (arith, nat_tests) ]
-cut_by_child at.DUnmarkable below mark child parent won waits cut marks marked =
+cut_by_tag at.DUnmarkable below mark tag expected won waits cut marks marked =
     elim (cases_eq below mark) [ inl e ↦ absurd (false≢true (marked e)) | inr n ↦ grind (arith, nat_tests) ]
-cut_by_child at.DMarked below mark child parent won waits cut marks marked =
+cut_by_tag at.DMarked below mark tag expected won waits cut marks marked =
     let b = marks refl in let c = waits refl in grind (arith, nat_tests)
-cut_by_child at.DCut below mark child parent won waits cut marks marked =
+cut_by_tag at.DCut below mark tag expected won waits cut marks marked =
     let b = marks refl in let c = cut refl in grind (arith, nat_tests)
-cut_by_child at.DOver below mark child parent won waits cut marks marked =
+cut_by_tag at.DOver below mark tag expected won waits cut marks marked =
     let b = marks refl in let c = cut refl in grind (arith, nat_tests)
-cut_by_child at.DBacked below mark child parent won waits cut marks marked =
+cut_by_tag at.DBacked below mark tag expected won waits cut marks marked =
     elim (cases_eq below mark) [ inl e ↦ absurd (false≢true (marked e)) | inr n ↦ grind (arith, nat_tests) ]
-cut_by_child _ below mark child parent won waits cut marks marked = absurd (false≢true won)
+cut_by_tag _ below mark tag expected won waits cut marks marked = absurd (false≢true won)
 
 -- the words are sound at these stages
 module _ (w : Words) (stage : Stages) (sound : WordsAreSound w stage) where
@@ -101,18 +101,29 @@ module _ (w : Words) (stage : Stages) (sound : WordsAreSound w stage) where
   pub delete_kind : (c : ℕ) → is_delete (stage c) ≡ true → is_delete_card w c ≡ true
   delete_kind c h = eq-eqb (w.child (internal c) false) 0 ((sound.cards c).delete h).no_left_child
 
-  -- the child on the side of a card's own key is the one that its exchange is about
+  -- the side of a card's own key at the parent is that on which its exchange puts its node
+  insert_card_side : (c : ℕ) → is_insert (stage c) ≡ true → is_right w (w.p c) (card_key w c) ≡ insert_side w c
+  insert_card_side c h =
+      ap (is_right w (w.p c)) (cond-false (is_delete_card w c) (delete_key w c) (insert_key w c) (insert_kind c h))
+      ∙ insert_key-side w stage c ((sound.cards c).insert h)
+
+  -- so the child there is the one that its exchange is about
   pub insert_card_child : (c : ℕ) → is_insert (stage c) ≡ true → card_child w c (w.p c) ≡ w.child (w.p c) (insert_side w c)
-  insert_card_child c h =
-      ap (λ k. w.child (w.p c) (is_right w (w.p c) k))
-      (cond-false (is_delete_card w c) (delete_key w c) (insert_key w c) (insert_kind c h))
-      ∙ ap (w.child (w.p c)) (insert_key-side w stage c ((sound.cards c).insert h))
+  insert_card_child c h = ap (w.child (w.p c)) (insert_card_side c h)
+
+  pub insert_card_tag : (c : ℕ) → is_insert (stage c) ≡ true → card_tag w c (w.p c) ≡ w.tag (w.p c) (insert_side w c)
+  insert_card_tag c h = ap (w.tag (w.p c)) (insert_card_side c h)
 
   -- the same of a delete
+  delete_card_side : (c : ℕ) → is_delete (stage c) ≡ true → is_right w (w.gp c) (card_key w c) ≡ delete_side w c
+  delete_card_side c h =
+      ap (is_right w (w.gp c)) (cond-true (is_delete_card w c) (delete_key w c) (insert_key w c) (delete_kind c h))
+
   pub delete_card_child : (c : ℕ) → is_delete (stage c) ≡ true → card_child w c (w.gp c) ≡ w.child (w.gp c) (delete_side w c)
-  delete_card_child c h =
-      ap (λ k. w.child (w.gp c) (is_right w (w.gp c) k))
-      (cond-true (is_delete_card w c) (delete_key w c) (insert_key w c) (delete_kind c h))
+  delete_card_child c h = ap (w.child (w.gp c)) (delete_card_side c h)
+
+  pub delete_card_tag : (c : ℕ) → is_delete (stage c) ≡ true → card_tag w c (w.gp c) ≡ w.tag (w.gp c) (delete_side w c)
+  delete_card_tag c h = ap (w.tag (w.gp c)) (delete_card_side c h)
 
   -- what each fact says, of a card whose stage allows it
   iflag_holds : (c : ℕ) → insert_won (stage c) ≡ true → IFlagHolds w c
@@ -130,7 +141,7 @@ module _ (w : Words) (stage : Stages) (sound : WordsAreSound w stage) where
         iflag_holds c won,
         λ e.
             let past = (sound.inserts c).changed h in
-            let child = insert_card_child c (insert_won-insert (stage c) won) in
+            let tag = insert_card_tag c (insert_won-insert (stage c) won) in
             absurd (omega arith),
       )
 
@@ -166,7 +177,7 @@ module _ (w : Words) (stage : Stages) (sound : WordsAreSound w stage) where
         mark_holds c mark,
         λ e.
             let past = ((sound.deletes c).cut h).past in
-            let child = delete_card_child c (delete_won-delete (stage c) (marked-won (stage c) mark)) in
+            let tag = delete_card_tag c (delete_won-delete (stage c) (marked-won (stage c) mark)) in
             absurd (omega arith),
       )
 
@@ -187,18 +198,18 @@ module _ (w : Words) (stage : Stages) (sound : WordsAreSound w stage) where
   -- the words of a card that won its flag show whether its child exchange was made
   changed_in : (c : ℕ) → insert_won (stage c) ≡ true → is_changed_in w c ≡ is_changed (stage c)
   changed_in c h =
-      let child = insert_card_child c (insert_won-insert (stage c) h) in
+      let tag = insert_card_tag c (insert_won-insert (stage c) h) in
       let says = sound.inserts c in
-      changed_by_child (stage c) (card_child w c (w.p c)) (w.l c) h (λ g. child ∙ says.waits g) (λ g. subst (λ n. w.l c < n) (sym child) (says.changed g))
+      changed_by_tag (stage c) (card_tag w c (w.p c)) (w.expects c) h (λ g. tag ∙ says.tagged g) (λ g. subst (λ n. w.expects c < n) (sym tag) (says.changed g))
 
   -- the same of a delete
   cut_in : (c : ℕ) → delete_won (stage c) ≡ true → is_cut_in w c ≡ is_cut (stage c)
   cut_in c h =
       let kind = delete_won-delete (stage c) h in
-      let child = delete_card_child c kind in
+      let tag = delete_card_tag c kind in
       let says = sound.deletes c in
-      cut_by_child (stage c) (w.update (w.p c)) (marked c) (card_child w c (w.gp c)) (w.p c) h
-      (λ g. child ∙ says.waits g) (λ g. subst (λ n. w.p c < n) (sym child) (says.cut g).past)
+      cut_by_tag (stage c) (w.update (w.p c)) (marked c) (card_tag w c (w.gp c)) (w.expects c) h
+      (λ g. tag ∙ says.tagged g) (λ g. subst (λ n. w.expects c < n) (sym tag) (says.cut g).past)
       (λ g. (says.marked g).mark) (mark_means c kind)
 
   -- so what they show that it has made, its stage has made

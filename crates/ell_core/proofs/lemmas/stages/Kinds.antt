@@ -22,6 +22,7 @@ nowhere_later old new c words h = let info = words.info c h.below in record {
   parent = info.p ∙ h.parent;
   leaf = info.l ∙ h.leaf;
   was = info.was ∙ h.was;
+  expects = info.expects ∙ h.expects;
 }
 
 -- the cards' kinds are kept by words and stages that are later, where the claim word stayed or claimed a card of a kind

@@ -93,9 +93,12 @@ module _ (old new : Words) (stage : Stages) (sound : WordsAreSound old stage) (w
     insert_side_later = side_later (old.p c) (new.p c) (old.key (internal c)) (new.key (internal c)) insert_info.p
         (insert_node_key (internal c) (omega arith)) insert_said.parent.born
 
-    -- the child there is that of the same node on the same side
+    -- the child word there is that of the same node on the same side
     pub insert_child_later : new.child (new.p c) (insert_side new c) ≡ new.child (old.p c) (insert_side old c)
     insert_child_later = λ t. new.child (insert_info.p t) (insert_side_later t)
+
+    pub insert_tag_later : new.tag (new.p c) (insert_side new c) ≡ new.tag (old.p c) (insert_side old c)
+    insert_tag_later = λ t. new.tag (insert_info.p t) (insert_side_later t)
 
   module _ (c : ℕ) (deletes : is_delete (stage c) ≡ true) where
     delete_said : DeleteCard old stage c
@@ -117,9 +120,12 @@ module _ (old new : Words) (stage : Stages) (sound : WordsAreSound old stage) (w
     leaf_side_later = side_later (old.p c) (new.p c) (delete_key old c) (delete_key new c) delete_info.p
         delete_key_later delete_said.parent.born
 
-    -- the children there are those of the same nodes on the same sides
+    -- the child words there are those of the same nodes on the same sides
     pub top_child_later : new.child (new.gp c) (delete_side new c) ≡ new.child (old.gp c) (delete_side old c)
     top_child_later = λ t. new.child (delete_info.gp t) (delete_side_later t)
+
+    pub top_tag_later : new.tag (new.gp c) (delete_side new c) ≡ new.tag (old.gp c) (delete_side old c)
+    top_tag_later = λ t. new.tag (delete_info.gp t) (delete_side_later t)
 
     pub leaf_child_later : new.child (new.p c) (leaf_side new c) ≡ new.child (old.p c) (leaf_side old c)
     leaf_child_later = λ t. new.child (delete_info.p t) (leaf_side_later t)

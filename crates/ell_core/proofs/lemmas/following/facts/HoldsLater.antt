@@ -1,19 +1,19 @@
-use Rattle.std.proofs.Common.{◌≡◌, ◌≢◌, ℕ, ◌%◌, ◌<◌, ◌≤◌, ◌⊎◌, inl, inr, true, false, refl, sym, ap, ◌∙◌, arith}
+use Rattle.std.proofs.Common.{◌≡◌, ◌≢◌, ℕ, ◌%◌, ◌<◌, ◌≤◌, ◌⊎◌, inl, inr, true, false, refl, sym, ap, ◌∙◌, arith, nat_le}
 use Rattle.std.proofs.lemmas.Bool.{false≢true, cases_Bool, eqb-true}
-use Rattle.ell_word.specs.Node.{internal, card}
+use Rattle.ell_word.specs.Node.{internal, left_leaf, right_leaf, card}
 use Rattle.ell_core.specs.declared.fact.Fact.{Fact}
 use Rattle.ell_core.specs.declared.fact.Fact.TheVariants as fact
 use Rattle.ell_layout.specs.Words.{Words}
 use Rattle.ell_core.specs.state.Facts.{card_of_fact}
-use Rattle.ell_layout.specs.Cards.{iflag, dflag, is_right, is_delete_card, card_key, card_child}
+use Rattle.ell_layout.specs.Cards.{iflag, dflag, is_right, is_delete_card, card_key, card_tag}
 use Rattle.ell_core.specs.soundness.Holds.{IFlagHolds, IChangeHolds, DFlagHolds, MarkHolds, UnmarkableHolds, CutHolds, Holds}
 use Rattle.ell_core.specs.history.Stages.{Stages, is_start, is_node_born, is_insert, is_delete, is_cut, delete_waits}
 use Rattle.ell_core.specs.history.Invariant.{insert_key, insert_side, delete_side, WordsAreSound, KindsAreSound}
 use Rattle.ell_core.specs.history.Later.{WordsLater, StagesLater}
 use Rattle.ell_core.proofs.lemmas.runs.Chains.{MarksLater}
-use Rattle.ell_core.proofs.lemmas.words.Sides.{card_key-insert, card_key-delete, insert_key-side}
+use Rattle.ell_core.proofs.lemmas.words.Sides.{key_of_three, card_key-insert, card_key-delete, insert_key-side}
 use Rattle.ell_core.proofs.lemmas.following.facts.Claimed.{is_delete-by_child, not_delete-by_child, fact_claimed}
-use Rattle.ell_core.proofs.lemmas.stages.LaterKeys.{root_born, side_later, insert_key_later, top_child_later, insert_info}
+use Rattle.ell_core.proofs.lemmas.stages.LaterKeys.{born_below, top_tag_later}
 use Rattle.ell_core.proofs.lemmas.stages.Order.{marked_cases}
 use Rattle.ell_core.proofs.lemmas.stages.Waiting.{start-born}
 use Rattle.ell_core.proofs.lemmas.tree.Ranks.{rank_least}
@@ -59,7 +59,7 @@ module _ (old new : Words) (stage stages : Stages) (before : WordsAreSound old s
 
   iflag_later : (c : ℕ) → c < old.next → IFlagHolds old c → IFlagHolds new c
   iflag_later c below h = (
-    not_delete-by_child new c (λ e. left_child old c h.0 (let rises = words.child (internal c) false in omega arith)),
+    not_delete-by_child new c (words.some (internal c) false (left_child old c h.0)),
     (let rises = update_later (old.p c) (new.p c) (words.info c below).p in let flag = h.1 in omega arith),
   )
 
@@ -87,65 +87,72 @@ module _ (old new : Words) (stage stages : Stages) (before : WordsAreSound old s
     ]),
   )
 
-  -- the root's children are past node 0, to which a card of the opening tree says that it goes
-  start_change : (c : ℕ) → is_start (stage c) ≡ true → c < old.next → card_child new c (new.p c) ≢ new.l c
-  start_change c is below e =
-      let parent : new.p c ≡ 0 = (words.info c below).p ∙ (kinds.start c is).parent in
-      let leaf : new.l c ≡ 0 = (words.info c below).l ∙ (kinds.start c is).leaf in
-      let side = is_right new (new.p c) (card_key new c) in
-      let up = (after.children 0 refl (root_born new stages after)).rising side in
-      let same : new.child (new.p c) side ≡ new.child 0 side = ap (λ n. new.child n side) parent in
-      let none = ap rank (sym same ∙ (e ∙ leaf)) in
+  -- the tag at the parent of a card that counts as an insert's, and goes to nodes of claimed cards, on the card's side, later
+  -- and before
+  side_tag : (c : ℕ) → c < old.next → card (old.p c) < old.next → card (old.l c) < old.next → is_delete_card old c ≡ false
+      → is_delete_card new c ≡ false → card_tag new c (new.p c) ≡ new.tag (old.p c) (is_right old (old.p c) (card_key old c))
+  side_tag c below parent leaf no_delete still =
+      let info = words.info c below in
+      let left = words.key (left_leaf c) (omega arith) in
+      let right = words.key (right_leaf c) (omega arith) in
+      let at_leaf = ap new.key info.l ∙ words.key (old.l c) leaf in
+      let at_parent = ap new.key info.p ∙ words.key (old.p c) parent in
+      let key : card_key new c ≡ card_key old c =
+      card_key-insert new c still ∙ ((λ t. key_of_three (left t) (right t) (at_leaf t)) ∙ sym (card_key-insert old c no_delete)) in
+      λ t. new.tag (info.p t) (nat_le (at_parent t) (key t))
+
+  -- the tags that such a card expects are those of cards before it, so that once its tag was greater it stays so
+  made_change : (c : ℕ) → c < old.next → card (old.p c) < old.next → card (old.l c) < old.next → IChangeHolds old c
+      → old.expects c ≤ card_tag old c (old.p c) → card_tag new c (new.p c) ≢ new.expects c
+  made_change c below parent leaf h least e =
+      let now = side_tag c below parent leaf h.0.0 (iflag_later c below h.0).0 in
+      let rises = words.tag (old.p c) (is_right old (old.p c) (card_key old c)) in
+      let same = (words.info c below).expects in
+      let apart = h.1 in
       omega arith
 
-  -- the child of an insert's parent on the card's side, later and before
-  insert_later : (c : ℕ) → is_insert (stage c) ≡ true → is_delete_card new c ≡ false
-      → card_child new c (new.p c) ≡ new.child (old.p c) (insert_side old c)
-  insert_later c insert none =
-      let key = card_key-insert new c none ∙ insert_key_later old new stage before words c insert in
-      let parent = (insert_info old new stage before words c insert).p in
-      let card = (before.cards c).insert insert in
-      let side = side_later old new stage before words (old.p c) (new.p c) (insert_key old c) (card_key new c) parent key card.parent.born in
-      λ t. new.child (parent t) ((side ∙ insert_key-side old stage c card) t)
-
-  insert_child : (c : ℕ) → is_insert (stage c) ≡ true → is_delete_card old c ≡ false → card_child old c (old.p c) ≡ old.child (old.p c) (insert_side old c)
-  insert_child c insert none =
-      ap (old.child (old.p c)) (ap (is_right old (old.p c)) (card_key-insert old c none) ∙ insert_key-side old stage c ((before.cards c).insert insert))
+  -- a card of the opening tree says that it goes to node 0, and expects tag 0
+  start_change : (c : ℕ) → is_start (stage c) ≡ true → c < old.next → IChangeHolds old c → card_tag new c (new.p c) ≢ new.expects c
+  start_change c is below h =
+      let nowhere = kinds.start c is in
+      let parent = nowhere.parent in
+      let leaf = nowhere.leaf in
+      let expects = nowhere.expects in
+      let some = kinds.some in
+      made_change c below (omega arith) (omega arith) h (omega arith)
 
   -- an insert's child exchange was made once and for all
-  insert_change : (c : ℕ) → c < old.next → is_insert (stage c) ≡ true → IChangeHolds old c → card_child new c (new.p c) ≢ new.l c
-  insert_change c below insert h e =
-      let least = ((before.cards c).insert insert).at_least in
-      let was = insert_child c insert h.0.0 in
-      let apart : old.child (old.p c) (insert_side old c) ≢ old.l c = (λ same. h.1 (was ∙ same)) in
-      let rises = words.child (old.p c) (insert_side old c) in
-      let now = insert_later c insert (iflag_later c below h.0).0 in
-      let leaf = (words.info c below).l in
-      omega arith
+  insert_change : (c : ℕ) → c < old.next → is_insert (stage c) ≡ true → IChangeHolds old c → card_tag new c (new.p c) ≢ new.expects c
+  insert_change c below insert h =
+      let said = (before.cards c).insert insert in
+      let least = said.at_least in
+      let tag : card_tag old c (old.p c) ≡ old.tag (old.p c) (insert_side old c) =
+      ap (old.tag (old.p c)) (ap (is_right old (old.p c)) (card_key-insert old c h.0.0) ∙ insert_key-side old stage c said) in
+      made_change c below (born_below old stage before (old.p c) said.parent.born) (born_below old stage before (old.l c) said.leaf.born) h (omega arith)
 
   ichange_later : (c : ℕ) → c < old.next → IChangeHolds old c → IChangeHolds new c
   ichange_later c below h = (
     iflag_later c below h.0,
     elim (counts_as_insert old stage c before kinds below h.0.0) [
-      | inl start ↦ start_change c start below
+      | inl start ↦ start_change c start below h
       | inr insert ↦ insert_change c below insert h
     ],
   )
 
-  -- a delete's grandparent's child on the card's side, later and before
-  delete_child_later : (c : ℕ) → is_delete (stage c) ≡ true → is_delete_card new c ≡ true
-      → card_child new c (new.gp c) ≡ new.child (old.gp c) (delete_side old c)
-  delete_child_later c delete some =
-      ap (λ k. new.child (new.gp c) (is_right new (new.gp c) k)) (card_key-delete new c some)
-      ∙ top_child_later old new stage before words c delete
+  -- the tag at a delete's grandparent on the card's side, later and before
+  delete_tag_later : (c : ℕ) → is_delete (stage c) ≡ true → is_delete_card new c ≡ true
+      → card_tag new c (new.gp c) ≡ new.tag (old.gp c) (delete_side old c)
+  delete_tag_later c delete some =
+      ap (λ k. new.tag (new.gp c) (is_right new (new.gp c) k)) (card_key-delete new c some)
+      ∙ top_tag_later old new stage before words c delete
 
-  -- a delete that is marked, and whose grandparent's child is not the parent, has cut
+  -- a delete that is marked, and whose grandparent's child word has not the tag that it expects, has cut
   has_cut : (c : ℕ) → is_delete (stage c) ≡ true → CutHolds old c → is_cut (stage c) ≡ true
   has_cut c delete h =
       let parent = ((before.cards c).delete delete).parent in
       let marked = ((before.updates (old.p c) parent.inner parent.born).marked c h.0.1).0 in
       elim (marked_cases (stage c) marked) [
-        | inl waits ↦ absurd (h.1 (ap (old.child (old.gp c)) (ap (is_right old (old.gp c)) (card_key-delete old c h.0.0.0)) ∙ (before.deletes c).waits (ap delete_waits waits)))
+        | inl waits ↦ absurd (h.1 (ap (old.tag (old.gp c)) (ap (is_right old (old.gp c)) (card_key-delete old c h.0.0.0)) ∙ (before.deletes c).tagged (ap delete_waits waits)))
         | inr cut ↦ cut
       ]
 
@@ -156,12 +163,12 @@ module _ (old new : Words) (stage stages : Stages) (before : WordsAreSound old s
       delete : is_delete (stage c) ≡ true
       delete = counts_as_delete old stage c before kinds below h.0.0.0
 
-      cut : card_child new c (new.gp c) ≢ new.p c
+      cut : card_tag new c (new.gp c) ≢ new.expects c
       cut e =
           let past = ((before.deletes c).cut (has_cut c delete h)).past in
-          let rises = words.child (old.gp c) (delete_side old c) in
-          let now = delete_child_later c delete (mark_later c below h.0).0.0 in
-          let parent = (words.info c below).p in
+          let rises = words.tag (old.gp c) (delete_side old c) in
+          let now = delete_tag_later c delete (mark_later c below h.0).0.0 in
+          let expects = (words.info c below).expects in
           omega arith
 
   -- a flag of a delete that was taken away stays so

@@ -4,13 +4,14 @@ use Rattle.ell_word.specs.Node.{internal}
 use Rattle.ell_core.specs.declared.event.Act.{Act}
 use Rattle.ell_core.specs.declared.event.Act.TheVariants as act
 use Rattle.ell_core.specs.declared.event.Stepped.{Stepped}
-use Rattle.ell_layout.specs.Words.{Words, put, with_update, with_child}
+use Rattle.ell_layout.specs.Words.{Words, put, with_update, relinked}
 use Rattle.ell_core.specs.state.Machine.{Scene}
 use Rattle.ell_layout.specs.Cards.{brought, iflag, dflag, marked, clean, exchange_side}
-use Rattle.ell_core.specs.acts.Exchanges.{exchanged_update, exchanged_child, found_child}
+use Rattle.ell_core.specs.acts.Exchanges.{exchanged_update, exchanged_child, finds_link, expected}
 use Rattle.ell_core.specs.acts.Events.{Row}
 use Rattle.ell_layout.proofs.lemmas.Writes.{put_same, put_other}
 use Rattle.ell_core.proofs.lemmas.runs.Chains.{MarksLater, marks_same}
+use Rattle.ell_word.specs.declared.link.Link.{Link}
 
 -- marks are later where an update word changed that was at most what a search read, if a mark was set
 marks_put : (w : Words) (x value : ℕ) → ((c : ℕ) → value ≡ marked c → w.update x ≤ w.was c) → (y c : ℕ)
@@ -32,9 +33,9 @@ marks_exchange w x expected value over =
     (λ _. marks_same w)
 
 -- an exchange of a child sets no mark
-marks_child : (w : Words) (x expected value : ℕ) → MarksLater w (exchanged_child w x expected value)
+marks_child : (w : Words) (x : ℕ) (expected : Link) (value : ℕ) → MarksLater w (exchanged_child w x expected value)
 marks_child w x expected value =
-    cond_both (found_child w x value == expected) (with_child w x (exchange_side w x value) value) w (MarksLater w)
+    cond_both (finds_link w x expected value) (relinked w x (exchange_side w x value) value) w (MarksLater w)
     (λ _ y c below mark. inl mark) (λ _. marks_same w)
 
 -- marks are later in a scene that an event gives
@@ -54,14 +55,14 @@ marks_step act.IFlag s said after row = marks_to s.words after _ row.gives
 marks_step act.DFlag s said after row = marks_to s.words after _ row.gives
     (marks_exchange s.words row.grandparent.node row.grandparent.word (dflag row.card) (λ d e. absurd (omega arith)))
 marks_step (act.IChild c) s said after row = marks_to s.words after _ row.gives
-    (marks_child s.words (s.words.p c) (s.words.l c) (brought s.words c))
+    (marks_child s.words (s.words.p c) (expected s.words c (s.words.l c)) (brought s.words c))
 marks_step (act.IUnflag c) s said after row = marks_to s.words after _ row.gives
     (marks_exchange s.words (s.words.p c) (iflag c) (clean c) (λ d e. absurd (omega arith)))
 marks_step (act.Mark c) s said after row = marks_to s.words after _ row.gives
     (marks_exchange s.words (s.words.p c) (s.words.was c) (marked c)
     (λ d e. let same : c ≡ d = omega arith in let words = ap s.words.was same in omega arith))
 marks_step (act.DChild c) s said after row = marks_to s.words after _ row.gives
-    (marks_child s.words (s.words.gp c) (s.words.p c) _)
+    (marks_child s.words (s.words.gp c) (expected s.words c (s.words.p c)) _)
 marks_step (act.DUnflag c) s said after row = marks_to s.words after _ row.does.gives
     (marks_exchange s.words (s.words.gp c) (dflag c) (clean c) (λ d e. absurd (omega arith)))
 marks_step (act.Backtrack c) s said after row = marks_to s.words after _ row.does.gives

@@ -88,8 +88,26 @@ stages_tell_waiting m stage invariant = record {
   flagged = λ i c holds flagged. flagged_made m.words stage (m.worker i) c (invariant.workers.each i) holds flagged;
 }
 
+-- what a table has at a field of a card whose leaf's field has the tag that it expects, and whose children have tag 0
+table_says : (w : Words) (c tag value : ℕ) (field : Field) → w.expects c ≡ tag → ((right : Bool) → w.tag (internal c) right ≡ 0)
+    → word w c field ≡ value → table_word w c field ≡ tagged_for field tag value
+table_says w c tag value L expects tags is = λ t. linked (record { node = is t; tag = expects t })
+table_says w c tag value Left expects tags is = let none = tags false in omega arith
+table_says w c tag value Right expects tags is = let none = tags true in omega arith
+table_says w c tag value Gp expects tags is = is
+table_says w c tag value P expects tags is = is
+table_says w c tag value Was expects tags is = is
+table_says w c tag value Key expects tags is = is
+table_says w c tag value Update expects tags is = is
+table_says w c tag value LeftLeafKey expects tags is = is
+table_says w c tag value RightLeafKey expects tags is = is
+table_says w c tag value LeftValue expects tags is = is
+table_says w c tag value RightValue expects tags is = is
+
 -- the words of a claimed card are those of its filling
 pub claimed_cards_say : ClaimedCardsSay
-claimed_cards_say m stage filling field invariant =
-    claimed_stored m.words filling field
-    (((invariant.words.cards m.words.next).blank (not_claimed m.words stage invariant.words m.words.next (omega arith))).words field)
+claimed_cards_say m stage tag filling field invariant =
+    let blank = (invariant.words.cards m.words.next).blank (not_claimed m.words stage invariant.words m.words.next (omega arith)) in
+    table_says (claimed m.words tag filling) m.words.next tag (stored filling field 0) field (put_same m.words.expects m.words.next tag)
+    (filled_tags m.words m.words.next filling blank.tags)
+    (claimed_stored m.words tag filling field (blank.words field))

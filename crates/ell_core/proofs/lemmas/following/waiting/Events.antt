@@ -7,9 +7,9 @@ use Rattle.ell_core.specs.declared.event.Act.TheVariants as act
 use Rattle.ell_core.specs.declared.event.Event.{Event}
 use Rattle.ell_core.specs.declared.event.Stepped.{Stepped}
 use Rattle.ell_core.specs.declared.event.Stepped.TheVariants.{Won}
-use Rattle.ell_layout.specs.Words.{Words, with_update, with_child}
+use Rattle.ell_layout.specs.Words.{Words, with_update, relinked}
 use Rattle.ell_core.specs.state.Machine.{Machine, Scene, scene}
-use Rattle.ell_core.specs.acts.Exchanges.{exchanged_update, exchanged_child, found_child}
+use Rattle.ell_core.specs.acts.Exchanges.{exchanged_update, exchanged_child, finds_link}
 use Rattle.ell_layout.specs.Cards.{exchange_side}
 use Rattle.ell_core.specs.acts.Events.{Row, Steps}
 use Rattle.ell_core.specs.history.Stages.{Stage, Stages, is_insert, is_delete, waits}
@@ -21,6 +21,7 @@ use Rattle.ell_core.proofs.lemmas.stages.Kinds.{HasKind, kind_later}
 use Rattle.ell_core.proofs.lemmas.stages.Waiting.{waits-claimed, waits-no_start, unclaimed-no_start, waits-unborn, waits-kind, waits-wins, kind-waits, first_win, unclaimed-wins, none_before}
 use Rattle.ell_core.proofs.lemmas.following.facts.Claimed.{not_claimed}
 use Rattle.ell_core.proofs.lemmas.following.waiting.Cards.{claimed_waits}
+use Rattle.ell_word.specs.declared.link.Link.{Link}
 
 -- an exchange of an update word leaves the claim word
 update_next : (w : Words) (x expected new : ℕ) → (exchanged_update w x expected new).next ≡ w.next
@@ -31,10 +32,10 @@ update_next w x expected new = by (w.update x == expected)
     by false = refl
 
 -- so does an exchange of a child
-child_next : (w : Words) (x expected new : ℕ) → (exchanged_child w x expected new).next ≡ w.next
-child_next w x expected new = by (found_child w x new == expected)
+child_next : (w : Words) (x : ℕ) (expected : Link) (new : ℕ) → (exchanged_child w x expected new).next ≡ w.next
+child_next w x expected new = by (finds_link w x expected new)
   where
-    by : (b : Bool) → (if b then with_child w x (exchange_side w x new) new else w).next ≡ w.next
+    by : (b : Bool) → (if b then relinked w x (exchange_side w x new) new else w).next ≡ w.next
     by true = refl
     by false = refl
 

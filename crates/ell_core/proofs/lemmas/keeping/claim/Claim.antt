@@ -38,7 +38,7 @@ made_of_none (Delete k) = (refl, refl, refl)
 made_of_none (Swap k was value) = (refl, refl, refl)
 
 -- a worker without a card claims the next one for its operation, which fills it as a sound card that it then has in hand
-pub record ClaimsCard (m : Machine) (stage : Stages) (i : ℕ) (filling : List (Field × ℕ)) (new : Stage)
+pub record ClaimsCard (m : Machine) (stage : Stages) (i : ℕ) (tag : ℕ) (filling : List (Field × ℕ)) (new : Stage)
     (op : Op) : Type 0 where
   pub there : i < m.count
   pub sound : Invariant m stage
@@ -46,9 +46,9 @@ pub record ClaimsCard (m : Machine) (stage : Stages) (i : ℕ) (filling : List (
   pub fresh : IsJustClaimed new
   pub busy : (m.worker i).operation ≡ Some op
   pub no_card : (m.worker i).card ≡ None
-  pub own : CardIsSound (claimed m.words filling) (put stage m.words.next new) m.words.next
-  pub hand : Unflagged (claimed m.words filling) (put stage m.words.next new)
-      (claims (scene m i) filling).worker op m.words.next
+  pub own : CardIsSound (claimed m.words tag filling) (put stage m.words.next new) m.words.next
+  pub hand : Unflagged (claimed m.words tag filling) (put stage m.words.next new)
+      (claims (scene m i) tag filling).worker op m.words.next
 
 -- a card whose flag was won was claimed
 flagged_claimed : (w : Words) (stage : Stages) (v : Worker) (op : Op) (c : ℕ) → Flagged w stage v op c → is_claimed (stage c) ≡ true
@@ -68,20 +68,20 @@ in_hand_claimed w stage v c sound holds = elim (cases_option v.operation) [
     by op busy true flagged = flagged_claimed w stage v op c (sound.flagged op c busy holds flagged).0
     by op busy false unflagged = unflagged_claimed w stage v op c (sound.unflagged op c busy holds unflagged)
 
-module _ (m : Machine) (stage : Stages) (i : ℕ) (filling : List (Field × ℕ)) (new : Stage) (op : Op)
-    (h : ClaimsCard m stage i filling new op) where
+module _ (m : Machine) (stage : Stages) (i tag : ℕ) (filling : List (Field × ℕ)) (new : Stage) (op : Op)
+    (h : ClaimsCard m stage i tag filling new op) where
   -- the words, the stages and the claimer after the claim
   abbrev after : Words
-  after = claimed m.words filling
+  after = claimed m.words tag filling
 
   abbrev stages : Stages
   stages = put stage m.words.next new
 
   abbrev claimer : Worker
-  claimer = (claims (scene m i) filling).worker
+  claimer = (claims (scene m i) tag filling).worker
 
   claiming : Claiming m.words after stage new
-  claiming = record { words = h.sound.words; claims = claimed_claims m.words filling; fresh = h.fresh }
+  claiming = record { words = h.sound.words; claims = claimed_claims m.words tag filling; fresh = h.fresh }
 
   claimer_sound : WorkerIsSound after stages claimer
   claimer_sound = let old = h.sound.workers.each i in
@@ -149,7 +149,7 @@ module _ (m : Machine) (stage : Stages) (i : ℕ) (filling : List (Field × ℕ)
       (just_claimed (λ s. (is_insert s ≡ true) ⊎ (is_delete s ≡ true)) new h.fresh (inl refl) (inr refl))
 
   -- such a claim keeps the invariant
-  pub claim_follows : Follows m stage act.Claim i Moved (with_scene m i (claims (scene m i) filling))
+  pub claim_follows : Follows m stage act.Claim i Moved (with_scene m i (claims (scene m i) tag filling))
   claim_follows = record {
     stages = stages;
     invariant = record {
@@ -181,8 +181,8 @@ claim_insert m stage i said becomes there sound room e =
       real = subst (λ k. k ≤ greatest_key) key (own.real (key_of e.op) (own.owned e.op e.busy));
     } in
     let filling = insert_filling m.words.next e.what.key e.what.value e.parent.node e.leaf (m.words.key e.leaf) (m.words.value e.leaf) in
-    let claimer = (claims (scene m i) filling).worker in
-    let claims_card : ClaimsCard m stage i filling IClaimed e.op = record {
+    let claimer = (claims (scene m i) e.parent.tag filling).worker in
+    let claims_card : ClaimsCard m stage i e.parent.tag filling IClaimed e.op = record {
       there = there;
       sound = sound;
       room = room;
@@ -190,13 +190,13 @@ claim_insert m stage i said becomes there sound room e =
       busy = e.busy;
       no_card = e.at.no_card;
       own = insert_claimed m.words stage (m.worker i) e.what.key e.what.value e.leaf e.parent seen;
-      hand = hand_putting (claimed m.words filling) (put stage m.words.next IClaimed) claimer e.what m.words.next e.op e.puts
+      hand = hand_putting (claimed m.words e.parent.tag filling) (put stage m.words.next IClaimed) claimer e.what m.words.next e.op e.puts
           (insert_in_hand m.words stage (m.worker i) e.what.key e.what.value e.leaf e.parent seen claimer e.at.stands e.at.behind e.at.calm
           e.what.was e.takes);
     } in
     subst (λ s. Follows m stage act.Claim i said (with_scene m i s)) (sym e.gives)
-    (subst (λ s. Follows m stage act.Claim i s (with_scene m i (claims (scene m i) filling))) (sym e.says)
-    (claim_follows m stage i filling IClaimed e.op claims_card))
+    (subst (λ s. Follows m stage act.Claim i s (with_scene m i (claims (scene m i) e.parent.tag filling))) (sym e.says)
+    (claim_follows m stage i e.parent.tag filling IClaimed e.op claims_card))
 
 -- a claim for a delete keeps it
 claim_delete : (m : Machine) (stage : Stages) (i : ℕ) (said : Stepped) (becomes : Scene) → i < m.count → Invariant m stage
@@ -216,7 +216,7 @@ claim_delete m stage i said becomes there sound room e =
       real = own.real e.key (own.owned (Delete e.key) e.deletes);
     } in
     let filling = delete_filling e.grandparent.node e.parent.node e.leaf e.parent.word in
-    let claims_card : ClaimsCard m stage i filling DClaimed (Delete e.key) = record {
+    let claims_card : ClaimsCard m stage i e.grandparent.tag filling DClaimed (Delete e.key) = record {
       there = there;
       sound = sound;
       room = room;
@@ -225,11 +225,11 @@ claim_delete m stage i said becomes there sound room e =
       no_card = e.at.no_card;
       own = delete_claimed m.words stage (m.worker i) e.key e.leaf e.parent e.grandparent seen;
       hand = delete_in_hand m.words stage (m.worker i) e.key e.leaf e.parent e.grandparent seen
-          (claims (scene m i) filling).worker e.at.stands e.at.behind e.above e.calm;
+          (claims (scene m i) e.grandparent.tag filling).worker e.at.stands e.at.behind e.above e.calm;
     } in
     subst (λ s. Follows m stage act.Claim i said (with_scene m i s)) (sym e.gives)
-    (subst (λ s. Follows m stage act.Claim i s (with_scene m i (claims (scene m i) filling))) (sym e.says)
-    (claim_follows m stage i filling DClaimed (Delete e.key) claims_card))
+    (subst (λ s. Follows m stage act.Claim i s (with_scene m i (claims (scene m i) e.grandparent.tag filling))) (sym e.says)
+    (claim_follows m stage i e.grandparent.tag filling DClaimed (Delete e.key) claims_card))
 
 -- the claim keeps the invariant
 pub keeps_claim : KeepsInvariant act.Claim

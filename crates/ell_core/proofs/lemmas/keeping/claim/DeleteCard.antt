@@ -5,7 +5,7 @@ use Rattle.ell_layout.specs.declared.field.Field.TheVariants.{Left}
 use Rattle.ell_core.specs.declared.view.Seen.{Seen}
 use Rattle.ell_layout.specs.Words.{Words, put, IsLeaf}
 use Rattle.ell_core.specs.state.Machine.{Worker}
-use Rattle.ell_layout.specs.Cards.{claimed, delete_filling}
+use Rattle.ell_layout.specs.Cards.{claimed, delete_filling, is_right}
 use Rattle.ell_core.specs.acts.Searching.{IsClean}
 use Rattle.ell_core.specs.history.Stages.{Stages, DClaimed, is_claimed, is_insert, is_delete, delete_won}
 use Rattle.ell_core.specs.history.Invariant.{delete_key, IsInnerBorn, IsLeafBorn, DeleteCard, CardIsSound, WordsAreSound, SeenIsSound, StandIsSound, DeleteInHand}
@@ -29,7 +29,7 @@ module _ (w : Words) (stage : Stages) (v : Worker) (k leaf : ℕ) (parent grandp
     (h : DeleteSeen w stage v k leaf parent grandparent) where
   -- the words and the stages after the claim
   abbrev after : Words
-  after = claimed w (delete_filling grandparent.node parent.node leaf parent.word)
+  after = claimed w grandparent.tag (delete_filling grandparent.node parent.node leaf parent.word)
 
   abbrev stages : Stages
   stages = put stage w.next DClaimed
@@ -37,7 +37,7 @@ module _ (w : Words) (stage : Stages) (v : Worker) (k leaf : ℕ) (parent grandp
   claiming : Claiming w after stage DClaimed
   claiming = record {
     words = h.words;
-    claims = claimed_claims w (delete_filling grandparent.node parent.node leaf parent.word);
+    claims = claimed_claims w grandparent.tag (delete_filling grandparent.node parent.node leaf parent.word);
     fresh = inr refl;
   }
 
@@ -45,8 +45,8 @@ module _ (w : Words) (stage : Stages) (v : Worker) (k leaf : ℕ) (parent grandp
   at_stage : stages w.next ≡ DClaimed
   at_stage = put_same stage w.next DClaimed
 
-  filled : IsFilledDelete after w.next grandparent.node parent.node leaf parent.word
-  filled = claimed_delete w grandparent.node parent.node leaf parent.word
+  filled : IsFilledDelete after w.next grandparent.tag grandparent.node parent.node leaf parent.word
+  filled = claimed_delete w grandparent.tag grandparent.node parent.node leaf parent.word
 
   own_key : delete_key after w.next ≡ k
   own_key = ap after.key filled.l_is ∙ (key_kept w after stage DClaimed claiming leaf h.stand.born ∙ h.present)
@@ -72,6 +72,8 @@ module _ (w : Words) (stage : Stages) (v : Worker) (k leaf : ℕ) (parent grandp
     calm = subst IsClean (sym filled.was_is) h.calm;
     earlier = let a = earlier_word w stage h.words parent.node parent.word h.seen.node h.seen.word in
         let e = filled.was_is in omega arith;
+    expected = let a = h.above.at_least in let e = filled.expects_is in
+        let below = h.words.tags grandparent.node (is_right w grandparent.node k) in omega arith;
     no_left_child = (blank w after stage DClaimed claiming).words Left;
   }
 
@@ -101,5 +103,6 @@ module _ (w : Words) (stage : Stages) (v : Worker) (k leaf : ℕ) (parent grandp
     top_node = sym filled.gp_is;
     calm = calm;
     earlier = earlier_word w stage h.words grandparent.node grandparent.word h.above.node h.above.word;
+    tagged = sym filled.expects_is;
     own = own_key;
   }

@@ -2,7 +2,7 @@ use Rattle.std.proofs.Common.{◌≡◌, ◌≢◌, ℕ, ◌+◌, Bool, true, fa
 use Rattle.ell_word.specs.Node.{card, internal, left_leaf, right_leaf}
 use Rattle.ell_layout.specs.declared.field.Field.{Field}
 use Rattle.ell_layout.specs.declared.field.Field.TheVariants.{Gp, P, L, Was, Key, Left, Right, Update, LeftLeafKey, RightLeafKey, LeftValue, RightValue}
-use Rattle.ell_layout.specs.Words.{Words, put, put_side, written}
+use Rattle.ell_layout.specs.Words.{Words, put, put_side, written, word}
 use Rattle.ell_layout.specs.Cards.{filled, claimed, clean, insert_filling, delete_filling}
 use Rattle.ell_core.specs.history.Later.{SaysTheSame}
 use Rattle.ell_layout.proofs.lemmas.Writes.{put_same, put_other}
@@ -12,10 +12,12 @@ pub record SameElsewhere (old new : Words) (c : ℕ) : Type 0 where
   pub gp : (d : ℕ) → d ≢ c → new.gp d ≡ old.gp d
   pub p : (d : ℕ) → d ≢ c → new.p d ≡ old.p d
   pub l : (d : ℕ) → d ≢ c → new.l d ≡ old.l d
+  pub expects : (d : ℕ) → d ≢ c → new.expects d ≡ old.expects d
   pub was : (d : ℕ) → d ≢ c → new.was d ≡ old.was d
   pub key : (x : ℕ) → card x ≢ c → new.key x ≡ old.key x
   pub value : (x : ℕ) → card x ≢ c → new.value x ≡ old.value x
   pub child : (x : ℕ) (right : Bool) → x ≢ internal c → new.child x right ≡ old.child x right
+  pub tag : (x : ℕ) (right : Bool) → x ≢ internal c → new.tag x right ≡ old.tag x right
   pub update : (x : ℕ) → x ≢ internal c → new.update x ≡ old.update x
 
 module _ (w : Words) (c : ℕ) where
@@ -61,6 +63,30 @@ module _ (w : Words) (c : ℕ) where
       (put_other w.child (internal c) (put_side (w.child (internal c)) true v) x n)
   other_child _ v x right n = refl
 
+  -- their tags
+  other_tag : (field : Field) (v x : ℕ) (right : Bool) → x ≢ internal c
+      → (written w c field v).tag x right ≡ w.tag x right
+  other_tag Left v x right n = ap (λ f. f right)
+      (put_other w.tag (internal c) (put_side (w.tag (internal c)) false 0) x n)
+  other_tag Right v x right n = ap (λ f. f right)
+      (put_other w.tag (internal c) (put_side (w.tag (internal c)) true 0) x n)
+  other_tag _ v x right n = refl
+
+  -- tags of the card's own node stay 0
+  own_tag : (field : Field) (v : ℕ) → ((right : Bool) → w.tag (internal c) right ≡ 0)
+      → (right : Bool) → (written w c field v).tag (internal c) right ≡ 0
+  own_tag Left v none true = ap (λ f. f true) (put_same w.tag (internal c) (put_side (w.tag (internal c)) false 0)) ∙ none true
+  own_tag Left v none false = ap (λ f. f false) (put_same w.tag (internal c) (put_side (w.tag (internal c)) false 0))
+  own_tag Right v none true = ap (λ f. f true) (put_same w.tag (internal c) (put_side (w.tag (internal c)) true 0))
+  own_tag Right v none false = ap (λ f. f false) (put_same w.tag (internal c) (put_side (w.tag (internal c)) true 0)) ∙ none false
+  own_tag _ v none right = none right
+
+  -- a write leaves the tags that cards expect
+  same_expects : (field : Field) (v : ℕ) → (written w c field v).expects ≡ w.expects
+  same_expects Left v = refl
+  same_expects Right v = refl
+  same_expects _ v = refl
+
   -- the update words of other nodes
   other_update : (field : Field) (v x : ℕ) → x ≢ internal c → (written w c field v).update x ≡ w.update x
   other_update Update v x n = put_other w.update (internal c) v x n
@@ -72,54 +98,87 @@ filled_others w c [] = record {
   gp = λ d n. refl;
   p = λ d n. refl;
   l = λ d n. refl;
+  expects = λ d n. refl;
   was = λ d n. refl;
   key = λ x n. refl;
   value = λ x n. refl;
   child = λ x right n. refl;
+  tag = λ x right n. refl;
   update = λ x n. refl;
 }
 filled_others w c (e ∷ es) = let h = filled_others (written w c e.0 e.1) c es in record {
   gp = λ d n. h.gp d n ∙ other_gp w c e.0 e.1 d n;
   p = λ d n. h.p d n ∙ other_p w c e.0 e.1 d n;
   l = λ d n. h.l d n ∙ other_l w c e.0 e.1 d n;
+  expects = λ d n. h.expects d n ∙ ap (λ f. f d) (same_expects w c e.0 e.1);
   was = λ d n. h.was d n ∙ other_was w c e.0 e.1 d n;
   key = λ x n. h.key x n ∙ other_key w c e.0 e.1 x n;
   value = λ x n. h.value x n ∙ other_value w c e.0 e.1 x n;
   child = λ x right n. h.child x right n ∙ other_child w c e.0 e.1 x right n;
+  tag = λ x right n. h.tag x right n ∙ other_tag w c e.0 e.1 x right n;
   update = λ x n. h.update x n ∙ other_update w c e.0 e.1 x n;
 }
 
--- each other card says what it said
-pub others_say : (old new : Words) (c : ℕ) → SameElsewhere old new c → (d : ℕ) → d ≢ c → SaysTheSame old new d
-others_say old new c h d n Gp = h.gp d n
-others_say old new c h d n P = h.p d n
-others_say old new c h d n L = h.l d n
-others_say old new c h d n Was = h.was d n
-others_say old new c h d n Key = h.key (internal d) (λ e. n (omega arith))
-others_say old new c h d n Left = h.child (internal d) false (λ e. n (omega arith))
-others_say old new c h d n Right = h.child (internal d) true (λ e. n (omega arith))
-others_say old new c h d n Update = h.update (internal d) (λ e. n (omega arith))
-others_say old new c h d n LeftLeafKey = h.key (left_leaf d) (λ e. n (omega arith))
-others_say old new c h d n RightLeafKey = h.key (right_leaf d) (λ e. n (omega arith))
-others_say old new c h d n LeftValue = h.value (left_leaf d) (λ e. n (omega arith))
-others_say old new c h d n RightValue = h.value (right_leaf d) (λ e. n (omega arith))
+-- tags of the card's own node stay 0
+pub filled_tags : (w : Words) (c : ℕ) (filling : List (Field × ℕ)) → ((right : Bool) → w.tag (internal c) right ≡ 0)
+    → (right : Bool) → (filled w c filling).tag (internal c) right ≡ 0
+filled_tags w c [] none = none
+filled_tags w c (e ∷ es) none = filled_tags (written w c e.0 e.1) c es (own_tag w c e.0 e.1 none)
 
--- the words after a claim of card c: it was the next one and is not any more, and what is not on it is as it was
+-- each other card has the words that it had
+others_words : (old new : Words) (c : ℕ) → SameElsewhere old new c → (d : ℕ) → d ≢ c → (field : Field) → word new d field ≡ word old d field
+others_words old new c h d n Gp = h.gp d n
+others_words old new c h d n P = h.p d n
+others_words old new c h d n L = h.l d n
+others_words old new c h d n Was = h.was d n
+others_words old new c h d n Key = h.key (internal d) (λ e. n (omega arith))
+others_words old new c h d n Left = h.child (internal d) false (λ e. n (omega arith))
+others_words old new c h d n Right = h.child (internal d) true (λ e. n (omega arith))
+others_words old new c h d n Update = h.update (internal d) (λ e. n (omega arith))
+others_words old new c h d n LeftLeafKey = h.key (left_leaf d) (λ e. n (omega arith))
+others_words old new c h d n RightLeafKey = h.key (right_leaf d) (λ e. n (omega arith))
+others_words old new c h d n LeftValue = h.value (left_leaf d) (λ e. n (omega arith))
+others_words old new c h d n RightValue = h.value (right_leaf d) (λ e. n (omega arith))
+
+-- so it says what it said
+pub others_say : (old new : Words) (c : ℕ) → SameElsewhere old new c → (d : ℕ) → d ≢ c → SaysTheSame old new d
+others_say old new c h d n = record {
+  words = others_words old new c h d n;
+  expects = h.expects d n;
+  tags = λ right. h.tag (internal d) right (λ e. n (omega arith));
+}
+
+-- the words after a claim of card c: it was the next one and is not any more, what is not on it is as it was, and tags of
+-- its node that were 0 are 0
 pub record Claims (old new : Words) (c : ℕ) : Type 0 where
   pub before : old.next ≡ c
   pub after : new.next ≡ c + 1
   pub others : SameElsewhere old new c
+  pub tags : ((right : Bool) → old.tag (internal c) right ≡ 0) → (right : Bool) → new.tag (internal c) right ≡ 0
 
 -- a claim claims the next card
-pub claimed_claims : (w : Words) (filling : List (Field × ℕ)) → Claims w (claimed w filling) w.next
-claimed_claims w filling = let h = filled_others w w.next filling in record {
+pub claimed_claims : (w : Words) (tag : ℕ) (filling : List (Field × ℕ)) → Claims w (claimed w tag filling) w.next
+claimed_claims w tag filling = let h = filled_others w w.next filling in record {
   before = refl;
   after = refl;
-  others = record { gp = h.gp; p = h.p; l = h.l; was = h.was; key = h.key; value = h.value; child = h.child; update = h.update };
+  others = record {
+    gp = h.gp;
+    p = h.p;
+    l = h.l;
+    expects = λ d n. put_other w.expects w.next tag d n;
+    was = h.was;
+    key = h.key;
+    value = h.value;
+    child = h.child;
+    tag = h.tag;
+    update = h.update;
+  };
+  tags = filled_tags w w.next filling;
 }
 
--- what a card's words are after it was filled for an insert of key k with its value at a leaf
-pub record IsFilledInsert (w : Words) (c k value parent leaf leaf_key leaf_value : ℕ) : Type 0 where
+-- what a card's words are after it was filled for an insert of key k with its value at a leaf, where it expects a tag
+pub record IsFilledInsert (w : Words) (c tag k value parent leaf leaf_key leaf_value : ℕ) : Type 0 where
+  pub expects : w.expects c ≡ tag
   pub p : w.p c ≡ parent
   pub l : w.l c ≡ leaf
   pub key : w.key (internal c) ≡ max k leaf_key
@@ -164,15 +223,16 @@ two_children child x a b new e =
     (ap (λ f. f false) last ∙ ap (λ f. f false) (put_same child x (put_side (child x) false a)), ap (λ f. f true) last)
 
 -- a claim for an insert fills the next card for it
-pub claimed_insert : (w : Words) (k value parent leaf leaf_key leaf_value : ℕ)
-    → IsFilledInsert (claimed w (insert_filling w.next k value parent leaf leaf_key leaf_value)) w.next k value parent leaf leaf_key leaf_value
-claimed_insert w k value parent leaf leaf_key leaf_value =
+pub claimed_insert : (w : Words) (tag k value parent leaf leaf_key leaf_value : ℕ)
+    → IsFilledInsert (claimed w tag (insert_filling w.next k value parent leaf leaf_key leaf_value)) w.next tag k value parent leaf leaf_key leaf_value
+claimed_insert w tag k value parent leaf leaf_key leaf_value =
     let filling = insert_filling w.next k value parent leaf leaf_key leaf_value in
-    let keys = three_keys w.key w.next (max k leaf_key) (min k leaf_key) (max k leaf_key) (claimed w filling).key refl in
+    let keys = three_keys w.key w.next (max k leaf_key) (min k leaf_key) (max k leaf_key) (claimed w tag filling).key refl in
     let values = two_values w.value w.next (if nat_lt k leaf_key then value else leaf_value) (if nat_lt k leaf_key then leaf_value else value)
-    (claimed w filling).value refl in
-    let children = two_children w.child (internal w.next) (left_leaf w.next) (right_leaf w.next) (claimed w filling).child refl in
+    (claimed w tag filling).value refl in
+    let children = two_children w.child (internal w.next) (left_leaf w.next) (right_leaf w.next) (claimed w tag filling).child refl in
     record {
+      expects = put_same w.expects w.next tag;
       p = put_same w.p w.next parent;
       l = put_same w.l w.next leaf;
       key = keys.0;
@@ -185,16 +245,18 @@ claimed_insert w k value parent leaf leaf_key leaf_value =
       update = put_same w.update (internal w.next) (clean 0);
     }
 
--- what a card's words are after it was filled for a delete
-pub record IsFilledDelete (w : Words) (c gp p l was : ℕ) : Type 0 where
+-- what a card's words are after it was filled for a delete, where it expects a tag
+pub record IsFilledDelete (w : Words) (c tag gp p l was : ℕ) : Type 0 where
+  pub expects_is : w.expects c ≡ tag
   pub gp_is : w.gp c ≡ gp
   pub p_is : w.p c ≡ p
   pub l_is : w.l c ≡ l
   pub was_is : w.was c ≡ was
 
 -- a claim for a delete fills the next card for it
-pub claimed_delete : (w : Words) (gp p l was : ℕ) → IsFilledDelete (claimed w (delete_filling gp p l was)) w.next gp p l was
-claimed_delete w gp p l was = record {
+pub claimed_delete : (w : Words) (tag gp p l was : ℕ) → IsFilledDelete (claimed w tag (delete_filling gp p l was)) w.next tag gp p l was
+claimed_delete w tag gp p l was = record {
+  expects_is = put_same w.expects w.next tag;
   gp_is = put_same w.gp w.next gp;
   p_is = put_same w.p w.next p;
   l_is = put_same w.l w.next l;

@@ -99,6 +99,10 @@ module _ (w after : Words) (stage : Stages) (new : Stage) (h : Claiming w after 
   pub child_kept : (x : ℕ) (right : Bool) → Born stage x → after.child x right ≡ w.child x right
   child_kept x right born = let n = born_another x born in h.claims.others.child x right (λ e. n (omega arith))
 
+  -- so are their tags
+  pub tag_kept : (x : ℕ) (right : Bool) → Born stage x → after.tag x right ≡ w.tag x right
+  tag_kept x right born = let n = born_another x born in h.claims.others.tag x right (λ e. n (omega arith))
+
   -- so is its update word
   pub update_kept : (x : ℕ) → Born stage x → after.update x ≡ w.update x
   update_kept x born = let n = born_another x born in h.claims.others.update x (λ e. n (omega arith))
@@ -155,11 +159,23 @@ module _ (w after : Words) (stage : Stages) (new : Stage) (h : Claiming w after 
       (just_claimed (λ s. wins_of s ≡ wins_of (stage w.next)) new h.fresh
       (ap wins_of (sym unclaimed)) (ap wins_of (sym unclaimed)))
 
-  -- at the node of the card the children were 0, and elsewhere they stay
-  pub child_rises : (x : ℕ) (right : Bool) → w.child x right ≤ after.child x right
-  child_rises x right = elim (cases_eq x (internal w.next)) [
-    | inl e ↦ (let zero_child = blank_child right in let at = ap (λ n. w.child n right) e in omega arith)
-    | inr n ↦ (let same = h.claims.others.child x right n in omega arith)
+  -- at the node of the card the tags are 0, and elsewhere they stay
+  pub tags_stay : (x : ℕ) (right : Bool) → after.tag x right ≡ w.tag x right
+  tags_stay x right = elim (cases_eq x (internal w.next)) [
+    | inl e ↦ (
+        let was = blank.tags right in
+        let now = h.claims.tags blank.tags right in
+        let at = ap (λ n. w.tag n right) e in
+        let there = ap (λ n. after.tag n right) e in
+        omega arith)
+    | inr n ↦ h.claims.others.tag x right n
+  ]
+
+  -- a child that was there still is
+  child_some : (x : ℕ) (right : Bool) → w.child x right ≢ 0 → after.child x right ≢ 0
+  child_some x right there = elim (cases_eq x (internal w.next)) [
+    | inl e ↦ absurd (there (ap (λ n. w.child n right) e ∙ blank_child right))
+    | inr n ↦ (λ none. there (sym (h.claims.others.child x right n) ∙ none))
   ]
 
   -- so with the update words
@@ -171,7 +187,7 @@ module _ (w after : Words) (stage : Stages) (new : Stage) (h : Claiming w after 
 
   -- a marked node stays as it is
   frozen_kept : (x c : ℕ) → w.update x ≡ marked c → SameNode w after x
-  frozen_kept x c e = record { update = h.claims.others.update x n; child = λ right. h.claims.others.child x right n } where
+  frozen_kept x c e = record { update = h.claims.others.update x n; child = λ right. h.claims.others.child x right n; tag = λ right. h.claims.others.tag x right n } where
     n : x ≢ internal w.next
     n same = let zero_update = blank.words Update in let at = ap w.update same in omega arith
 
@@ -179,13 +195,16 @@ module _ (w after : Words) (stage : Stages) (new : Stage) (h : Claiming w after 
   pub claim_words : WordsLater w after
   claim_words = record {
     next = let g = h.claims.after in omega arith;
-    child = child_rises;
+    tag = λ x right. (let same = tags_stay x right in omega arith);
+    child = λ x right below same. h.claims.others.child x right (λ e. omega arith);
+    some = child_some;
     update = update_rises;
     info = λ c less. (let n : c ≢ w.next = λ e. omega arith in
         record {
           gp = h.claims.others.gp c n;
           p = h.claims.others.p c n;
           l = h.claims.others.l c n;
+          expects = h.claims.others.expects c n;
           was = h.claims.others.was c n;
         });
     key = λ x less. h.claims.others.key x (λ e. omega arith);
@@ -199,7 +218,7 @@ module _ (w after : Words) (stage : Stages) (new : Stage) (h : Claiming w after 
     sound = h.words;
     words = claim_words;
     later = claim_stages;
-    calm = λ x word born calm least e. record { stood = sym (update_kept x born) ∙ e; child = λ right. child_kept x right born };
+    calm = λ x word born calm least e. record { stood = sym (update_kept x born) ∙ e; link = λ right. record { child = child_kept x right born; tag = tag_kept x right born } };
     course = course_kept;
     out = λ x born. out_kept x;
   }

@@ -6,14 +6,14 @@ use Rattle.ell_layout.specs.declared.field.Field.TheVariants.{Gp, Was}
 use Rattle.ell_core.specs.declared.view.Seen.{Seen}
 use Rattle.ell_layout.specs.Words.{Words, put, IsLeaf}
 use Rattle.ell_core.specs.state.Machine.{Worker}
-use Rattle.ell_layout.specs.Cards.{is_right, child_for, claimed, insert_filling}
+use Rattle.ell_layout.specs.Cards.{is_right, tag_for, claimed, insert_filling}
 use Rattle.ell_core.specs.acts.Searching.{IsClean, HasPlace}
 use Rattle.ell_core.specs.history.Stages.{Stages, IClaimed, is_claimed, is_insert, is_delete, insert_won}
 use Rattle.ell_core.specs.history.Invariant.{insert_key, insert_value, insert_side, IsInnerBorn, IsLeafBorn, InsertCard, CardIsSound, WordsAreSound, SeenIsSound, StandIsSound, InsertInHand, IsPutting}
 use Rattle.ell_layout.proofs.lemmas.Writes.{put_same}
 use Rattle.ell_core.proofs.lemmas.words.Sides.{key_of_three}
 use Rattle.ell_core.proofs.lemmas.keeping.claim.Filling.{claimed_claims, claimed_insert, IsFilledInsert}
-use Rattle.ell_core.proofs.lemmas.keeping.claim.Frames.{earlier_word, earlier_node, Claiming, blank, born_kept, key_kept, value_kept, child_kept}
+use Rattle.ell_core.proofs.lemmas.keeping.claim.Frames.{earlier_word, earlier_node, Claiming, blank, born_kept, key_kept, value_kept, tag_kept}
 use Rattle.ell_core.specs.tree.Rank.{rank}
 
 -- of the lesser and the greater of two keys, the one that is not the leaf's is the other one
@@ -62,7 +62,7 @@ module _ (w : Words) (stage : Stages) (v : Worker) (k value leaf : ℕ) (parent 
     (h : InsertSeen w stage v k leaf parent) where
   -- the words and the stages after the claim
   abbrev after : Words
-  after = claimed w (insert_filling w.next k value parent.node leaf (w.key leaf) (w.value leaf))
+  after = claimed w parent.tag (insert_filling w.next k value parent.node leaf (w.key leaf) (w.value leaf))
 
   abbrev stages : Stages
   stages = put stage w.next IClaimed
@@ -70,7 +70,7 @@ module _ (w : Words) (stage : Stages) (v : Worker) (k value leaf : ℕ) (parent 
   claiming : Claiming w after stage IClaimed
   claiming = record {
     words = h.words;
-    claims = claimed_claims w (insert_filling w.next k value parent.node leaf (w.key leaf) (w.value leaf));
+    claims = claimed_claims w parent.tag (insert_filling w.next k value parent.node leaf (w.key leaf) (w.value leaf));
     fresh = inl refl;
   }
 
@@ -78,8 +78,8 @@ module _ (w : Words) (stage : Stages) (v : Worker) (k value leaf : ℕ) (parent 
   at_stage : stages w.next ≡ IClaimed
   at_stage = put_same stage w.next IClaimed
 
-  filled : IsFilledInsert after w.next k value parent.node leaf (w.key leaf) (w.value leaf)
-  filled = claimed_insert w k value parent.node leaf (w.key leaf) (w.value leaf)
+  filled : IsFilledInsert after w.next parent.tag k value parent.node leaf (w.key leaf) (w.value leaf)
+  filled = claimed_insert w parent.tag k value parent.node leaf (w.key leaf) (w.value leaf)
 
   leaf_key : after.key (after.l w.next) ≡ w.key leaf
   leaf_key = ap after.key filled.l ∙ key_kept w after stage IClaimed claiming leaf h.stand.born
@@ -100,9 +100,9 @@ module _ (w : Words) (stage : Stages) (v : Worker) (k value leaf : ℕ) (parent 
   side_is : insert_side after w.next ≡ is_right w parent.node k
   side_is = (λ t. nat_le (parent_key t) (filled.key t)) ∙ side_of_two (w.key parent.node) k (w.key leaf) h.seen.side
 
-  child_is : after.child (after.p w.next) (insert_side after w.next) ≡ child_for w k parent.node
-  child_is = (λ t. after.child (filled.p t) (side_is t))
-      ∙ child_kept w after stage IClaimed claiming parent.node (is_right w parent.node k) h.seen.node.born
+  tag_is : after.tag (after.p w.next) (insert_side after w.next) ≡ tag_for w k parent.node
+  tag_is = (λ t. after.tag (filled.p t) (side_is t))
+      ∙ tag_kept w after stage IClaimed claiming parent.node (is_right w parent.node k) h.seen.node.born
 
   insert_card : InsertCard after stages w.next
   insert_card = record {
@@ -127,7 +127,9 @@ module _ (w : Words) (stage : Stages) (v : Worker) (k value leaf : ℕ) (parent 
     real = subst (λ n. n ≤ greatest_key) (sym own_key) h.real;
     side = (λ t. nat_le (parent_key t) (own_key t)) ∙ (sym h.seen.side ∙ (λ t. nat_le (sym parent_key t) (sym leaf_key t)));
     left_child = λ e. (let a = filled.left in omega arith);
-    at_least = let a = h.seen.at_least in let l = filled.l in let e = child_is in omega arith;
+    expected = let a = h.seen.at_least in let e = filled.expects in
+        let below = h.words.tags parent.node (is_right w parent.node k) in omega arith;
+    at_least = let a = h.seen.at_least in let e = filled.expects in let t = tag_is in omega arith;
   }
 
   -- the claimed card of an insert is sound
@@ -157,6 +159,7 @@ module _ (w : Words) (stage : Stages) (v : Worker) (k value leaf : ℕ) (parent 
     node = sym filled.p;
     calm = calm;
     earlier = earlier_word w stage h.words parent.node parent.word h.seen.node h.seen.word;
+    tagged = sym filled.expects;
     own = own_key;
     own_value = own_value;
     kind = putting was takes;

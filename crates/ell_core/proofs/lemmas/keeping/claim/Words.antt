@@ -8,7 +8,7 @@ use Rattle.ell_core.specs.history.Invariant.{top, CardIsSound, ChildrenAreSound,
 use Rattle.ell_layout.proofs.lemmas.Writes.{put_other, put_same}
 use Rattle.ell_core.proofs.lemmas.tree.Frames.{IsOrdered-same}
 use Rattle.ell_core.proofs.lemmas.tree.Reached.{leads_any, leads_some}
-use Rattle.ell_core.proofs.lemmas.keeping.claim.Frames.{Claiming, another, kept, born_kept, born_before, key_kept, child_kept, update_kept, closed, in_kept, leads_kept, claim_goes_on, just_claimed}
+use Rattle.ell_core.proofs.lemmas.keeping.claim.Frames.{Claiming, another, kept, born_kept, born_before, key_kept, child_kept, update_kept, closed, in_kept, leads_kept, claim_goes_on, just_claimed, tag_kept, tags_stay}
 use Rattle.ell_core.proofs.lemmas.keeping.claim.Filling.{others_say}
 use Rattle.ell_core.proofs.lemmas.keeping.going_on.Cards.{GoesOn, card_on}
 use Rattle.ell_core.proofs.lemmas.keeping.going_on.Stages.{no_insert, no_delete, insert_stage_on, delete_stage_on}
@@ -52,7 +52,10 @@ module _ (w after : Words) (stage : Stages) (new : Stage) (h : Claiming w after 
         let parent = λ (e : is_insert (stage c) ≡ true). ((h.words.cards c).insert e).parent.born in
         insert_stage_on w after stage stages on c (stage_same c n)
         (λ e. update_kept w after stage new h (w.p c) (parent (insert_open-insert (stage c) e)))
-        (λ e. child_kept w after stage new h (w.p c) (insert_side w c) (parent (insert_waits-insert (stage c) e)))
+        (λ e. (let born = parent (insert_waits-insert (stage c) e) in record {
+          child = child_kept w after stage new h (w.p c) (insert_side w c) born;
+          tag = tag_kept w after stage new h (w.p c) (insert_side w c) born;
+        }))
   ]
 
   -- what the stages of deletes say
@@ -63,7 +66,10 @@ module _ (w after : Words) (stage : Stages) (new : Stage) (h : Claiming w after 
         let top = λ (e : is_delete (stage c) ≡ true). ((h.words.cards c).delete e).grandparent.born in
         delete_stage_on w after stage stages on c (stage_same c n)
         (λ e. update_kept w after stage new h (w.gp c) (top (delete_open-delete (stage c) e)))
-        (λ e. child_kept w after stage new h (w.gp c) (delete_side w c) (top (delete_waits-delete (stage c) e)))
+        (λ e. (let born = top (delete_waits-delete (stage c) e) in record {
+          child = child_kept w after stage new h (w.gp c) (delete_side w c) born;
+          tag = tag_kept w after stage new h (w.gp c) (delete_side w c) born;
+        }))
   ]
 
   -- the children of a node that came into the tree
@@ -120,6 +126,8 @@ module _ (w after : Words) (stage : Stages) (new : Stage) (h : Claiming w after 
   words_kept own = record {
     opening = put_other stage w.next new 0 (another w after stage new h (λ s. is_node_born s 0) refl 0 (root_born w stage h.words))
         ∙ h.words.opening;
+    tags = λ x right. (let same = tags_stay w after stage new h x right in let below = h.words.tags x right in
+        let next = h.claims.after in omega arith);
     cards = λ c. elim (cases_eq c w.next) [
       | inl e ↦ subst (CardIsSound after stages) (sym e) own
       | inr n ↦ card_kept c n

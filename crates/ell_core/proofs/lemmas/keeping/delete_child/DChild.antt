@@ -4,11 +4,11 @@ use Rattle.ell_core.specs.declared.event.Act.TheVariants as act
 use Rattle.ell_core.specs.declared.event.Stepped.{Stepped}
 use Rattle.ell_core.specs.declared.event.Stepped.TheVariants.{Won, Lost}
 use Rattle.ell_core.specs.declared.fact.Fact.TheVariants.{Marked, Cut}
-use Rattle.ell_layout.specs.Words.{Words, with_child}
+use Rattle.ell_layout.specs.Words.{Words, relinked}
 use Rattle.ell_core.specs.state.Facts.{card_of_fact, learned}
 use Rattle.ell_core.specs.state.Machine.{Worker, Machine, Scene, scene, with_scene}
 use Rattle.ell_layout.specs.Cards.{sibling}
-use Rattle.ell_core.specs.acts.Exchanges.{knowing, DChild}
+use Rattle.ell_core.specs.acts.Exchanges.{knowing, DChild, expected}
 use Rattle.ell_core.specs.acts.Events.{Happens}
 use Rattle.ell_core.specs.history.Stages.{Stages, DMarked, DCut, is_cut}
 use Rattle.ell_core.specs.history.Invariant.{LeadsTo, LeadsToValue, delete_key, delete_value, WordsAreSound, Invariant}
@@ -44,8 +44,9 @@ pub dchild-won : (c : ℕ) (s : Scene) (stage : Stages) (said : Stepped) (become
     → DChild c s said becomes → (said ≡ Won) × (becomes ≡ cut_scene s c (cut_words s.words c))
 dchild-won c s stage said becomes at row =
     let w = s.words in
-    let found = child_found w (w.gp c) (w.p c) (sibling w c) (ap (w.child (w.gp c)) at.side ∙ at.waits) in
-    let words = found.1 ∙ ap (λ side. with_child w (w.gp c) side (sibling w c)) at.side in
+    let found = child_found w (w.gp c) (expected w c (w.p c)) (sibling w c) (ap (w.tag (w.gp c)) at.side ∙ at.tagged)
+    (ap (w.child (w.gp c)) at.side ∙ at.waits) in
+    let words = found.1 ∙ ap (λ side. relinked w (w.gp c) side (sibling w c)) at.side in
     (row.says ∙ found.0, row.gives ∙ ap (cut_scene s c) words)
 
 -- where it has cut, the exchange is lost
@@ -56,8 +57,8 @@ dchild-lost c s stage said becomes sound cut row =
     let does = sound.deletes c in
     let side = (does.marked (cut-marked (stage c) cut)).side in
     let past = (does.cut cut).past in
-    let missed = child_missed w (w.gp c) (w.p c) (sibling w c)
-    (λ e. (let found = ap (w.child (w.gp c)) (sym side) ∙ e in omega arith)) in
+    let missed = child_missed w (w.gp c) (expected w c (w.p c)) (sibling w c)
+    (λ e. (let found = ap (w.tag (w.gp c)) (sym side) ∙ e in omega arith)) in
     (row.says ∙ missed.0, row.gives ∙ ap (cut_scene s c) missed.1)
 
 -- the machine with the words after

@@ -3,7 +3,7 @@ use Rattle.std.proofs.Math.Bool.{not-not}
 use Rattle.std.proofs.lemmas.Bool.Decides.{nat_tests}
 use Rattle.ell_ops.specs.Meaning.{greatest_key}
 use Rattle.ell_word.specs.Node.{IsInternal}
-use Rattle.ell_layout.specs.Words.{Words, with_child}
+use Rattle.ell_layout.specs.Words.{Words, relinked}
 use Rattle.ell_layout.specs.Cards.{dflag, marked, exchange_side, sibling}
 use Rattle.ell_core.specs.tree.Ranges.{IsOrdered, goes}
 use Rattle.ell_core.specs.history.Stages.{Stages, DMarked, is_delete, is_marked, delete_open, delete_waits}
@@ -16,7 +16,7 @@ use Rattle.ell_core.specs.tree.Rank.{rank}
 
 -- the words after the delete of card c has cut: its sibling stands at the grandparent in the parent's place
 abbrev pub cut_words : Words → ℕ → Words
-cut_words w c = with_child w (w.gp c) (delete_side w c) (sibling w c)
+cut_words w c = relinked w (w.gp c) (delete_side w c) (sibling w c)
 
 -- where the delete of a marked card cuts: its flag and mark stand, the parent is the grandparent's child, and leaf and
 -- sibling are the parent's
@@ -27,6 +27,8 @@ pub record CutsAt (w : Words) (stage : Stages) (c : ℕ) : Type 0 where
   pub flag : w.update (w.gp c) ≡ dflag c
   pub mark : w.update (w.p c) ≡ marked c
   pub waits : w.child (w.gp c) (delete_side w c) ≡ w.p c
+  pub tagged : w.tag (w.gp c) (delete_side w c) ≡ w.expects c
+  pub expected : w.expects c < c
   pub leaf_there : w.child (w.p c) (leaf_side w c) ≡ w.l c
   pub sibling_there : w.child (w.p c) (not (leaf_side w c)) ≡ sibling w c
   pub side : exchange_side w (w.gp c) (sibling w c) ≡ delete_side w c
@@ -61,6 +63,8 @@ cuts_at w stage sound c at =
       flag = does.flag (ap delete_open at);
       mark = mark.mark;
       waits = does.waits (ap delete_waits at);
+      tagged = does.tagged (ap delete_waits at);
+      expected = card.expected;
       leaf_there = mark.leaf;
       sibling_there = other;
       side = mark.side;

@@ -9,7 +9,7 @@ use Rattle.ell_core.specs.history.Later.{SaysTheSame, StagesLater, WordsLater}
 use Rattle.ell_core.proofs.lemmas.tree.Reached.{leads_any, leads_some}
 use Rattle.ell_layout.proofs.lemmas.Writes.{put_other, put_same}
 use Rattle.ell_core.proofs.lemmas.stages.Order.{delete_waits-open, insert_waits-open, inner-born}
-use Rattle.ell_core.proofs.lemmas.words.Later.{child_there, child_elsewhere, words_child, child_says}
+use Rattle.ell_core.proofs.lemmas.words.Later.{child_there, child_elsewhere, words_child, child_says, SameLink, link_other, tag_there, tags_below}
 use Rattle.ell_core.proofs.lemmas.keeping.delete_child.Stages.{cut_stages, cut_stages_later, stage_kept}
 use Rattle.ell_core.proofs.lemmas.keeping.delete_child.Tree.{cut_words, CutsAt, CutTree}
 use Rattle.ell_core.proofs.lemmas.keeping.going_on.Cards.{GoesOn, card_on}
@@ -20,17 +20,14 @@ use Rattle.ell_core.specs.tree.Rank.{rank}
 
 -- the children after
 module _ (w : Words) (stage : Stages) (c : ℕ) (at : CutsAt w stage c) where
-  -- a child of a node with another update word is as it was
-  pub child_same : (x : ℕ) (right : Bool) → w.update x ≢ dflag c → (cut_words w c).child x right ≡ w.child x right
-  child_same x right other = elim (child_elsewhere w (w.gp c) (sibling w c) (delete_side w c) x right) [
-    | inl e ↦ absurd (other (ap w.update e.0 ∙ at.flag))
-    | inr e ↦ e
-  ]
+  -- a child word of a node with another update word is as it was
+  pub link_same : (x : ℕ) (right : Bool) → w.update x ≢ dflag c → SameLink w (cut_words w c) x right
+  link_same x right other = link_other w (w.gp c) (sibling w c) (delete_side w c) x right (λ e. other (ap w.update e ∙ at.flag))
 
   -- the words are later
   pub cut_words_later : WordsLater w (cut_words w c)
   cut_words_later = words_child w (w.gp c) (sibling w c) (delete_side w c)
-      (let waits = at.waits in let above = number_rises (w.p c) (sibling w c) at.above in omega arith) (λ d e. let flag = at.flag in omega arith)
+      (λ none. let above = number_rises (w.p c) (sibling w c) at.above in omega arith) (λ d e. let flag = at.flag in omega arith)
 
 -- the words after
 module _ (w : Words) (stage : Stages) (sound : WordsAreSound w stage) (c : ℕ) (now : stage c ≡ DMarked)
@@ -64,7 +61,7 @@ module _ (w : Words) (stage : Stages) (sound : WordsAreSound w stage) (c : ℕ) 
     later = later;
     calm = λ x word born calm least e. record {
       stood = e;
-      child = λ right. child_same w stage c at x right (λ f. let three = clean_remainder word calm in omega arith);
+      link = λ right. link_same w stage c at x right (λ f. let three = clean_remainder word calm in omega arith);
     };
     course = λ k x born h. tree.course k x h;
     out = λ x born h. tree.still_out x h;
@@ -85,7 +82,7 @@ module _ (w : Words) (stage : Stages) (sound : WordsAreSound w stage) (c : ℕ) 
   inserts_after d = elim (cases_eq d c) [
     | inl e ↦ subst (InsertStage after new) (sym e) (no_insert after new c (ap insert_won (put_same stage c DCut)))
     | inr n ↦ insert_stage_on w after stage new cut_goes_on d (put_other stage c DCut d n) (λ g. refl)
-        (λ g. child_same w stage c at (w.p d) (insert_side w d)
+        (λ g. link_same w stage c at (w.p d) (insert_side w d)
         (λ e. let flag = (sound.inserts d).flag (insert_waits-open (stage d) g) in omega arith))
   ]
 
@@ -95,12 +92,12 @@ module _ (w : Words) (stage : Stages) (sound : WordsAreSound w stage) (c : ℕ) 
     flag = λ g. at.flag;
     past = λ g. absurd (false≢true g);
     waits = λ g. absurd (false≢true g);
+    tagged = λ g. absurd (false≢true g);
     markable = λ g. absurd (false≢true g);
     unmarkable = λ g. absurd (false≢true g);
     marked = λ g. marked_on w after stage new cut_goes_on c (ap is_delete now) ((sound.deletes c).marked (ap is_marked now));
     cut = λ g. record {
-      past = subst (λ n. w.p c < n) (sym (child_there w (w.gp c) (sibling w c) (delete_side w c)))
-          (number_rises (w.p c) (sibling w c) at.above);
+      past = let there = tag_there w (w.gp c) (sibling w c) (delete_side w c) in let was = at.tagged in omega arith;
       out = tree.out;
     };
   }
@@ -110,7 +107,7 @@ module _ (w : Words) (stage : Stages) (sound : WordsAreSound w stage) (c : ℕ) 
   deletes_after d = elim (cases_eq d c) [
     | inl e ↦ subst (DeleteStage after new) (sym e) (delete_stage_same after (λ n. DCut) new c (sym (put_same stage c DCut)) cut_here)
     | inr n ↦ delete_stage_on w after stage new cut_goes_on d (put_other stage c DCut d n) (λ g. refl)
-        (λ g. child_same w stage c at (w.gp d) (delete_side w d)
+        (λ g. link_same w stage c at (w.gp d) (delete_side w d)
         (λ e. let flag = (sound.deletes d).flag (delete_waits-open (stage d) g) in n (omega arith)))
   ]
 
@@ -193,6 +190,11 @@ module _ (w : Words) (stage : Stages) (sound : WordsAreSound w stage) (c : ℕ) 
   pub cut_words_sound : WordsAreSound after new
   cut_words_sound = record {
     opening = put_other stage c DCut 0 (λ e. no_opening (sym sound.opening ∙ (ap stage e ∙ now))) ∙ sound.opening;
+    tags = (
+        let expected = at.expected in
+        let tag = at.tagged in
+        let claimed = (sound.cards c).claimed.0 (ap is_claimed now) in
+        tags_below w (w.gp c) (sibling w c) (delete_side w c) w.next (omega arith) sound.tags);
     cards = cards_after;
     inserts = inserts_after;
     deletes = deletes_after;

@@ -9,13 +9,14 @@ use Rattle.ell_core.specs.history.Stages.{Stages, is_claimed, is_insert, is_dele
 use Rattle.ell_core.specs.history.Invariant.{IsOut, IsOnCourse, insert_side, IsInnerBorn, IsLeafBorn, InsertCard, DeleteCard, CardIsSound, WordsAreSound}
 use Rattle.ell_core.specs.history.Later.{SaysTheSame, WordsLater, StagesLater}
 use Rattle.ell_core.proofs.lemmas.stages.Order.{unclaimed-unborn, delete-unborn, inner-born, all-born}
-use Rattle.ell_core.proofs.lemmas.stages.LaterKeys.{insert_info, insert_node_key, insert_parent_key, insert_leaf_key, insert_node_value, insert_leaf_value, insert_key_later, delete_info, delete_key_later, insert_child_later}
+use Rattle.ell_core.proofs.lemmas.stages.LaterKeys.{insert_info, insert_node_key, insert_parent_key, insert_leaf_key, insert_node_value, insert_leaf_value, insert_key_later, delete_info, delete_key_later, insert_child_later, insert_tag_later}
 use Rattle.ell_core.specs.tree.Rank.{rank}
+use Rattle.ell_core.proofs.lemmas.words.Later.{SameLink}
 
--- a node has an update word that it had, and the children that it had
+-- a node has an update word that it had, and the child words that it had
 pub record IsCalm (old new : Words) (x word : ℕ) : Type 0 where
   pub stood : old.update x ≡ word
-  pub child : (right : Bool) → new.child x right ≡ old.child x right
+  pub link : (right : Bool) → SameLink old new x right
 
 -- what each event makes of sound words: the words and stages are later; a node that came into the tree, with a clean update word
 -- that is not past the one that it had, is as it was; and on course or out of the tree stays what was
@@ -92,9 +93,10 @@ module _ (old new : Words) (stage stages : Stages) (h : GoesOn old new stage sta
           ];
           real = subst (λ k. k ≤ greatest_key) (sym own_key) said.real;
           side = (λ t. nat_le (parent_key t) (own_key t)) ∙ (said.side ∙ (λ t. nat_le (sym parent_key t) (sym leaf_key t)));
-          left_child = λ e. said.left_child (let up = h.words.child (internal c) false in omega arith);
-          at_least = let a = said.at_least in let l = same.l in let up = h.words.child (old.p c) (insert_side old c) in
-              let child = insert_child_later old new stage h.sound h.words c inserts in omega arith;
+          left_child = h.words.some (internal c) false said.left_child;
+          expected = let a = said.expected in let e = same.expects in omega arith;
+          at_least = let a = said.at_least in let e = same.expects in let up = h.words.tag (old.p c) (insert_side old c) in
+              let tag = insert_tag_later old new stage h.sound h.words c inserts in omega arith;
         }
 
   module _ (c : ℕ) (deletes : is_delete (stage c) ≡ true) where
@@ -116,6 +118,7 @@ module _ (old new : Words) (stage stages : Stages) (h : GoesOn old new stage sta
           real = subst (λ k. k ≤ greatest_key) (sym (delete_key_later old new stage h.sound h.words c deletes)) said.real;
           calm = subst IsClean (sym same.was) said.calm;
           earlier = let a = said.earlier in let e = same.was in omega arith;
+          expected = let a = said.expected in let e = same.expects in omega arith;
           no_left_child = left ∙ said.no_left_child;
         }
 
@@ -124,13 +127,14 @@ module _ (old new : Words) (stage stages : Stages) (h : GoesOn old new stage sta
   card_on c s = let was = h.sound.cards c in record {
     claimed = (λ e. s.next.1 (was.claimed.0 (sym s.claimed ∙ e)), λ e. s.claimed ∙ was.claimed.1 (s.next.0 e));
     insert = λ e. insert_card_on c (s.insert e);
-    delete = λ e. delete_card_on c (s.delete e) (s.words (delete-unborn (stage c) (s.delete e)) Left);
+    delete = λ e. delete_card_on c (s.delete e) ((s.words (delete-unborn (stage c) (s.delete e))).words Left);
     unborn = λ e g. (let out = unborn_before c g in let nodes = was.unborn (s.insert e) out in record {
-      left = s.words out Left ∙ nodes.left;
-      right = s.words out Right ∙ nodes.right;
-      calm = s.words out Update ∙ nodes.calm;
+      left = (s.words out).words Left ∙ nodes.left;
+      right = (s.words out).words Right ∙ nodes.right;
+      calm = (s.words out).words Update ∙ nodes.calm;
     });
-    blank = λ e. (let free = sym s.claimed ∙ e in record {
-      words = λ field. s.words (unclaimed-unborn (stage c) free) field ∙ (was.blank free).words field;
+    blank = λ e. (let free = sym s.claimed ∙ e in let same = s.words (unclaimed-unborn (stage c) free) in record {
+      words = λ field. same.words field ∙ (was.blank free).words field;
+      tags = λ right. same.tags right ∙ (was.blank free).tags right;
     });
   }

@@ -29,8 +29,8 @@ pub record SameGoal (old new : Words) (stage : Stages) (c : ℕ) : Type 0 where
 -- in the same words it does
 pub same_goal : (w : Words) (stage : Stages) (c : ℕ) → SameGoal w w stage c
 same_goal w stage c = record {
-  insert = λ h. (record { gp = refl; p = refl; l = refl; was = refl }, refl, refl);
-  delete = λ h. (record { gp = refl; p = refl; l = refl; was = refl }, refl);
+  insert = λ h. (record { gp = refl; p = refl; l = refl; expects = refl; was = refl }, refl, refl);
+  delete = λ h. (record { gp = refl; p = refl; l = refl; expects = refl; was = refl }, refl);
   kind = λ h was is. is;
 }
 
@@ -74,6 +74,7 @@ module _ (old new : Words) (stage stages : Stages) (v u : Worker) where
     node = h.node ∙ sym same.0.p;
     calm = h.calm;
     earlier = h.earlier;
+    tagged = h.tagged ∙ sym same.0.expects;
     own = same.1 ∙ h.own;
     own_value = same.2 ∙ h.own_value;
     kind = goal.kind h.claimed.0 None h.kind;
@@ -86,6 +87,7 @@ module _ (old new : Words) (stage stages : Stages) (v u : Worker) where
     node = h.node ∙ sym same.0.p;
     calm = h.calm;
     earlier = h.earlier;
+    tagged = h.tagged ∙ sym same.0.expects;
     own = same.1 ∙ h.own;
     own_value = same.2 ∙ h.own_value;
     kind = goal.kind h.claimed.0 (Some was) h.kind;
@@ -102,6 +104,7 @@ module _ (old new : Words) (stage stages : Stages) (v u : Worker) where
     top_node = h.top_node ∙ sym same.0.gp;
     calm = h.calm;
     earlier = h.earlier;
+    tagged = h.tagged ∙ sym same.0.expects;
     own = same.1 ∙ h.own;
   }
 

@@ -5,7 +5,7 @@ use Rattle.ell_core.specs.declared.view.Seen.{Seen}
 use Rattle.ell_layout.specs.Words.{Words}
 use Rattle.ell_core.specs.state.Facts.{card_of_fact}
 use Rattle.ell_core.specs.state.Machine.{Worker}
-use Rattle.ell_layout.specs.Cards.{is_right, child_for}
+use Rattle.ell_layout.specs.Cards.{is_right, child_for, tag_for}
 use Rattle.ell_core.specs.soundness.Sound.{WorkerOwns}
 use Rattle.ell_core.specs.history.Stages.{Stages, Born}
 use Rattle.ell_core.specs.history.Invariant.{LeadsToValue, SeenIsSound, StandIsSound, Unflagged, WorkerIsSound}
@@ -21,15 +21,19 @@ module _ (old new : Words) (stage stages : Stages) (h : GoesOn old new stage sta
       let side = side_later old new stage h.sound h.words seen.node seen.node (old.key x) (new.key x) refl
       (key_later old new stage h.sound h.words x x refl born) was.node.born in
       let child : child_for new k seen.node ≡ new.child seen.node (is_right old seen.node k) = ap (new.child seen.node) own in
+      let tag : tag_for new k seen.node ≡ new.tag seen.node (is_right old seen.node k) = ap (new.tag seen.node) own in
       record {
         node = inner_on old new stage stages h seen.node seen.node refl was.node;
         less = was.less;
         word = let a = was.word in let up = h.words.update seen.node in omega arith;
         side = side ∙ (was.side ∙ sym own);
-        at_least = let a = was.at_least in let up = h.words.child seen.node (is_right old seen.node k) in omega arith;
+        at_least = let a = was.at_least in let up = h.words.tag seen.node (is_right old seen.node k) in omega arith;
         still = λ calm e.
             let same = h.calm seen.node seen.word was.node.born calm was.word e in
-            child ∙ (same.child (is_right old seen.node k) ∙ was.still calm same.stood);
+            child ∙ ((same.link (is_right old seen.node k)).child ∙ was.still calm same.stood);
+        tagged = λ calm e.
+            let same = h.calm seen.node seen.word was.node.born calm was.word e in
+            tag ∙ ((same.link (is_right old seen.node k)).tag ∙ was.tagged calm same.stood);
       }
 
   -- a worker stands as it stood, if the walk for a key of its own leads where it led

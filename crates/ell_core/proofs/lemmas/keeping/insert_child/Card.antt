@@ -1,6 +1,6 @@
 use Rattle.std.proofs.Common.{◌≡◌, ◌≢◌, ℕ, ◌%◌, ◌<◌, ◌≤◌, Bool, true, not, inl, inr, ◌⊎◌, refl, sym, ap, ◌∙◌, subst, arith}
 use Rattle.ell_word.specs.Node.{IsInternal, card, internal}
-use Rattle.ell_layout.specs.Words.{Words, with_child, put}
+use Rattle.ell_layout.specs.Words.{Words, relinked, put}
 use Rattle.ell_layout.specs.Cards.{iflag, marked, clean, is_right, is_replace_card}
 use Rattle.ell_core.specs.tree.Ranges.{Spans, goes, IsOrdered, Relinked, low_of, high_of}
 use Rattle.ell_core.specs.history.Stages.{Stage, Stages, IFlagged, IChanged, RChanged, is_insert, is_born, is_node_born, insert_open, insert_waits, Born}
@@ -15,7 +15,7 @@ use Rattle.ell_core.specs.tree.Rank.{rank}
 
 -- the words after the child exchange of an insert's card that brings node q to the parent
 abbrev pub ichild_words : Words → ℕ → ℕ → Words
-ichild_words w c q = with_child w (w.p c) (insert_side w c) q
+ichild_words w c q = relinked w (w.p c) (insert_side w c) q
 
 -- the stages after it
 abbrev pub ichild_stages : Stages → ℕ → Stage → Stages
@@ -69,6 +69,10 @@ module _ (w : Words) (stage : Stages) (sound : WordsAreSound w stage) (c : ℕ) 
   -- the child is still the leaf
   pub its_child : w.child (w.p c) (insert_side w c) ≡ w.l c
   its_child = (sound.inserts c).waits (ap insert_waits flagged)
+
+  -- with the tag that the card expects
+  pub its_tag : w.tag (w.p c) (insert_side w c) ≡ w.expects c
+  its_tag = (sound.inserts c).tagged (ap insert_waits flagged)
 
   -- its parent has no mark
   pub no_mark : (d : ℕ) → w.update (w.p c) ≢ marked d

@@ -8,8 +8,8 @@ use Rattle.ell_core.specs.history.Invariant.{insert_side, delete_side, CardIsSou
 use Rattle.ell_core.specs.history.Later.{SaysTheSame, WordsLater, StagesLater}
 use Rattle.ell_layout.proofs.lemmas.Writes.{put_same, put_other}
 use Rattle.ell_core.proofs.lemmas.stages.Order.{delete_waits-open, insert_waits-open, inner-born}
-use Rattle.ell_core.proofs.lemmas.words.Later.{words_child, child_says}
-use Rattle.ell_core.proofs.lemmas.keeping.insert_child.Card.{Brings, just_changed, ichild_words, ichild_stages, its_card, its_flag, its_child, its_relinks, no_mark}
+use Rattle.ell_core.proofs.lemmas.words.Later.{words_child, child_says, SameLink, link_other, tag_there}
+use Rattle.ell_core.proofs.lemmas.keeping.insert_child.Card.{Brings, just_changed, ichild_words, ichild_stages, its_card, its_flag, its_child, its_relinks, no_mark, its_tag}
 use Rattle.ell_core.proofs.lemmas.keeping.going_on.Cards.{GoesOn, card_on}
 use Rattle.ell_core.proofs.lemmas.keeping.going_on.Stages.{insert_stage_same, no_delete, insert_stage_on, delete_stage_on}
 use Rattle.ell_core.proofs.lemmas.stages.Advances.{ichild_later, rchild_later, StageLater, stages_put}
@@ -33,10 +33,7 @@ module _ (w : Words) (stage : Stages) (sound : WordsAreSound w stage) (c : ℕ) 
 
   -- the words are later
   pub words_after : WordsLater w after
-  words_after =
-      let above = b.above in
-      let child = its_child w stage sound c flagged in
-      words_child w (w.p c) q (insert_side w c) (omega arith) (no_mark w stage sound c flagged)
+  words_after = words_child w (w.p c) q (insert_side w c) (λ none. let above = b.above in omega arith) (no_mark w stage sound c flagged)
 
   -- what the exchange changes of no stage is as before
   pub as_before : (f : Stage → Bool) → f now ≡ f IFlagged → (d : ℕ) → f (stages d) ≡ f (stage d)
@@ -61,16 +58,10 @@ module _ (w : Words) (stage : Stages) (sound : WordsAreSound w stage) (c : ℕ) 
     | inr n ↦ ap f (put_other stage c now d n) ∙ h
   ]
 
-  -- the children of other nodes than the parent are as they were
-  pub child_other : (x : ℕ) (right : Bool) → x ≢ w.p c → after.child x right ≡ w.child x right
-  child_other x right apart = elim ((its_relinks w stage sound c flagged q).others x right) [
-    | inl h ↦ absurd (apart h.0)
-    | inr h ↦ h
-  ]
-
-  -- so are those of a node without the flag
-  pub child_calm : (x : ℕ) (right : Bool) → w.update x ≢ iflag c → after.child x right ≡ w.child x right
-  child_calm x right never = child_other x right (λ e. never (ap w.update e ∙ its_flag w stage sound c flagged))
+  -- the child words of a node without the flag are as they were
+  pub link_calm : (x : ℕ) (right : Bool) → w.update x ≢ iflag c → SameLink w after x right
+  link_calm x right never =
+      link_other w (w.p c) q (insert_side w c) x right (λ e. never (ap w.update e ∙ its_flag w stage sound c flagged))
 
   -- a card whose nodes did not come into the tree says what it said
   pub unborn_says : (d : ℕ) → is_born (stage d) ≡ false → SaysTheSame w after d
@@ -87,7 +78,7 @@ module _ (w : Words) (stage : Stages) (sound : WordsAreSound w stage) (c : ℕ) 
     later = stages_after;
     calm = λ x word born calm least e. record {
       stood = e;
-      child = λ right. child_calm x right (λ f. let three = clean_remainder word calm in omega arith);
+      link = λ right. link_calm x right (λ f. let three = clean_remainder word calm in omega arith);
     };
     course = b.course;
     out = b.out;
@@ -109,8 +100,9 @@ module _ (w : Words) (stage : Stages) (sound : WordsAreSound w stage) (c : ℕ) 
     flag = λ h. its_flag w stage sound c flagged;
     over = λ h. absurd (both (λ s. insert_over s ≡ true → ⊥) false≢true false≢true h);
     waits = λ h. absurd (both (λ s. insert_waits s ≡ true → ⊥) false≢true false≢true h);
+    tagged = λ h. absurd (both (λ s. insert_waits s ≡ true → ⊥) false≢true false≢true h);
     course = λ h. absurd (both (λ s. insert_waits s ≡ true → ⊥) false≢true false≢true h);
-    changed = λ h. subst (λ n. w.l c < n) (sym (its_relinks w stage sound c flagged q).there) b.above;
+    changed = λ h. (let there = tag_there w (w.p c) q (insert_side w c) in let was = its_tag w stage sound c flagged in omega arith);
     brings = λ h. b.kind;
   }
 
@@ -121,7 +113,7 @@ module _ (w : Words) (stage : Stages) (sound : WordsAreSound w stage) (c : ℕ) 
         (insert_stage_same after (λ n. now) stages c (sym (put_same stage c now)) changed_here)
     | inr n ↦ insert_stage_on w after stage stages ichild_goes_on d (put_other stage c now d n)
         (λ h. refl)
-        (λ h. child_calm (w.p d) (insert_side w d)
+        (λ h. link_calm (w.p d) (insert_side w d)
         (λ e. let flag = (sound.inserts d).flag (insert_waits-open (stage d) h) in n (omega arith)))
   ]
 
@@ -132,6 +124,6 @@ module _ (w : Words) (stage : Stages) (sound : WordsAreSound w stage) (c : ℕ) 
         (no_delete after stages c (ap delete_won (put_same stage c now) ∙ both (λ s. delete_won s ≡ false) refl refl))
     | inr n ↦ delete_stage_on w after stage stages ichild_goes_on d (put_other stage c now d n)
         (λ h. refl)
-        (λ h. child_calm (w.gp d) (delete_side w d)
+        (λ h. link_calm (w.gp d) (delete_side w d)
         (λ e. let flag = (sound.deletes d).flag (delete_waits-open (stage d) h) in omega arith))
   ]

@@ -5,11 +5,11 @@ use Rattle.ell_core.specs.declared.event.Act.TheVariants as act
 use Rattle.ell_core.specs.declared.event.Stepped.{Stepped}
 use Rattle.ell_core.specs.declared.event.Stepped.TheVariants.{Won, Lost}
 use Rattle.ell_core.specs.declared.fact.Fact.TheVariants as fact
-use Rattle.ell_layout.specs.Words.{Words, with_child}
+use Rattle.ell_layout.specs.Words.{Words, relinked}
 use Rattle.ell_layout.specs.Cards.{is_right, exchange_side, is_replace_card, brought}
 use Rattle.ell_core.specs.state.Facts.{Knowledge, learned}
 use Rattle.ell_core.specs.state.Machine.{Machine, Scene, scene, with_scene}
-use Rattle.ell_core.specs.acts.Exchanges.{knowing, IChild}
+use Rattle.ell_core.specs.acts.Exchanges.{knowing, IChild, expected}
 use Rattle.ell_core.specs.history.Stages.{Stage, Stages, IFlagged, IChanged, RChanged, is_insert, is_changed}
 use Rattle.ell_core.specs.history.Invariant.{LeadsTo, LeadsToValue, insert_key, insert_value, insert_side, InsertCard, WordsAreSound, Invariant}
 use Rattle.ell_core.specs.history.Later.{Follows, KeepsInvariant, wins_of}
@@ -17,7 +17,7 @@ use Rattle.ell_layout.proofs.lemmas.Writes.{put_same}
 use Rattle.ell_core.proofs.lemmas.stages.Order.{waits_or_changed, changed-insert}
 use Rattle.ell_core.proofs.lemmas.keeping.Learning.{KnowsAllowed, learns_fact, takes_on_knowing, follows_knowing}
 use Rattle.ell_core.proofs.lemmas.keeping.OneWorker.{keeps_worker}
-use Rattle.ell_core.proofs.lemmas.keeping.insert_child.Card.{Brings, just_changed, ichild_words, ichild_stages, its_child}
+use Rattle.ell_core.proofs.lemmas.keeping.insert_child.Card.{Brings, just_changed, ichild_words, ichild_stages, its_child, its_tag}
 use Rattle.ell_core.proofs.lemmas.keeping.insert_child.Tree.{brings_node, pairs_after, key_absent}
 use Rattle.ell_core.proofs.lemmas.keeping.insert_child.Leaf.{brings_leaf, pairs_replaced, key_had}
 use Rattle.ell_core.proofs.lemmas.keeping.insert_child.Cards.{stages_after, words_after, unborn_says}
@@ -75,17 +75,18 @@ module _ (m : Machine) (stage : Stages) (i : ℕ) (sound : Invariant m stage) (c
       → (said ≡ Won) × (becomes ≡ scene_won m i c)
   won_waiting flagged said becomes row =
       let side = brought_side m.words stage c ((sound.words.cards c).insert (ap is_insert flagged)) in
-      let found = child_found m.words (m.words.p c) (m.words.l c) (brought m.words c)
+      let found = child_found m.words (m.words.p c) (expected m.words c (m.words.l c)) (brought m.words c)
+      (ap (m.words.tag (m.words.p c)) side ∙ its_tag m.words stage sound.words c flagged)
       (ap (m.words.child (m.words.p c)) side ∙ its_child m.words stage sound.words c flagged) in
-      (row.says ∙ found.0, row.gives ∙ ap scene_with (found.1 ∙ ap (λ s. with_child m.words (m.words.p c) s (brought m.words c)) side))
+      (row.says ∙ found.0, row.gives ∙ ap scene_with (found.1 ∙ ap (λ s. relinked m.words (m.words.p c) s (brought m.words c)) side))
 
   -- where it was made, the exchange is lost
   pub lost_changed : is_changed (stage c) ≡ true → (said : Stepped) (becomes : Scene) → IChild c (scene m i) said becomes
       → (said ≡ Lost) × (becomes ≡ scene_lost m i c)
   lost_changed changed said becomes row =
       let past = (sound.words.inserts c).changed changed in
-      let side = ap (m.words.child (m.words.p c)) (brought_side m.words stage c ((sound.words.cards c).insert (changed-insert (stage c) changed))) in
-      let missed = child_missed m.words (m.words.p c) (m.words.l c) (brought m.words c) (λ e. omega arith) in
+      let side = ap (m.words.tag (m.words.p c)) (brought_side m.words stage c ((sound.words.cards c).insert (changed-insert (stage c) changed))) in
+      let missed = child_missed m.words (m.words.p c) (expected m.words c (m.words.l c)) (brought m.words c) (λ e. omega arith) in
       (row.says ∙ missed.0, row.gives ∙ ap scene_with missed.1)
 
   follows_lost : i < m.count → is_changed (stage c) ≡ true

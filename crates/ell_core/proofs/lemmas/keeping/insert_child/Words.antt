@@ -8,9 +8,10 @@ use Rattle.ell_core.specs.history.Stages.{Stage, Stages, IFlagged, IChanged, RCh
 use Rattle.ell_core.specs.history.Invariant.{IsIn, insert_key, insert_side, ChildrenAreSound, UpdateIsSound, TreeIsSound, WordsAreSound}
 use Rattle.ell_core.proofs.lemmas.tree.Reached.{leads_any, leads_some}
 use Rattle.ell_layout.proofs.lemmas.Writes.{put_same, put_other}
-use Rattle.ell_core.proofs.lemmas.keeping.insert_child.Card.{Brings, just_changed, ichild_words, ichild_stages, its_card, its_child, its_relinks}
+use Rattle.ell_core.proofs.lemmas.keeping.insert_child.Card.{Brings, just_changed, ichild_words, ichild_stages, its_card, its_child, its_relinks, its_tag}
 use Rattle.ell_core.proofs.lemmas.keeping.insert_child.Cards.{as_before, still, stages_after, card_after, insert_after, delete_after}
 use Rattle.ell_core.specs.tree.Rank.{rank}
+use Rattle.ell_core.proofs.lemmas.words.Later.{tags_below}
 
 -- a key and one that is at least the node's are not on the same side if the key is less
 not_same_side : (at k old : ℕ) → k < at → old ≡ at → nat_le at k ≡ nat_le at old → ⊥
@@ -158,6 +159,11 @@ module _ (w : Words) (stage : Stages) (sound : WordsAreSound w stage) (c : ℕ) 
   pub sound_after : WordsAreSound after stages
   sound_after = record {
     opening = put_other stage c now 0 not_opening ∙ sound.opening;
+    tags = (
+        let expected = (its_card w stage sound c flagged).expected in
+        let tag = its_tag w stage sound c flagged in
+        let claimed = (sound.cards c).claimed.0 (ap is_claimed flagged) in
+        tags_below w (w.p c) q (insert_side w c) w.next (omega arith) sound.tags);
     cards = card_after w stage sound c flagged q now b;
     inserts = insert_after w stage sound c flagged q now b;
     deletes = delete_after w stage sound c flagged q now b;

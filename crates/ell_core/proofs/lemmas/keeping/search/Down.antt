@@ -8,7 +8,7 @@ use Rattle.ell_core.specs.declared.event.Act.TheVariants as act
 use Rattle.ell_core.specs.declared.view.Seen.{Seen}
 use Rattle.ell_layout.specs.Words.{Words, IsLeaf}
 use Rattle.ell_core.specs.state.Machine.{Worker, Machine, with_scene}
-use Rattle.ell_layout.specs.Cards.{is_right, child_for}
+use Rattle.ell_layout.specs.Cards.{is_right, child_for, tag_for}
 use Rattle.ell_core.specs.acts.Searching.{gone_down}
 use Rattle.ell_core.specs.tree.Ranges.{below}
 use Rattle.ell_core.specs.history.Stages.{Stages}
@@ -55,7 +55,8 @@ down w v op seen = record v { search = gone_down v.search seen (child_for w (key
 
 module _ (w : Words) (stage : Stages) (words : WordsAreSound w stage) (v : Worker) (op : Op) (seen : Seen)
     (sound : WorkerIsSound w stage v) (busy : v.operation ≡ Some op) (at : v.search.node ≡ Some seen.node)
-    (inner : IsInternal seen.node) (read : v.search.read ≡ Some seen.word) where
+    (inner : IsInternal seen.node) (read : v.search.read ≡ Some seen.word)
+    (tagged : seen.tag ≡ tag_for w (key_of op) seen.node) where
   -- the key, and the child on its side
   abbrev k : ℕ
   k = key_of op
@@ -78,6 +79,7 @@ module _ (w : Words) (stage : Stages) (words : WordsAreSound w stage) (v : Worke
     side = side_kept w stage seen.node (is_right w seen.node k) children;
     at_least = omega arith;
     still = λ calm same. refl;
+    tagged = λ calm same. sym tagged;
   }
 
   -- it has a grandparent where it stands at a leaf of a real key
@@ -125,9 +127,10 @@ module _ (w : Words) (stage : Stages) (words : WordsAreSound w stage) (v : Worke
 -- a worker may go down
 takes_on_down : (m : Machine) (stage : Stages) (i : ℕ) (op : Op) (seen : Seen) → Invariant m stage
     → (m.worker i).operation ≡ Some op → (m.worker i).search.node ≡ Some seen.node → IsInternal seen.node
-    → (m.worker i).search.read ≡ Some seen.word → TakesOn m stage i (down m.words (m.worker i) op seen)
-takes_on_down m stage i op seen sound busy at inner read = takes_on_same m stage i (down m.words (m.worker i) op seen)
-    (sound_down m.words stage sound.words (m.worker i) op seen (sound.workers.each i) busy at inner read) refl refl refl refl refl
+    → (m.worker i).search.read ≡ Some seen.word → seen.tag ≡ tag_for m.words (key_of op) seen.node
+    → TakesOn m stage i (down m.words (m.worker i) op seen)
+takes_on_down m stage i op seen sound busy at inner read tagged = takes_on_same m stage i (down m.words (m.worker i) op seen)
+    (sound_down m.words stage sound.words (m.worker i) op seen (sound.workers.each i) busy at inner read tagged) refl refl refl refl refl
 
 -- down keeps the invariant
 pub keeps_down : KeepsInvariant act.Down
@@ -136,4 +139,4 @@ keeps_down m stage i said becomes there sound happens =
     subst (λ s. Follows m stage act.Down i said (with_scene m i s)) (sym r.gives)
     (follows_worker m stage act.Down i said _ there sound
     (λ c. ap (λ s. wins_by act.Down (m.worker i).card s c) r.says)
-    (takes_on_down m stage i r.op r.seen sound r.busy r.stands r.internal r.read))
+    (takes_on_down m stage i r.op r.seen sound r.busy r.stands r.internal r.read r.tagged))

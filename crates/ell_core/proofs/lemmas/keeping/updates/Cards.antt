@@ -72,7 +72,7 @@ module _ (w : Words) (stage : Stages) (x value c : ℕ) (new : Stage) (e : Updat
     sound = sound;
     words = words_update w x value e.rises e.unmarked;
     later = stages_put stage c new e.later;
-    calm = λ y word born calm least h. record { stood = still_before y word least h; child = λ right. refl };
+    calm = λ y word born calm least h. record { stood = still_before y word least h; link = λ right. record { child = refl; tag = refl } };
     course = λ k y born h. h;
     out = λ y born h. h;
   }
@@ -92,10 +92,10 @@ module _ (w : Words) (stage : Stages) (x value c : ℕ) (new : Stage) (e : Updat
   pub insert_later : WordsAreSound w stage → (d : ℕ) → d ≢ c → InsertStage (with_update w x value) (put stage c new) d
   insert_later sound d n = insert_stage_on w (with_update w x value) stage (put stage c new) (update_goes_on sound) d
       (put_other stage c new d n)
-      (λ h. word_stays (w.p d) (w.update (w.p d)) refl (λ g. (e.others d n).0 (g ∙ (sound.inserts d).flag h))) (λ h. refl)
+      (λ h. word_stays (w.p d) (w.update (w.p d)) refl (λ g. (e.others d n).0 (g ∙ (sound.inserts d).flag h))) (λ h. record { child = refl; tag = refl })
 
   -- another card's stage says of its delete what it said
   pub delete_later : WordsAreSound w stage → (d : ℕ) → d ≢ c → DeleteStage (with_update w x value) (put stage c new) d
   delete_later sound d n = delete_stage_on w (with_update w x value) stage (put stage c new) (update_goes_on sound) d
       (put_other stage c new d n)
-      (λ h. word_stays (w.gp d) (w.update (w.gp d)) refl (λ g. (e.others d n).1 (g ∙ (sound.deletes d).flag h))) (λ h. refl)
+      (λ h. word_stays (w.gp d) (w.update (w.gp d)) refl (λ g. (e.others d n).1 (g ∙ (sound.deletes d).flag h))) (λ h. record { child = refl; tag = refl })

@@ -90,6 +90,13 @@ module _ (m : Machine) (stage : Stages) (i k c : ℕ) (grandparent : Seen) (ther
         (λ t. m.words.child (sym node t) (is_right m.words (sym node t) (hand.own t)))
         ∙ (seen_above.still calm won ∙ hand.node)
 
+    -- with the tag that the card expects
+    tag_is_expected : m.words.tag (m.words.gp c) (delete_side m.words c) ≡ m.words.expects c
+    tag_is_expected =
+        let calm = subst (λ s. IsClean s.word) same_grandparent hand.calm in
+        (λ t. m.words.tag (sym node t) (is_right m.words (sym node t) (hand.own t)))
+        ∙ (seen_above.tagged calm won ∙ (ap (λ s. s.tag) (sym same_grandparent) ∙ hand.tagged))
+
     -- the parent's word is as it was
     parent_same : after.update (m.words.p c) ≡ m.words.update (m.words.p c)
     parent_same = put_other m.words.update grandparent.node (dflag c) (m.words.p c) (λ e. let less = said.first in
@@ -111,6 +118,7 @@ module _ (m : Machine) (stage : Stages) (i k c : ℕ) (grandparent : Seen) (ther
           ∙ put_same m.words.update grandparent.node (dflag c);
       past = λ e. absurd (false≢true e);
       waits = λ e. child_is_parent;
+      tagged = λ e. tag_is_expected;
       markable = λ e. markable;
       unmarkable = λ e. absurd (false≢true e);
       marked = λ e. absurd (false≢true e);

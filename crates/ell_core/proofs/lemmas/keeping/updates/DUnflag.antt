@@ -149,6 +149,7 @@ over_stage w stage c at apart k = let now = put_same w.update (w.gp c) (clean c)
   flag = λ h. absurd (false≢true h);
   past = λ h. omega arith;
   waits = λ h. absurd (false≢true h);
+  tagged = λ h. absurd (false≢true h);
   markable = λ h. absurd (false≢true h);
   unmarkable = λ h. absurd (false≢true h);
   marked = λ h. (let old = k.marked (ap is_marked at) in
@@ -163,6 +164,7 @@ backed_stage w stage c at apart k = let now = put_same w.update (w.gp c) (clean 
   flag = λ h. absurd (false≢true h);
   past = λ h. omega arith;
   waits = λ h. absurd (false≢true h);
+  tagged = λ h. absurd (false≢true h);
   markable = λ h. absurd (false≢true h);
   unmarkable = λ h. (
       let old = k.unmarkable (ap is_unmarkable at) in

@@ -128,11 +128,19 @@ module _ (m : Machine) (stage : Stages) (i : ℕ) (op : Op) (what : Put) (puts :
         let calm = subst (λ s. IsClean s.word) same_parent hand.calm in
         (λ t. m.words.child (sym node t) (side t)) ∙ seen.still calm won
 
+    -- with the tag that the card expects
+    tag_is_expected : m.words.tag (m.words.p c) (insert_side m.words c) ≡ m.words.expects c
+    tag_is_expected =
+        let side = sym (insert_key-side m.words stage c said) ∙ (λ t. is_right m.words (sym node t) (hand.own t)) in
+        let calm = subst (λ s. IsClean s.word) same_parent hand.calm in
+        (λ t. m.words.tag (sym node t) (side t)) ∙ (seen.tagged calm won ∙ (ap (λ s. s.tag) (sym same_parent) ∙ hand.tagged))
+
     flagged_stage : InsertStage (with_update m.words parent.node (iflag c)) (λ d. IFlagged) c
     flagged_stage = record {
       flag = λ e. ap (put m.words.update parent.node (iflag c)) (sym node) ∙ put_same m.words.update parent.node (iflag c);
       over = λ e. absurd (false≢true e);
       waits = λ e. child_is_leaf;
+      tagged = λ e. tag_is_expected;
       course = λ e. course;
       changed = λ e. absurd (false≢true e);
       brings = λ e. absurd (false≢true e);

@@ -80,6 +80,7 @@ module _ (m : Machine) (stage : Stages) (i c : ℕ) (there : i < m.count) (sound
       flag = λ h. absurd (false≢true (sym step.gone ∙ h));
       over = λ h. omega arith;
       waits = λ h. absurd (false≢true (sym step.waits ∙ h));
+      tagged = λ h. absurd (false≢true (sym step.waits ∙ h));
       course = λ h. absurd (false≢true (sym step.waits ∙ h));
       changed = λ h. (sound.words.inserts c).changed (ap is_changed at ∙ step.changed);
       brings = λ h. step.born ∙ (ap is_born (sym at) ∙ (sound.words.inserts c).brings (ap is_changed at ∙ step.changed));

@@ -75,6 +75,7 @@ module _ (m : Machine) (stage : Stages) (i c : ℕ) (there : i < m.count) (sound
       flag = λ h. put_other m.words.update (m.words.p c) (marked c) (m.words.gp c) apart ∙ k.flag (ap delete_open at);
       past = λ h. absurd (false≢true h);
       waits = λ h. k.waits (ap delete_waits at);
+      tagged = λ h. k.tagged (ap delete_waits at);
       markable = λ h. absurd (false≢true h);
       unmarkable = λ h. absurd (false≢true h);
       marked = λ h. record {
@@ -124,6 +125,7 @@ module _ (m : Machine) (stage : Stages) (i c : ℕ) (there : i < m.count) (sound
       flag = λ h. put_same m.words.update (m.words.gp c) (dflag c);
       past = λ h. absurd (false≢true h);
       waits = λ h. k.waits (ap delete_waits at);
+      tagged = λ h. k.tagged (ap delete_waits at);
       markable = λ h. absurd (false≢true h);
       unmarkable = λ h. (
           let same = put_other m.words.update (m.words.gp c) (dflag c) (m.words.p c) (λ e. apart (sym e)) in

@@ -104,6 +104,7 @@ module _ (w : Words) (stage : Stages) (x value c : ℕ) (new : Stage) (e : Updat
       → WordsAreSound (with_update w x value) (put stage c new)
   words_exchanged now k = record {
     opening = put_other stage c new 0 (λ zero. e.tree (ap stage (sym zero) ∙ k.opening)) ∙ k.opening;
+    tags = k.tags;
     cards = card_later w stage x value c new e k;
     inserts = inserts_later now k;
     deletes = deletes_later now k;
