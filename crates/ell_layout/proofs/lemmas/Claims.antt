@@ -1,11 +1,11 @@
-use Rattle.std.proofs.Common.{◌≡◌, ℕ, ◌+◌, ◌*◌, ◌/◌, ◌%◌, ◌<◌, ◌≤◌, Bool, true, false, List, [], ◌∷◌, drop, refl, sym, ap, ap₂, ◌∙◌, arith}
+use Rattle.std.proofs.Common.{◌≡◌, ℕ, ◌+◌, ◌*◌, ◌/◌, ◌%◌, ◌<◌, true, false, List, [], ◌∷◌, drop, refl, ap, ap₂, ◌∙◌, arith}
 use Rattle.ell_word.specs.Link.{linked, tag_unit}
-use Rattle.ell_word.specs.Node.{greatest_card, left_leaf, right_leaf}
+use Rattle.ell_word.specs.Node.{left_leaf, right_leaf}
 use Rattle.ell_layout.specs.declared.field.Field.{Field}
 use Rattle.ell_layout.specs.declared.field.Field.TheVariants.{Gp, P, L, Was, Left, Right}
 use Rattle.ell_layout.specs.Words.{Words, put, written, table_written, with_child, with_tag}
-use Rattle.ell_layout.specs.Cards.{filled, claimed, table_filled, table_claimed, insert_filling, delete_filling}
-use Rattle.ell_layout.specs.Laws.{FillingsAreClaims, TablesClaim}
+use Rattle.ell_layout.specs.Cards.{filled, table_filled, insert_filling}
+use Rattle.ell_layout.specs.Laws.{TablesClaim}
 use Rattle.ell_layout.proofs.lemmas.Writes.{link_back}
 
 -- A field whose word in a table is what the field says: a child without a tag, or any other field but the leaf.

@@ -1,7 +1,7 @@
 use Rattle.std.proofs.Common.{◌≡◌, ◌≢◌, ℕ, ◌%◌, Bool, true, false, List, [], ◌∷◌, refl, ◌∙◌}
+use Rattle.ell_word.specs.Node.{internal}
 use Rattle.ell_layout.specs.declared.field.Field.{Field}
 use Rattle.ell_layout.specs.declared.field.Field.TheVariants.{Gp, Left, Right}
-use Rattle.ell_word.specs.Node.{internal}
 use Rattle.ell_layout.specs.Words.{Words, written}
 use Rattle.ell_layout.specs.Cards.{filled}
 use Rattle.ell_layout.proofs.lemmas.Writes.{side_cases, written_next, written_no_key, written_no_value, written_inner_value, written_leaf_child, written_leaf_update}

@@ -3,7 +3,6 @@ use Rattle.std.proofs.lemmas.Bool.{cases_eq}
 use Rattle.std.proofs.lemmas.Bool.Decides.{nat_tests}
 use Rattle.std.proofs.lemmas.List.{take_more}
 use Rattle.ell_word.specs.Link.{linked, link_in, tag_unit}
-use Rattle.ell_word.specs.declared.link.Link.{Link}
 use Rattle.ell_word.specs.Node.{card, internal, left_leaf, right_leaf, IsNode}
 use Rattle.ell_layout.specs.declared.field.Field.{Field}
 use Rattle.ell_layout.specs.declared.field.Field.TheVariants.{Gp, P, L, Was, Key, Left, Right, Update, LeftLeafKey, RightLeafKey, LeftValue, RightValue}
@@ -349,7 +348,7 @@ pub record SmallNodes (w : Words) : Type 0 where
 node_is_small : (v : ℕ) → v % 67108864 < 67108864
 node_is_small v = omega arith
 
--- So it is after a write of a table's word.
+-- Nodes fit beside tags after a write of a table's word, if they did before.
 pub table_written_small : (w : Words) (c : ℕ) (field : Field) (v : ℕ) → SmallNodes w → SmallNodes (table_written w c field v)
 table_written_small w c L v h = record {
   l = λ d. put_cases (λ n. n < 67108864) w.l c (v % 67108864) d (λ e. node_is_small v) (λ n. h.l d);
