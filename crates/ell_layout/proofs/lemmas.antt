@@ -4,6 +4,8 @@ pub mod Writes
 pub mod Listed
 -- What a filling leaves in each field of its card.
 pub mod Stored
+-- Fields that are written as words of a table, and claims by such words.
+pub mod Claims
 -- A write is seen at its own address alone, and the words at a node are words of its card.
 pub mod Seen
 -- What fields that are written leave.

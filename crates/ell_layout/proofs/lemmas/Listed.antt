@@ -4,15 +4,15 @@ use Rattle.std.proofs.lemmas.Grind.{get_or_default_zero}
 use Rattle.ell_layout.specs.declared.field.Field.{Field}
 use Rattle.ell_layout.specs.declared.field.Field.TheVariants.{Gp, P, L, Was, Key, Left, Right, Update, LeftLeafKey, RightLeafKey, LeftValue, RightValue}
 use Rattle.ell_layout.specs.Layout.{address, place, table_size, listed}
-use Rattle.ell_layout.specs.Words.{Words, word, written, words_of}
-use Rattle.ell_layout.specs.Cards.{filled, filled_list, claimed}
+use Rattle.ell_layout.specs.Words.{Words, word, table_word, table_written, table_words, words_of}
+use Rattle.ell_layout.specs.Cards.{filled_list, table_filled, table_claimed}
 use Rattle.ell_layout.specs.Laws.{SameAfterSameWrite, WordsAreListed, FilledListsAreFilled}
-use Rattle.ell_layout.proofs.lemmas.Writes.{equal_words, written_here, written_elsewhere, written_next, written_no_key, written_no_value, written_inner_value, written_leaf_child, written_leaf_update, made_word, made_no_key, made_no_value, made_inner_value, made_leaf_child, made_leaf_update}
+use Rattle.ell_layout.proofs.lemmas.Writes.{SmallNodes, equal_tables, table_written_here, table_written_elsewhere, table_written_next, table_written_small, table_written_no_key, table_written_no_value, table_written_inner_value, table_written_leaf_child, table_written_leaf_tag, table_written_leaf_update, made_table_word, made_small, made_no_key, made_no_value, made_inner_value, made_table_leaf_child, made_table_leaf_tag, made_leaf_update}
 
 -- The words that a list is have at each field the list's word.
 pub words_are_listed : WordsAreListed
 unfolding words_of
-words_are_listed words c field = made_word (slice_index words 0) (listed words) c field
+words_are_listed words c field = made_table_word (slice_index words 0) (listed words) c field
 
 -- The claim word of the words that a list is.
 pub listed_next : (words : List ℕ) → (words_of words).next ≡ slice_index words 0
@@ -37,7 +37,17 @@ listed_inner_value words x h = made_inner_value (slice_index words 0) (listed wo
 -- A leaf has no child in the words that a list is.
 pub listed_leaf_child : (words : List ℕ) (x : ℕ) (right : Bool) → x % 4 ≢ 0 → (words_of words).child x right ≡ 0
 unfolding words_of
-listed_leaf_child words x right h = made_leaf_child (slice_index words 0) (listed words) x right h
+listed_leaf_child words x right h = made_table_leaf_child (slice_index words 0) (listed words) x right h
+
+-- A leaf has no tag of a child in the words that a list is.
+pub listed_leaf_tag : (words : List ℕ) (x : ℕ) (right : Bool) → x % 4 ≢ 0 → (words_of words).tag x right ≡ 0
+unfolding words_of
+listed_leaf_tag words x right h = made_table_leaf_tag (slice_index words 0) (listed words) x right h
+
+-- The nodes in the words that a list is fit beside tags.
+pub listed_small : (words : List ℕ) → SmallNodes (words_of words)
+unfolding words_of
+listed_small words = made_small (slice_index words 0) (listed words)
 
 -- A leaf has no update word in the words that a list is.
 pub listed_leaf_update : (words : List ℕ) (x : ℕ) → x % 4 ≢ 0 → (words_of words).update x ≡ 0
@@ -74,7 +84,7 @@ claim_is_read words found fits e = e ∙ (get_or_default_zero words 0 found fits
 
 -- What is read at the address of a field is the word of the field.
 pub word_is_read : (words : List ℕ) (cards c : ℕ) (field : Field) (at found : ℕ) → length words ≡ table_size cards → c ≤ cards
-    → at ≡ address c field → found ≡ get_or words at found → found ≡ word (words_of words) c field
+    → at ≡ address c field → found ≡ get_or words at found → found ≡ table_word (words_of words) c field
 word_is_read words cards c field at found size h a e =
     e ∙ (ap (λ i. get_or words i found) a
     ∙ (get_or_default_zero words (address c field) found (address_inside words cards c field size h)
@@ -136,17 +146,17 @@ addresses_apart c d field other e = (same_card c field d other e, same_field c f
 module _ (words : List ℕ) (w : Words) (c : ℕ) (field : Field) (d : ℕ) (other : Field) (value : ℕ) where
   -- A write at this address is read there.
   same_here : address d other < length words → address c field ≡ address d other
-      → listed (slice_set words (address d other) value) c field ≡ word (written w d other value) c field
+      → listed (slice_set words (address d other) value) c field ≡ table_word (table_written w d other value) c field
   same_here fits e =
       ap (slice_index (slice_set words (address d other) value)) e ∙ (get_or-set_same words (address d other) value 0 fits
-      ∙ (sym (written_here w d other value)
-      ∙ λ t. word (written w d other value) (sym (same_card c field d other e) t) (sym (same_field c field d other e) t)))
+      ∙ (sym (table_written_here w d other value)
+      ∙ λ t. table_word (table_written w d other value) (sym (same_card c field d other e) t) (sym (same_field c field d other e) t)))
 
   -- A write at another address leaves the word here.
-  same_elsewhere : listed words c field ≡ word w c field → address c field ≢ address d other
-      → listed (slice_set words (address d other) value) c field ≡ word (written w d other value) c field
+  same_elsewhere : listed words c field ≡ table_word w c field → address c field ≢ address d other
+      → listed (slice_set words (address d other) value) c field ≡ table_word (table_written w d other value) c field
   same_elsewhere same n =
-      get_or-set_other words (address d other) (address c field) value 0 n ∙ (same ∙ sym (written_elsewhere w c field d other value n))
+      get_or-set_other words (address d other) (address c field) value 0 n ∙ (same ∙ sym (table_written_elsewhere w c field d other value n))
 
 -- Where a list has the machine's word, it has it after the same write in both.
 pub same_after_same_write : SameAfterSameWrite
@@ -158,22 +168,26 @@ same_after_same_write words w c field d other value fits same =
 
 -- A write to a list writes the field of the card whose address it is.
 pub words_after_write : (words : List ℕ) (d : ℕ) (other : Field) (value : ℕ) → address d other < length words
-    → words_of (slice_set words (address d other) value) ≡ written (words_of words) d other value
-words_after_write words d other value fits = equal_words _ _ record {
+    → words_of (slice_set words (address d other) value) ≡ table_written (words_of words) d other value
+words_after_write words d other value fits = equal_tables _ _ record {
+  small = listed_small (slice_set words (address d other) value);
+  other_small = table_written_small (words_of words) d other value (listed_small words);
   next = listed_next (slice_set words (address d other) value)
-      ∙ (get_or-set_other words (address d other) 0 value 0 (omega arith) ∙ (sym (listed_next words) ∙ sym (written_next (words_of words) d other value)));
+      ∙ (get_or-set_other words (address d other) 0 value 0 (omega arith) ∙ (sym (listed_next words) ∙ sym (table_written_next (words_of words) d other value)));
   word = λ c field. words_are_listed (slice_set words (address d other) value) c field
       ∙ same_after_same_write words (words_of words) c field d other value fits (sym (words_are_listed words c field));
   no_key = λ x h. listed_no_key (slice_set words (address d other) value) x h
-      ∙ (sym (listed_no_key words x h) ∙ sym (written_no_key (words_of words) d other value x h));
+      ∙ (sym (listed_no_key words x h) ∙ sym (table_written_no_key (words_of words) d other value x h));
   no_value = λ x h. listed_no_value (slice_set words (address d other) value) x h
-      ∙ (sym (listed_no_value words x h) ∙ sym (written_no_value (words_of words) d other value x h));
+      ∙ (sym (listed_no_value words x h) ∙ sym (table_written_no_value (words_of words) d other value x h));
   value = λ x h. listed_inner_value (slice_set words (address d other) value) x h
-      ∙ (sym (listed_inner_value words x h) ∙ sym (written_inner_value (words_of words) d other value x h));
+      ∙ (sym (listed_inner_value words x h) ∙ sym (table_written_inner_value (words_of words) d other value x h));
   child = λ x right h. listed_leaf_child (slice_set words (address d other) value) x right h
-      ∙ (sym (listed_leaf_child words x right h) ∙ sym (written_leaf_child (words_of words) d other value x right h));
+      ∙ (sym (listed_leaf_child words x right h) ∙ sym (table_written_leaf_child (words_of words) d other value x right h));
+  tag = λ x right h. listed_leaf_tag (slice_set words (address d other) value) x right h
+      ∙ (sym (listed_leaf_tag words x right h) ∙ sym (table_written_leaf_tag (words_of words) d other value x right h));
   update = λ x h. listed_leaf_update (slice_set words (address d other) value) x h
-      ∙ (sym (listed_leaf_update words x h) ∙ sym (written_leaf_update (words_of words) d other value x h));
+      ∙ (sym (listed_leaf_update words x h) ∙ sym (table_written_leaf_update (words_of words) d other value x h));
 }
 
 -- Fields that are written leave the length of a list.
@@ -186,42 +200,30 @@ pub words_after_fields : FilledListsAreFilled
 words_after_fields words cards c [] size below = refl
 words_after_fields words cards c (e ∷ es) size below =
     words_after_fields (slice_set words (address c e.0) e.1) cards c es (length-set words (address c e.0) e.1 ∙ size) below
-    ∙ ap (λ w. filled w c es) (words_after_write words c e.0 e.1 (address_inside words cards c e.0 size below))
+    ∙ ap (λ w. table_filled w c es) (words_after_write words c e.0 e.1 (address_inside words cards c e.0 size below))
 
 -- Another claim word leaves the words of the cards.
 pub same_but_next : (w : Words) (value c : ℕ) (field : Field) → word w c field ≡ word (record w { next = value }) c field
 same_but_next w value c Gp = refl
-same_but_next w value c P = refl
-same_but_next w value c L = refl
-same_but_next w value c Was = refl
-same_but_next w value c Key = refl
-same_but_next w value c Left = refl
-same_but_next w value c Right = refl
-same_but_next w value c Update = refl
-same_but_next w value c LeftLeafKey = refl
-same_but_next w value c RightLeafKey = refl
-same_but_next w value c LeftValue = refl
-same_but_next w value c RightValue = refl
+same_but_next w value c _ = refl
+
+-- It leaves the words that a table has for the cards.
+pub table_same_but_next : (w : Words) (value c : ℕ) (field : Field) → table_word w c field ≡ table_word (record w { next = value }) c field
+table_same_but_next w value c Gp = refl
+table_same_but_next w value c _ = refl
 
 -- A write of word 0 writes the claim word.
 pub words_after_claim : (words : List ℕ) (value : ℕ) → 0 < length words
     → words_of (slice_set words 0 value) ≡ record (words_of words) { next = value }
-words_after_claim words value fits = equal_words _ _ record {
-  next = listed_next (slice_set words 0 value) ∙ get_or-set_same words 0 value 0 fits;
-  word = λ c field. words_are_listed (slice_set words 0 value) c field
-      ∙ (get_or-set_other words 0 (address c field) value 0 (omega arith) ∙ (sym (words_are_listed words c field) ∙ same_but_next (words_of words) value c field));
-  no_key = λ x h. listed_no_key (slice_set words 0 value) x h ∙ sym (listed_no_key words x h);
-  no_value = λ x h. listed_no_value (slice_set words 0 value) x h ∙ sym (listed_no_value words x h);
-  value = λ x h. listed_inner_value (slice_set words 0 value) x h ∙ sym (listed_inner_value words x h);
-  child = λ x right h. listed_leaf_child (slice_set words 0 value) x right h ∙ sym (listed_leaf_child words x right h);
-  update = λ x h. listed_leaf_update (slice_set words 0 value) x h ∙ sym (listed_leaf_update words x h);
-}
+unfolding words_of
+words_after_claim words value fits =
+    λ t. table_words (get_or-set_same words 0 value 0 fits t) (λ c field. get_or-set_other words 0 (address c field) value 0 (omega arith) t)
 
 -- Where a card is the next one and filled, a write of the number after it to word 0 claims it.
 pub words_after_filling : (before after : List ℕ) (filling : List (Field × ℕ)) (c : ℕ) → c ≡ (words_of before).next
-    → words_of after ≡ filled (words_of before) c filling → 0 < length after
-    → words_of (slice_set after 0 (c + 1)) ≡ claimed (words_of before) filling
+    → words_of after ≡ table_filled (words_of before) c filling → 0 < length after
+    → words_of (slice_set after 0 (c + 1)) ≡ table_claimed (words_of before) filling
 words_after_filling before after filling c next e fits =
     words_after_claim after (c + 1) fits
     ∙ (ap {B = Words} (λ w. record w { next = c + 1 }) e
-    ∙ ap {B = Words} (λ n. record (filled (words_of before) n filling) { next = n + 1 }) next)
+    ∙ ap {B = Words} (λ n. record (table_filled (words_of before) n filling) { next = n + 1 }) next)

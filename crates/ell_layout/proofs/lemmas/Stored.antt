@@ -1,8 +1,9 @@
 use Rattle.std.proofs.Common.{◌≡◌, ◌≢◌, ℕ, ◌+◌, ◌==◌, if◌then◌else◌, eq-eqb, ne_eqb, List, [], ◌∷◌, refl, sym, ap, ◌∙◌, inl, inr, arith}
 use Rattle.std.proofs.lemmas.Bool.{cases_eq}
 use Rattle.ell_layout.specs.declared.field.Field.{Field}
+use Rattle.ell_layout.specs.declared.field.Field.TheVariants.{Gp}
 use Rattle.ell_layout.specs.Layout.{place}
-use Rattle.ell_layout.specs.Words.{Words, word, written}
+use Rattle.ell_layout.specs.Words.{Words, word, put, written}
 use Rattle.ell_layout.specs.Cards.{filled, claimed, stored}
 use Rattle.ell_layout.proofs.lemmas.Writes.{written_here, written_elsewhere}
 use Rattle.ell_layout.proofs.lemmas.Listed.{apart, same_place-field, same_but_next}
@@ -38,9 +39,15 @@ filled_elsewhere w d [] c field n = refl
 filled_elsewhere w d (e ∷ es) c field n =
     filled_elsewhere (written w d e.0 e.1) d es c field n ∙ written_elsewhere w c field d e.0 e.1 (apart c field d e.0 n)
 
+-- other tags that the cards expect leave what the fields say
+pub same_but_expects : (w : Words) (expects : ℕ → ℕ) (c : ℕ) (field : Field) → word w c field ≡ word (record w { expects = expects }) c field
+same_but_expects w expects c Gp = refl
+same_but_expects w expects c _ = refl
+
 -- so it is after a claim, where the card's words were 0
-pub claimed_stored : (w : Words) (filling : List (Field × ℕ)) (field : Field) → word w w.next field ≡ 0
-    → word (claimed w filling) w.next field ≡ stored filling field 0
-claimed_stored w filling field blank =
-    sym (same_but_next (filled w w.next filling) (w.next + 1) w.next field)
-    ∙ (filled_stored w w.next filling field ∙ ap (stored filling field) blank)
+pub claimed_stored : (w : Words) (tag : ℕ) (filling : List (Field × ℕ)) (field : Field) → word w w.next field ≡ 0
+    → word (claimed w tag filling) w.next field ≡ stored filling field 0
+claimed_stored w tag filling field blank =
+    sym (same_but_next (record (filled w w.next filling) { expects = put w.expects w.next tag }) (w.next + 1) w.next field)
+    ∙ (sym (same_but_expects (filled w w.next filling) (put w.expects w.next tag) w.next field)
+    ∙ (filled_stored w w.next filling field ∙ ap (stored filling field) blank))

@@ -5,7 +5,7 @@ use Rattle.ell_layout.specs.declared.field.Field.TheVariants.{Key}
 use Rattle.ell_layout.specs.Layout.{address}
 use Rattle.ell_layout.specs.Words.{words_of}
 use Rattle.ell_layout.proofs.lemmas.Listed.{address_in_table, words_after_write}
-use Rattle.ell_layout.proofs.lemmas.Writes.{filled_next}
+use Rattle.ell_layout.proofs.lemmas.Writes.{table_filled_next}
 use Rattle.ell_layout.proofs.start.write_fields.Goals as goal
 
 pub loop-field-preserved : goal.loop-field-preserved
@@ -15,7 +15,7 @@ loop-field-preserved c =
     let room = c.requires.inside in
     let same = c.loop-field.auto.words in
     let fits : address c.args.card entry.0 < length c.loop-field.words = omega arith in
-    filled_next (words_of c.args.words.now) (words_of c.loop-field.words) (words_of (slice_set c.loop-field.words c.address.result entry.1)) c.args.card
+    table_filled_next (words_of c.args.words.now) (words_of c.loop-field.words) (words_of (slice_set c.loop-field.words c.address.result entry.1)) c.args.card
     c.args.fields.now c.loop-field.field-index (Key, 0) c.loop-field.invariant c.loop-field-test.true
     (ap (λ i. words_of (slice_set c.loop-field.words i entry.1)) c.address.ensures
     ∙ words_after_write c.loop-field.words c.args.card entry.0 entry.1 fits)

@@ -3,7 +3,7 @@ use Rattle.std.proofs.Common.{◌<◌, ◌+◌, length, ap, ◌∙◌, length-se
 use Rattle.std.proofs.lemmas.List.{length-replicate}
 use Rattle.ell_layout.specs.Layout.{table_size}
 use Rattle.ell_layout.specs.Words.{words_of}
-use Rattle.ell_layout.specs.Cards.{filled}
+use Rattle.ell_layout.specs.Cards.{table_filled}
 use Rattle.ell_layout.specs.declared.branch.Branch.{Branch}
 use Rattle.ell_layout.specs.Branches.{branch_of}
 use Rattle.ell_layout.specs.Start.{start_leaf, start_value, branch_filling}
@@ -61,10 +61,11 @@ pub loop-card-preserved : goal.loop-card-preserved
 loop-card-preserved c =
     let below : c.loop-card.card < length c.args.start.now + 1 = omega arith in
     let some : 0 < c.loop-card.card = omega arith in
-    grows c.args.start.now c.loop-card.card (words_of c.loop-card.words) (words_of c.write_branch.new.words) some c.loop-card.invariant
+    let few = c.requires.few in
+    grows c.args.start.now c.loop-card.card (words_of c.loop-card.words) (words_of c.write_branch.new.words) some (omega arith) few c.loop-card.invariant
     (c.write_branch.ensures
-    ∙ (ap (λ (b : Branch). filled (words_of c.loop-card.words) b.card (branch_filling (start_leaf c.args.start.now) (start_value c.args.start.now) b)) c.branch_of.ensures
-    ∙ ap (λ n. filled (words_of c.loop-card.words) n
+    ∙ (ap (λ (b : Branch). table_filled (words_of c.loop-card.words) b.card (branch_filling (start_leaf c.args.start.now) (start_value c.args.start.now) b)) c.branch_of.ensures
+    ∙ ap (λ n. table_filled (words_of c.loop-card.words) n
     (branch_filling (start_leaf c.args.start.now) (start_value c.args.start.now) (branch_of (length c.args.start.now + 1) c.loop-card.card)))
     (branch_card (length c.args.start.now + 1) (omega arith) c.loop-card.card below)))
 
