@@ -1,4 +1,4 @@
-//! The words that X
+//! The words that the tree is made of: update words, child words and node numbers.
 //!
 //! The tree is that of Ellen, Fatourou, Ruppert and van Breugel, "Non-blocking Binary Search Trees" (PODC 2010). No call
 //! here allocates or refuses anything.

@@ -36,9 +36,9 @@ IsOfUnended stage word = (unpacked word).state ≢ state.Clean → has_ended (st
 
 -- what a search has read at a node since these words and stages: no less than the word that stood there then, of no
 -- card that had ended then, at no node that was cut out then
-pub record SeenSince (w : Words) (stage : Stages) (node word : ℕ) : Type 0 where
-  pub word : w.update node ≤ word
-  pub unended : IsOfUnended stage word
+pub record SeenSince (w : Words) (stage : Stages) (node seen : ℕ) : Type 0 where
+  pub word : w.update node ≤ seen
+  pub unended : IsOfUnended stage seen
   pub there : (c : ℕ) → is_cut (stage c) ≡ true → w.p c ≢ node
 
 -- a search that began at these words and stages: its walk goes by no node that was cut out then, and so is all that it

@@ -36,27 +36,27 @@ same_keys m stage a i said becomes links invariant row after =
     (λ k v. links_keep m.words becomes.words (row_links a links (scene m i) said becomes row) k v 0)
 
 -- the same walks lead to keys after a claim
-claim_leads : (w : Words) (stage : Stages) (filling : List (Field × ℕ)) → WordsAreSound w stage → (k v : ℕ)
-    → LeadsToValue (claimed w filling) k v 0 ↔ LeadsToValue w k v 0
-claim_leads w stage filling sound k v =
-    let claiming : Claiming w (claimed w filling) stage IClaimed = record { words = sound; claims = claimed_claims w filling; fresh = inl refl } in
+claim_leads : (w : Words) (stage : Stages) (tag : ℕ) (filling : List (Field × ℕ)) → WordsAreSound w stage → (k v : ℕ)
+    → LeadsToValue (claimed w tag filling) k v 0 ↔ LeadsToValue w k v 0
+claim_leads w stage tag filling sound k v =
+    let claiming : Claiming w (claimed w tag filling) stage IClaimed = record { words = sound; claims = claimed_claims w tag filling; fresh = inl refl } in
     let root = root_born w stage sound in
-    (leads_before w (claimed w filling) stage IClaimed claiming k v 0 root, leads_kept w (claimed w filling) stage IClaimed claiming k v 0 root)
+    (leads_before w (claimed w tag filling) stage IClaimed claiming k v 0 root, leads_kept w (claimed w tag filling) stage IClaimed claiming k v 0 root)
 
 -- the keys stay after a scene that is said to be this claim's
-claimed_keys : (m : Machine) (stage : Stages) (i : ℕ) (said : Stepped) (becomes : Scene) (filling : List (Field × ℕ)) → Invariant m stage
-    → becomes ≡ claims (scene m i) filling → Follows m stage act.Claim i said (with_scene m i becomes) → SamePairs m.words becomes.words
-claimed_keys m stage i said becomes filling invariant is after =
+claimed_keys : (m : Machine) (stage : Stages) (i : ℕ) (said : Stepped) (becomes : Scene) (tag : ℕ) (filling : List (Field × ℕ)) → Invariant m stage
+    → becomes ≡ claims (scene m i) tag filling → Follows m stage act.Claim i said (with_scene m i becomes) → SamePairs m.words becomes.words
+claimed_keys m stage i said becomes tag filling invariant is after =
     pairs_same m.words becomes.words stage after.stages invariant.words.tree after.invariant.words.tree
-    (λ k v. subst (λ (s : Scene). LeadsToValue s.words k v 0 ↔ LeadsToValue m.words k v 0) (sym is) (claim_leads m.words stage filling invariant.words k v))
+    (λ k v. subst (λ (s : Scene). LeadsToValue s.words k v 0 ↔ LeadsToValue m.words k v 0) (sym is) (claim_leads m.words stage tag filling invariant.words k v))
 
 -- a claim keeps the keys
 claim_keys : (m : Machine) (stage : Stages) (i : ℕ) (said : Stepped) (becomes : Scene) → Invariant m stage
     → Row act.Claim (scene m i) said becomes → Follows m stage act.Claim i said (with_scene m i becomes) → SamePairs m.words becomes.words
 claim_keys m stage i said becomes invariant (inl row) after =
-    claimed_keys m stage i said becomes (insert_filling m.words.next row.what.key row.what.value row.parent.node row.leaf (m.words.key row.leaf) (m.words.value row.leaf)) invariant row.gives after
+    claimed_keys m stage i said becomes row.parent.tag (insert_filling m.words.next row.what.key row.what.value row.parent.node row.leaf (m.words.key row.leaf) (m.words.value row.leaf)) invariant row.gives after
 claim_keys m stage i said becomes invariant (inr row) after =
-    claimed_keys m stage i said becomes (delete_filling row.grandparent.node row.parent.node row.leaf row.parent.word) invariant row.gives after
+    claimed_keys m stage i said becomes row.grandparent.tag (delete_filling row.grandparent.node row.parent.node row.leaf row.parent.word) invariant row.gives after
 
 -- words that did not change have the same keys
 same_words-keys : (old new : Words) → new ≡ old → SamePairs old new

@@ -39,12 +39,12 @@ links_course old new same key x on =
 
 module _ (m : Machine) (stage : Stages) (i : ℕ) (said : Stepped) (becomes : Scene) (invariant : Invariant m stage) where
   -- a claim keeps courses
-  course_claim : (filling : List (Field × ℕ)) → becomes ≡ claims (scene m i) filling
+  course_claim : (tag : ℕ) (filling : List (Field × ℕ)) → becomes ≡ claims (scene m i) tag filling
       → (key x : ℕ) → Born stage x → IsOnCourse m.words key x → IsOnCourse becomes.words key x
-  course_claim filling is key x born on =
-      let claiming : Claiming m.words (claimed m.words filling) stage IClaimed =
-      record { words = invariant.words; claims = claimed_claims m.words filling; fresh = inl refl } in
-      subst (λ (s : Scene). IsOnCourse s.words key x) (sym is) (course_kept m.words (claimed m.words filling) stage IClaimed claiming key x born on)
+  course_claim tag filling is key x born on =
+      let claiming : Claiming m.words (claimed m.words tag filling) stage IClaimed =
+      record { words = invariant.words; claims = claimed_claims m.words tag filling; fresh = inl refl } in
+      subst (λ (s : Scene). IsOnCourse s.words key x) (sym is) (course_kept m.words (claimed m.words tag filling) stage IClaimed claiming key x born on)
 
   -- so does an act that keeps the links
   course_links : (a : Act) → KeepsLinks a → Row a (scene m i) said becomes → (key x : ℕ) → IsOnCourse m.words key x → IsOnCourse becomes.words key x
@@ -54,9 +54,9 @@ module _ (m : Machine) (stage : Stages) (i : ℕ) (said : Stepped) (becomes : Sc
   pub course_by : (a : Act) → Row a (scene m i) said becomes
       → (key x : ℕ) → Born stage x → IsOnCourse m.words key x → IsOnCourse becomes.words key x
   course_by act.Claim (inl row) key x born on =
-      course_claim (insert_filling m.words.next row.what.key row.what.value row.parent.node row.leaf (m.words.key row.leaf) (m.words.value row.leaf)) row.gives key x born on
+      course_claim row.parent.tag (insert_filling m.words.next row.what.key row.what.value row.parent.node row.leaf (m.words.key row.leaf) (m.words.value row.leaf)) row.gives key x born on
   course_by act.Claim (inr row) key x born on =
-      course_claim (delete_filling row.grandparent.node row.parent.node row.leaf row.parent.word) row.gives key x born on
+      course_claim row.grandparent.tag (delete_filling row.grandparent.node row.parent.node row.leaf row.parent.word) row.gives key x born on
   course_by (act.IChild c) row key x born on = elim (waits_or_made m stage i invariant c row.may) [
     | inl flagged ↦ subst (λ (s : Scene). IsOnCourse s.words key x) (sym (won_waiting m stage i invariant c flagged said becomes row).1)
         ((brings m.words stage invariant.words c flagged).course key x born on)

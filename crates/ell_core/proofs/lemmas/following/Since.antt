@@ -32,6 +32,7 @@ use Rattle.ell_core.proofs.lemmas.stages.Order.{cut-delete, delete-claimed}
 use Rattle.ell_core.proofs.lemmas.stages.Ended.{ended_cases, over-cut, insert_over_not_marked, backed_not_marked, insert_open-unended, delete_open-unended, unended_before}
 use Rattle.ell_core.proofs.lemmas.following.Reliance.{may_rely}
 use Rattle.ell_core.proofs.lemmas.following.Walks.{roots_avoid, events_keep_avoiding}
+use Rattle.ell_core.specs.declared.view.Seen.{Seen}
 
 -- a search begins with nothing
 pub searches_begin : SearchesBegin
@@ -124,7 +125,7 @@ module _ (m : Machine) (stage : Stages) (old : Machine) (before : Stages) (e : E
 
   -- so it is seen since
   sees : (op : Op) (x : ℕ) → (old.worker i).operation ≡ Some op → (old.worker i).search.node ≡ Some x → IsInternal x
-      → SeenSince m.words stage (record { node = x; word = old.words.update x })
+      → SeenSince m.words stage x (old.words.update x)
   sees op x busy at inner = record {
     word = words.update x;
     unended = word_unended m stage old before first invariant words later x inner (stands_born x at) (λ c cut. not_gone op x c busy at cut) (old.words.update x) refl;
@@ -147,8 +148,8 @@ module _ (m : Machine) (stage : Stages) (old : Machine) (before : Stages) (e : E
         read = λ x word at has.
             let busy = busy_at row.node row.stands in
             let here_it_is = sees busy.0 row.node busy.1 row.stands row.internal in
-            subst (λ y. SeenSince m.words stage (record { node = y; word = word })) (same_Some row.node x (sym row.stands ∙ at))
-            (subst (λ n. SeenSince m.words stage (record { node = row.node; word = n })) (same_Some (old.words.update row.node) word has) here_it_is);
+            subst (λ y. SeenSince m.words stage y word) (same_Some row.node x (sym row.stands ∙ at))
+            (subst (λ n. SeenSince m.words stage row.node n) (same_Some (old.words.update row.node) word has) here_it_is);
         parent = since.parent;
         grandparent = since.grandparent;
       })
@@ -161,7 +162,7 @@ module _ (m : Machine) (stage : Stages) (old : Machine) (before : Stages) (e : E
             (subst (λ p. Avoids new.words (cut_at stage) (key_of p) child) (same_Some row.op o (sym row.busy ∙ busy))
             (walk_on (key_of row.op) child born (λ c cut on. since.walk row.op row.seen.node row.busy row.stands c cut (next row.internal on))));
         read = λ x word at has. absurd (some_not_none has refl);
-        parent = λ seen has. subst (SeenSince m.words stage) (same_Some row.seen seen has) (since.read row.seen.node row.seen.word row.stands row.read);
+        parent = λ seen has. subst (λ (s : Seen). SeenSince m.words stage s.node s.word) (same_Some row.seen seen has) (since.read row.seen.node row.seen.word row.stands row.read);
         grandparent = since.parent;
       })
   own act.Claim goes after (inl row) = subst (λ (t : Scene). SearchSince m.words stage new.words t.worker) (sym row.gives) (still _ refl refl)

@@ -184,6 +184,6 @@ follows_worker m stage a i said v there sound none h = record {
   invariant = keeps_worker m stage i v there sound h;
   words = words_same m.words;
   later = stages_same stage;
-  unborn = λ c below out field. refl;
+  unborn = λ c below out. record { words = λ field. refl; expects = refl; tags = λ right. refl };
   wins = λ c. wins_same (stage c) ∙ ap (λ more. wins_of (stage c) ++ more) (sym (none c));
 }

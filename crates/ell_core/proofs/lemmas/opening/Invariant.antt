@@ -209,6 +209,7 @@ module _ (start : List (ℕ × ℕ)) (ascending : IsStrictlyIncreasing (keys_of 
   pub start_sound : WordsAreSound w (start_stages (length start + 1))
   start_sound = record {
     opening = stage_there (length start + 1) 0 some;
+    tags = λ x right. omega arith;
     cards = card_sound;
     inserts = λ c. no_insert w (start_stages (length start + 1)) c (each_stage (λ s. insert_won s ≡ false) (length start + 1) c refl refl);
     deletes = λ c. no_delete w (start_stages (length start + 1)) c (each_stage (λ s. delete_won s ≡ false) (length start + 1) c refl refl);
@@ -290,7 +291,7 @@ module _ (setup : Setup) (ascending : IsStrictlyIncreasing (keys_of setup.start)
         | inr h ↦ absurd (false≢true (sym (ap is_start h.1) ∙ is))
       ] in
       let none = goes_none setup.start c below in
-      record { below = below; gp = none.0; parent = none.1; leaf = none.2; was = none.3 }
+      record { below = below; gp = none.0; parent = none.1; leaf = none.2; was = none.3; expects = refl }
 
   -- and there are no other claimed cards
   start_only : (c : ℕ) → c < length setup.start + 1 → is_start (start_stages (length setup.start + 1) c) ≡ false

@@ -1,4 +1,4 @@
-use Rattle.std.proofs.Common.{◌≡◌, ◌+◌, ◌<◌, ◌++◌, List, length, sym, ap, ◌∙◌, subst}
+use Rattle.std.proofs.Common.{◌≡◌, ◌+◌, ◌<◌, ◌++◌, List, length, sym, ap, ◌∙◌, subst, arith}
 use Rattle.ell_word.specs.Node.{internal}
 use Rattle.ell_word.specs.Word.{unpacked}
 use Rattle.ell_word.specs.declared.update.State.TheVariants as state
@@ -87,7 +87,10 @@ frozen m m' follow x mark = (ran_between m m' follow).words.frozen x (unpacked (
 pub rise : WordsRise
 rise m m' follow c =
     let words = (ran_between m m' follow).words in
-    (λ right. words.child (internal c) right, words.update (internal c))
+    (λ right. record {
+      tag = words.tag (internal c) right;
+      child = λ below. words.child (internal c) right (omega arith);
+    }, words.update (internal c))
 
 -- knowledge is never lost, nor a fact
 pub never_lost : KnowledgeIsNeverLost

@@ -8,7 +8,7 @@ use Rattle.ell_core.specs.declared.event.Stepped.{Stepped}
 use Rattle.ell_core.specs.declared.event.Stepped.TheVariants.{Moved, Won, Answered}
 use Rattle.ell_core.specs.declared.fact.Fact.TheVariants.{IFlagged, IChanged, IOver}
 use Rattle.ell_core.specs.declared.view.Seen.{Seen}
-use Rattle.ell_layout.specs.Words.{with_child, with_update, IsLeaf}
+use Rattle.ell_layout.specs.Words.{relinked, with_update, IsLeaf}
 use Rattle.ell_core.specs.state.Facts.{learned}
 use Rattle.ell_core.specs.state.Machine.{Machine, Scene, idle, scene, with_scene}
 use Rattle.ell_layout.specs.Cards.{iflag, clean, insert_filling}
@@ -47,7 +47,7 @@ read_scene = record begun_scene {
 
 -- what it saw of the root
 abbrev pub seen_root : Seen
-seen_root = record { node = 0; word = 3 }
+seen_root = record { node = 0; word = 3; tag = 0 }
 
 -- it goes down to the left leaf
 abbrev pub down_scene : Scene
@@ -57,7 +57,7 @@ down_scene = record read_scene {
 
 -- it claims card 1
 abbrev pub claimed_scene : Scene
-claimed_scene = claims down_scene (insert_filling 1 5 50 0 1 infinity1 0)
+claimed_scene = claims down_scene 0 (insert_filling 1 5 50 0 1 infinity1 0)
 
 -- it flags the root
 abbrev pub flagged_scene : Scene
@@ -73,7 +73,7 @@ flagged_scene = record {
 -- it exchanges the root's left child
 abbrev pub changed_scene : Scene
 changed_scene = record {
-  words = with_child flagged_scene.words 0 false 4;
+  words = relinked flagged_scene.words 0 false 4;
   worker = knowing flagged_scene.worker (learned flagged_scene.worker.knows (IChanged 1));
 }
 
@@ -141,7 +141,7 @@ reads = step begun_state act.Upd Moved read_scene two (λ h. h)
 
 pub goes_down : Steps read_state (by act.Down) Moved down_state
 goes_down = step read_state act.Down Moved down_scene two (λ h. h)
-    (record { op = Insert 5 50; seen = seen_root; busy = refl; stands = refl; internal = refl; read = refl; says = refl; gives = refl }) (λ h. h)
+    (record { op = Insert 5 50; seen = seen_root; busy = refl; stands = refl; internal = refl; read = refl; tagged = refl; says = refl; gives = refl }) (λ h. h)
 
 one_leaf : IsLeaf 1
 one_leaf e = omega arith

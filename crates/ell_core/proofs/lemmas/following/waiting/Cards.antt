@@ -1,8 +1,8 @@
-use Rattle.std.proofs.Common.{◌≡◌, ℕ, ◌<◌, ◌≤◌, inl, inr, Bool, true, false, Some, [], refl, ap, arith, ◌%◌}
-use Rattle.ell_word.specs.Node.{card}
+use Rattle.std.proofs.Common.{◌≡◌, ℕ, ◌<◌, ◌≤◌, inl, inr, Bool, true, false, Some, [], refl, ap, arith, ◌%◌, List}
+use Rattle.ell_word.specs.Node.{card, internal}
 use Rattle.ell_ops.specs.declared.op.Op.{Op}
 use Rattle.ell_ops.specs.declared.op.Op.TheVariants.{Find, Insert, Delete, Swap}
-use Rattle.ell_layout.specs.Words.{Words}
+use Rattle.ell_layout.specs.Words.{Words, word, table_word}
 use Rattle.ell_core.specs.state.Machine.{Worker, Machine}
 use Rattle.ell_core.specs.history.Stages.{Stages, is_claimed, is_start, waits}
 use Rattle.ell_core.specs.history.Invariant.{Unflagged, Flagged, WorkerIsSound, Invariant}
@@ -13,6 +13,12 @@ use Rattle.ell_core.proofs.lemmas.stages.Order.{insert-claimed, delete-claimed, 
 use Rattle.ell_core.proofs.lemmas.stages.Waiting.{insert-waits, delete-waits, insert_won-settled, delete_won-settled, born-settled, unclaimed-settled, waits-claimed, waits-no_start, waits-wins, kind-waits}
 use Rattle.ell_layout.proofs.lemmas.Stored.{claimed_stored}
 use Rattle.ell_core.proofs.lemmas.following.facts.Claimed.{not_claimed}
+use Rattle.ell_word.specs.Link.{linked}
+use Rattle.ell_layout.specs.declared.field.Field.{Field}
+use Rattle.ell_layout.specs.declared.field.Field.TheVariants.{Gp, P, L, Was, Key, Left, Right, Update, LeftLeafKey, RightLeafKey, LeftValue, RightValue}
+use Rattle.ell_layout.specs.Cards.{claimed, stored, tagged_for}
+use Rattle.ell_layout.proofs.lemmas.Writes.{put_same}
+use Rattle.ell_core.proofs.lemmas.keeping.claim.Filling.{filled_tags}
 
 -- a card in hand that is not flagged waits
 by_operation : (w : Words) (stage : Stages) (v : Worker) (op : Op) (c : ℕ) → Unflagged w stage v op c → waits (stage c) ≡ true
