@@ -87,11 +87,13 @@ pub record GoesInTree (w : Words) (stage : Stages) (c : ℕ) : Type 0 where
   pub parent : IsReadable w stage (w.p c)
   pub leaf : Born stage (w.l c)
 
--- a node above x that a search has seen may be read, and the word that was read there names a claimed card
+-- a node above x that a search has seen may be read, the word that was read there names a claimed card, and the tag is below
+-- the claim word
 pub record HasSeen (w : Words) (stage : Stages) (seen : Seen) (x : ℕ) : Type 0 where
   pub node : IsReadable w stage seen.node
   pub less : rank seen.node < rank x
   pub names : (unpacked seen.word).card < w.next
+  pub tag : seen.tag < w.next
 
 -- a worker stands somewhere, and has seen a parent
 pub record StandsBelow (v : Worker) : Type 0 where

@@ -148,6 +148,7 @@ has_seen w stage k seen x sound h = record {
   node = may_read w stage sound seen.node h.node.inner h.node.born;
   less = h.less;
   names = earlier_names w stage sound seen.node seen.word h.node.inner h.node.born h.word;
+  tag = let least = h.at_least in let below = sound.tags seen.node (is_right w seen.node k) in omega arith;
 }
 
 -- where the cards go that go nowhere else: the root
