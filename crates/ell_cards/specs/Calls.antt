@@ -27,6 +27,9 @@ use Rattle.ell_cards.specs.Models.{IsTold, IsFree, Does, StandsAt, InTable, Know
 use Rattle.ell_cards.specs.Changes.{counted, with_fact, if_won, exchanged, after_begin, after_again, after_leave, after_answer, after_upd, after_claim, after_flag, after_mark, glance_down, is_this, told_info, after_fill}
 use Rattle.ell_cards.specs.Guards.{MayBegin, MayAnswer, MayRead, MayGoDown, MayAsk, KnowsPlace, MayLookDown, MayClaim, MayFill, MayIFlag, MayDFlag, MayIChild, MayMark, MayDChild}
 use Rattle.ell_core.specs.tree.Rank.{rank}
+use Rattle.ell_word.specs.declared.link.Link.{Link}
+use Rattle.ell_word.specs.Link.{linked, link_in}
+use Rattle.ell_core.specs.declared.view.Seen.{Seen}
 
 -- the address of the update word of a node
 abbrev pub update_address : ℕ → ℕ
@@ -73,16 +76,20 @@ pub data Atomic : Type 0 where
   Store : ℕ → Atomic
   Exchange : ℕ → ℕ → Atomic
 
+-- the child word that follows one: another node, and the next tag
+abbrev pub next_link : Link → ℕ → Link
+next_link old node = record { node = node; tag = old.tag + 1 }
+
 -- what a call does to its word
 abbrev pub atomic_of : Call → Atomic
 atomic_of (call.Claim c) = Exchange c (c + 1)
 atomic_of (call.Fill c f value) = Store value
 atomic_of (call.IFlag c p from) = Exchange (packed from) (iflag c)
-atomic_of (call.IChild c p l q right) = Exchange l q
+atomic_of (call.IChild c p l q right) = Exchange (linked l) (linked (next_link l q))
 atomic_of (call.IUnflag c p) = Exchange (iflag c) (clean c)
 atomic_of (call.DFlag c gp from) = Exchange (packed from) (dflag c)
 atomic_of (call.Mark c p was) = Exchange was (marked c)
-atomic_of (call.DChild c gp p s right) = Exchange p s
+atomic_of (call.DChild c gp p s right) = Exchange (linked p) (linked (next_link p s))
 atomic_of (call.DUnflag c gp) = Exchange (dflag c) (clean c)
 atomic_of (call.Backtrack c gp) = Exchange (dflag c) (clean c)
 atomic_of _ = Load
@@ -98,6 +105,10 @@ abbrev pub is_won : Atomic → ℕ → Bool
 is_won (Exchange expected value) found = found == expected
 is_won _ found = false
 
+-- what a search has seen of a node where it stands, once it has read this child word there
+abbrev pub seen_below : View → ℕ → ℕ → Seen
+seen_below v x n = record { node = x; word = unwrap_or v.worker.search.read 0; tag = (link_in n).tag }
+
 -- what a pass knows after a call that found this word; a node that it was told it has met
 abbrev pub after : Call → ℕ → View → View
 after (call.Begin op) n v = after_begin (Some op) v
@@ -107,9 +118,9 @@ after (call.Answer said) n v = after_answer said v
 after (call.Upd x) n v = after_upd x (unpacked n) v
 after (call.Down x right) n v = counted (record v {
   worker = record (v.worker) {
-    search = gone_down v.worker.search (record { node = x; word = unwrap_or v.worker.search.read 0 }) n;
+    search = gone_down v.worker.search (seen_below v x n) (link_in n).node;
   };
-  told = Met n ∷ v.told;
+  told = Met (link_in n).node ∷ v.told;
   here = None;
 })
 after call.Next n v = record v { next = Some n; made = v.made + 1 }
@@ -117,27 +128,32 @@ after (call.KeyOf x) n v =
     counted (record v { told = Key x n ∷ v.told; here = if is_this v.worker.search.node x then Some n else v.here })
 after (call.ValueOf x) n v = record v { told = Value x n ∷ v.told; made = v.made + 1 }
 after (call.Info c f) n v = record v { told = told_info c f n v.told; made = v.made + 1 }
-after (call.FrozenChild c p right) n v = record v { told = Frozen c right n ∷ Met n ∷ v.told; made = v.made + 1 }
+after (call.FrozenChild c p right) n v =
+    record v { told = Frozen c right (link_in n).node ∷ Met (link_in n).node ∷ v.told; made = v.made + 1 }
 after call.Look n v = counted (record v {
-  told = Met n ∷ v.told;
-  glances = record { node = n; low = 0; high = greatest_key + 1 } ∷ [];
+  told = Met (link_in n).node ∷ v.told;
+  glances = record { node = (link_in n).node; low = 0; high = greatest_key + 1 } ∷ [];
   looks = v.looks + 1;
 })
-after (call.LookDown from key right) n v =
-    counted (record v { told = Met n ∷ v.told; glances = glance_down from key right n ∷ v.glances })
+after (call.LookDown from key right) n v = counted (record v {
+  told = Met (link_in n).node ∷ v.told;
+  glances = glance_down from key right (link_in n).node ∷ v.glances;
+})
 after (call.Claim c) n v = after_claim (n == c) c v
 after (call.Fill c f value) n v = after_fill f value v
 after (call.IFlag c p from) n v =
     exchanged (if_won (n == packed from) exchange.IFlag c) n
     (after_flag (n == packed from) (fact.IFlagged c) p (unpacked n) v)
-after (call.IChild c p l q right) n v = exchanged (if_won (n == l) exchange.IChild c) n (with_fact (fact.IChanged c) v)
+after (call.IChild c p l q right) n v =
+    exchanged (if_won (n == linked l) exchange.IChild c) n (with_fact (fact.IChanged c) v)
 after (call.IUnflag c p) n v = exchanged (if_won (n == iflag c) exchange.IUnflag c) n (with_fact (fact.IOver c) v)
 after (call.DFlag c gp from) n v =
     exchanged (if_won (n == packed from) exchange.DFlag c) n
     (after_flag (n == packed from) (fact.DFlagged c) gp (unpacked n) v)
 after (call.Mark c p was) n v =
     exchanged (if_won (n == was) exchange.Mark c) n (after_mark (n == was) c p (unpacked n) v)
-after (call.DChild c gp p s right) n v = exchanged (if_won (n == p) exchange.DChild c) n (with_fact (fact.Cut c) v)
+after (call.DChild c gp p s right) n v =
+    exchanged (if_won (n == linked p) exchange.DChild c) n (with_fact (fact.Cut c) v)
 after (call.DUnflag c gp) n v = exchanged (if_won (n == dflag c) exchange.DUnflag c) n (with_fact (fact.DOver c) v)
 after (call.Backtrack c gp) n v = exchanged (if_won (n == dflag c) exchange.Backtrack c) n (with_fact (fact.Backed c) v)
 
@@ -223,14 +239,14 @@ TellsDepth v c field.Gp x = KnowsDelete v c → (p : ℕ) → IsTold v (Info c f
 TellsDepth v c field.P x =
     (KnowsDelete v c → (gp : ℕ) → IsTold v (Info c field.Gp gp) → rank gp < rank x)
     × ((l : ℕ) → IsTold v (Info c field.L l) → rank x < rank l)
-TellsDepth v c field.L x = (p : ℕ) → IsTold v (Info c field.P p) → rank p < rank x
+TellsDepth v c field.L x = (p : ℕ) → IsTold v (Info c field.P p) → rank p < rank (link_in x).node
 TellsDepth v c _ x = Unit {0}
 
 -- a word of a card that names a node names one of the table; grandparent and parent are internal
 abbrev pub TellsNode : ℕ → Field → ℕ → Type 0
 TellsNode last field.Gp x = InTable last x × IsInternal x
 TellsNode last field.P x = InTable last x × IsInternal x
-TellsNode last field.L x = InTable last x
+TellsNode last field.L x = InTable last (link_in x).node
 TellsNode last _ x = Unit {0}
 
 -- what a call tells of the word that it found
@@ -240,14 +256,14 @@ Tells last (call.Answer said) v n =
     × (v.next_at_least ≤ last + 1)
 Tells last call.Leave v n = v.next_at_least ≤ last + 1
 Tells last (call.Upd x) v n = ((unpacked n).card ≤ last) × EndWasUnknown v (unpacked n).state (unpacked n).card
-Tells last (call.Down x right) v n = (rank x < rank n) × InTable last n
+Tells last (call.Down x right) v n = (rank x < rank (link_in n).node) × InTable last (link_in n).node
 Tells last call.Next v n = (1 ≤ n) × (n ≤ last + 1) × (v.next_at_least ≤ n)
 Tells last (call.KeyOf x) v n = TellsLeaf v x n
 Tells last (call.ValueOf x) v n = TellsLedgerValue v x n
 Tells last (call.Info c f) v n = TellsNode last f n × TellsDepth v c f n
-Tells last (call.FrozenChild c p right) v n = (rank p < rank n) × InTable last n
-Tells last call.Look v n = (rank 0 < rank n) × InTable last n
-Tells last (call.LookDown from key right) v n = (rank from.node < rank n) × InTable last n
+Tells last (call.FrozenChild c p right) v n = (rank p < rank (link_in n).node) × InTable last (link_in n).node
+Tells last call.Look v n = (rank 0 < rank (link_in n).node) × InTable last (link_in n).node
+Tells last (call.LookDown from key right) v n = (rank from.node < rank (link_in n).node) × InTable last (link_in n).node
 Tells last (call.IFlag c p from) v n = (unpacked n).card ≤ last
 Tells last (call.DFlag c gp from) v n = (unpacked n).card ≤ last
 Tells last (call.Mark c p was) v n = (unpacked n).card ≤ last

@@ -15,7 +15,7 @@ use Rattle.ell_core.specs.declared.fact.Fact.TheVariants as fact
 use Rattle.ell_layout.specs.declared.field.Field.{Field}
 use Rattle.ell_layout.specs.declared.field.Field.TheVariants.{Gp, P, L}
 use Rattle.ell_core.specs.declared.view.Seen.{Seen}
-use Rattle.ell_layout.specs.Cards.{insert_filling, delete_filling}
+use Rattle.ell_layout.specs.Cards.{insert_filling, delete_filling, tagged_for}
 use Rattle.ell_core.specs.state.Machine.{WorkerView, idle}
 use Rattle.ell_core.specs.acts.Searching.{with_read, begun, ended, with_card}
 use Rattle.ell_core.specs.acts.Exchanges.{knowing, off_the_tree}
@@ -23,7 +23,7 @@ use Rattle.ell_core.specs.state.Opening.{keys_at_start}
 use Rattle.ell_core.specs.statements.Readers.{from_of, upto_of}
 use Rattle.ell_core.specs.statements.Told.{is_fixed}
 use Rattle.ell_cards.specs.declared.view.Told.{Told}
-use Rattle.ell_cards.specs.declared.view.Told.TheVariants.{Met, Value, Info}
+use Rattle.ell_cards.specs.declared.view.Told.TheVariants.{Met, Value, Info, Expects}
 use Rattle.ell_cards.specs.declared.view.Hindrance.{Hindrance}
 use Rattle.ell_cards.specs.declared.view.Hindrance.TheVariants.{Claim, Found}
 use Rattle.ell_cards.specs.declared.glance.Glance.{Glance}
@@ -35,6 +35,8 @@ use Rattle.ell_ops.specs.declared.reply.Reply.{Reply}
 use Rattle.ell_ops.specs.declared.reply.Reply.TheVariants.{Yes, Found}
 use Rattle.ell_cards.specs.declared.view.Answered.{Answered}
 use Rattle.ell_cards.specs.declared.view.Deed.{Deed}
+use Rattle.ell_word.specs.declared.link.Link.{Link}
+use Rattle.ell_word.specs.Link.{linked, link_in}
 
 -- the facts with the one that an update tells: a flag or a mark that of its card, a clean update none
 abbrev pub facts_by : State → ℕ → List Fact → List Fact
@@ -131,9 +133,9 @@ exchanged wins n v = record v { found = Some n; won = wins ++ v.won; made = v.ma
 abbrev pub update_outcome : ℕ → ℕ → Result (Unit {0}) Update
 update_outcome expected found = if found == expected then Ok tt else Err (unpacked found)
 
--- what an exchange of a child that found this answers
-abbrev pub child_outcome : ℕ → ℕ → Result (Unit {0}) ℕ
-child_outcome expected found = if found == expected then Ok tt else Err found
+-- what an exchange of a child word that found this answers
+abbrev pub child_outcome : ℕ → ℕ → Result (Unit {0}) Link
+child_outcome expected found = if found == expected then Ok tt else Err (link_in found)
 
 -- the update that an exchange found, by its answer: the expected one where it was won
 abbrev pub found_update : Update → Result (Unit {0}) Update → Update
@@ -145,10 +147,10 @@ abbrev pub found_word : ℕ → Result (Unit {0}) Update → ℕ
 found_word expected (Ok won) = expected
 found_word expected (Err found) = packed found
 
--- the child that an exchange found, by its answer
-abbrev pub child_found : ℕ → Result (Unit {0}) ℕ → ℕ
+-- the child word that an exchange found, by its answer
+abbrev pub child_found : ℕ → Result (Unit {0}) Link → ℕ
 child_found expected (Ok won) = expected
-child_found expected (Err found) = found
+child_found expected (Err found) = linked found
 
 -- nothing is in hand, and the ledger is this one
 abbrev pub at_rest : List (ℕ × Entry) → View → View
@@ -247,11 +249,11 @@ abbrev pub is_this : Option ℕ → ℕ → Bool
 is_this None x = false
 is_this (Some y) x = y == x
 
--- what was told with a word of a card; a word that is a node is met
+-- what was told with a word of a card; a node is met, and the leaf's has the tag that the card expects
 abbrev pub told_info : ℕ → Field → ℕ → List Told → List Told
 told_info c Gp x told = Info c Gp x ∷ Met x ∷ told
 told_info c P x told = Info c P x ∷ Met x ∷ told
-told_info c L x told = Info c L x ∷ Met x ∷ told
+told_info c L x told = Info c L (link_in x).node ∷ Expects c (link_in x).tag ∷ Met (link_in x).node ∷ told
 told_info c f x told = Info c f x ∷ told
 
 -- where those keys have come that go from a node with this key to this child, which is on this side
@@ -280,6 +282,20 @@ filling_of c v =
     filling_for c v.worker.operation v.worker.search.node v.worker.search.parent v.worker.search.grandparent
     (unwrap_or v.here 0) (told_value v.told)
 
+-- the tag that a card is to expect: that of the child word which is to be exchanged, as the search read it
+abbrev pub tag_of_claim : Option Op → Option Seen → Option Seen → ℕ
+tag_of_claim (Some (Delete k)) parent (Some above) = above.tag
+tag_of_claim _ (Some parent) above = parent.tag
+tag_of_claim _ None above = 0
+
+-- the same, by what the pass knows
+abbrev pub expected_tag : View → ℕ
+expected_tag v = tag_of_claim v.worker.operation v.worker.search.parent v.worker.search.grandparent
+
+-- the words of a table for what fills a card: the leaf's has the tag that the card expects
+abbrev pub tagged : ℕ → List (Field × ℕ) → List (Field × ℕ)
+tagged tag filling = map (λ e. (e.0, tagged_for e.0 tag e.1)) filling
+
 -- what was told with what fills a card, as far as it never changes
 abbrev pub told_filling : ℕ → List (Field × ℕ) → List Told → List Told
 told_filling c [] told = told
@@ -290,8 +306,8 @@ told_filling c (e ∷ es) told =
 abbrev pub after_claim : Bool → ℕ → View → View
 after_claim true c v = counted (record v {
   worker = with_card c v.worker;
-  told = told_filling c (filling_of c v) v.told;
-  planned = filling_of c v;
+  told = Expects c (expected_tag v) ∷ told_filling c (filling_of c v) v.told;
+  planned = tagged (expected_tag v) (filling_of c v);
   stores = [];
   won = (exchange.Claim, c) ∷ v.won;
   next_at_least = c + 1;

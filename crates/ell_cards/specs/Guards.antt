@@ -16,13 +16,14 @@ use Rattle.ell_layout.specs.Cards.{stored, brought_by}
 use Rattle.ell_core.specs.acts.Searching.{put_of, IsClean, leaf_answer}
 use Rattle.ell_layout.specs.Words.{IsLeaf}
 use Rattle.ell_core.specs.statements.Told.{is_fixed}
-use Rattle.ell_cards.specs.declared.view.Told.TheVariants.{Met, Key, Value, Info, Frozen}
+use Rattle.ell_cards.specs.declared.view.Told.TheVariants.{Met, Key, Value, Info, Frozen, Expects}
 use Rattle.ell_cards.specs.declared.glance.Glance.{Glance}
 use Rattle.ell_cards.specs.declared.view.View.{View}
 use Rattle.ell_cards.specs.Models.{IsTold, Knows, KnowsCard, Does, StandsAt, IsFree, HasCome, stored_at}
 use Rattle.ell_ops.specs.declared.reply.Reply.{Reply}
 use Rattle.ell_core.specs.soundness.Sound.{MayChange}
 use Rattle.ell_core.specs.statements.Effects.{reply_of_change}
+use Rattle.ell_word.specs.declared.link.Link.{Link}
 
 -- begin: nothing is in hand, and the key is owned, or shared
 abbrev pub MayBegin : View → Op → Type 0
@@ -146,8 +147,11 @@ pub record MayIFlag (v : View) (c p : ℕ) (from : Update) : Type 0 where
   pub busy : Does v op
   pub puts : put_of op ≡ Some what
   pub may : MayFill v c
+  pub parent : Seen
   pub stands : StandsAt v leaf
-  pub behind : v.worker.search.parent ≡ Some (record { node = p; word = packed from })
+  pub behind : v.worker.search.parent ≡ Some parent
+  pub node : parent.node ≡ p
+  pub read : parent.word ≡ packed from
   pub filled : IsFilled v
 
 -- dflag: the same of a delete's card, at the grandparent
@@ -155,21 +159,26 @@ pub record MayDFlag (v : View) (c gp : ℕ) (from : Update) : Type 0 where
   pub key : ℕ
   pub leaf : ℕ
   pub parent : Seen
+  pub grandparent : Seen
   pub busy : Does v (Delete key)
   pub may : MayFill v c
   pub stands : StandsAt v leaf
   pub behind : v.worker.search.parent ≡ Some parent
-  pub above : v.worker.search.grandparent ≡ Some (record { node = gp; word = packed from })
+  pub above : v.worker.search.grandparent ≡ Some grandparent
+  pub node : grandparent.node ≡ gp
+  pub read : grandparent.word ≡ packed from
   pub filled : IsFilled v
 
--- ichild: the card is known flagged; these are its parent and leaf, the node that it brings, and its key's side there
-pub record MayIChild (v : View) (c p l node : ℕ) (right : Bool) : Type 0 where
+-- ichild: the card is known flagged; these are its parent, its leaf with the tag that it expects, the node that it
+-- brings, and its key's side there
+pub record MayIChild (v : View) (c p : ℕ) (l : Link) (node : ℕ) (right : Bool) : Type 0 where
   pub parent_key : ℕ
   pub card_key : ℕ
   pub left_key : ℕ
   pub knows : Knows v (IFlagged c)
   pub parent : IsTold v (Info c field.P p)
-  pub leaf : IsTold v (Info c field.L l)
+  pub leaf : IsTold v (Info c field.L l.node)
+  pub expects : IsTold v (Expects c l.tag)
   pub told_parent : IsTold v (Key p parent_key)
   pub told_card : IsTold v (Info c field.Key card_key)
   pub told_left : IsTold v (Info c field.LeftLeafKey left_key)
@@ -184,14 +193,16 @@ MayMark v c p was = KnowsPlace v (DFlagged c) c field.P p × IsTold v (Info c fi
 abbrev pub IsSibling : View → ℕ → ℕ → ℕ → Type 0
 IsSibling v c l s = (IsTold v (Frozen c true s) × (s ≢ l)) ⊎ (IsTold v (Frozen c true l) × IsTold v (Frozen c false s))
 
--- dchild: the card is known marked; these are its grandparent and parent, its leaf's sibling, and that one's side above
-pub record MayDChild (v : View) (c gp p s : ℕ) (right : Bool) : Type 0 where
+-- dchild: the card is known marked; these are its grandparent, its parent with the tag that it expects, its leaf's
+-- sibling, and that one's side above
+pub record MayDChild (v : View) (c gp : ℕ) (p : Link) (s : ℕ) (right : Bool) : Type 0 where
   pub leaf : ℕ
   pub grandparent_key : ℕ
   pub sibling_key : ℕ
   pub knows : Knows v (Marked c)
   pub grandparent : IsTold v (Info c field.Gp gp)
-  pub parent : IsTold v (Info c field.P p)
+  pub parent : IsTold v (Info c field.P p.node)
+  pub expects : IsTold v (Expects c p.tag)
   pub below : IsTold v (Info c field.L leaf)
   pub sibling : IsSibling v c leaf s
   pub told_grandparent : IsTold v (Key gp grandparent_key)

@@ -7,7 +7,7 @@ use Rattle.ell_core.specs.declared.fact.Fact.TheVariants.{DOver}
 use Rattle.ell_core.specs.declared.fact.Fact.{Fact}
 use Rattle.ell_layout.specs.declared.field.Field.{Field}
 use Rattle.ell_layout.specs.Layout.{listed, table_size}
-use Rattle.ell_layout.specs.Words.{Words, word}
+use Rattle.ell_layout.specs.Words.{Words, word, table_word}
 use Rattle.ell_core.specs.state.Facts.{known_of}
 use Rattle.ell_core.specs.state.Machine.{worker_of}
 use Rattle.ell_layout.specs.Cards.{marked, stored}
@@ -16,19 +16,22 @@ use Rattle.ell_core.specs.history.Invariant.{Invariant}
 use Rattle.ell_core.specs.history.Stages.{Stages, Born, waits}
 use Rattle.ell_core.specs.statements.Told.{is_fixed}
 use Rattle.ell_core.specs.statements.Walks.{Avoids}
-use Rattle.ell_cards.specs.declared.view.Told.TheVariants.{Met, Key, Value, Info, Frozen}
+use Rattle.ell_cards.specs.declared.view.Told.TheVariants.{Met, Key, Value, Info, Frozen, Expects}
 use Rattle.ell_cards.specs.declared.view.Told.{Told}
 use Rattle.ell_cards.specs.declared.view.View.{View}
 use Rattle.ell_cards.specs.Models.{IsTold, Knows, KnewBefore, stored_at}
 use Rattle.ell_cards.specs.States.{TableState, seated}
+use Rattle.ell_word.specs.Node.{greatest_card}
 
--- what was told holds of the machine's words: a node that was met came into the tree; a key, a value, or a fixed word
--- of a claimed card, is what was told; and so is a child of a parent that stays marked
+-- what was told holds of the machine's words: a node that was met came into the tree; a key, a value, or what a fixed
+-- field of a claimed card says, with the tag that the card expects, is what was told; and so is a child of a parent that
+-- stays marked
 abbrev pub EntryHolds : Words → Stages → Told → Type 0
 EntryHolds w stage (Met x) = Born stage x
 EntryHolds w stage (Key x key) = Born stage x × (w.key x ≡ key)
 EntryHolds w stage (Value x value) = Born stage x × (w.value x ≡ value)
 EntryHolds w stage (Info c f x) = (c < w.next) × (is_fixed f ≡ true) × (word w c f ≡ x)
+EntryHolds w stage (Expects c tag) = (c < w.next) × (w.expects c ≡ tag)
 EntryHolds w stage (Frozen c right x) =
     (c < w.next) × (w.update (w.p c) ≡ marked c) × (w.child (w.p c) right ≡ x) × Born stage x
 
@@ -36,7 +39,7 @@ EntryHolds w stage (Frozen c right x) =
 -- So of a card that is to say P 3 and L 4, and of which P was stored, the machine has both, and the table has P 3 and a
 -- 0 for L
 pub record CardInHandHolds (words : List ℕ) (w : Words) (planned stores : List (Field × ℕ)) (c : ℕ) : Type 0 where
-  pub machine : (f : Field) → word w c f ≡ stored planned f 0
+  pub machine : (f : Field) → table_word w c f ≡ stored planned f 0
   pub table : (f : Field) → listed words c f ≡ stored_at stores f
 
 -- the deletes that a pass knew over when its search began
@@ -70,9 +73,10 @@ pub record HasMachine (keys : List ℕ) (last : ℕ) (s : TableState) : Type 0 w
   pub words : Words
   pub stages : Stages
   pub invariant : Invariant (seated words s.views last) stages
+  pub limit : last ≤ greatest_card
   pub size : length s.words ≡ table_size last
   pub next : slice_index s.words 0 ≡ words.next
-  pub settled : (c : ℕ) (f : Field) → waits (stages c) ≡ false → listed s.words c f ≡ word words c f
+  pub settled : (c : ℕ) (f : Field) → waits (stages c) ≡ false → listed s.words c f ≡ table_word words c f
   pub views : (j : ℕ) (v : View) → get_elem? s.views j ≡ some v → ViewHolds s.words words stages v
   pub owned : (j k : ℕ) (v : View) → get_elem? s.views j ≡ some v → WorkerOwns (worker_of v.worker) k → Contains keys k
   pub listed : (j : ℕ) (v : View) (list : List ℕ) → get_elem? s.views j ≡ some v → v.worker.shared ≡ Some list

@@ -7,7 +7,7 @@ use Rattle.ell_layout.specs.declared.field.Field.TheVariants.{Gp, P, L}
 use Rattle.ell_core.specs.declared.view.Seen.{Seen}
 use Rattle.ell_core.specs.state.Facts.{card_of_fact}
 use Rattle.ell_cards.specs.declared.view.Told.{Told}
-use Rattle.ell_cards.specs.declared.view.Told.TheVariants.{Met, Key, Value, Info, Frozen}
+use Rattle.ell_cards.specs.declared.view.Told.TheVariants.{Met, Key, Value, Info, Frozen, Expects}
 use Rattle.ell_cards.specs.declared.view.View.{View}
 use Rattle.ell_cards.specs.Models.{IsTold, Knows}
 
@@ -24,12 +24,14 @@ EntryIsNamed last (Met x) = card x ≤ last
 EntryIsNamed last (Key x key) = card x ≤ last
 EntryIsNamed last (Value x value) = card x ≤ last
 EntryIsNamed last (Info c f x) = (c ≤ last) × InfoIsNamed last f x
+EntryIsNamed last (Expects c tag) = (c ≤ last) × (tag ≤ last)
 EntryIsNamed last (Frozen c right x) = (c ≤ last) × (card x ≤ last)
 
--- a node with an update word is one of the table, and so is the word's card
+-- a node with an update word is one of the table, and so is the word's card; a tag is at most the number of cards
 pub record SeenIsNamed (last : ℕ) (seen : Seen) : Type 0 where
   pub node : card seen.node ≤ last
   pub word : (unpacked seen.word).card ≤ last
+  pub tag : seen.tag ≤ last
 
 -- all that a pass names is in a table with this last card, and so is each card that its claims have shown to be given
 -- out

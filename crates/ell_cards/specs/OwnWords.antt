@@ -63,11 +63,12 @@ abbrev pub TreeKeysAreOwned : Type 0
 TreeKeysAreOwned = (plan : TablePlan) (s : TableState) → IsReached plan s → (key : ℕ)
     → IsTreeKey (own_words s) key → ¬ IsSharedIn plan key → IsOwnedKey s key
 
--- a node goes on: it has its key; an internal one has no lesser children and no lesser update word, and once that is a
--- mark, neither it nor the children change
+-- a node goes on: it has its key; the tags of an internal one's child words and its update word only rise, a child is the
+-- same while its tag is, and once the update word is a mark, neither it nor the children change
 pub record NodeGoesOn (old new : Words) (x : ℕ) : Type 0 where
   pub key : new.key x ≡ old.key x
-  pub children : IsInternal x → (right : Bool) → old.child x right ≤ new.child x right
+  pub tags : IsInternal x → (right : Bool) → old.tag x right ≤ new.tag x right
+  pub children : IsInternal x → (right : Bool) → new.tag x right ≡ old.tag x right → new.child x right ≡ old.child x right
   pub update : IsInternal x → old.update x ≤ new.update x
   pub frozen : IsInternal x → (unpacked (old.update x)).state ≡ state.Mark → SameNode old new x
 

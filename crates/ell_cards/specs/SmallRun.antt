@@ -15,6 +15,7 @@ use Rattle.ell_cards.specs.States.{TableState}
 use Rattle.ell_cards.specs.Starts.{Starts}
 use Rattle.ell_cards.specs.Turns.{Turn, Makes, Splits, Joins, TableRun}
 use Rattle.ell_cards.specs.TurnEffects.{run_wins}
+use Rattle.ell_word.specs.Link.{linked}
 
 -- a small table: keys 5 and 7, of which key 5 is there at its start, and three cards to give out beside those of the
 -- start
@@ -61,13 +62,13 @@ insert_flags =
 abbrev pub mark_is_lost : List Turn
 mark_is_lost =
     Makes 0 (call.Mark 2 4 3) ∷ Makes 0 (call.Info 3 field.L) ∷ Makes 0 (call.Info 3 field.Key) ∷ Makes 0
-    (call.Info 3 field.LeftLeafKey) ∷ Makes 0 (call.IChild 3 4 5 12 false) ∷
+    (call.Info 3 field.LeftLeafKey) ∷ Makes 0 (call.IChild 3 4 (record { node = 5; tag = 0 }) 12 false) ∷
     Makes 0 (call.IUnflag 3 4) ∷ Makes 0 (call.Backtrack 2 0) ∷ []
 
 -- seat 1 finds that its insert was made, and answers
 abbrev pub insert_ends : List Turn
 insert_ends =
-    Makes 1 (call.IChild 3 4 5 12 false) ∷ Makes 1 (call.IUnflag 3 4) ∷ Makes 1 (call.Answer Yes) ∷ []
+    Makes 1 (call.IChild 3 4 (record { node = 5; tag = 0 }) 12 false) ∷ Makes 1 (call.IUnflag 3 4) ∷ Makes 1 (call.Answer Yes) ∷ []
 
 -- seat 0 tries again: it searches, and takes card 4
 abbrev pub delete_begins_anew : List Turn
@@ -81,12 +82,12 @@ delete_begins_anew =
 -- it flags, marks, cuts the node out, and answers
 abbrev pub delete_ends : List Turn
 delete_ends =
-    Makes 0 (call.Fill 4 field.Gp 4) ∷ Makes 0 (call.Fill 4 field.P 12) ∷ Makes 0 (call.Fill 4 field.L 13) ∷ Makes 0
-    (call.Fill 4 field.Was 3) ∷
+    Makes 0 (call.Fill 4 field.Gp 4) ∷ Makes 0 (call.Fill 4 field.P 12)
+    ∷ Makes 0 (call.Fill 4 field.L (linked (record { node = 13; tag = 1 }))) ∷ Makes 0 (call.Fill 4 field.Was 3) ∷
     Makes 0 (call.DFlag 4 4 (record { state = state.Clean; card = 3 })) ∷ Makes 0 (call.Mark 4 12 3) ∷ Makes 0
     (call.FrozenChild 4 12 true) ∷
-    Makes 0 (call.KeyOf 14) ∷ Makes 0 (call.DChild 4 4 12 14 false) ∷ Makes 0 (call.DUnflag 4 4) ∷ Makes 0
-    (call.Answer Yes) ∷ []
+    Makes 0 (call.KeyOf 14) ∷ Makes 0 (call.DChild 4 4 (record { node = 12; tag = 1 }) 14 false)
+    ∷ Makes 0 (call.DUnflag 4 4) ∷ Makes 0 (call.Answer Yes) ∷ []
 
 -- seat 1 looks for key 7, and finds its value
 abbrev pub look : List Turn

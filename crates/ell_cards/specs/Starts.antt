@@ -19,6 +19,7 @@ use Rattle.ell_cards.specs.Changes.{first_of}
 use Rattle.ell_cards.specs.States.{TableState}
 use Rattle.ell_cards.specs.Turns.{Turn, Makes, TableTurns, TableRun}
 use Rattle.ell_cards.specs.TurnEffects.{own_words, own_machine, TurnsDo, run_wins}
+use Rattle.ell_word.specs.Node.{greatest_card}
 
 -- a key is shared in a table: it is a real key, and the plan shares all but the keys that may have owners
 pub record IsSharedIn (plan : TablePlan) (key : ℕ) : Type 0 where
@@ -26,13 +27,16 @@ pub record IsSharedIn (plan : TablePlan) (key : ℕ) : Type 0 where
   pub real : key ≤ greatest_key
   pub other : set_of plan.keys key ≡ false
 
--- what a table may open with: real keys, ascending; start keys, ascending, each of them or shared; and cards for these
+-- what a table may open with: real keys, ascending; start keys, ascending, each of them or shared; and cards for these,
+-- not more than there are numbers for
 pub record MayStart (plan : TablePlan) : Type 0 where
   pub ascending : IsStrictlyIncreasing plan.keys
   pub real : All (λ k. k ≤ greatest_key) plan.keys
   pub start_ascending : IsStrictlyIncreasing (keys_of plan.start)
   pub given : All (λ k. (set_of plan.keys k ≡ true) ⊎ IsSharedIn plan k) (keys_of plan.start)
   pub room : length plan.start ≤ plan.last_card
+  pub few : length plan.start < greatest_card
+  pub limit : plan.last_card ≤ greatest_card
 
 -- the words of a table are at its start those of the opening tree over the start keys
 pub record StartWords (plan : TablePlan) (words : List ℕ) : Type 0 where

@@ -2,7 +2,7 @@
 use crate::glance::Glance;
 use ell_layout::Field;
 use ell_ops::{Op, Reply};
-use ell_word::Update;
+use ell_word::{Link, Update};
 
 /// A step call of a pass, with its arguments. Each is one atomic step.
 #[derive(Clone, Copy)]
@@ -39,17 +39,17 @@ pub enum Call {
     Fill(u64, Field, u64),
     /// Flags the parent for an insert: card, parent, the update that was read there.
     IFlag(u64, u64, Update),
-    /// Exchanges a child for an insert, which adds a leaf or replaces one: card, parent, leaf, the node that the card
-    /// brings, side.
-    IChild(u64, u64, u64, u64, bool),
+    /// Exchanges a child word for an insert, which adds a leaf or replaces one: card, parent, the leaf with the tag that
+    /// is expected, the node that the card brings, side.
+    IChild(u64, u64, Link, u64, bool),
     /// Takes an insert's flag away: card, parent.
     IUnflag(u64, u64),
     /// Flags the grandparent for a delete: card, grandparent, the update that was read there.
     DFlag(u64, u64, Update),
     /// Marks the parent of a delete: card, parent, the word that its search read there.
     Mark(u64, u64, u64),
-    /// Exchanges a child for a delete: card, grandparent, parent, sibling, side.
-    DChild(u64, u64, u64, u64, bool),
+    /// Exchanges a child word for a delete: card, grandparent, the parent with the tag that is expected, sibling, side.
+    DChild(u64, u64, Link, u64, bool),
     /// Takes a delete's flag away after its child exchange: card, grandparent.
     DUnflag(u64, u64),
     /// Takes a delete's flag away after its lost mark: card, grandparent.

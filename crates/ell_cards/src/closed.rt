@@ -13,7 +13,7 @@ use crate::pass::Pass;
 use crate::table::CardTable;
 use ell_core::TreeWords;
 use ell_layout::{Field, child_field, key_field, value_field};
-use ell_word::card_of;
+use ell_word::{Link, card_of};
 use std::alloc::Allocator;
 use std::marker::Model;
 
@@ -103,7 +103,7 @@ impl<A: Allocator + Copy> TreeWords for Closed<A> {
     }
 
     fn child(&self, node: u64, right: bool) -> u64 {
-        self.word(card_of(node), child_field(right))
+        Link::of(self.word(card_of(node), child_field(right))).node
     }
 }
 

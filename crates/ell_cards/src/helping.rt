@@ -2,6 +2,9 @@
 //! is one atomic step.
 ghost use Rattle.std.specs.Prelude.{◌≡◌, ◌≢◌, ◌≤◌, ◌<◌, is_ok, IfErr};
 ghost use Rattle.ell_word.specs.Word.{packed, unpacked};
+ghost use Rattle.ell_word.specs.Link.{linked};
+ghost use Rattle.ell_word.specs.declared.link.Link.{Link};
+ghost use Rattle.ell_word.specs.Node.{greatest_card};
 ghost use Rattle.ell_core.specs.declared.exchange.Exchange.TheVariants as exchange;
 ghost use Rattle.ell_core.specs.declared.fact.Fact.TheVariants.{IChanged, IOver, Marked, Unmarkable, Cut, DOver, Backed};
 ghost use Rattle.ell_core.specs.tree.Rank.{rank};
@@ -11,7 +14,7 @@ ghost use Rattle.ell_cards.specs.Models.{Steps, InTable};
 ghost use Rattle.ell_cards.specs.Changes.{after_mark, with_fact, if_won, exchanged, found_update, found_word, child_found};
 ghost use Rattle.ell_cards.specs.declared.call.Call.TheVariants as call;
 ghost use Rattle.ell_cards.specs.Guards.{KnowsPlace, MayAsk, MayDChild, MayIChild, MayMark};
-ghost use Rattle.ell_cards.specs.Calls.{after, TellsNode, TellsDepth};
+ghost use Rattle.ell_cards.specs.Calls.{after, next_link, TellsNode, TellsDepth};
 
 use crate::call::Call;
 use crate::outcomes::{child_outcome, update_outcome};
@@ -19,12 +22,25 @@ use crate::pass::Pass;
 use crate::places::{child_address, update_address};
 use crate::table::CardTable;
 use ell_layout::{Field, update_word};
-use ell_word::{State, Update};
+use ell_word::{Link, State, Update};
 use std::alloc::Allocator;
+
+// The child word that follows one: another node, and the next tag.
+#[inline(always)]
+fn next_link(old: Link, node: u64) -> Link
+    requires { old.tag ≤ greatest_card }
+    ensures { result ≡ next_link old node }
+{
+    Link {
+        node,
+        tag: old.tag + 1,
+    }
+}
 
 impl<A: Allocator + Copy> CardTable<A> {
     /// Reads a word of a card that the pass knows flagged or marked: grandparent, parent, leaf, the word that was read, or key.
-    /// The first three are nodes of the table, ever deeper; an insert's grandparent is 0.
+    /// The first three are nodes of the table, ever deeper; an insert's grandparent is 0. The leaf's word has the tag that
+    /// the card expects with it.
     #[inline(always)]
     pub fn info(&self, pass: &mut Pass<A>, card: u64, field: Field) -> u64
         requires own { pass.old.table ≡ self.now.id }
@@ -41,44 +57,47 @@ impl<A: Allocator + Copy> CardTable<A> {
 
     /// Reads a child of the parent of a card that the pass knows marked. It never changes.
     #[inline(always)]
-    pub fn frozen_child(&self, pass: &mut Pass<A>, card: u64, parent: u64, right: bool) -> u64
+    pub fn frozen_child(&self, pass: &mut Pass<A>, card: u64, parent: u64, right: bool) -> Link
         requires own { pass.old.table ≡ self.now.id }
         requires may { KnowsPlace pass.old.view (Marked card) card P parent }
         // It makes one step and counts it. The pass then knows exactly what this call tells.
-        ensures step { Steps pass.old pass.new (after (call.FrozenChild card parent right) result pass.old.view) }
+        ensures step { Steps pass.old pass.new (after (call.FrozenChild card parent right) (linked result) pass.old.view) }
         // The child has a greater rank, and is a node of the table.
-        ensures greater { rank parent < rank result }
-        ensures there { InTable self.now.plan.last_card result }
+        ensures greater { rank parent < rank result.node }
+        ensures there { InTable self.now.plan.last_card result.node }
     {
         self.names(pass);
         let call = Call::FrozenChild(card, parent, right);
-        self.load(pass, call, child_address(parent, right))
+        Link::of(self.load(pass, call, child_address(parent, right)))
     }
 
-    /// Exchanges the child of an insert's parent, from the leaf to the node that the card brings. If that fails, the
-    /// error is the child that was found. Either way, the pass then knows that the card is changed.
+    /// Exchanges the child word of an insert's parent, from the leaf with the tag that the card expects to the node that
+    /// the card brings, with the next tag. If that fails, the error is the child word that was found. Either way, the pass
+    /// then knows that the card is changed.
     #[inline(always)]
     pub fn ichild(
         &self,
         pass: &mut Pass<A>,
         card: u64,
         parent: u64,
-        leaf: u64,
+        leaf: Link,
         node: u64,
         right: bool,
-    ) -> Result<(), u64>
+    ) -> Result<(), Link>
         requires own { pass.old.table ≡ self.now.id }
         requires may { MayIChild pass.old.view card parent leaf node right }
         // It makes one step and counts it. The pass then knows exactly what this call tells.
         ensures step { Steps pass.old pass.new (exchanged (if_won (is_ok result) exchange.IChild card)
-            (child_found leaf result) (with_fact (IChanged card) pass.old.view)) }
+            (child_found (linked leaf) result) (with_fact (IChanged card) pass.old.view)) }
         // If the exchange is lost, it found a word other than the expected one.
         ensures lost { IfErr result (λ found. found ≢ leaf) }
     {
         self.names(pass);
         let call = Call::IChild(card, parent, leaf, node, right);
-        let found = self.exchange(pass, call, child_address(parent, right), leaf, node);
-        child_outcome(leaf, found)
+        let expected = leaf.word();
+        let new = next_link(leaf, node).word();
+        let found = self.exchange(pass, call, child_address(parent, right), expected, new);
+        child_outcome(expected, found)
     }
 
     /// Takes an insert's flag away. If that fails, the error is the update that was found. Either way, the pass then
@@ -123,36 +142,39 @@ impl<A: Allocator + Copy> CardTable<A> {
         update_outcome(was, found)
     }
 
-    /// Exchanges the child of a delete's grandparent, from the parent to the sibling of the leaf. If that fails, the
-    /// error is the child that was found. Either way, the pass then knows that the card is cut.
+    /// Exchanges the child word of a delete's grandparent, from the parent with the tag that the card expects to the
+    /// sibling of the leaf, with the next tag. If that fails, the error is the child word that was found. Either way, the
+    /// pass then knows that the card is cut.
     #[inline(always)]
     pub fn dchild(
         &self,
         pass: &mut Pass<A>,
         card: u64,
         grandparent: u64,
-        parent: u64,
+        parent: Link,
         sibling: u64,
         right: bool,
-    ) -> Result<(), u64>
+    ) -> Result<(), Link>
         requires own { pass.old.table ≡ self.now.id }
         requires may { MayDChild pass.old.view card grandparent parent sibling right }
         // It makes one step and counts it. The pass then knows exactly what this call tells.
         ensures step { Steps pass.old pass.new (exchanged (if_won (is_ok result) exchange.DChild card)
-            (child_found parent result) (with_fact (Cut card) pass.old.view)) }
+            (child_found (linked parent) result) (with_fact (Cut card) pass.old.view)) }
         // If the exchange is lost, it found a word other than the expected one.
         ensures lost { IfErr result (λ found. found ≢ parent) }
     {
         self.names(pass);
         let call = Call::DChild(card, grandparent, parent, sibling, right);
+        let expected = parent.word();
+        let new = next_link(parent, sibling).word();
         let found = self.exchange(
             pass,
             call,
             child_address(grandparent, right),
-            parent,
-            sibling,
+            expected,
+            new,
         );
-        child_outcome(parent, found)
+        child_outcome(expected, found)
     }
 
     /// Takes a delete's flag away after its child exchange. If that fails, the error is the update that was found.

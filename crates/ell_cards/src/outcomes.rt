@@ -2,7 +2,7 @@
 ghost use Rattle.std.specs.Prelude.{◌≡◌};
 ghost use Rattle.ell_cards.specs.Changes.{update_outcome, child_outcome};
 
-use ell_word::{Update, unpack};
+use ell_word::{Link, Update, unpack};
 
 /// Returns what the exchange of an update word answers: the error is the update that was found, if it was not the
 /// expected one.
@@ -17,14 +17,15 @@ pub(crate) fn update_outcome(expected: u64, found: u64) -> Result<(), Update>
     }
 }
 
-/// Returns what the exchange of a child answers: the error is the node that was found, if it was not the expected one.
+/// Returns what the exchange of a child word answers: the error is the one that was found, if it was not the expected
+/// one.
 #[inline(always)]
-pub(crate) fn child_outcome(expected: u64, found: u64) -> Result<(), u64>
+pub(crate) fn child_outcome(expected: u64, found: u64) -> Result<(), Link>
     ensures { result ≡ child_outcome expected found }
 {
     if found == expected {
         Ok(())
     } else {
-        Err(found)
+        Err(Link::of(found))
     }
 }

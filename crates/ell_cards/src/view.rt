@@ -17,8 +17,10 @@ pub enum Told {
     Key(u64, u64),
     /// This leaf has this value.
     Value(u64, u64),
-    /// This card has this word in this field.
+    /// This field of this card says this: of the leaf's its node.
     Info(u64, Field, u64),
+    /// This card expects this tag of the child word that it is to exchange.
+    Expects(u64, u64),
     /// The parent that this card marked has on this side (true is right) this child.
     Frozen(u64, bool, u64),
 }

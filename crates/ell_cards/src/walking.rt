@@ -3,6 +3,7 @@
 ghost use Rattle.std.specs.Prelude.{◌≡◌, ◌≤◌, ◌<◌, ◌+◌, Some};
 ghost use Rattle.ell_core.specs.state.Machine.{ledger_of, worker_of};
 ghost use Rattle.ell_core.specs.tree.Rank.{rank};
+ghost use Rattle.ell_word.specs.Link.{linked, IsLink};
 ghost use Rattle.ell_layout.specs.Words.{IsLeaf};
 ghost use Rattle.ell_core.specs.statements.Effects.{AnswersAsMap};
 ghost use Rattle.ell_core.specs.acts.Searching.{MayStop};
@@ -20,7 +21,7 @@ use crate::pass::Pass;
 use crate::places::{child_address, key_address, root_key, update_address, value_address};
 use crate::table::CardTable;
 use ell_ops::{Op, Reply};
-use ell_word::{Update, unpack};
+use ell_word::{Link, Update, unpack};
 use std::alloc::Allocator;
 
 impl<A: Allocator + Copy> CardTable<A> {
@@ -94,19 +95,21 @@ impl<A: Allocator + Copy> CardTable<A> {
         unpack(self.see(pass, Call::Upd(node), update_address(node)))
     }
 
-    /// Goes down from the internal node where the pass stands to the child on its key's side: a node of the table of greater rank.
+    /// Goes down from the internal node where the pass stands to the child on its key's side, a node of the table of
+    /// greater rank. Returns the child with its tag.
     #[inline(always)]
-    pub fn down(&self, pass: &mut Pass<A>, node: u64, right: bool) -> u64
+    pub fn down(&self, pass: &mut Pass<A>, node: u64, right: bool) -> Link
         requires own { pass.old.table ≡ self.now.id }
         requires may { MayGoDown pass.old.view node right }
         // It makes one step, which the caller has to count. The pass then knows exactly what this call tells.
-        ensures step { Sees pass.old pass.new (after (call.Down node right) result pass.old.view) }
-        // The child has a greater rank, and is a node of the table.
-        ensures greater { rank node < rank result }
-        ensures there { InTable self.now.plan.last_card result }
+        ensures step { Sees pass.old pass.new (after (call.Down node right) (linked result) pass.old.view) }
+        // The child has a greater rank, and is a node of the table; the node and the tag have a word.
+        ensures greater { rank node < rank result.node }
+        ensures there { InTable self.now.plan.last_card result.node }
+        ensures word { IsLink result }
     {
         self.names(pass);
-        self.see(pass, Call::Down(node, right), child_address(node, right))
+        Link::of(self.see(pass, Call::Down(node, right), child_address(node, right)))
     }
 
     /// Reads the claim word: the number of the next card, one more than the number of the last card if all are claimed.
@@ -124,36 +127,37 @@ impl<A: Allocator + Copy> CardTable<A> {
     }
 
     /// Begins a look at the root's left child, a node of the table: the root's key is above every real one, so that all
-    /// real keys go there.
+    /// real keys go there. Returns the child with its tag.
     #[inline(always)]
-    pub fn look(&self, pass: &mut Pass<A>) -> u64
+    pub fn look(&self, pass: &mut Pass<A>) -> Link
         requires own { pass.old.table ≡ self.now.id }
         requires free { IsFree pass.old.view }
         // It makes one step, which the caller has to count. The pass then knows exactly what this call tells.
-        ensures step { Sees pass.old pass.new (after call.Look result pass.old.view) }
+        ensures step { Sees pass.old pass.new (after call.Look (linked result) pass.old.view) }
         // The child has a greater rank, and is a node of the table.
-        ensures greater { rank 0 < rank result }
-        ensures there { InTable self.now.plan.last_card result }
+        ensures greater { rank 0 < rank result.node }
+        ensures there { InTable self.now.plan.last_card result.node }
     {
         self.names(pass);
-        self.see(pass, Call::Look, child_address(0, false))
+        Link::of(self.see(pass, Call::Look, child_address(0, false)))
     }
 
     /// Goes down in a look from an internal node to which it has come, now or earlier, with the node's key, to the
     /// child on a side: a node of the table of greater rank, to which those of the keys have come that go to this side.
+    /// Returns the child with its tag.
     #[inline(always)]
-    pub fn look_down(&self, pass: &mut Pass<A>, from: Glance, key: u64, right: bool) -> u64
+    pub fn look_down(&self, pass: &mut Pass<A>, from: Glance, key: u64, right: bool) -> Link
         requires own { pass.old.table ≡ self.now.id }
         requires may { MayLookDown pass.old.view from key }
         // It makes one step, which the caller has to count. The pass then knows exactly what this call tells.
-        ensures step { Sees pass.old pass.new (after (call.LookDown from key right) result pass.old.view) }
+        ensures step { Sees pass.old pass.new (after (call.LookDown from key right) (linked result) pass.old.view) }
         // The child has a greater rank, and is a node of the table.
-        ensures greater { rank from.node < rank result }
-        ensures there { InTable self.now.plan.last_card result }
+        ensures greater { rank from.node < rank result.node }
+        ensures there { InTable self.now.plan.last_card result.node }
     {
         self.names(pass);
         let word = child_address(from.node, right);
-        self.see(pass, Call::LookDown(from, key, right), word)
+        Link::of(self.see(pass, Call::LookDown(from, key, right), word))
     }
 
     /// Reads the key of a node that the pass has met. For the leaf where the pass stands, it is the operation's key

@@ -1,4 +1,4 @@
-use Rattle.std.specs.Prelude.{ℕ, ◌+◌, ◌*◌, ◌/◌, ◌%◌, ◌^◌, ◌-◌}
+use Rattle.std.specs.Prelude.{ℕ, ◌+◌, ◌*◌, ◌/◌, ◌%◌, ◌^◌, ◌-◌, ◌<◌, ◌≤◌}
 use Rattle.ell_word.specs.declared.link.Link.{Link}
 
 -- a child word has the node in its low 26 bits, and the tag above
@@ -8,6 +8,11 @@ tag_unit = 67108864
 -- the greatest tag: it has 38 bits
 abbrev pub greatest_tag : ℕ
 greatest_tag = 2 ^ 38 - 1
+
+-- a link that has a word
+pub record IsLink (link : Link) : Type 0 where
+  pub node : link.node < tag_unit
+  pub tag : link.tag ≤ greatest_tag
 
 -- the word of a link
 abbrev pub linked : Link → ℕ

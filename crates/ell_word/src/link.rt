@@ -1,6 +1,6 @@
 //! The child word of an internal node: a node, and a tag that counts how often the word has changed.
 ghost use Rattle.std.specs.Prelude.{◌≡◌, ◌≤◌, ◌<◌};
-ghost use Rattle.ell_word.specs.Link.{greatest_tag, tag_unit, linked, link_in};
+ghost use Rattle.ell_word.specs.Link.{IsLink, tag_unit, linked, link_in};
 ghost use Rattle.ell_word.specs.declared.link.Link.{Link};
 
 // Node numbers are below this one, so that a mask gives the node, which is asked at each node of a search.
@@ -18,8 +18,7 @@ impl Link {
     /// Returns the word: 2^26 times the tag plus the node. Conditions: the node is below 2^26, and the tag below 2^38.
     #[inline(always)]
     pub fn word(self) -> u64
-        requires node { self.node < tag_unit }
-        requires tag { self.tag ≤ greatest_tag }
+        requires { IsLink self }
         // Returns the word of the node and the tag.
         ensures { result ≡ linked self }
     {
@@ -32,8 +31,7 @@ impl Link {
         // Returns the node and the tag that the word says.
         ensures link { result ≡ link_in word }
         // The node is below 2^26 and the tag below 2^38, and their word is this one.
-        ensures node { result.node < tag_unit }
-        ensures tag { result.tag ≤ greatest_tag }
+        ensures small { IsLink result }
         ensures again { linked result ≡ word }
     {
         Link {
