@@ -7,9 +7,10 @@ use Rattle.ell_core.specs.statements.Told.{is_fixed}
 use Rattle.ell_cards.specs.declared.view.Told.{Told}
 use Rattle.ell_cards.specs.declared.view.Told.TheVariants.{Met, Info, Expects}
 use Rattle.ell_cards.specs.Models.{Has, latest, earlier}
-use Rattle.ell_cards.specs.Changes.{places_by, told_info, told_filling, says_by}
+use Rattle.ell_cards.specs.Changes.{places_by, told_info, told_filling}
 use Rattle.ell_cards.specs.Guards.{NamesNode}
 use Rattle.ell_word.specs.Link.{link_in}
+use Rattle.ell_layout.specs.Cards.{says_by}
 
 -- what was told before where an update's card goes is told
 pub places_more : (x : ℕ) (st : State) (c : ℕ) (told : List Told) (e : Told) → Has told e → Has (places_by x st c told) e
