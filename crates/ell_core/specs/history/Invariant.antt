@@ -129,6 +129,7 @@ pub record Unborn (w : Words) (c : ℕ) : Type 0 where
 -- a card that was not claimed: all its words are 0
 pub record Blank (w : Words) (c : ℕ) : Type 0 where
   pub words : (field : Field) → word w c field ≡ 0
+  pub expects : w.expects c ≡ 0
   pub tags : (right : Bool) → w.tag (internal c) right ≡ 0
 
 -- what a card says, by its kind

@@ -135,6 +135,7 @@ module _ (old new : Words) (stage stages : Stages) (h : GoesOn old new stage sta
     });
     blank = λ e. (let free = sym s.claimed ∙ e in let same = s.words (unclaimed-unborn (stage c) free) in record {
       words = λ field. same.words field ∙ (was.blank free).words field;
+      expects = same.expects ∙ (was.blank free).expects;
       tags = λ right. same.tags right ∙ (was.blank free).tags right;
     });
   }
