@@ -47,9 +47,9 @@ module _ (keys : List ℕ) (cards : ℕ) (s : TableState) (r : HasMachine keys c
   node_is_small x born =
       let below = born_below r.words r.stages r.invariant.words x born in let most = r.invariant.limit in let limit = r.limit in omega arith
 
-  -- so does a leaf of a claimed card
-  leaf_is_small : (c x : ℕ) → is_claimed (r.stages c) ≡ true → x ≤ right_leaf c → x < 67108864
-  leaf_is_small c x claimed low =
+  -- so does each node of a claimed card
+  own_is_small : (c x : ℕ) → is_claimed (r.stages c) ≡ true → x ≤ right_leaf c → x < 67108864
+  own_is_small c x claimed low =
       let below = (r.invariant.words.cards c).claimed.0 claimed in let most = r.invariant.limit in let limit = r.limit in omega arith
 
   -- so do the children of a card's node that came into the tree
@@ -60,11 +60,13 @@ module _ (keys : List ℕ) (cards : ℕ) (s : TableState) (r : HasMachine keys c
       let there : Born r.stages (internal c) = (λ t. is_node_born (r.stages (same t)) (inner t)) ∙ born in
       node_is_small (r.words.child (internal c) right) ((r.invariant.words.children (internal c) inner there).born right)
 
-  -- so do the leaf where a card goes and the left child of its node
+  -- what a card says fits beside a tag
   module _ (c : ℕ) where
+    -- where it was not claimed, it says 0
     blank_is_small : is_claimed (r.stages c) ≡ false → (x : ℕ) → x ≡ 0 → x < 67108864
     blank_is_small unclaimed x is = omega (arith, is)
 
+    -- the children of an insert's card came into the tree, or are its own leaves
     insert_child_is_small : is_insert (r.stages c) ≡ true → (right : Bool) → r.words.child (internal c) right < 67108864
     insert_child_is_small inserts right = by (is_born (r.stages c)) refl right
       where
@@ -72,11 +74,12 @@ module _ (keys : List ℕ) (cards : ℕ) (s : TableState) (r : HasMachine keys c
         by true born right = born_child_is_small c right (all-born (r.stages c) 0 (omega arith) born)
         by false unborn true =
             let is = ((r.invariant.words.cards c).unborn inserts unborn).right in
-            leaf_is_small c (r.words.child (internal c) true) (insert-claimed (r.stages c) inserts) (omega (arith, is))
+            own_is_small c (r.words.child (internal c) true) (insert-claimed (r.stages c) inserts) (omega (arith, is))
         by false unborn false =
             let is = ((r.invariant.words.cards c).unborn inserts unborn).left in
-            leaf_is_small c (r.words.child (internal c) false) (insert-claimed (r.stages c) inserts) (omega (arith, is))
+            own_is_small c (r.words.child (internal c) false) (insert-claimed (r.stages c) inserts) (omega (arith, is))
 
+    -- the leaf where it goes
     goes_small : r.words.l c < 67108864
     goes_small = elim (stage_kinds (r.stages c)) [
       | inl unclaimed ↦ blank_is_small unclaimed (r.words.l c) (((r.invariant.words.cards c).blank unclaimed).words field.L)
@@ -85,6 +88,7 @@ module _ (keys : List ℕ) (cards : ℕ) (s : TableState) (r : HasMachine keys c
       | inr (inr (inr deletes)) ↦ node_is_small (r.words.l c) ((r.invariant.words.cards c).delete deletes).leaf.born
     ]
 
+    -- the left child of its node
     left_is_small : r.words.child (internal c) false < 67108864
     left_is_small = elim (stage_kinds (r.stages c)) [
       | inl unclaimed ↦ blank_is_small unclaimed (r.words.child (internal c) false) (((r.invariant.words.cards c).blank unclaimed).words field.Left)
@@ -93,7 +97,7 @@ module _ (keys : List ℕ) (cards : ℕ) (s : TableState) (r : HasMachine keys c
       | inr (inr (inr deletes)) ↦ (let is = ((r.invariant.words.cards c).delete deletes).no_left_child in omega (arith, is))
     ]
 
-    -- so does the right child of one that is no delete's
+    -- the right child, unless it is a delete's
     right_is_small : is_delete (r.stages c) ≡ false → r.words.child (internal c) true < 67108864
     right_is_small other = elim (stage_kinds (r.stages c)) [
       | inl unclaimed ↦ blank_is_small unclaimed (r.words.child (internal c) true) (((r.invariant.words.cards c).blank unclaimed).words field.Right)
@@ -104,13 +108,16 @@ module _ (keys : List ℕ) (cards : ℕ) (s : TableState) (r : HasMachine keys c
 
   -- a card that does not wait has the table's own words
   module _ (c : ℕ) (calm : waits (r.stages c) ≡ false) where
+    -- a table has the same words there
     table_there : (field : Field) → table_word (own_words s) c field ≡ table_word r.words c field
     table_there field = words_are_listed s.words c field ∙ r.settled c field calm
 
+    -- the same leaf and the tag that is expected
     link_there : (r.words.l c ≡ (own_words s).l c) × (r.words.expects c ≡ (own_words s).expects c)
     link_there = same_links (r.words.l c) (r.words.expects c) ((own_words s).l c) ((own_words s).expects c) (goes_small c)
         ((listed_small s.words).l c) (sym (table_there field.L))
 
+    -- the same child on a side where it is small, and its tag
     child_there : (right : Bool) → r.words.child (internal c) right < 67108864
         → (r.words.child (internal c) right ≡ (own_words s).child (internal c) right) × (r.words.tag (internal c) right ≡ (own_words s).tag (internal c) right)
     child_there true small =
@@ -120,6 +127,7 @@ module _ (keys : List ℕ) (cards : ℕ) (s : TableState) (r : HasMachine keys c
         same_links (r.words.child (internal c) false) (r.words.tag (internal c) false) ((own_words s).child (internal c) false) ((own_words s).tag (internal c) false)
         small ((listed_small s.words).child (internal c) false) (sym (table_there field.Left))
 
+    -- and all the same, where it is no delete's
     word_there : is_delete (r.stages c) ≡ false → (field : Field) → word r.words c field ≡ word (own_words s) c field
     word_there other field.L = link_there.0
     word_there other field.Left = (child_there false (left_is_small c)).0

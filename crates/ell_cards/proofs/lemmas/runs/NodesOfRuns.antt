@@ -53,6 +53,7 @@ module _ (keys : List ℕ) (cards : ℕ) (s : TableState) (r : HasMachine keys c
   update_now : IsInternal x → (own_words s').update x ≡ k.words.update x
   update_now inner = update_same k.words (own_words s') k.stages k.invariant.words (same_card keys cards s' k) x inner later
 
+  -- its card was claimed
   below : card x < r.words.next
   below = (r.invariant.words.cards (card x)).claimed.0 (born-claimed (r.stages (card x)) (x % 4) born)
 
