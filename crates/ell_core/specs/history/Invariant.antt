@@ -119,6 +119,7 @@ pub record DeleteCard (w : Words) (stage : Stages) (c : ℕ) : Type 0 where
   pub earlier : w.was c < iflag c
   pub expected : w.expects c < c
   pub no_left_child : w.child (internal c) false ≡ 0
+  pub no_right_child : w.child (internal c) true ≡ 0
 
 -- the nodes of a card that did not come into the tree: as they were filled
 pub record Unborn (w : Words) (c : ℕ) : Type 0 where
