@@ -24,14 +24,14 @@ pub info_more : (c : ℕ) (f : Field) (x : ℕ) (told : List Told) (e : Told) �
 info_more c field.Gp x told e h = earlier e _ _ (earlier e (Met x) told h)
 info_more c field.P x told e h = earlier e _ _ (earlier e (Met x) told h)
 info_more c field.L x told e h = earlier e _ _ (earlier e _ _ (earlier e _ told h))
-info_more c f x told e h = earlier e (Info c f x) told h
+info_more c f x told e h = earlier e _ told h
 
 -- what it says is told, and a node that it names is met
 pub info_latest : (c : ℕ) (f : Field) (x : ℕ) (told : List Told) → Has (told_info c f x told) (Info c f (says_by f x))
 info_latest c field.Gp x told = latest (Info c field.Gp x) (Met x ∷ told)
 info_latest c field.P x told = latest (Info c field.P x) (Met x ∷ told)
 info_latest c field.L x told = latest _ _
-info_latest c f x told = latest (Info c f x) told
+info_latest c f x told = latest _ told
 
 pub info_node : (c : ℕ) (f : Field) (x : ℕ) (told : List Told) → NamesNode f → Has (told_info c f x told) (Met (says_by f x))
 info_node c field.Gp x told h = earlier (Met x) (Info c field.Gp x) (Met x ∷ told) (latest (Met x) told)
