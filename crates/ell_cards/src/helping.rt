@@ -167,13 +167,7 @@ impl<A: Allocator + Copy> CardTable<A> {
         let call = Call::DChild(card, grandparent, parent, sibling, right);
         let expected = parent.word();
         let new = next_link(parent, sibling).word();
-        let found = self.exchange(
-            pass,
-            call,
-            child_address(grandparent, right),
-            expected,
-            new,
-        );
+        let found = self.exchange(pass, call, child_address(grandparent, right), expected, new);
         child_outcome(expected, found)
     }
 

@@ -1,10 +1,9 @@
-use Rattle.std.proofs.Common.{◌≡◌, ℕ, zero, suc, ◌<◌, Bool, true, false, List, refl, sym, ap, ◌∙◌}
-use Rattle.ell_word.specs.declared.link.Link.{Link}
+use Rattle.std.proofs.Common.{◌≡◌, ℕ, ◌<◌, Bool, List, sym, ap, ◌∙◌}
 use Rattle.ell_word.specs.Link.{tag_unit, linked, link_in}
-use Rattle.ell_word.specs.Node.{IsInternal, card, internal}
+use Rattle.ell_word.specs.Node.{IsInternal, card}
 use Rattle.ell_layout.specs.declared.field.Field.{Field}
-use Rattle.ell_layout.specs.declared.field.Field.TheVariants.{L, Left, Right}
-use Rattle.ell_layout.specs.Words.{Words, word, table_word, table_written, with_child, with_tag, key_field, value_field, child_field, words_of}
+use Rattle.ell_layout.specs.declared.field.Field.TheVariants.{L}
+use Rattle.ell_layout.specs.Words.{Words, word, table_word, table_written, with_child, with_tag, child_field, words_of}
 use Rattle.ell_layout.proofs.lemmas.Listed.{listed_small}
 use Rattle.ell_layout.proofs.lemmas.Writes.{child_word_at_node, child_written, link_back}
 

@@ -1,4 +1,4 @@
-use Rattle.std.proofs.Common.{◌≡◌, ◌∷◌, ℕ, ◌<◌, Bool, true, List, get_or, refl, sym, ap, subst, inl, inr, arith, ◌∙◌, false}
+use Rattle.std.proofs.Common.{◌≡◌, ◌∷◌, ℕ, ◌<◌, Bool, true, List, get_or, refl, sym, ap, subst, inl, inr, arith, ◌∙◌}
 use Rattle.ell_core.proofs.lemmas.stages.LaterKeys.{root_born}
 use mathlib.Core.Option.{some}
 use lib.ListN.{get_elem?}
@@ -31,7 +31,7 @@ use Rattle.ell_cards.proofs.lemmas.stepping.Exchanges.{told_is}
 use Rattle.ell_cards.proofs.lemmas.stepping.Known.{known_delete, known_card, known_claimed, known_settled, child_found}
 use Rattle.ell_core.specs.tree.Rank.{rank}
 use Rattle.std.proofs.lemmas.Bool.{false≢true}
-use Rattle.ell_word.specs.Link.{linked, link_in}
+use Rattle.ell_word.specs.Link.{link_in}
 use Rattle.ell_word.specs.declared.link.Link.{Link}
 use Rattle.ell_layout.proofs.lemmas.Writes.{link_back}
 use Rattle.ell_layout.specs.Cards.{says_by}

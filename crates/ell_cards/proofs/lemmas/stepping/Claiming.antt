@@ -22,7 +22,7 @@ use Rattle.ell_layout.specs.declared.field.Field.TheVariants as field
 use Rattle.ell_layout.specs.Layout.{address, listed}
 use Rattle.ell_layout.specs.Words.{Words, word, table_word}
 use Rattle.ell_core.specs.state.Machine.{worker_of}
-use Rattle.ell_layout.specs.Cards.{insert_filling, delete_filling, filled, claimed, stored, tagged_for}
+use Rattle.ell_layout.specs.Cards.{insert_filling, delete_filling, claimed, stored, tagged_for}
 use Rattle.ell_core.specs.acts.Events.{Row, Happens}
 use Rattle.ell_core.specs.history.Stages.{Stages, is_claimed, waits}
 use Rattle.ell_core.proofs.lemmas.stages.Waiting.{kind-waits, unclaimed-no_start, unclaimed-wins, unclaimed-settled, waits-claimed}

@@ -12,7 +12,7 @@ use Rattle.ell_layout.specs.Words.{child_field, table_written}
 use Rattle.ell_core.specs.state.Facts.{known_of, learned, learned_any, told_by}
 use Rattle.ell_core.specs.state.Machine.{Worker, worker_of}
 use Rattle.ell_layout.specs.Cards.{dflag, marked, exchange_side, sibling}
-use Rattle.ell_core.specs.acts.Exchanges.{won_or_lost, exchanged_child, found_child, knowing, mark_teaches, finds_link, expected}
+use Rattle.ell_core.specs.acts.Exchanges.{won_or_lost, exchanged_child, knowing, mark_teaches, finds_link, expected}
 use Rattle.ell_core.specs.acts.Events.{Happens}
 use Rattle.ell_core.specs.history.Stages.{Born}
 use Rattle.ell_core.specs.statements.StepLaws.{IsReadable}

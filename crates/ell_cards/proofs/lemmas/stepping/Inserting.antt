@@ -1,4 +1,4 @@
-use Rattle.std.proofs.Common.{◌≡◌, ◌%◌, ◌==◌, ℕ, Bool, List, nat_le, refl, sym, ap, ◌∙◌, subst, ◌<◌, ◌≤◌, ◌+◌, true, false, arith}
+use Rattle.std.proofs.Common.{◌≡◌, ◌%◌, ◌==◌, ℕ, Bool, List, nat_le, refl, sym, ap, ◌∙◌, subst, ◌<◌, ◌≤◌, true, false, arith}
 use Rattle.ell_core.proofs.lemmas.keeping.insert_child.IChild.{brought_side}
 use mathlib.Core.Option.{some}
 use lib.ListN.{get_elem?}
@@ -21,7 +21,7 @@ use Rattle.ell_cards.specs.Machines.{HasMachine}
 use Rattle.ell_cards.specs.Laws.{IsEvent}
 use Rattle.ell_core.proofs.lemmas.stages.Waiting.{born-settled}
 use Rattle.ell_cards.proofs.lemmas.seats.Frames.{is_event}
-use Rattle.ell_cards.proofs.lemmas.stepping.Exchanges.{in_list, told_is, told_key, found_at, exchanged_words, teaches, child_exchanged, child_says, unflags, told_tag}
+use Rattle.ell_cards.proofs.lemmas.stepping.Exchanges.{in_list, told_is, told_key, found_at, teaches, child_exchanged, child_says, unflags, told_tag}
 use Rattle.ell_cards.proofs.lemmas.stepping.Known.{insert_flagged, insert_changed, child_found}
 use Rattle.ell_word.specs.Link.{linked, tag_unit}
 use Rattle.ell_word.specs.declared.link.Link.{Link}

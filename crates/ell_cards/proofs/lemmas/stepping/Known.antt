@@ -4,7 +4,7 @@ use lib.ListN.{get_elem?}
 use Rattle.ell_word.specs.Node.{card, IsInternal}
 use Rattle.ell_core.specs.declared.fact.Fact.TheVariants.{IFlagged, IChanged, DFlagged, Marked, Unmarkable, Cut}
 use Rattle.ell_layout.specs.declared.field.Field.TheVariants as field
-use Rattle.ell_layout.specs.Words.{word, child_field, table_word}
+use Rattle.ell_layout.specs.Words.{child_field, table_word}
 use Rattle.ell_core.specs.history.Stages.{Born, is_insert, is_delete, waits}
 use Rattle.ell_core.specs.history.Invariant.{InsertCard, DeleteCard}
 use Rattle.ell_core.proofs.lemmas.stages.Order.{insert_won-insert, delete_won-delete, marked-delete, marked-won, changed-insert, insert-claimed, delete-claimed, cut-delete, unmarkable-delete}

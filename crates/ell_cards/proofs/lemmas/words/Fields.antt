@@ -1,14 +1,14 @@
-use Rattle.std.proofs.Common.{◌≡◌, ◌≢◌, ℕ, ◌<◌, ◌==◌, if◌then◌else◌, eq-eqb, ne_eqb, Bool, true, false, List, [], ◌∷◌, length, get_or, set, refl, sym, ap, ◌∙◌, arith, inl, inr, get_or-set_same, get_or-set_other, ◌+◌, zero, suc}
+use Rattle.std.proofs.Common.{◌≡◌, ◌≢◌, ℕ, ◌<◌, ◌==◌, if◌then◌else◌, eq-eqb, ne_eqb, Bool, true, false, List, [], ◌∷◌, length, get_or, set, refl, sym, ap, ◌∙◌, arith, inl, inr, get_or-set_same, get_or-set_other}
 use Rattle.std.proofs.lemmas.Bool.{cases_eq}
 use Rattle.ell_layout.specs.declared.field.Field.{Field}
 use Rattle.ell_layout.specs.declared.field.Field.TheVariants.{Gp, P, L, Was, Key, Left, Right, Update, LeftLeafKey, RightLeafKey, LeftValue, RightValue}
 use Rattle.ell_layout.specs.Layout.{address, place, listed}
 use Rattle.ell_word.specs.Node.{card, IsInternal}
-use Rattle.ell_layout.specs.Words.{Words, word, table_word, words_of, written, table_written, with_update, with_child, with_tag, relinked, child_field, key_field, value_field}
+use Rattle.ell_layout.specs.Words.{Words, word, table_word, written, table_written, with_update, child_field}
 use Rattle.ell_layout.specs.Cards.{filled}
-use Rattle.ell_layout.proofs.lemmas.Writes.{written_here, written_elsewhere, internal_at_node, link_back}
-use Rattle.ell_layout.proofs.lemmas.Listed.{apart, same_place-field, words_are_listed}
-use Rattle.ell_word.specs.Link.{linked, tag_unit}
+use Rattle.ell_layout.proofs.lemmas.Writes.{written_here, written_elsewhere, internal_at_node}
+use Rattle.ell_layout.proofs.lemmas.Listed.{apart, same_place-field}
+use Rattle.ell_word.specs.Link.{linked}
 use Rattle.ell_core.specs.history.Later.{SaysTheSame}
 use Rattle.ell_core.specs.history.Invariant.{Blank}
 

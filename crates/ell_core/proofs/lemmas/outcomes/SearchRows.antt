@@ -74,8 +74,8 @@ settles_down_at s op node word busy stands read = elim (decides_internal node) [
     only = λ other later r. (
       r.says,
       (let same_op = same_value r.busy busy in let same_node = same_value r.stands stands in
-      r.gives ∙ ap2 (down_from s) same_op (same_seen r.seen seen same_node (same_value r.read read)
-      (r.tagged ∙ (λ t. tag_for s.words (key_of (same_op t)) (same_node t))))),
+          r.gives ∙ ap2 (down_from s) same_op (same_seen r.seen seen same_node (same_value r.read read)
+          (r.tagged ∙ (λ t. tag_for s.words (key_of (same_op t)) (same_node t))))),
     );
   })
   | inr n ↦ inr (λ said after r. n (ap (λ x. x % 4) (same_value stands r.stands) ∙ r.internal))

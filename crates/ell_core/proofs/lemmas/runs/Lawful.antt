@@ -86,11 +86,13 @@ frozen m m' follow x mark = (ran_between m m' follow).words.frozen x (unpacked (
 -- words rise
 pub rise : WordsRise
 rise m m' follow c =
-    let words = (ran_between m m' follow).words in
-    (λ right. record {
-      tag = words.tag (internal c) right;
-      child = λ below. words.child (internal c) right (omega arith);
-    }, words.update (internal c))
+    let words = (ran_between m m' follow).words in (
+      λ right. record {
+        tag = words.tag (internal c) right;
+        child = λ below. words.child (internal c) right (omega arith);
+      },
+      words.update (internal c),
+    )
 
 -- knowledge is never lost, nor a fact
 pub never_lost : KnowledgeIsNeverLost

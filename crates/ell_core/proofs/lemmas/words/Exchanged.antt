@@ -1,7 +1,7 @@
-use Rattle.std.proofs.Common.{◌≡◌, ◌≢◌, ℕ, ◌==◌, if◌then◌else◌, ap, ◌&&◌, ap₂, Bool, true, false}
+use Rattle.std.proofs.Common.{◌≡◌, ◌≢◌, ℕ, ◌==◌, if◌then◌else◌, ap, ◌&&◌, ap₂, true, false}
 use Rattle.std.proofs.lemmas.Bool.{eq-eqb, ne_eqb}
 use Rattle.ell_core.specs.declared.event.Stepped.TheVariants.{Won, Lost}
-use Rattle.ell_layout.specs.Words.{Words, with_update, with_child, relinked}
+use Rattle.ell_layout.specs.Words.{Words, with_update, relinked}
 use Rattle.ell_layout.specs.Cards.{exchange_side}
 use Rattle.ell_core.specs.acts.Exchanges.{won_or_lost, found_child, exchanged_update, exchanged_child, found_tag, finds_link}
 use Rattle.ell_word.specs.declared.link.Link.{Link}

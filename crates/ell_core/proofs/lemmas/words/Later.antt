@@ -3,7 +3,7 @@ use Rattle.std.proofs.lemmas.Bool.{cases_eq}
 use Rattle.std.proofs.lemmas.Bool.Decides.{nat_tests}
 use Rattle.ell_word.specs.Node.{internal}
 use Rattle.ell_layout.specs.declared.field.Field.TheVariants.{Left, Right, Update}
-use Rattle.ell_layout.specs.Words.{Words, put, put_side, with_update, with_child, relinked, word}
+use Rattle.ell_layout.specs.Words.{Words, put, put_side, with_update, relinked, word}
 use Rattle.ell_layout.specs.Cards.{marked}
 use Rattle.ell_core.specs.history.Later.{SaysTheSame, WordsLater}
 use Rattle.ell_layout.proofs.lemmas.Writes.{put_same, put_other, put_side_same}

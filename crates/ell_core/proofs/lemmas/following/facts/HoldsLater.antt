@@ -1,4 +1,4 @@
-use Rattle.std.proofs.Common.{◌≡◌, ◌≢◌, ℕ, ◌%◌, ◌<◌, ◌≤◌, ◌⊎◌, inl, inr, true, false, refl, sym, ap, ◌∙◌, arith, nat_le}
+use Rattle.std.proofs.Common.{◌≡◌, ◌≢◌, ℕ, ◌%◌, ◌<◌, ◌≤◌, ◌⊎◌, inl, inr, true, false, sym, ap, ◌∙◌, arith, nat_le}
 use Rattle.std.proofs.lemmas.Bool.{false≢true, cases_Bool, eqb-true}
 use Rattle.ell_word.specs.Node.{internal, left_leaf, right_leaf, card}
 use Rattle.ell_core.specs.declared.fact.Fact.{Fact}
@@ -8,7 +8,7 @@ use Rattle.ell_core.specs.state.Facts.{card_of_fact}
 use Rattle.ell_layout.specs.Cards.{iflag, dflag, is_right, is_delete_card, card_key, card_tag}
 use Rattle.ell_core.specs.soundness.Holds.{IFlagHolds, IChangeHolds, DFlagHolds, MarkHolds, UnmarkableHolds, CutHolds, Holds}
 use Rattle.ell_core.specs.history.Stages.{Stages, is_start, is_node_born, is_insert, is_delete, is_cut, delete_waits}
-use Rattle.ell_core.specs.history.Invariant.{insert_key, insert_side, delete_side, WordsAreSound, KindsAreSound}
+use Rattle.ell_core.specs.history.Invariant.{insert_side, delete_side, WordsAreSound, KindsAreSound}
 use Rattle.ell_core.specs.history.Later.{WordsLater, StagesLater}
 use Rattle.ell_core.proofs.lemmas.runs.Chains.{MarksLater}
 use Rattle.ell_core.proofs.lemmas.words.Sides.{key_of_three, card_key-insert, card_key-delete, insert_key-side}

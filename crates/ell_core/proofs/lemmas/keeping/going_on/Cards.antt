@@ -9,7 +9,7 @@ use Rattle.ell_core.specs.history.Stages.{Stages, is_claimed, is_insert, is_dele
 use Rattle.ell_core.specs.history.Invariant.{IsOut, IsOnCourse, insert_side, IsInnerBorn, IsLeafBorn, InsertCard, DeleteCard, CardIsSound, WordsAreSound}
 use Rattle.ell_core.specs.history.Later.{SaysTheSame, WordsLater, StagesLater}
 use Rattle.ell_core.proofs.lemmas.stages.Order.{unclaimed-unborn, delete-unborn, inner-born, all-born}
-use Rattle.ell_core.proofs.lemmas.stages.LaterKeys.{insert_info, insert_node_key, insert_parent_key, insert_leaf_key, insert_node_value, insert_leaf_value, insert_key_later, delete_info, delete_key_later, insert_child_later, insert_tag_later}
+use Rattle.ell_core.proofs.lemmas.stages.LaterKeys.{insert_info, insert_node_key, insert_parent_key, insert_leaf_key, insert_node_value, insert_leaf_value, insert_key_later, delete_info, delete_key_later, insert_tag_later}
 use Rattle.ell_core.specs.tree.Rank.{rank}
 use Rattle.ell_core.proofs.lemmas.words.Later.{SameLink}
 

@@ -1,4 +1,4 @@
-use Rattle.std.proofs.Common.{◌≡◌, ◌≢◌, ℕ, ◌%◌, ◌<◌, Bool, true, false, inl, inr, refl, sym, ap, ◌∙◌, subst, arith}
+use Rattle.std.proofs.Common.{◌≡◌, ◌≢◌, ℕ, ◌%◌, Bool, true, false, inl, inr, refl, sym, ap, ◌∙◌, subst, arith}
 use Rattle.std.proofs.lemmas.Bool.{cases_eq, false≢true}
 use Rattle.ell_word.specs.Node.{card}
 use Rattle.ell_layout.specs.Words.{Words}
@@ -9,7 +9,7 @@ use Rattle.ell_core.specs.history.Later.{SaysTheSame, WordsLater, StagesLater}
 use Rattle.ell_layout.proofs.lemmas.Writes.{put_same, put_other}
 use Rattle.ell_core.proofs.lemmas.stages.Order.{delete_waits-open, insert_waits-open, inner-born}
 use Rattle.ell_core.proofs.lemmas.words.Later.{words_child, child_says, SameLink, link_other, tag_there}
-use Rattle.ell_core.proofs.lemmas.keeping.insert_child.Card.{Brings, just_changed, ichild_words, ichild_stages, its_card, its_flag, its_child, its_relinks, no_mark, its_tag}
+use Rattle.ell_core.proofs.lemmas.keeping.insert_child.Card.{Brings, just_changed, ichild_words, ichild_stages, its_card, its_flag, no_mark, its_tag}
 use Rattle.ell_core.proofs.lemmas.keeping.going_on.Cards.{GoesOn, card_on}
 use Rattle.ell_core.proofs.lemmas.keeping.going_on.Stages.{insert_stage_same, no_delete, insert_stage_on, delete_stage_on}
 use Rattle.ell_core.proofs.lemmas.stages.Advances.{ichild_later, rchild_later, StageLater, stages_put}
