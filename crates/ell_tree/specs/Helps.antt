@@ -1,8 +1,7 @@
-use Rattle.std.specs.Prelude.{◌≡◌, ⊥, Unit, ℕ, ◌+◌, ◌-◌, ◌*◌, ◌<◌, ◌≤◌, if◌then◌else◌, Option, Some, None, Result, Ok, Err, List, ◌∷◌, length}
+use Rattle.std.specs.Prelude.{◌≡◌, ℕ, ◌+◌, ◌-◌, ◌*◌, ◌<◌, ◌≤◌, if◌then◌else◌, Option, Some, None, Result, Ok, Err, List, ◌∷◌, length}
 use Rattle.ell_word.specs.declared.link.Link.{Link}
 use Rattle.ell_word.specs.declared.update.Update.{Update}
 use Rattle.ell_core.specs.declared.fact.Fact.TheVariants as fact
-use Rattle.ell_layout.specs.declared.field.Field.{Field}
 use Rattle.ell_layout.specs.declared.field.Field.TheVariants as field
 use Rattle.ell_cards.specs.declared.view.Told.TheVariants.{Info, Expects, Key, Met}
 use Rattle.ell_cards.specs.declared.view.Hindrance.{Hindrance}
@@ -19,11 +18,6 @@ use Rattle.ell_tree.specs.Hindrances.{Meets, MeetsUpTo}
 use Rattle.ell_tree.specs.Keeping.{KeepsAllButMet, IsInnerMet, IsSeenAt}
 use Rattle.ell_tree.specs.Levels.{level}
 use Rattle.ell_core.specs.tree.Rank.{rank}
-
--- a word of a card is a value as it stands: only the leaf's has the tag that the card expects
-abbrev pub IsUntagged : Field → Type 0
-IsUntagged field.L = ⊥
-IsUntagged _ = Unit {0}
 
 -- the flag of an insert is known, and where its card goes
 pub record IsInsert (v : View) (c p : ℕ) (l : Link) (k j : ℕ) : Type 0 where

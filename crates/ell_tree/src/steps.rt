@@ -9,14 +9,14 @@ ghost use Rattle.ell_core.specs.state.Machine.{worker_of};
 ghost use Rattle.ell_core.specs.acts.Searching.{MayStop};
 ghost use Rattle.ell_cards.specs.declared.view.Told.TheVariants as told;
 ghost use Rattle.ell_cards.specs.Models.{Does, IsFree, IsTold, Knows};
-ghost use Rattle.ell_cards.specs.Changes.{answered_so, is_mark_of, taken_by, tries_hindered, with_answer};
+ghost use Rattle.ell_cards.specs.Changes.{answered_so, is_mark_of, says_by, taken_by, tries_hindered, with_answer};
 ghost use Rattle.ell_cards.specs.Guards.{KnowsPlace, MayAnswer, MayAsk, NamesNode};
 ghost use Rattle.ell_cards.specs.Calls.{TellsDepth, TellsNode};
 ghost use Rattle.ell_cards.specs.Looking.{ValuesAreFixed};
 ghost use Rattle.ell_tree.specs.CardsTaken.{TakesNoCard};
 ghost use Rattle.ell_tree.specs.Counts.{Took};
 ghost use Rattle.ell_tree.specs.Ends.{Answers};
-ghost use Rattle.ell_tree.specs.Helps.{HasSibling, IsLost, KnowsMark, IsParent, IsUntagged, found_instead, met_by_mark};
+ghost use Rattle.ell_tree.specs.Helps.{HasSibling, IsLost, KnowsMark, IsParent, found_instead, met_by_mark};
 ghost use Rattle.ell_tree.specs.Hindrances.{way_of};
 ghost use Rattle.ell_tree.specs.Keeping.{KeepsAll, KeepsAllButMet};
 ghost use Rattle.ell_tree.specs.Tries.{Begins, Lays};
@@ -128,7 +128,7 @@ pub(crate) fn read_key<A: Allocator + Copy, G: StepGate>(
     KeyedNode { node, key }
 }
 
-/// Reads a word of a card that the pass knows flagged or marked, other than its leaf's.
+/// Reads a word of a card that the pass knows flagged or marked.
 pub(crate) fn read_info<A: Allocator + Copy, G: StepGate>(
     table: &CardTable<A>,
     pass: &mut Pass<A>,
@@ -138,10 +138,9 @@ pub(crate) fn read_info<A: Allocator + Copy, G: StepGate>(
 ) -> u64
     requires own { pass.old.table ≡ table.now.id }
     requires may { MayAsk pass.old.view card field }
-    requires untagged { IsUntagged field }
     ensures keeps_all { KeepsAll pass.old pass.new 1 }
-    ensures told { IsTold pass.new.view (told.Info card field result) }
-    ensures met { NamesNode field → IsTold pass.new.view (told.Met result) }
+    ensures told { IsTold pass.new.view (told.Info card field (says_by field result)) }
+    ensures met { NamesNode field → IsTold pass.new.view (told.Met (says_by field result)) }
     ensures node { TellsNode table.now.plan.last_card field result }
     ensures depth { TellsDepth pass.old.view card field result }
 {
@@ -163,7 +162,8 @@ pub(crate) fn read_leaf<A: Allocator + Copy, G: StepGate>(
     ensures expects { IsTold pass.new.view (told.Expects card result.tag) }
 {
     gate.before(pass.label(), Kind::Look);
-    Link::of(table.info(pass, card, Field::L))
+    let word = table.info(pass, card, Field::L);
+    Link::of(word)
 }
 
 /// Reads a child of the parent that a card has marked.
@@ -182,7 +182,9 @@ pub(crate) fn read_child<A: Allocator + Copy, G: StepGate>(
     ensures met { IsTold pass.new.view (told.Met result) }
 {
     gate.before(pass.label(), Kind::Look);
-    table.frozen_child(pass, card, parent, right).node
+    table.facts_stay_inside(pass);
+    let child = table.frozen_child(pass, card, parent, right);
+    child.node
 }
 
 /// Makes the child exchange of an insert or a swap, given the leaf with the tag that the card expects.
