@@ -249,6 +249,11 @@ abbrev pub is_this : Option ℕ → ℕ → Bool
 is_this None x = false
 is_this (Some y) x = y == x
 
+-- what a field of a card says, by the word that a table has there: of the leaf's its node
+abbrev pub says_by : Field → ℕ → ℕ
+says_by L x = (link_in x).node
+says_by f x = x
+
 -- what was told with a word of a card; a node is met, and the leaf's has the tag that the card expects
 abbrev pub told_info : ℕ → Field → ℕ → List Told → List Told
 told_info c Gp x told = Info c Gp x ∷ Met x ∷ told

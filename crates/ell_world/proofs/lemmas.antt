@@ -2,6 +2,8 @@
 pub mod Knowledge
 -- The keys of a worker against std's ordered map, whose look-ups compare where a ledger looks for equal keys.
 pub mod Ledgers
+-- The words of children and leaves with their tags, in a list of words.
+pub mod Links
 -- What the code of an event looks at is of the table, by the invariant.
 pub mod Ready
 -- A world before and after a turn of one of its workers.

@@ -1,4 +1,4 @@
-use Rattle.std.specs.Prelude.{◌≡◌, ℕ, ◌≤◌, true, false, Some}
+use Rattle.std.specs.Prelude.{◌≡◌, ℕ, ◌≤◌, Bool, true, false, Some}
 use Rattle.ell_ops.specs.declared.op.Op.{Op}
 use Rattle.ell_ops.specs.Meaning.{key_of}
 use Rattle.ell_word.specs.Node.{IsInternal, IsNode, card}
@@ -19,13 +19,19 @@ IsTableNode cards x = (card x ≤ cards) × IsNode x
 abbrev pub IsInner : ℕ → ℕ → Type 0
 IsInner cards x = IsTableNode cards x × IsInternal x
 
--- the grandparents and parents of all cards are internal nodes of the table
+-- the tags of all children are at most the number of the last card
+abbrev pub TagsFit : ℕ → Words → Type 0
+TagsFit cards w = (x : ℕ) (right : Bool) → w.tag x right ≤ cards
+
+-- the grandparents and parents of all cards are internal nodes of the table, and the tags of children are small
 pub record WordsFit (cards : ℕ) (w : Words) : Type 0 where
   pub gp : (c : ℕ) → IsInner cards (w.gp c)
   pub p : (c : ℕ) → IsInner cards (w.p c)
+  pub tags : TagsFit cards w
 
 -- a worker stands at a node of the table, with a card of it in hand and facts of its cards; what its search has behind
--- it, while that card is not flagged, are internal nodes of the table; and it may change its operation's key
+-- it, while that card is not flagged, are internal nodes of the table; while it stands somewhere, the tags that its
+-- search saw are small; and it may change its operation's key
 pub record WorkerFits (cards : ℕ) (v : Worker) : Type 0 where
   pub node : (x : ℕ) → v.search.node ≡ Some x → IsTableNode cards x
   pub card : (c : ℕ) → v.card ≡ Some c → c ≤ cards
@@ -33,6 +39,9 @@ pub record WorkerFits (cards : ℕ) (v : Worker) : Type 0 where
       → IsInner cards seen.node
   pub grandparent : (c : ℕ) (seen : Seen) → v.card ≡ Some c → v.flagged ≡ false → v.search.grandparent ≡ Some seen
       → IsInner cards seen.node
+  pub parent_tag : (x : ℕ) (seen : Seen) → v.search.node ≡ Some x → v.search.parent ≡ Some seen → seen.tag ≤ cards
+  pub grandparent_tag : (x : ℕ) (seen above : Seen) → v.search.node ≡ Some x → v.search.parent ≡ Some seen
+      → v.search.grandparent ≡ Some above → above.tag ≤ cards
   pub facts : (fact : Fact) → v.knows fact ≡ true → card_of_fact fact ≤ cards
   pub owned : (op : Op) → v.operation ≡ Some op → MayChange v (key_of op)
 

@@ -1,9 +1,12 @@
 use Rattle.std.specs.Prelude.{◌≡◌, ℕ, ◌≤◌, ◌<◌, List, length, slice_get}
+use Rattle.ell_word.specs.Link.{link_in}
 use Rattle.ell_word.specs.Node.{greatest_card}
 use Rattle.ell_core.specs.state.Machine.{WorkerView}
 use Rattle.ell_core.specs.declared.event.Event.{Event}
 use Rattle.ell_core.specs.declared.event.CoreFault.{CoreFault}
 use Rattle.ell_core.specs.declared.event.CoreFault.TheVariants.{NoSuchWorker}
+use Rattle.ell_layout.specs.declared.field.Field.{Field}
+use Rattle.ell_layout.specs.declared.field.Field.TheVariants.{L, Left, Right}
 use Rattle.ell_layout.specs.Layout.{table_size}
 use Rattle.ell_layout.specs.Words.{words_of}
 use Rattle.ell_core.specs.state.Machine.{Machine, scene, worker_or_nobody}
@@ -30,6 +33,13 @@ pub record WorldFits (w : WorldValue) : Type 0 where
   pub size : length w.words ≡ table_size w.last_card
   pub limit : w.last_card ≤ greatest_card
   pub lawful : HasInvariant (machine_of w)
+
+-- what a table's word at a field says without a tag
+abbrev pub untagged : Field → ℕ → ℕ
+untagged L value = (link_in value).node
+untagged Left value = (link_in value).node
+untagged Right value = (link_in value).node
+untagged _ value = value
 
 -- a step is refused as the event is, or for want of memory
 abbrev pub StepRefused : Machine → Event → CoreFault → Type 0

@@ -12,11 +12,11 @@ use crate::worker::Worker;
 use ell_core::{CoreFault, Fact, Put, Seen, Stepped, told_by};
 use ell_layout::{Field, brought_node, update_word};
 use ell_ops::Op;
-use ell_word::State;
+use ell_word::{Link, State};
 use std::alloc::Allocator;
 
 // What an exchange says.
-fn won_or_lost(outcome: Result<(), u64>) -> Stepped
+fn won_or_lost<E: Copy>(outcome: Result<(), E>) -> Stepped
     ensures { result ≡ won_or_lost (is_ok outcome) }
 {
     match outcome {
@@ -108,8 +108,8 @@ fn flag<A: Allocator + Copy>(
     Ok(won_or_lost(outcome))
 }
 
-/// Exchanges the child of an insert's parent, from the leaf to the node that the card brings: its internal node, or, if
-/// it replaces a leaf of its key, its right leaf.
+/// Exchanges the child of an insert's parent, from the leaf with the tag that the card expects to the node that the card
+/// brings: its internal node, or, if it replaces a leaf of its key, its right leaf.
 pub(crate) fn ichild<A: Allocator + Copy>(
     memory: &mut Memory<A>,
     worker: &mut Worker<A>,
@@ -123,7 +123,7 @@ pub(crate) fn ichild<A: Allocator + Copy>(
     }
     worker.learn(Fact::IChanged(card))?;
     let parent = memory.read(card, Field::P);
-    let leaf = memory.read(card, Field::L);
+    let leaf = memory.leaf_link(card);
     let left_key = memory.read(card, Field::LeftLeafKey);
     let node = brought_node(card, left_key, memory.read(card, Field::RightLeafKey));
     Ok(won_or_lost(memory.exchange_child(parent, leaf, node)))
@@ -172,7 +172,8 @@ pub(crate) fn mark<A: Allocator + Copy>(
     Ok(won_or_lost(memory.exchange_update(parent, was, mark)))
 }
 
-/// Exchanges the child of a delete's grandparent, from the parent to the sibling of the leaf.
+/// Exchanges the child of a delete's grandparent, from the parent with the tag that the card expects to the sibling of
+/// the leaf.
 pub(crate) fn dchild<A: Allocator + Copy>(
     memory: &mut Memory<A>,
     worker: &mut Worker<A>,
@@ -186,7 +187,10 @@ pub(crate) fn dchild<A: Allocator + Copy>(
     }
     worker.learn(Fact::Cut(card))?;
     let grandparent = memory.read(card, Field::Gp);
-    let parent = memory.read(card, Field::P);
+    let parent = Link {
+        node: memory.read(card, Field::P),
+        tag: memory.leaf_link(card).tag,
+    };
     let sibling = sibling_of(memory, card);
     Ok(won_or_lost(memory.exchange_child(grandparent, parent, sibling)))
 }
@@ -199,7 +203,7 @@ fn sibling_of<A: Allocator + Copy>(memory: &Memory<A>, card: u64) -> u64
     ensures { result ≡ sibling (words_in memory.now) card }
 {
     let parent = memory.read(card, Field::P);
-    let leaf = memory.read(card, Field::L);
+    let leaf = memory.leaf_link(card).node;
     let right = memory.child(parent, true);
     if right == leaf {
         memory.child(parent, false)

@@ -15,7 +15,7 @@ use crate::worker::{NO_SEARCH, Worker};
 use ell_core::{CoreFault, Entry, Fact, Put, Search, Seen, Stepped, told_by};
 use ell_layout::{delete_filling, insert_filling};
 use ell_ops::{Op, Reply};
-use ell_word::{State, is_internal, unpack};
+use ell_word::{Link, State, is_internal, unpack};
 use std::alloc::Allocator;
 
 // A search that stands at the root and has seen nothing.
@@ -100,11 +100,15 @@ pub(crate) fn down<A: Allocator + Copy>(
     if !is_internal(node) {
         return Err(CoreFault::NotNow);
     }
-    let child = memory.child(node, memory.is_right(node, op.key()));
+    let child = memory.child_link(node, memory.is_right(node, op.key()));
     worker.search = Search {
-        node: Some(child),
+        node: Some(child.node),
         read: None,
-        parent: Some(Seen { node, word }),
+        parent: Some(Seen {
+            node,
+            word,
+            tag: child.tag,
+        }),
         grandparent: search.parent,
     };
     Ok(Stepped::Moved)
@@ -137,7 +141,8 @@ fn clean_leaf<A: Allocator + Copy>(worker: &Worker<A>) -> Option<CleanLeaf>
     Some(CleanLeaf { leaf, parent })
 }
 
-/// Claims the next card at a leaf, and fills it for the insert or delete in hand.
+/// Claims the next card at a leaf, and fills it for the insert or delete in hand. An insert's or swap's card expects the
+/// tag that the search saw at the parent, a delete's that at the grandparent.
 pub(crate) fn claim<A: Allocator + Copy>(
     memory: &mut Memory<A>,
     worker: &mut Worker<A>,
@@ -180,12 +185,16 @@ fn claim_for_put<A: Allocator + Copy>(
     if card > memory.last_card {
         return Err(CoreFault::NoCards);
     }
+    let leaf = Link {
+        node: at.leaf,
+        tag: at.parent.tag,
+    };
     memory.claim(&insert_filling(
         card,
         what.key,
         what.value,
         at.parent.node,
-        at.leaf,
+        leaf.word(),
         leaf_key,
         leaf_value,
     ));
@@ -215,7 +224,16 @@ fn claim_for_delete<A: Allocator + Copy>(
     if card > memory.last_card {
         return Err(CoreFault::NoCards);
     }
-    memory.claim(&delete_filling(grandparent.node, at.parent.node, at.leaf, at.parent.word));
+    let leaf = Link {
+        node: at.leaf,
+        tag: grandparent.tag,
+    };
+    memory.claim(&delete_filling(
+        grandparent.node,
+        at.parent.node,
+        leaf.word(),
+        at.parent.word,
+    ));
     worker.card = Some(card);
     worker.flagged = false;
     Ok(Stepped::Moved)

@@ -6,13 +6,13 @@ ghost use Rattle.ell_ops.specs.Contents.{contents_of};
 ghost use Rattle.ell_ops.specs.Meaning.{greatest_key, most_workers};
 ghost use Rattle.ell_word.specs.Node.{most_cards, most_start};
 ghost use Rattle.std.specs.List.Sorted.{IsStrictlyIncreasing};
-ghost use Rattle.ell_layout.specs.Words.{word};
+ghost use Rattle.ell_layout.specs.Words.{word, table_word};
 ghost use Rattle.ell_core.specs.acts.Events.{Steps};
 ghost use Rattle.ell_core.specs.tree.Tree.{ListsKeys, ListsTreePairs};
 ghost use Rattle.ell_core.specs.state.Machine.{idle};
 ghost use Rattle.ell_world.specs.Inside.{worker_at};
 ghost use Rattle.ell_core.specs.state.Opening.{opening, opening_ledger, last_card, is_given, Faultless, OpeningRefused};
-ghost use Rattle.ell_world.specs.World.{machine_of, StepRefused};
+ghost use Rattle.ell_world.specs.World.{machine_of, untagged, StepRefused};
 ghost use Rattle.ell_core.specs.soundness.Sound.{IsSound};
 ghost use Rattle.ell_core.specs.history.Invariant.{HasInvariant};
 
@@ -171,11 +171,14 @@ impl<A: Allocator + Copy> World<A> {
         Ok(pairs_of_tree(&self.memory, waiting, pairs))
     }
 
-    /// Returns the word of a field of a card. Condition: the card is at most the last card.
+    /// Returns the word that the table has at a field of a card: a child with its tag, and the leaf where a search ended
+    /// with the tag that the card expects. Condition: the card is at most the last card.
     pub fn word(&self, card: u64, field: Field) -> u64
         requires { card ≤ self.now.last_card }
-        // Returns the word in the card's field.
-        ensures { result ≡ word (machine_of self.now).words card field }
+        // Returns the table's word in the card's field.
+        ensures table { result ≡ table_word (machine_of self.now).words card field }
+        // Without a tag it is what the field says.
+        ensures says { untagged field result ≡ word (machine_of self.now).words card field }
     {
         self.memory.read(card, field)
     }

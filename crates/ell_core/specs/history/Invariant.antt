@@ -119,6 +119,7 @@ pub record DeleteCard (w : Words) (stage : Stages) (c : ℕ) : Type 0 where
   pub earlier : w.was c < iflag c
   pub expected : w.expects c < c
   pub no_left_child : w.child (internal c) false ≡ 0
+  pub no_right_child : w.child (internal c) true ≡ 0
 
 -- the nodes of a card that did not come into the tree: as they were filled
 pub record Unborn (w : Words) (c : ℕ) : Type 0 where
@@ -129,6 +130,7 @@ pub record Unborn (w : Words) (c : ℕ) : Type 0 where
 -- a card that was not claimed: all its words are 0
 pub record Blank (w : Words) (c : ℕ) : Type 0 where
   pub words : (field : Field) → word w c field ≡ 0
+  pub expects : w.expects c ≡ 0
   pub tags : (right : Bool) → w.tag (internal c) right ≡ 0
 
 -- what a card says, by its kind

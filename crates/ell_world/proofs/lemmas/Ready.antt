@@ -1,4 +1,4 @@
-use Rattle.std.proofs.Common.{◌≡◌, ℕ, ◌<◌, ◌≤◌, true, false, Some, inl, inr, refl, sym, subst, arith}
+use Rattle.std.proofs.Common.{◌≡◌, ℕ, ◌<◌, ◌≤◌, Bool, true, false, Some, inl, inr, refl, sym, subst, arith}
 use Rattle.std.proofs.lemmas.Bool.{cases_lt}
 use Rattle.ell_word.specs.Node.{IsInternal, card}
 use Rattle.ell_core.specs.declared.fact.Fact.TheVariants.{Marked}
@@ -68,6 +68,20 @@ module _ (m : Machine) (stage : Stages) (i : ℕ) (invariant : Invariant m stage
       let at = rely.unflagged c holds unflagged in
       read_inner seen.node (rely.grandparent at.node at.parent seen at.stands at.behind above).node
 
+  -- the tag of each child
+  tag_small : (x : ℕ) (right : Bool) → m.words.tag x right ≤ m.last_card
+  tag_small x right = in_table (m.words.tag x right) (invariant.words.tags x right)
+
+  -- the tag that a search saw at its parent
+  parent_tag_small : (x : ℕ) (seen : Seen) → (m.worker i).search.node ≡ Some x → (m.worker i).search.parent ≡ Some seen
+      → seen.tag ≤ m.last_card
+  parent_tag_small x seen stands behind = in_table seen.tag (rely.parent x seen stands behind).tag
+
+  -- the tag that it saw at its grandparent
+  grandparent_tag_small : (x : ℕ) (seen above : Seen) → (m.worker i).search.node ≡ Some x → (m.worker i).search.parent ≡ Some seen
+      → (m.worker i).search.grandparent ≡ Some above → above.tag ≤ m.last_card
+  grandparent_tag_small x seen above stands behind over = in_table above.tag (rely.grandparent x seen above stands behind over).tag
+
   -- the sibling of the leaf of a claimed card
   sibling_node : (c : ℕ) → c < m.words.next → IsTableNode m.last_card (sibling m.words c)
   sibling_node c below =
@@ -80,12 +94,14 @@ module _ (m : Machine) (stage : Stages) (i : ℕ) (invariant : Invariant m stage
   -- by the invariant all that an event's code looks at is of the table
   pub scene_fits : SceneFits m.last_card (scene m i)
   scene_fits = record {
-    words = record { gp = gp_inner; p = p_inner };
+    words = record { gp = gp_inner; p = p_inner; tags = tag_small };
     worker = record {
       node = λ x at. born_node x (rely.stands x at);
       card = λ c holds. in_table c (rely.hand c holds);
       parent = parent_inner;
       grandparent = grandparent_inner;
+      parent_tag = parent_tag_small;
+      grandparent_tag = grandparent_tag_small;
       facts = λ f knows. in_table _ (rely.known f knows);
       owned = rely.owned;
     };

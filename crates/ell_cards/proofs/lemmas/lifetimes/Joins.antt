@@ -154,6 +154,7 @@ joins_are_handovers keys cards s r id other v w here there apart free other_free
         words = r.words;
         stages = r.stages;
         invariant = joins_lawful m r.stages id other (seated r.words views cards) r.invariant join;
+        limit = r.limit;
         size = r.size;
         next = r.next;
         settled = r.settled;

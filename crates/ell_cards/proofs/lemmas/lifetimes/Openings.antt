@@ -5,7 +5,7 @@ use Rattle.std.specs.List.Sorted.{IsStrictlyIncreasing}
 use mathlib.Core.Option.{some, some-injective, some-ne-none}
 use lib.ListN.{get_elem?}
 use Rattle.atomic_table.specs.Table.{opening}
-use Rattle.ell_layout.specs.Words.{Words, word}
+use Rattle.ell_layout.specs.Words.{Words, table_word}
 use Rattle.ell_core.specs.state.Opening.{last_card}
 use Rattle.ell_layout.specs.Start.{start_words}
 use Rattle.ell_core.specs.state.Machine.{idle, worker_of, ledger_of, shared_of}
@@ -110,9 +110,10 @@ opening_is_kept plan words may at =
         words = w;
         stages = stages;
         invariant = invariant;
+        limit = may.limit;
         size = at.size;
         next = sym (listed_next words) ∙ ap (λ (v : Words). v.next) at.are;
-        settled = λ c f calm. sym (words_are_listed words c f) ∙ ap (λ (v : Words). word v c f) at.are;
+        settled = λ c f calm. sym (words_are_listed words c f) ∙ ap (λ (v : Words). table_word v c f) at.are;
         views = each_first first (ViewHolds words w stages)
             (rest_holds words w stages first
             (λ e told. met_root (EntryHolds w stages) (start_there w stages invariant.words 0 (omega arith) refl) e told) refl refl refl (λ n at. absurd (some_not_none at refl)) (omega arith) (λ f k. k));

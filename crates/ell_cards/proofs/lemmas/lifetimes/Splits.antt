@@ -98,6 +98,7 @@ splits_are_handovers keys cards s r id v chosen here free =
         words = r.words;
         stages = r.stages;
         invariant = splits_lawful m r.stages id (seated r.words views cards) r.invariant split;
+        limit = r.limit;
         size = r.size;
         next = r.next;
         settled = r.settled;

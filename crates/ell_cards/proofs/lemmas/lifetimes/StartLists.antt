@@ -1,6 +1,6 @@
-use Rattle.std.proofs.Common.{◌≡◌, ℕ, zero, suc, ◌+◌, ◌≤◌, List, ◌∷◌, ◌++◌, length, replicate, slice_set, length-set, refl, ap, ◌∙◌, arith}
+use Rattle.std.proofs.Common.{◌≡◌, ℕ, zero, suc, ◌+◌, ◌<◌, ◌≤◌, List, ◌∷◌, ◌++◌, length, replicate, slice_set, length-set, refl, ap, ◌∙◌, arith}
 use Rattle.std.proofs.lemmas.List.{length-replicate}
-use Rattle.ell_word.specs.Node.{infinity1, infinity2}
+use Rattle.ell_word.specs.Node.{greatest_card, infinity1, infinity2}
 use Rattle.ell_layout.specs.Layout.{table_size}
 use Rattle.ell_layout.specs.Words.{words_of}
 use Rattle.ell_layout.specs.Cards.{filled_list}
@@ -27,15 +27,15 @@ size_stays start size (suc n) =
     ∙ size_stays start size n
 
 -- they are the words that the opening tree has so far
-words_grow : (start : List (ℕ × ℕ)) (last n : ℕ) → n ≤ last → words_of (listed_up_to start (table_size last) n) ≡ growing start (n + 1)
+words_grow : (start : List (ℕ × ℕ)) (last n : ℕ) → length start < greatest_card → n ≤ length start → n ≤ last → words_of (listed_up_to start (table_size last) n) ≡ growing start (n + 1)
 unfolding listed_up_to
-words_grow start last zero low =
+words_grow start last zero few most low =
     words_after_fields (slice_set (replicate (table_size last) 0) 0 (length start + 1)) last 0 (root_filling (length start))
     (length-set (replicate {A = ℕ} (table_size last) 0) 0 (length start + 1) ∙ length-replicate {A = ℕ} (table_size last) 0) low
     ∙ rooted_words start (table_size last) (omega arith)
-words_grow start last (suc n) low =
-    grows start (suc n) (words_of (listed_up_to start (table_size last) n)) (words_of (listed_up_to start (table_size last) (suc n))) (omega arith)
-    (let next : n + 1 ≡ suc n = omega arith in words_grow start last n (omega arith) ∙ ap (growing start) next)
+words_grow start last (suc n) few most low =
+    grows start (suc n) (words_of (listed_up_to start (table_size last) n)) (words_of (listed_up_to start (table_size last) (suc n))) (omega arith) most few
+    (let next : n + 1 ≡ suc n = omega arith in words_grow start last n few (omega arith) (omega arith) ∙ ap (growing start) next)
     (words_after_fields (listed_up_to start (table_size last) n) last (suc n) (branch_filling (start_leaf start) (start_value start) (branch_of (length start + 1) (suc n)))
     (size_stays start (table_size last) n) low)
 
@@ -47,7 +47,7 @@ pub start_list_starts : (plan : TablePlan) → MayStart plan → StartWords plan
 unfolding start_list
 start_list_starts plan may = record {
   size = size_stays plan.start (table_size plan.last_card) (length plan.start);
-  are = words_grow plan.start plan.last_card (length plan.start) may.room ∙ grown_up plan.start (length plan.start + 1) refl;
+  are = words_grow plan.start plan.last_card (length plan.start) may.few (omega arith) may.room ∙ grown_up plan.start (length plan.start + 1) refl;
 }
 
 -- the words of a table with one start key and three cards to give out: the nodes of cards 0 and 1, and their leaves

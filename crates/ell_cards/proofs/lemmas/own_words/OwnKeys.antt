@@ -3,6 +3,7 @@ use Rattle.ell_core.specs.declared.event.Act.{Act}
 use Rattle.ell_core.specs.declared.event.Act.TheVariants as act
 use Rattle.ell_core.specs.declared.event.Stepped.{Stepped}
 use Rattle.ell_core.specs.declared.event.Stepped.TheVariants.{Moved}
+use Rattle.ell_word.specs.Link.{linked}
 use Rattle.ell_layout.specs.Words.{Words}
 use Rattle.ell_core.specs.state.Machine.{Machine}
 use Rattle.ell_layout.specs.Cards.{card_key, card_value, is_replace_card}
@@ -46,7 +47,7 @@ module _ (m : Machine) (stage : Stages) (holds : Invariant m stage) (i : ℕ) (m
   machine_pairs (call.Down x right) n h = acts act.Down Moved h
   machine_pairs (call.Claim c) n h = claims (n == c) h
   machine_pairs (call.IFlag c p from) n h = acts act.IFlag (said_of (call.IFlag c p from) n) h
-  machine_pairs (call.IChild c p l q right) n h = by (n == l) h
+  machine_pairs (call.IChild c p l q right) n h = by (n == linked l) h
     where
       by : (b : Bool) → Becomes i (Some (act.IChild c)) (won_or_lost b) m m' → PairsChangeBy (call.IChild c p l q right) b m.words m'.words
       by true h = acts (act.IChild c) (won_or_lost true) h
@@ -54,7 +55,7 @@ module _ (m : Machine) (stage : Stages) (holds : Invariant m stage) (i : ℕ) (m
   machine_pairs (call.IUnflag c p) n h = acts (act.IUnflag c) (said_of (call.IUnflag c p) n) h
   machine_pairs (call.DFlag c gp from) n h = acts act.DFlag (said_of (call.DFlag c gp from) n) h
   machine_pairs (call.Mark c p was) n h = acts (act.Mark c) (said_of (call.Mark c p was) n) h
-  machine_pairs (call.DChild c gp p sibling right) n h = by (n == p) h
+  machine_pairs (call.DChild c gp p sibling right) n h = by (n == linked p) h
     where
       by : (b : Bool) → Becomes i (Some (act.DChild c)) (won_or_lost b) m m' → PairsChangeBy (call.DChild c gp p sibling right) b m.words m'.words
       by true h = acts (act.DChild c) (won_or_lost true) h

@@ -6,14 +6,15 @@ use Rattle.ell_layout.specs.declared.field.Field.TheVariants.{Update}
 use Rattle.ell_layout.specs.Words.{Words, key_field, value_field, child_field, IsLeaf}
 use Rattle.ell_layout.specs.Cards.{child_for}
 use Rattle.ell_core.specs.tree.Tree.{OnWalk, here, next, Finds, Leads, Below, Reached, IsTreeKey, HasGrandparent, LeftIsLawful, IsLawful}
-use Rattle.ell_core.specs.history.Stages.{Stages, waits, Born}
+use Rattle.ell_core.specs.history.Stages.{Stage, Stages, is_delete, is_node_born, waits, Born}
 use Rattle.ell_core.specs.history.Invariant.{WordsAreSound}
 use Rattle.ell_core.specs.history.Later.{SaysTheSame}
 use Rattle.ell_core.specs.statements.Effects.{SamePairs}
 use Rattle.ell_core.proofs.lemmas.stages.Order.{born_is_node}
-use Rattle.ell_layout.proofs.lemmas.Writes.{key_at_node, value_at_leaf, child_at_node, update_at_node}
+use Rattle.ell_layout.proofs.lemmas.Writes.{internal_at_node, key_at_node, value_at_leaf, child_at_node, update_at_node}
 use Rattle.ell_core.proofs.lemmas.stages.Waiting.{born-settled}
 use Rattle.ell_core.specs.tree.Rank.{rank}
+use Rattle.ell_cards.specs.Laws.{SameCard}
 
 -- trees of the same keys with the same values have the same keys
 pub same_keys : (old new : Words) → SamePairs old new → (k : ℕ) → IsTreeKey new k ↔ IsTreeKey old k
@@ -22,26 +23,34 @@ same_keys old new same k = (
   λ h. (h.0, (same k h.0).1 h.1),
 )
 
+-- a card of which a node came into the tree is no delete's
+pub born-no_delete : (s : Stage) (place : ℕ) → is_node_born s place ≡ true → is_delete s ≡ false
+born-no_delete s place h = grind arith
+
 -- sound words w, and others, t, that say the same at each card that does not wait
-module _ (w t : Words) (stage : Stages) (sound : WordsAreSound w stage) (same : (c : ℕ) → waits (stage c) ≡ false → SaysTheSame w t c) where
+module _ (w t : Words) (stage : Stages) (sound : WordsAreSound w stage) (same : (c : ℕ) → waits (stage c) ≡ false → SameCard w t (is_delete (stage c)) c) where
   -- a node that came into the tree is as it was
   at_card : (x : ℕ) → Born stage x → SaysTheSame w t (card x)
-  at_card x born = same (card x) (born-settled (stage (card x)) (x % 4) born)
+  at_card x born = (same (card x) (born-settled (stage (card x)) (x % 4) born)).says (born-no_delete (stage (card x)) (x % 4) born)
 
   pub key_same : (x : ℕ) → Born stage x → t.key x ≡ w.key x
   key_same x born = let node = born_is_node stage x born in
-      key_at_node t x node ∙ (at_card x born (key_field (x % 4)) ∙ sym (key_at_node w x node))
+      key_at_node t x node ∙ ((at_card x born).words (key_field (x % 4)) ∙ sym (key_at_node w x node))
 
   pub value_same : (x : ℕ) → IsLeaf x → Born stage x → t.value x ≡ w.value x
   value_same x outer born = let node = born_is_node stage x born in
-      value_at_leaf t x node outer ∙ (at_card x born (value_field (x % 4)) ∙ sym (value_at_leaf w x node outer))
+      value_at_leaf t x node outer ∙ ((at_card x born).words (value_field (x % 4)) ∙ sym (value_at_leaf w x node outer))
 
   pub child_same : (x : ℕ) (right : Bool) → IsInternal x → Born stage x → t.child x right ≡ w.child x right
   child_same x right inner born =
-      child_at_node t x right inner ∙ (at_card x born (child_field right) ∙ sym (child_at_node w x right inner))
+      child_at_node t x right inner ∙ ((at_card x born).words (child_field right) ∙ sym (child_at_node w x right inner))
+
+  pub tag_same : (x : ℕ) (right : Bool) → IsInternal x → Born stage x → t.tag x right ≡ w.tag x right
+  tag_same x right inner born =
+      ap (λ n. t.tag n right) (internal_at_node x inner) ∙ ((at_card x born).tags right ∙ sym (ap (λ n. w.tag n right) (internal_at_node x inner)))
 
   pub update_same : (x : ℕ) → IsInternal x → Born stage x → t.update x ≡ w.update x
-  update_same x inner born = update_at_node t x inner ∙ (at_card x born Update ∙ sym (update_at_node w x inner))
+  update_same x inner born = update_at_node t x inner ∙ ((at_card x born).words Update ∙ sym (update_at_node w x inner))
 
   -- the root came into the tree, and so do children
   pub root_born : Born stage 0

@@ -1,45 +1,156 @@
-use Rattle.std.proofs.Common.{◌≡◌, ℕ, true, false, List, sym, ◌∙◌, inl, inr, ◌%◌, ◌==◌}
+use Rattle.std.proofs.Common.{◌≡◌, ℕ, ◌<◌, ◌≤◌, ◌⊎◌, Bool, true, false, List, refl, sym, ◌∙◌, inl, inr, ◌%◌, ◌==◌, arith}
+use Rattle.std.proofs.lemmas.Bool.{false≢true}
 use mathlib.Core.Option.{some}
 use lib.ListN.{get_elem?}
-use Rattle.ell_word.specs.Node.{card}
+use Rattle.ell_word.specs.Node.{card, internal, right_leaf}
 use Rattle.ell_word.specs.Word.{unpacked}
 use Rattle.ell_layout.specs.Cards.{card_key, card_value, is_replace_card}
+use Rattle.ell_layout.specs.declared.field.Field.{Field}
 use Rattle.ell_layout.specs.declared.field.Field.TheVariants as field
-use Rattle.ell_layout.specs.Words.{IsLeaf}
+use Rattle.ell_layout.specs.Words.{IsLeaf, word, table_word}
 use Rattle.ell_core.specs.soundness.Sound.{IsSound}
-use Rattle.ell_core.specs.history.Stages.{waits, delete_won}
-use Rattle.ell_core.specs.history.Later.{SaysTheSame}
+use Rattle.ell_core.specs.history.Stages.{Stage, Born, is_claimed, is_start, is_insert, is_delete, is_born, is_node_born, waits, delete_won}
 use Rattle.ell_core.specs.statements.StepLaws.{GoesInTree}
 use Rattle.ell_core.specs.statements.Effects.{SamePairs}
-use Rattle.ell_layout.proofs.lemmas.Listed.{words_are_listed, listed_next}
+use Rattle.ell_layout.proofs.lemmas.Listed.{words_are_listed, listed_next, listed_small}
+use Rattle.ell_layout.proofs.lemmas.Writes.{same_links}
 use Rattle.ell_core.proofs.lemmas.following.Reliance.{may_rely}
 use Rattle.ell_core.proofs.lemmas.following.Sound.{sound}
 use Rattle.ell_core.proofs.lemmas.following.waiting.Cards.{flagged_made}
-use Rattle.ell_core.proofs.lemmas.stages.Order.{delete_won-delete, delete-claimed}
-use Rattle.ell_core.proofs.lemmas.stages.Waiting.{born-settled, delete_won-settled}
+use Rattle.ell_core.proofs.lemmas.stages.Order.{delete_won-delete, insert-claimed, delete-claimed, all-born}
+use Rattle.ell_core.proofs.lemmas.stages.Waiting.{born-settled, start-born, delete_won-settled}
+use Rattle.ell_core.proofs.lemmas.stages.LaterKeys.{born_below}
 use Rattle.ell_cards.specs.declared.view.View.{View}
 use Rattle.ell_cards.specs.Models.{KnowsCard}
 use Rattle.ell_cards.specs.States.{TableState, seated}
 use Rattle.ell_cards.specs.Machines.{HasMachine}
 use Rattle.ell_cards.specs.TurnEffects.{own_words, own_machine}
-use Rattle.ell_cards.specs.Laws.{MachineIsSound, WordsAreOwn, MachineHasOwnWords}
+use Rattle.ell_cards.specs.Laws.{SameCard, MachineIsSound, WordsAreOwn, MachineHasOwnWords}
 use Rattle.ell_cards.proofs.lemmas.seats.Statements.{SoundByMachine}
 use Rattle.ell_cards.proofs.lemmas.stepping.Known.{known_card, known_settled, known_claimed}
 use Rattle.ell_cards.proofs.lemmas.seats.Seats.{mine_sound}
-use Rattle.ell_cards.proofs.lemmas.own_words.OwnTree.{reached_same, reached_born, pairs_same}
+use Rattle.ell_cards.proofs.lemmas.own_words.OwnTree.{born-no_delete, reached_same, reached_born, pairs_same}
 use Rattle.ell_cards.proofs.lemmas.own_words.OwnCards.{card_key_same, card_value_same, leaf_value_same}
 use Rattle.ell_cards.proofs.lemmas.own_words.OwnSound.{own_sound}
+
+-- a card was not claimed, or is one of the opening tree's, an insert's or a delete's
+stage_kinds : (s : Stage) → (is_claimed s ≡ false) ⊎ ((is_start s ≡ true) ⊎ ((is_insert s ≡ true) ⊎ (is_delete s ≡ true)))
+stage_kinds s = grind arith
 
 module _ (keys : List ℕ) (cards : ℕ) (s : TableState) (r : HasMachine keys cards s) where
   -- the claim word, and each card that does not wait
   pub same_next : (own_words s).next ≡ r.words.next
   same_next = listed_next s.words ∙ r.next
 
-  pub same_card : (c : ℕ) → waits (r.stages c) ≡ false → SaysTheSame r.words (own_words s) c
-  same_card c calm field = words_are_listed s.words c field ∙ r.settled c field calm
+  -- a node that came into the tree fits beside a tag
+  node_is_small : (x : ℕ) → Born r.stages x → x < 67108864
+  node_is_small x born =
+      let below = born_below r.words r.stages r.invariant.words x born in let most = r.invariant.limit in let limit = r.limit in omega arith
 
-  settled_card : (c : ℕ) → waits (r.stages c) ≡ false → SaysTheSame (own_words s) r.words c
-  settled_card c calm field = sym (same_card c calm field)
+  -- so does a leaf of a claimed card
+  leaf_is_small : (c x : ℕ) → is_claimed (r.stages c) ≡ true → x ≤ right_leaf c → x < 67108864
+  leaf_is_small c x claimed low =
+      let below = (r.invariant.words.cards c).claimed.0 claimed in let most = r.invariant.limit in let limit = r.limit in omega arith
+
+  -- so do the children of a card's node that came into the tree
+  born_child_is_small : (c : ℕ) (right : Bool) → is_node_born (r.stages c) 0 ≡ true → r.words.child (internal c) right < 67108864
+  born_child_is_small c right born =
+      let same : card (internal c) ≡ c = omega arith in
+      let inner : internal c % 4 ≡ 0 = omega arith in
+      let there : Born r.stages (internal c) = (λ t. is_node_born (r.stages (same t)) (inner t)) ∙ born in
+      node_is_small (r.words.child (internal c) right) ((r.invariant.words.children (internal c) inner there).born right)
+
+  -- so do the leaf where a card goes and the left child of its node
+  module _ (c : ℕ) where
+    blank_is_small : is_claimed (r.stages c) ≡ false → (x : ℕ) → x ≡ 0 → x < 67108864
+    blank_is_small unclaimed x is = omega (arith, is)
+
+    insert_child_is_small : is_insert (r.stages c) ≡ true → (right : Bool) → r.words.child (internal c) right < 67108864
+    insert_child_is_small inserts right = by (is_born (r.stages c)) refl right
+      where
+        by : (b : Bool) → is_born (r.stages c) ≡ b → (right : Bool) → r.words.child (internal c) right < 67108864
+        by true born right = born_child_is_small c right (all-born (r.stages c) 0 (omega arith) born)
+        by false unborn true =
+            let is = ((r.invariant.words.cards c).unborn inserts unborn).right in
+            leaf_is_small c (r.words.child (internal c) true) (insert-claimed (r.stages c) inserts) (omega (arith, is))
+        by false unborn false =
+            let is = ((r.invariant.words.cards c).unborn inserts unborn).left in
+            leaf_is_small c (r.words.child (internal c) false) (insert-claimed (r.stages c) inserts) (omega (arith, is))
+
+    goes_small : r.words.l c < 67108864
+    goes_small = elim (stage_kinds (r.stages c)) [
+      | inl unclaimed ↦ blank_is_small unclaimed (r.words.l c) (((r.invariant.words.cards c).blank unclaimed).words field.L)
+      | inr (inl start) ↦ (let is = (r.invariant.kinds.start c start).leaf in omega (arith, is))
+      | inr (inr (inl inserts)) ↦ node_is_small (r.words.l c) ((r.invariant.words.cards c).insert inserts).leaf.born
+      | inr (inr (inr deletes)) ↦ node_is_small (r.words.l c) ((r.invariant.words.cards c).delete deletes).leaf.born
+    ]
+
+    left_is_small : r.words.child (internal c) false < 67108864
+    left_is_small = elim (stage_kinds (r.stages c)) [
+      | inl unclaimed ↦ blank_is_small unclaimed (r.words.child (internal c) false) (((r.invariant.words.cards c).blank unclaimed).words field.Left)
+      | inr (inl start) ↦ born_child_is_small c false (start-born (r.stages c) 0 (omega arith) start)
+      | inr (inr (inl inserts)) ↦ insert_child_is_small inserts false
+      | inr (inr (inr deletes)) ↦ (let is = ((r.invariant.words.cards c).delete deletes).no_left_child in omega (arith, is))
+    ]
+
+    -- so does the right child of one that is no delete's
+    right_is_small : is_delete (r.stages c) ≡ false → r.words.child (internal c) true < 67108864
+    right_is_small other = elim (stage_kinds (r.stages c)) [
+      | inl unclaimed ↦ blank_is_small unclaimed (r.words.child (internal c) true) (((r.invariant.words.cards c).blank unclaimed).words field.Right)
+      | inr (inl start) ↦ born_child_is_small c true (start-born (r.stages c) 0 (omega arith) start)
+      | inr (inr (inl inserts)) ↦ insert_child_is_small inserts true
+      | inr (inr (inr deletes)) ↦ absurd (false≢true (sym other ∙ deletes))
+    ]
+
+  -- a card that does not wait has the table's own words
+  module _ (c : ℕ) (calm : waits (r.stages c) ≡ false) where
+    table_there : (field : Field) → table_word (own_words s) c field ≡ table_word r.words c field
+    table_there field = words_are_listed s.words c field ∙ r.settled c field calm
+
+    link_there : (r.words.l c ≡ (own_words s).l c) × (r.words.expects c ≡ (own_words s).expects c)
+    link_there = same_links (r.words.l c) (r.words.expects c) ((own_words s).l c) ((own_words s).expects c) (goes_small c)
+        ((listed_small s.words).l c) (sym (table_there field.L))
+
+    child_there : (right : Bool) → r.words.child (internal c) right < 67108864
+        → (r.words.child (internal c) right ≡ (own_words s).child (internal c) right) × (r.words.tag (internal c) right ≡ (own_words s).tag (internal c) right)
+    child_there true small =
+        same_links (r.words.child (internal c) true) (r.words.tag (internal c) true) ((own_words s).child (internal c) true) ((own_words s).tag (internal c) true)
+        small ((listed_small s.words).child (internal c) true) (sym (table_there field.Right))
+    child_there false small =
+        same_links (r.words.child (internal c) false) (r.words.tag (internal c) false) ((own_words s).child (internal c) false) ((own_words s).tag (internal c) false)
+        small ((listed_small s.words).child (internal c) false) (sym (table_there field.Left))
+
+    word_there : is_delete (r.stages c) ≡ false → (field : Field) → word r.words c field ≡ word (own_words s) c field
+    word_there other field.L = link_there.0
+    word_there other field.Left = (child_there false (left_is_small c)).0
+    word_there other field.Right = (child_there true (right_is_small c other)).0
+    word_there other field = sym (table_there field)
+
+    tag_there : is_delete (r.stages c) ≡ false → (right : Bool) → r.words.tag (internal c) right ≡ (own_words s).tag (internal c) right
+    tag_there other true = (child_there true (right_is_small c other)).1
+    tag_there other false = (child_there false (left_is_small c)).1
+
+  pub settled_card : (c : ℕ) → waits (r.stages c) ≡ false → SameCard (own_words s) r.words (is_delete (r.stages c)) c
+  settled_card c calm = record {
+    words = λ field. sym (table_there c calm field);
+    info = record {
+      gp = sym (table_there c calm field.Gp);
+      p = sym (table_there c calm field.P);
+      l = (link_there c calm).0;
+      expects = (link_there c calm).1;
+      was = sym (table_there c calm field.Was);
+    };
+    left = (child_there c calm false (left_is_small c)).0;
+    says = λ other. record { words = word_there c calm other; expects = (link_there c calm).1; tags = tag_there c calm other };
+  }
+
+  pub same_card : (c : ℕ) → waits (r.stages c) ≡ false → SameCard r.words (own_words s) (is_delete (r.stages c)) c
+  same_card c calm = let h = settled_card c calm in record {
+    words = table_there c calm;
+    info = record { gp = sym h.info.gp; p = sym h.info.p; l = sym h.info.l; expects = sym h.info.expects; was = sym h.info.was };
+    left = sym h.left;
+    says = λ other. (let all = h.says other in record { words = λ field. sym (all.words field); expects = sym all.expects; tags = λ right. sym (all.tags right) });
+  }
 
   -- the table's own words are a sound state
   sound_state : IsSound (own_machine cards s)
@@ -68,7 +179,7 @@ module _ (keys : List ℕ) (cards : ℕ) (s : TableState) (r : HasMachine keys c
     -- whether it replaces its leaf, and the value of that
     pub own_card_kind : (is_replace_card r.words c ≡ is_replace_card (own_words s) c) × (r.words.value (r.words.l c) ≡ (own_words s).value ((own_words s).l c))
     own_card_kind = let same = same_card c (known_settled keys cards s r id v here c knows) in (
-      (λ t. sym (same field.LeftLeafKey) t == sym (same field.RightLeafKey) t),
+      (λ t. sym (same.words field.LeftLeafKey) t == sym (same.words field.RightLeafKey) t),
       sym (leaf_value_same r.words (own_words s) r.stages r.invariant.words same_card c (known_settled keys cards s r id v here c knows) known_goes known_leaf),
     )
 
@@ -86,8 +197,9 @@ module _ (keys : List ℕ) (cards : ℕ) (s : TableState) (r : HasMachine keys c
     next = sym same_next;
     settled = settled_card;
     reached = reached_same r.words (own_words s) r.stages r.invariant.words same_card;
-    nodes = λ x reached. settled_card (card x)
-        (born-settled (r.stages (card x)) (x % 4) (reached_born r.words (own_words s) r.stages r.invariant.words same_card x reached));
+    nodes = λ x reached.
+        let born = reached_born r.words (own_words s) r.stages r.invariant.words same_card x reached in
+        (settled_card (card x) (born-settled (r.stages (card x)) (x % 4) born)).says (born-no_delete (r.stages (card x)) (x % 4) born);
     flags = λ x reached inner dirty.
         let hand = (sound_state.flags x reached inner dirty).in_hand in
         let c = (unpacked ((own_words s).update x)).card in

@@ -4,6 +4,7 @@ use Rattle.ell_core.specs.statements.Since.{CleansSince}
 use Rattle.ell_core.proofs.lemmas.stages.Ended.{ends_last, unended_before}
 use Rattle.ell_core.proofs.lemmas.following.Cleans.{cleans_go_on, below_later}
 use Rattle.std.proofs.lemmas.List.{append_assoc}
+use Rattle.ell_word.specs.Link.{linked}
 use Rattle.ell_word.specs.Word.{packed}
 use Rattle.ell_core.specs.declared.exchange.Exchange.{Exchange}
 use Rattle.ell_core.specs.declared.exchange.Exchange.TheVariants as exchange
@@ -159,12 +160,12 @@ module _ (m : Machine) (stage : Stages) (holds : Invariant m stage) (i : ℕ) (m
   call_wins (call.Claim c) n v cards mine may h = claims (n == c) h
   call_wins (call.IFlag c p from) n v cards mine may h =
       flags act.IFlag exchange.IFlag (n == packed from) c (λ hand d. refl) (mine ∙ may.may.holds) h
-  call_wins (call.IChild c p l q right) n v cards mine may h = tries (act.IChild c) (n == l) h
+  call_wins (call.IChild c p l q right) n v cards mine may h = tries (act.IChild c) (n == linked l) h
   call_wins (call.IUnflag c p) n v cards mine may h = tries (act.IUnflag c) (n == iflag c) h
   call_wins (call.DFlag c gp from) n v cards mine may h =
       flags act.DFlag exchange.DFlag (n == packed from) c (λ hand d. refl) (mine ∙ may.may.holds) h
   call_wins (call.Mark c p was) n v cards mine may h = tries (act.Mark c) (n == was) h
-  call_wins (call.DChild c gp p sibling right) n v cards mine may h = tries (act.DChild c) (n == p) h
+  call_wins (call.DChild c gp p sibling right) n v cards mine may h = tries (act.DChild c) (n == linked p) h
   call_wins (call.DUnflag c gp) n v cards mine may h = tries (act.DUnflag c) (n == dflag c) h
   call_wins (call.Backtrack c gp) n v cards mine may h = tries (act.Backtrack c) (n == dflag c) h
   call_wins _ n v cards mine may h = rests h

@@ -7,6 +7,7 @@ use lib.Seq.{set-get_or}
 use Rattle.atomic_table.proofs.Lists.{set_else}
 use Rattle.ell_word.specs.Node.{IsInternal, card}
 use Rattle.ell_word.specs.Word.{packed, unpacked}
+use Rattle.ell_word.specs.declared.link.Link.{Link}
 use Rattle.ell_word.specs.declared.update.Update.{Update}
 use Rattle.ell_ops.specs.declared.op.Op.TheVariants.{Delete}
 use Rattle.ell_core.specs.declared.view.Seen.{Seen}
@@ -268,7 +269,7 @@ module _ (plan : TablePlan) (s : TableState) (h : IsReached plan s) (id : ℕ) (
   abbrev Alike : Call → Type 0
   Alike c = May plan.last_card c v → (n : ℕ) → IsReached plan (told_of s id v c n) → is_won (atomic_of c) n ≡ is_won (atomic_of c) (found_by s c)
 
-  ichild_alike : (c p l q : ℕ) (right : Bool) → Alike (call.IChild c p l q right)
+  ichild_alike : (c p : ℕ) (l : Link) (q : ℕ) (right : Bool) → Alike (call.IChild c p l q right)
   ichild_alike c p l q right may n on = taught_alike plan s h id v here (call.IChild c p l q right) may n on exchange.IChild (omega arith)
       (fact.IChanged c) (changed-once c) refl refl (knows_new (fact.IChanged c) v.worker.knows) (knows_new (fact.IChanged c) v.worker.knows)
 
@@ -276,7 +277,7 @@ module _ (plan : TablePlan) (s : TableState) (h : IsReached plan s) (id : ℕ) (
   iunflag_alike c p may n on = taught_alike plan s h id v here (call.IUnflag c p) may n on exchange.IUnflag (omega arith)
       (fact.IOver c) (over-once c) refl refl (knows_new (fact.IOver c) v.worker.knows) (knows_new (fact.IOver c) v.worker.knows)
 
-  dchild_alike : (c gp p y : ℕ) (right : Bool) → Alike (call.DChild c gp p y right)
+  dchild_alike : (c gp : ℕ) (p : Link) (y : ℕ) (right : Bool) → Alike (call.DChild c gp p y right)
   dchild_alike c gp p y right may n on = taught_alike plan s h id v here (call.DChild c gp p y right) may n on exchange.DChild (omega arith)
       (fact.Cut c) (cut-once c) refl refl (knows_new (fact.Cut c) v.worker.knows) (knows_new (fact.Cut c) v.worker.knows)
 

@@ -5,6 +5,7 @@ use lib.ListN.{get_elem?}
 use Rattle.atomic_table.proofs.Lists.{set_else}
 use Rattle.ell_core.specs.declared.exchange.Exchange.{Exchange}
 use Rattle.ell_core.specs.declared.exchange.Exchange.TheVariants as exchange
+use Rattle.ell_word.specs.Link.{linked}
 use Rattle.ell_word.specs.Word.{packed, unpacked}
 use Rattle.ell_core.specs.declared.fact.Fact.{Fact}
 use Rattle.ell_core.specs.declared.fact.Fact.TheVariants as fact
@@ -59,11 +60,11 @@ total k c s = times_in k c s.views
 abbrev pub won_by : Call → ℕ → List (Exchange × ℕ)
 won_by (call.Claim c) n = if_won (n == c) exchange.Claim c
 won_by (call.IFlag c p from) n = if_won (n == packed from) exchange.IFlag c
-won_by (call.IChild c p l q right) n = if_won (n == l) exchange.IChild c
+won_by (call.IChild c p l q right) n = if_won (n == linked l) exchange.IChild c
 won_by (call.IUnflag c p) n = if_won (n == iflag c) exchange.IUnflag c
 won_by (call.DFlag c gp from) n = if_won (n == packed from) exchange.DFlag c
 won_by (call.Mark c p was) n = if_won (n == was) exchange.Mark c
-won_by (call.DChild c gp p y right) n = if_won (n == p) exchange.DChild c
+won_by (call.DChild c gp p y right) n = if_won (n == linked p) exchange.DChild c
 won_by (call.DUnflag c gp) n = if_won (n == dflag c) exchange.DUnflag c
 won_by (call.Backtrack c gp) n = if_won (n == dflag c) exchange.Backtrack c
 won_by _ n = []

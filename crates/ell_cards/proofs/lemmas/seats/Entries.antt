@@ -11,7 +11,7 @@ use Rattle.ell_core.specs.soundness.Sound.{flags_at}
 use Rattle.ell_core.specs.history.Stages.{Stages}
 use Rattle.ell_core.specs.history.Later.{WordsLater, StagesLater}
 use Rattle.ell_cards.specs.declared.view.Told.{Told}
-use Rattle.ell_cards.specs.declared.view.Told.TheVariants.{Met, Key, Value, Info, Frozen}
+use Rattle.ell_cards.specs.declared.view.Told.TheVariants.{Met, Key, Value, Info, Frozen, Expects}
 use Rattle.ell_cards.specs.Models.{Has, latest, earlier}
 use Rattle.ell_cards.specs.Changes.{facts_by, places_by, told_value}
 use Rattle.ell_cards.specs.Machines.{EntryHolds}
@@ -50,6 +50,10 @@ entry_lasts old new before after (Info c f x) words stages claimed h =
     let low = h.0 in
     let more = words.next in
     (omega arith, h.1, fixed_word old new c words h.0 f h.1 ∙ h.2)
+entry_lasts old new before after (Expects c tag) words stages claimed h =
+    let low = h.0 in
+    let more = words.next in
+    (omega arith, (words.info c h.0).expects ∙ h.1)
 entry_lasts old new before after (Frozen c right x) words stages claimed h =
     let low = h.0 in
     let more = words.next in
@@ -74,6 +78,7 @@ told_value_is w stage (d ∷ es) x value old (earlier _ _ _ h) = by d old (told_
     by (Met y) holds rest = rest
     by (Key y n) holds rest = rest
     by (Info c f n) holds rest = rest
+    by (Expects c tag) holds rest = rest
     by (Frozen c right n) holds rest = rest
 
 -- what one of two lists tells, both together tell

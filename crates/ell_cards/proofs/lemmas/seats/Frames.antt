@@ -11,7 +11,7 @@ use Rattle.ell_core.specs.declared.event.Act as core
 use Rattle.ell_core.specs.declared.event.Stepped.{Stepped}
 use Rattle.ell_layout.specs.declared.field.Field.{Field}
 use Rattle.ell_layout.specs.Layout.{listed, address}
-use Rattle.ell_layout.specs.Words.{Words, word, written}
+use Rattle.ell_layout.specs.Words.{Words, table_word, table_written}
 use Rattle.ell_core.specs.state.Machine.{Machine, worker_of}
 use Rattle.ell_layout.specs.Cards.{stored}
 use Rattle.ell_core.specs.acts.Events.{Happens, Steps}
@@ -19,7 +19,7 @@ use Rattle.ell_core.specs.soundness.Sound.{WorkerOwns}
 use Rattle.ell_core.specs.history.Stages.{Stages, Born, waits}
 use Rattle.ell_core.specs.history.Invariant.{Invariant}
 use Rattle.ell_core.specs.acts.Wins.{wins_by}
-use Rattle.ell_layout.proofs.lemmas.Writes.{written_elsewhere, written_next}
+use Rattle.ell_layout.proofs.lemmas.Writes.{table_written_elsewhere, table_written_next}
 use Rattle.ell_layout.proofs.lemmas.Listed.{apart, same_after_same_write}
 use Rattle.ell_ops.specs.declared.op.Op.{Op}
 use Rattle.ell_ops.specs.Meaning.{key_of}
@@ -111,17 +111,17 @@ module _ (keys : List ℕ) (cards : ℕ) (s : TableState) (r : HasMachine keys c
 
   -- the words where an event writes a field of a card that does not wait
   pub moves_write : (d : ℕ) (g : Field) (x : ℕ) (stages : Stages) → address d g < length s.words → waits (r.stages d) ≡ false
-      → ((c : ℕ) (f : Field) → waits (r.stages c) ≡ true → waits (stages c) ≡ false → listed s.words c f ≡ word r.words c f)
-      → Moves keys cards s r id v here (set s.words (address d g) x) (written r.words d g x) stages
+      → ((c : ℕ) (f : Field) → waits (r.stages c) ≡ true → waits (stages c) ≡ false → listed s.words c f ≡ table_word r.words c f)
+      → Moves keys cards s r id v here (set s.words (address d g) x) (table_written r.words d g x) stages
   moves_write d g x stages fits calm flags = record {
     size = length-set s.words (address d g) x;
-    next = listed_next s.words d g x ∙ (r.next ∙ sym (written_next r.words d g x));
+    next = listed_next s.words d g x ∙ (r.next ∙ sym (table_written_next r.words d g x));
     same = λ c f one two e. same_after_same_write s.words r.words c f d g x fits e;
     flags = λ c f wait still. let n = other c wait in
         listed_else s.words d g x c f (apart c f d g n)
-        ∙ (flags c f wait still ∙ sym (written_elsewhere r.words c f d g x (apart c f d g n)));
+        ∙ (flags c f wait still ∙ sym (table_written_elsewhere r.words c f d g x (apart c f d g n)));
     apart = λ c f wait. let n = other c wait in
-        (listed_else s.words d g x c f (apart c f d g n), written_elsewhere r.words c f d g x (apart c f d g n));
+        (listed_else s.words d g x c f (apart c f d g n), table_written_elsewhere r.words c f d g x (apart c f d g n));
   }
     where
       other : (c : ℕ) → waits (r.stages c) ≡ true → c ≢ d
@@ -173,6 +173,7 @@ module _ (keys : List ℕ) (cards : ℕ) (s : TableState) (r : HasMachine keys c
       words = r.words;
       stages = r.stages;
       invariant = subst (λ (m : Machine). Invariant m r.stages) (same_machine after same) r.invariant;
+      limit = r.limit;
       size = size ∙ r.size;
       next = next ∙ r.next;
       settled = λ c f still. calm c f still ∙ r.settled c f still;

@@ -1,4 +1,4 @@
-use Rattle.std.proofs.Common.{◌≡◌, ℕ, ◌<◌, ◌≤◌, List, ap, ◌∙◌, subst, arith}
+use Rattle.std.proofs.Common.{◌≡◌, ℕ, ◌<◌, ◌≤◌, List, ap, ◌∙◌, subst, arith, inl, inr}
 use mathlib.Core.Option.{some}
 use lib.ListN.{get_elem?}
 use Rattle.ell_word.specs.Node.{card}
@@ -9,15 +9,16 @@ use Rattle.ell_core.specs.declared.view.Seen.{Seen}
 use Rattle.ell_layout.specs.Words.{word}
 use Rattle.ell_core.specs.state.Facts.{card_of_fact}
 use Rattle.ell_core.specs.state.Machine.{Worker}
-use Rattle.ell_core.specs.history.Stages.{Born}
+use Rattle.ell_core.specs.history.Stages.{Born, is_start}
 use Rattle.ell_core.specs.statements.StepLaws.{HasSeen}
 use Rattle.ell_cards.specs.declared.view.Told.{Told}
-use Rattle.ell_cards.specs.declared.view.Told.TheVariants.{Met, Key, Value, Info, Frozen}
+use Rattle.ell_cards.specs.declared.view.Told.TheVariants.{Met, Key, Value, Info, Frozen, Expects}
 use Rattle.ell_cards.specs.declared.view.View.{View}
 use Rattle.ell_cards.specs.Naming.{InfoIsNamed, EntryIsNamed, SeenIsNamed, IsNamed}
 use Rattle.ell_cards.specs.States.{TableState}
 use Rattle.ell_cards.specs.Machines.{EntryHolds, HasMachine}
 use Rattle.ell_cards.proofs.lemmas.seats.Seats.{mine_is, relies, stands_born, born_claimed}
+use Rattle.std.proofs.lemmas.Bool.{cases_Bool}
 
 module _ (keys : List ℕ) (cards : ℕ) (s : TableState) (r : HasMachine keys cards s) (id : ℕ) (v : View) (here : get_elem? s.views id ≡ some v) where
   -- a claimed card is one of the table
@@ -30,7 +31,7 @@ module _ (keys : List ℕ) (cards : ℕ) (s : TableState) (r : HasMachine keys c
 
   -- a node that a search has seen
   seen_fits : (seen : Seen) (x : ℕ) → HasSeen r.words r.stages seen x → SeenIsNamed cards seen
-  seen_fits seen x h = record { node = born_fits seen.node h.node.born; word = claimed_fits (unpacked seen.word).card h.names }
+  seen_fits seen x h = record { node = born_fits seen.node h.node.born; word = claimed_fits (unpacked seen.word).card h.names; tag = claimed_fits seen.tag h.tag }
 
   -- a word of a claimed card that is a node
   info_fits : (c : ℕ) (f : Field) (x : ℕ) → c < r.words.next → word r.words c f ≡ x → InfoIsNamed cards f x
@@ -39,12 +40,23 @@ module _ (keys : List ℕ) (cards : ℕ) (s : TableState) (r : HasMachine keys c
   info_fits c field.L x low is = subst (λ y. card y ≤ cards) is (born_fits (r.words.l c) ((relies keys cards s r id v here).goes c low).leaf)
   info_fits c _ x low is = tt
 
+  -- the tag that a claimed card expects is at most its own number
+  expected_fits : (c : ℕ) → c < r.words.next → r.words.expects c ≤ c
+  expected_fits c low = elim (cases_Bool (is_start (r.stages c))) [
+    | inl start ↦ (let none = (r.invariant.kinds.start c start).expects in omega arith)
+    | inr other ↦ elim (r.invariant.kinds.kinds c low other) [
+      | inl inserts ↦ (let less = ((r.invariant.words.cards c).insert inserts).expected in omega arith)
+      | inr deletes ↦ (let less = ((r.invariant.words.cards c).delete deletes).expected in omega arith)
+    ]
+  ]
+
   -- what was told
   entry_fits : (e : Told) → EntryHolds r.words r.stages e → EntryIsNamed cards e
   entry_fits (Met x) h = born_fits x h
   entry_fits (Key x key) h = born_fits x h.0
   entry_fits (Value x value) h = born_fits x h.0
   entry_fits (Info c f x) h = (claimed_fits c h.0, info_fits c f x h.0 h.2)
+  entry_fits (Expects c tag) h = (claimed_fits c h.0, (let low = expected_fits c h.0 in let room = claimed_fits c h.0 in let is = h.1 in omega arith))
   entry_fits (Frozen c right x) h = (claimed_fits c h.0, born_fits x h.3)
 
   -- all that the pass names

@@ -10,7 +10,7 @@ use Rattle.ell_core.specs.declared.event.Event.{Event}
 use Rattle.ell_core.specs.declared.event.Stepped.{Stepped}
 use Rattle.ell_layout.specs.declared.field.Field.{Field}
 use Rattle.ell_layout.specs.Layout.{listed}
-use Rattle.ell_layout.specs.Words.{Words, word, put}
+use Rattle.ell_layout.specs.Words.{Words, table_word, put}
 use Rattle.ell_core.specs.state.Machine.{Worker, Machine, Scene, scene, with_scene, worker_of}
 use Rattle.ell_core.specs.acts.Events.{Happens, Steps}
 use Rattle.ell_core.specs.soundness.Sound.{WorkerOwns}
@@ -137,11 +137,11 @@ module _ (keys : List ℕ) (cards : ℕ) (s : TableState) (r : HasMachine keys c
   pub record Moves (list : List ℕ) (new : Words) (stages : Stages) : Type 0 where
     pub size : length list ≡ length s.words
     pub next : get_or list 0 0 ≡ new.next
-    pub same : (c : ℕ) (f : Field) → waits (r.stages c) ≡ false → waits (stages c) ≡ false → listed s.words c f ≡ word r.words c f
-        → listed list c f ≡ word new c f
-    pub flags : (c : ℕ) (f : Field) → waits (r.stages c) ≡ true → waits (stages c) ≡ false → listed list c f ≡ word new c f
+    pub same : (c : ℕ) (f : Field) → waits (r.stages c) ≡ false → waits (stages c) ≡ false → listed s.words c f ≡ table_word r.words c f
+        → listed list c f ≡ table_word new c f
+    pub flags : (c : ℕ) (f : Field) → waits (r.stages c) ≡ true → waits (stages c) ≡ false → listed list c f ≡ table_word new c f
     pub apart : (c : ℕ) (f : Field) → waits (r.stages c) ≡ true
-        → (listed list c f ≡ listed s.words c f) × (word new c f ≡ word r.words c f)
+        → (listed list c f ≡ listed s.words c f) × (table_word new c f ≡ table_word r.words c f)
 
   -- a node that came into the tree is on a claimed card
   pub born_claimed : (x : ℕ) → Born r.stages x → card x < r.words.next
@@ -180,6 +180,7 @@ module _ (keys : List ℕ) (cards : ℕ) (s : TableState) (r : HasMachine keys c
       words = new;
       stages = stages;
       invariant = led.invariant;
+      limit = r.limit;
       size = moves.size ∙ r.size;
       next = moves.next;
       settled = λ c f calm. by c f calm (waits (r.stages c)) refl;
@@ -201,7 +202,7 @@ module _ (keys : List ℕ) (cards : ℕ) (s : TableState) (r : HasMachine keys c
     later = led.later;
   }
     where
-      by : (c : ℕ) (f : Field) → waits (stages c) ≡ false → (b : Bool) → waits (r.stages c) ≡ b → listed list c f ≡ word new c f
+      by : (c : ℕ) (f : Field) → waits (stages c) ≡ false → (b : Bool) → waits (r.stages c) ≡ b → listed list c f ≡ table_word new c f
       by c f calm true e = moves.flags c f e calm
       by c f calm false e = moves.same c f e calm (r.settled c f e)
 

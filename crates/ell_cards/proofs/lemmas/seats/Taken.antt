@@ -1,4 +1,4 @@
-use Rattle.std.proofs.Common.{◌≡◌, ◌==◌, ℕ, ◌%◌, ◌<◌, ◌≤◌, false, List, [], ◌∷◌, Option, Some, refl, ap, inl, inr, arith, Bool, if◌then◌else◌, true}
+use Rattle.std.proofs.Common.{◌≡◌, ◌==◌, ℕ, ◌%◌, ◌<◌, ◌≤◌, false, List, [], ◌∷◌, Option, Some, refl, ap, inl, inr, arith, Bool, if◌then◌else◌, true, subst}
 use Rattle.ell_ops.specs.declared.op.Op.{Op}
 use Rattle.ell_ops.specs.declared.op.Op.TheVariants.{Insert, Delete, Swap}
 use Rattle.ell_word.specs.Node.{card}
@@ -110,11 +110,13 @@ word_fits cards (call.FrozenChild c p right) v named may = address_fits cards (c
 word_fits cards call.Look v named may = address_fits cards 0 (child_field false) (omega arith)
 word_fits cards (call.LookDown from key right) v named may = address_fits cards (card from.node) (child_field right) (named.entries (Met from.node) may.met)
 word_fits cards (call.Fill c f value) v named may = address_fits cards c f (named.hand c may.holds)
-word_fits cards (call.IFlag c p from) v named may = address_fits cards (card p) field.Update (named.parent may.leaf _ may.stands may.behind).node
+word_fits cards (call.IFlag c p from) v named may = address_fits cards (card p) field.Update
+    (subst (λ y. card y ≤ cards) may.node (named.parent may.leaf _ may.stands may.behind).node)
 word_fits cards (call.IChild c p l q right) v named may = address_fits cards (card p) (child_field right) (named.entries (Info c field.P p) may.parent).1
 word_fits cards (call.IUnflag c p) v named may = address_fits cards (card p) field.Update (named.entries (Info c field.P p) may.place).1
 word_fits cards (call.DFlag c gp from) v named may =
-    address_fits cards (card gp) field.Update (named.grandparent may.leaf may.parent _ may.stands may.behind may.above).node
+    address_fits cards (card gp) field.Update
+    (subst (λ y. card y ≤ cards) may.node (named.grandparent may.leaf may.parent _ may.stands may.behind may.above).node)
 word_fits cards (call.Mark c p was) v named may = address_fits cards (card p) field.Update (named.entries (Info c field.P p) may.0.place).1
 word_fits cards (call.DChild c gp p sibling right) v named may =
     address_fits cards (card gp) (child_field right) (named.entries (Info c field.Gp gp) may.grandparent).1

@@ -1,4 +1,4 @@
-use Rattle.std.proofs.Common.{◌≡◌, ◌∷◌, ℕ, ◌<◌, Bool, true, List, get_or, refl, sym, ap, subst, inl, inr, arith}
+use Rattle.std.proofs.Common.{◌≡◌, ◌∷◌, ℕ, ◌<◌, Bool, true, List, get_or, refl, sym, ap, subst, inl, inr, arith, ◌∙◌, false}
 use Rattle.ell_core.proofs.lemmas.stages.LaterKeys.{root_born}
 use mathlib.Core.Option.{some}
 use lib.ListN.{get_elem?}
@@ -7,14 +7,14 @@ use Rattle.ell_core.specs.declared.fact.Fact.TheVariants.{Marked}
 use Rattle.ell_layout.specs.declared.field.Field.{Field}
 use Rattle.ell_layout.specs.declared.field.Field.TheVariants as field
 use Rattle.ell_layout.specs.Layout.{address}
-use Rattle.ell_layout.specs.Words.{word}
+use Rattle.ell_layout.specs.Words.{word, table_word}
 use Rattle.ell_core.specs.history.Stages.{Born}
 use Rattle.ell_cards.specs.declared.call.Call.TheVariants as call
 use Rattle.ell_cards.specs.declared.view.Told.{Told}
-use Rattle.ell_cards.specs.declared.view.Told.TheVariants.{Met, Key, Info, Frozen}
+use Rattle.ell_cards.specs.declared.view.Told.TheVariants.{Met, Key, Info, Frozen, Expects}
 use Rattle.ell_cards.specs.declared.view.View.{View}
 use Rattle.ell_cards.specs.Models.{Has, earlier, InTable, KnowsCard}
-use Rattle.ell_cards.specs.Changes.{told_info}
+use Rattle.ell_cards.specs.Changes.{told_info, says_by}
 use Rattle.ell_cards.proofs.lemmas.views.Afters.{after_info, after_frozen_child}
 use Rattle.ell_cards.specs.Guards.{MayAsk, KnowsPlace}
 use Rattle.ell_cards.specs.Calls.{child_address, TellsNode, TellsDepth}
@@ -26,10 +26,14 @@ use Rattle.ell_cards.proofs.lemmas.views.Entries.{info_more}
 use Rattle.ell_cards.proofs.lemmas.seats.Entries.{with_entry}
 use Rattle.ell_cards.proofs.lemmas.seats.Seats.{mine_sound}
 use Rattle.ell_cards.proofs.lemmas.seats.Frames.{kept_told, is_no_event}
-use Rattle.ell_cards.proofs.lemmas.stepping.Looks.{born_in_table}
+use Rattle.ell_cards.proofs.lemmas.stepping.Looks.{born_in_table, born_small, child_born}
 use Rattle.ell_cards.proofs.lemmas.stepping.Exchanges.{told_is}
 use Rattle.ell_cards.proofs.lemmas.stepping.Known.{known_delete, known_card, known_claimed, known_settled, child_found}
 use Rattle.ell_core.specs.tree.Rank.{rank}
+use Rattle.std.proofs.lemmas.Bool.{false≢true}
+use Rattle.ell_word.specs.Link.{linked, link_in}
+use Rattle.ell_word.specs.declared.link.Link.{Link}
+use Rattle.ell_layout.proofs.lemmas.Writes.{link_back}
 
 module _ (keys : List ℕ) (cards : ℕ) (s : TableState) (r : HasMachine keys cards s) (id : ℕ) (v : View) (here : get_elem? s.views id ≡ some v) where
   -- where a known card goes came into the tree; an insert's has no grandparent, which is node 0
@@ -49,25 +53,61 @@ module _ (keys : List ℕ) (cards : ℕ) (s : TableState) (r : HasMachine keys c
   deeper : (c : ℕ) → KnowsCard v c → rank (r.words.p c) < rank (r.words.l c)
   deeper c k = elim (known_card keys cards s r id v here c k) [ inl i ↦ i.above | inr d ↦ d.above ]
 
+  -- the leaf's word is read as the leaf and the tag that the card expects
+  leaf_read : (c n : ℕ) → KnowsCard v c → table_word r.words c field.L ≡ n
+      → link_in n ≡ record { node = r.words.l c; tag = r.words.expects c }
+  leaf_read c n k is = ap link_in (sym is)
+      ∙ link_back (r.words.l c) (r.words.expects c) (born_small keys cards s r id v here (r.words.l c) (l_born c k))
+
+  -- what a fixed field says by the table's word
+  says : (c : ℕ) (f : Field) (n : ℕ) → KnowsCard v c → is_fixed f ≡ true → table_word r.words c f ≡ n → word r.words c f ≡ says_by f n
+  says c field.L n k fixed is = ap (λ (l : Link). l.node) (sym (leaf_read c n k is))
+  says c field.Gp n k fixed is = is
+  says c field.P n k fixed is = is
+  says c field.Was n k fixed is = is
+  says c field.Key n k fixed is = is
+  says c field.LeftLeafKey n k fixed is = is
+  says c field.RightLeafKey n k fixed is = is
+  says c field.LeftValue n k fixed is = is
+  says c field.RightValue n k fixed is = is
+  says c field.Left n k fixed is = absurd (false≢true fixed)
+  says c field.Right n k fixed is = absurd (false≢true fixed)
+  says c field.Update n k fixed is = absurd (false≢true fixed)
+
   -- what is told of a card's word
-  info_entries : (c : ℕ) (f : Field) (n : ℕ) → KnowsCard v c → is_fixed f ≡ true → word r.words c f ≡ n
+  info_entries : (c : ℕ) (f : Field) (n : ℕ) → KnowsCard v c → is_fixed f ≡ true → table_word r.words c f ≡ n
       → (e : Told) → Has (told_info c f n v.told) e → EntryHolds r.words r.stages e
   info_entries c f n k asked is = by f asked is
     where
       old : (e : Told) → Has v.told e → EntryHolds r.words r.stages e
       old = (r.views id v here).entries
 
-      met : (x : ℕ) → Born r.stages x → x ≡ n → (e : Told) → Has (Met n ∷ v.told) e → EntryHolds r.words r.stages e
-      met x born eq = with_entry (EntryHolds r.words r.stages) (Met n) v.told (subst (Born r.stages) eq born) old
+      met : (x y : ℕ) → Born r.stages x → x ≡ y → (e : Told) → Has (Met y ∷ v.told) e → EntryHolds r.words r.stages e
+      met x y born eq = with_entry (EntryHolds r.words r.stages) (Met y) v.told (subst (Born r.stages) eq born) old
 
-      by : (g : Field) → is_fixed g ≡ true → word r.words c g ≡ n → (e : Told) → Has (told_info c g n v.told) e → EntryHolds r.words r.stages e
+      by : (g : Field) → is_fixed g ≡ true → table_word r.words c g ≡ n → (e : Told) → Has (told_info c g n v.told) e → EntryHolds r.words r.stages e
       by field.Gp fixed eq = with_entry (EntryHolds r.words r.stages) (Info c field.Gp n) (Met n ∷ v.told)
-          (known_claimed keys cards s r id v here c k, fixed, eq) (met (r.words.gp c) (gp_born c k) eq)
+          (known_claimed keys cards s r id v here c k, fixed, eq) (met (r.words.gp c) n (gp_born c k) eq)
       by field.P fixed eq = with_entry (EntryHolds r.words r.stages) (Info c field.P n) (Met n ∷ v.told)
-          (known_claimed keys cards s r id v here c k, fixed, eq) (met (r.words.p c) (p_born c k) eq)
-      by field.L fixed eq = with_entry (EntryHolds r.words r.stages) (Info c field.L n) (Met n ∷ v.told)
-          (known_claimed keys cards s r id v here c k, fixed, eq) (met (r.words.l c) (l_born c k) eq)
-      by g fixed eq = with_entry (EntryHolds r.words r.stages) (Info c g n) v.told (known_claimed keys cards s r id v here c k, fixed, eq) old
+          (known_claimed keys cards s r id v here c k, fixed, eq) (met (r.words.p c) n (p_born c k) eq)
+      by field.L fixed eq =
+          let link = link_in n in
+          let read = leaf_read c n k eq in
+          let claimed = known_claimed keys cards s r id v here c k in
+          with_entry (EntryHolds r.words r.stages) (Info c field.L link.node) (Expects c link.tag ∷ Met link.node ∷ v.told)
+          (claimed, fixed, ap (λ (l : Link). l.node) (sym read))
+          (with_entry (EntryHolds r.words r.stages) (Expects c link.tag) (Met link.node ∷ v.told)
+          (claimed, ap (λ (l : Link). l.tag) (sym read))
+          (met (r.words.l c) link.node (l_born c k) (ap (λ (l : Link). l.node) (sym read))))
+      by field.Was fixed eq = with_entry (EntryHolds r.words r.stages) (Info c field.Was n) v.told (known_claimed keys cards s r id v here c k, fixed, eq) old
+      by field.Key fixed eq = with_entry (EntryHolds r.words r.stages) (Info c field.Key n) v.told (known_claimed keys cards s r id v here c k, fixed, eq) old
+      by field.LeftLeafKey fixed eq = with_entry (EntryHolds r.words r.stages) (Info c field.LeftLeafKey n) v.told (known_claimed keys cards s r id v here c k, fixed, eq) old
+      by field.RightLeafKey fixed eq = with_entry (EntryHolds r.words r.stages) (Info c field.RightLeafKey n) v.told (known_claimed keys cards s r id v here c k, fixed, eq) old
+      by field.LeftValue fixed eq = with_entry (EntryHolds r.words r.stages) (Info c field.LeftValue n) v.told (known_claimed keys cards s r id v here c k, fixed, eq) old
+      by field.RightValue fixed eq = with_entry (EntryHolds r.words r.stages) (Info c field.RightValue n) v.told (known_claimed keys cards s r id v here c k, fixed, eq) old
+      by field.Left fixed eq = absurd (false≢true fixed)
+      by field.Right fixed eq = absurd (false≢true fixed)
+      by field.Update fixed eq = absurd (false≢true fixed)
 
   -- grandparent and parent are internal
   gp_inner : (c : ℕ) → KnowsCard v c → IsInternal (r.words.gp c)
@@ -77,7 +117,7 @@ module _ (keys : List ℕ) (cards : ℕ) (s : TableState) (r : HasMachine keys c
   p_inner c k = elim (known_card keys cards s r id v here c k) [ inl i ↦ i.parent.inner | inr d ↦ d.parent.inner ]
 
   -- a word that is a node is one of the table
-  tells_node : (c : ℕ) (f : Field) (n : ℕ) → KnowsCard v c → word r.words c f ≡ n → TellsNode cards f n
+  tells_node : (c : ℕ) (f : Field) (n : ℕ) → KnowsCard v c → word r.words c f ≡ says_by f n → TellsNode cards f n
   tells_node c field.Gp n k is =
       (subst (InTable cards) is (born_in_table keys cards s r id v here (r.words.gp c) (gp_born c k)), subst IsInternal is (gp_inner c k))
   tells_node c field.P n k is =
@@ -86,7 +126,7 @@ module _ (keys : List ℕ) (cards : ℕ) (s : TableState) (r : HasMachine keys c
   tells_node c _ n k is = tt
 
   -- where the card goes is ever deeper
-  tells_depth : (c : ℕ) (f : Field) (n : ℕ) → KnowsCard v c → word r.words c f ≡ n → TellsDepth v c f n
+  tells_depth : (c : ℕ) (f : Field) (n : ℕ) → KnowsCard v c → word r.words c f ≡ says_by f n → TellsDepth v c f n
   tells_depth c field.Gp n k is = λ knows p told.
       let at = ap rank is in
       let first = (known_delete keys cards s r id v here c knows).first in
@@ -108,7 +148,8 @@ module _ (keys : List ℕ) (cards : ℕ) (s : TableState) (r : HasMachine keys c
   keeps_info c f may =
       let n = get_or s.words (address c f) 0 in
       let h = r.views id v here in
-      let is : word r.words c f ≡ n = sym (r.settled c f (known_settled keys cards s r id v here c may.0)) in
+      let is : table_word r.words c f ≡ n = sym (r.settled c f (known_settled keys cards s r id v here c may.0)) in
+      let said = says c f n may.0 may.1 is in
       is_no_event keys cards s r id v here (call.Info c f)
       (kept_told keys cards s r id v here (after_info c f n v) refl (record {
         entries = info_entries c f n may.0 may.1 is;
@@ -119,7 +160,7 @@ module _ (keys : List ℕ) (cards : ℕ) (s : TableState) (r : HasMachine keys c
         knew = h.knew;
         walk = h.walk;
       }) (address c f))
-      refl refl (tells_node c f n may.0 is, tells_depth c f n may.0 is)
+      refl refl (tells_node c f n may.0 said, tells_depth c f n may.0 said)
 
   -- frozen_child
   pub keeps_frozen_child : (c p : ℕ) (right : Bool) → KnowsPlace v (Marked c) c field.P p → IsEvent keys cards s r id v (call.FrozenChild c p right)
@@ -130,23 +171,27 @@ module _ (keys : List ℕ) (cards : ℕ) (s : TableState) (r : HasMachine keys c
       let known = (mine_sound keys cards s r id v here).facts (Marked c) may.knows in
       let said = known_delete keys cards s r id v here c (inr may.knows) in
       let p_is : w.p c ≡ p = told_is keys cards s r id v here c field.P p may.place in
-      let is : w.child (w.p c) right ≡ n = child_found keys cards s r id v here (w.p c) p right p_is said.parent.inner said.parent.born in
+      let link = link_in n in
+      let child_small = born_small keys cards s r id v here (w.child (w.p c) right) (child_born keys cards s r id v here (w.p c) right said.parent.inner said.parent.born) in
+      let is : w.child (w.p c) right ≡ link.node =
+      ap (λ (l : Link). l.node) (sym (ap link_in (sym (child_found keys cards s r id v here (w.p c) p right p_is said.parent.inner said.parent.born))
+      ∙ link_back (w.child (w.p c) right) (w.tag (w.p c) right) child_small)) in
       let mark = ((r.invariant.words.deletes c).marked known).mark in
       let children = r.invariant.words.children (w.p c) said.parent.inner said.parent.born in
-      let born : Born r.stages n = subst (Born r.stages) is (children.born right) in
+      let born : Born r.stages link.node = subst (Born r.stages) is (children.born right) in
       let rises = children.rising right in
       let from = ap rank p_is in
       let to = ap rank is in
       is_no_event keys cards s r id v here (call.FrozenChild c p right)
       (kept_told keys cards s r id v here (after_frozen_child c right n v) refl (record {
-        entries = with_entry (EntryHolds w r.stages) (Frozen c right n) (Met n ∷ v.told)
+        entries = with_entry (EntryHolds w r.stages) (Frozen c right link.node) (Met link.node ∷ v.told)
             (known_claimed keys cards s r id v here c (inr (inr may.knows)), mark, is, born)
-            (with_entry (EntryHolds w r.stages) (Met n) v.told born h.entries);
-        here = λ y key at told. earlier (Key y key) (Frozen c right n) (Met n ∷ v.told) (earlier (Key y key) (Met n) v.told (h.here y key at told));
+            (with_entry (EntryHolds w r.stages) (Met link.node) v.told born h.entries);
+        here = λ y key at told. earlier (Key y key) (Frozen c right link.node) (Met link.node ∷ v.told) (earlier (Key y key) (Met link.node) v.told (h.here y key at told));
         hand = h.hand;
         read = h.read;
         least = h.least;
         knew = h.knew;
         walk = h.walk;
       }) (child_address p right))
-      refl refl (omega arith, born_in_table keys cards s r id v here n born)
+      refl refl (omega arith, born_in_table keys cards s r id v here link.node born)

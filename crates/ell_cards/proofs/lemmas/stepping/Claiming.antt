@@ -7,7 +7,7 @@ use Rattle.ell_core.specs.declared.view.Seen.{Seen}
 use Rattle.ell_core.specs.acts.Searching.{put_of, TakesPut}
 use Rattle.ell_core.proofs.lemmas.keeping.Puts.{added, replacing}
 use Rattle.ell_core.specs.statements.Told.{is_fixed}
-use Rattle.ell_cards.specs.Models.{IsTold}
+use Rattle.ell_cards.specs.Models.{IsTold, earlier}
 use mathlib.Core.Option.{some}
 use lib.ListN.{get_elem?}
 use Rattle.ell_ops.specs.declared.op.Op.{Op}
@@ -20,27 +20,29 @@ use Rattle.ell_core.specs.declared.event.Stepped.TheVariants.{Moved}
 use Rattle.ell_layout.specs.declared.field.Field.{Field}
 use Rattle.ell_layout.specs.declared.field.Field.TheVariants as field
 use Rattle.ell_layout.specs.Layout.{address, listed}
-use Rattle.ell_layout.specs.Words.{Words, word}
+use Rattle.ell_layout.specs.Words.{Words, word, table_word}
 use Rattle.ell_core.specs.state.Machine.{worker_of}
-use Rattle.ell_layout.specs.Cards.{insert_filling, delete_filling, filled, claimed, stored}
+use Rattle.ell_layout.specs.Cards.{insert_filling, delete_filling, filled, claimed, stored, tagged_for}
 use Rattle.ell_core.specs.acts.Events.{Row, Happens}
 use Rattle.ell_core.specs.history.Stages.{Stages, is_claimed, waits}
 use Rattle.ell_core.proofs.lemmas.stages.Waiting.{kind-waits, unclaimed-no_start, unclaimed-wins, unclaimed-settled, waits-claimed}
 use Rattle.ell_core.proofs.lemmas.following.waiting.Cards.{claimed_cards_say}
 use Rattle.ell_core.proofs.lemmas.following.facts.Claimed.{not_claimed}
-use Rattle.ell_layout.proofs.lemmas.Listed.{same_but_next}
+use Rattle.ell_layout.proofs.lemmas.Stored.{claimed_stored}
+use Rattle.ell_layout.proofs.lemmas.Writes.{put_same}
+use Rattle.ell_core.proofs.lemmas.keeping.claim.Filling.{claimed_claims, others_say}
 use Rattle.ell_cards.specs.declared.call.Call.TheVariants as call
 use Rattle.ell_cards.specs.declared.view.Told.{Told}
-use Rattle.ell_cards.specs.declared.view.Told.TheVariants.{Key, Info, Value}
+use Rattle.ell_cards.specs.declared.view.Told.TheVariants.{Key, Info, Value, Expects}
 use Rattle.ell_cards.specs.declared.view.View.{View}
 use Rattle.ell_cards.specs.Models.{Has}
-use Rattle.ell_cards.specs.Changes.{told_value, told_filling, filling_for, filling_of, after_claim}
+use Rattle.ell_cards.specs.Changes.{told_value, told_filling, filling_for, filling_of, after_claim, tagged, tag_of_claim, expected_tag}
 use Rattle.ell_cards.specs.Guards.{MayClaim, Wants}
 use Rattle.ell_cards.specs.States.{TableState, seated}
 use Rattle.ell_cards.specs.Machines.{EntryHolds, HasMachine}
 use Rattle.ell_cards.specs.Laws.{IsEvent}
 use Rattle.ell_cards.specs.Calls.{Becomes}
-use Rattle.ell_cards.proofs.lemmas.words.Fields.{filled_else}
+use Rattle.ell_cards.proofs.lemmas.words.Fields.{table_says, table_blank}
 use Rattle.ell_cards.proofs.lemmas.views.Entries.{filling_more}
 use Rattle.ell_cards.proofs.lemmas.seats.Entries.{with_entry, told_value_is}
 use Rattle.ell_cards.proofs.lemmas.seats.Seats.{machine, leads, kept_event, mine, becomes, mine_sound, stands_born, over_cut, walk_on, entries_on}
@@ -66,12 +68,12 @@ filling_holds w stage c [] told low says old = old
 filling_holds w stage c (d ∷ es) told low says old =
     fixed_holds w stage c d.0 d.1 (told_filling c es told) low says.0 (filling_holds w stage c es told low says.1 old)
 
--- the view after a won claim, with this filling
-abbrev taking : ℕ → List (Field × ℕ) → View → View
-taking c es v = record v {
+-- the view after a won claim, with this filling, where the card expects this tag
+abbrev taking : ℕ → ℕ → List (Field × ℕ) → View → View
+taking c tag es v = record v {
   worker = record (v.worker) { card = Some c; flagged = false };
-  told = told_filling c es v.told;
-  planned = es;
+  told = Expects c tag ∷ told_filling c es v.told;
+  planned = tagged tag es;
   stores = [];
   won = (exchange.Claim, c) ∷ v.won;
   next_at_least = c + 1;
@@ -88,6 +90,47 @@ put_filling (Delete k) what e c leaf parent above key value_of = absurd cc
 put_filling (Swap k was value) what e c leaf parent above key value_of =
     ap (λ (t : Put). insert_filling c t.key t.value parent.node leaf key (value_of leaf)) (sym (same_Some (replacing k was value) what e))
 
+-- the tag that it expects is the one that its search read at the parent
+put_tag : (op : Op) (what : Put) → put_of op ≡ Some what → (parent : Seen) (above : Option Seen) → parent.tag ≡ tag_of_claim (Some op) (Some parent) above
+put_tag (Find k) what e parent above = absurd cc
+put_tag (Insert k value) what e parent above = refl
+put_tag (Delete k) what e parent above = absurd cc
+put_tag (Swap k was value) what e parent above = refl
+
+-- a filling whose words in a table are these
+abbrev IsTagged : ℕ → List (Field × ℕ) → Type 0
+IsTagged tag es = (f : Field) → tagged_for f tag (stored es f 0) ≡ stored (tagged tag es) f 0
+
+-- so are those of an insert or a swap
+insert_tagged : (tag c k value parent leaf leaf_key leaf_value : ℕ) → IsTagged tag (insert_filling c k value parent leaf leaf_key leaf_value)
+insert_tagged tag c k value parent leaf leaf_key leaf_value field.Gp = refl
+insert_tagged tag c k value parent leaf leaf_key leaf_value field.P = refl
+insert_tagged tag c k value parent leaf leaf_key leaf_value field.L = refl
+insert_tagged tag c k value parent leaf leaf_key leaf_value field.Was = refl
+insert_tagged tag c k value parent leaf leaf_key leaf_value field.Key = refl
+insert_tagged tag c k value parent leaf leaf_key leaf_value field.Left = refl
+insert_tagged tag c k value parent leaf leaf_key leaf_value field.Right = refl
+insert_tagged tag c k value parent leaf leaf_key leaf_value field.Update = refl
+insert_tagged tag c k value parent leaf leaf_key leaf_value field.LeftLeafKey = refl
+insert_tagged tag c k value parent leaf leaf_key leaf_value field.RightLeafKey = refl
+insert_tagged tag c k value parent leaf leaf_key leaf_value field.LeftValue = refl
+insert_tagged tag c k value parent leaf leaf_key leaf_value field.RightValue = refl
+
+-- and of a delete
+delete_tagged : (tag gp parent leaf was : ℕ) → IsTagged tag (delete_filling gp parent leaf was)
+delete_tagged tag gp parent leaf was field.Gp = refl
+delete_tagged tag gp parent leaf was field.P = refl
+delete_tagged tag gp parent leaf was field.L = refl
+delete_tagged tag gp parent leaf was field.Was = refl
+delete_tagged tag gp parent leaf was field.Key = refl
+delete_tagged tag gp parent leaf was field.Left = refl
+delete_tagged tag gp parent leaf was field.Right = refl
+delete_tagged tag gp parent leaf was field.Update = refl
+delete_tagged tag gp parent leaf was field.LeftLeafKey = refl
+delete_tagged tag gp parent leaf was field.RightLeafKey = refl
+delete_tagged tag gp parent leaf was field.LeftValue = refl
+delete_tagged tag gp parent leaf was field.RightValue = refl
+
 module _ (keys : List ℕ) (cards : ℕ) (s : TableState) (r : HasMachine keys cards s) (id : ℕ) (v : View) (here : get_elem? s.views id ≡ some v) where
   -- the next card
   abbrev next : ℕ
@@ -101,13 +144,13 @@ module _ (keys : List ℕ) (cards : ℕ) (s : TableState) (r : HasMachine keys c
   other_card c wait e = true≢false (sym (waits-claimed (r.stages c) wait) ∙ (ap (λ n. is_claimed (r.stages n)) e ∙ fresh))
 
   -- the machine after a won claim
-  takes : (es : List (Field × ℕ)) → next ≤ cards
-      → Row act.Claim (mine keys cards s r id v here) Moved (becomes keys cards s r id v here (claimed r.words es) (taking next es v))
-      → Says (claimed r.words es) next es
-      → IsReached keys cards s r id v here (set s.words 0 (next + 1)) (claimed r.words es) (taking next es v) act.Claim Moved
-  takes es room row says =
-      let new = claimed r.words es in
-      let after = taking next es v in
+  takes : (tag : ℕ) (es : List (Field × ℕ)) → IsTagged tag es → next ≤ cards
+      → Row act.Claim (mine keys cards s r id v here) Moved (becomes keys cards s r id v here (claimed r.words tag es) (taking next tag es v))
+      → Says (claimed r.words tag es) next es
+      → IsReached keys cards s r id v here (set s.words 0 (next + 1)) (claimed r.words tag es) (taking next tag es v) act.Claim Moved
+  takes tag es is_tagged room row says =
+      let new = claimed r.words tag es in
+      let after = taking next tag es v in
       let list = set s.words 0 (next + 1) in
       let happens : Happens cards act.Claim (mine keys cards s r id v here) Moved (becomes keys cards s r id v here new after) = record {
         owned = λ h. h;
@@ -122,8 +165,8 @@ module _ (keys : List ℕ) (cards : ℕ) (s : TableState) (r : HasMachine keys c
       (l.1.wins next ∙ ap (λ (ks : List Exchange). ks ++ []) (unclaimed-wins (r.stages next) fresh)) in
       let listed_same : (c : ℕ) (f : Field) → listed list c f ≡ listed s.words c f =
       λ c f. get_or-set_other s.words 0 (address c f) (next + 1) 0 (λ e. omega arith) in
-      let word_same : (c : ℕ) (f : Field) → c ≢ next → word new c f ≡ word r.words c f =
-      λ c f n. sym (same_but_next (filled r.words next es) (next + 1) c f) ∙ filled_else r.words next es c f n in
+      let word_same : (c : ℕ) (f : Field) → c ≢ next → table_word new c f ≡ table_word r.words c f =
+      λ c f n. table_says r.words new c (others_say r.words new next (claimed_claims r.words tag es).others c n) f in
       let blank = (r.invariant.words.cards next).blank fresh in record {
         kept = kept_event keys cards s r id v here act.Claim Moved new after list l.0 l.1 (record {
           size = length-set s.words 0 (next + 1);
@@ -133,9 +176,11 @@ module _ (keys : List ℕ) (cards : ℕ) (s : TableState) (r : HasMachine keys c
           flags = λ c f wait calm. absurd (true≢false (sym (waits_on keys cards s r id v here act.Claim Moved new after l.0 l.1 c refl wait) ∙ calm));
           apart = λ c f wait. (listed_same c f, word_same c f (other_card c wait));
         }) (record {
-          entries = filling_holds new l.0 next es v.told (omega arith) says
-              (λ e told. entries_on keys cards s r id v here act.Claim Moved new after l.0 l.1 e ((r.views id v here).entries e told));
-          here = λ x key at told. filling_more next es v.told (Key x key) ((r.views id v here).here x key at told);
+          entries = with_entry (EntryHolds new l.0) (Expects next tag) (told_filling next es v.told)
+              (omega arith, put_same r.words.expects next tag)
+              (filling_holds new l.0 next es v.told (omega arith) says
+              (λ e told. entries_on keys cards s r id v here act.Claim Moved new after l.0 l.1 e ((r.views id v here).entries e told)));
+          here = λ x key at told. earlier _ _ _ (filling_more next es v.told (Key x key) ((r.views id v here).here x key at told));
           read = λ n at. (let low = (r.views id v here).read n at in omega arith);
           least = omega arith;
           knew = (r.views id v here).knew;
@@ -143,19 +188,31 @@ module _ (keys : List ℕ) (cards : ℕ) (s : TableState) (r : HasMachine keys c
               (over_cut keys cards s r id v here v (mine_sound keys cards s r id v here) (r.views id v here).knew)
               (key_of op) x (stands_born keys cards s r id v here x at) ((r.views id v here).walk op x busy at);
           hand = λ c has un. let q : next ≡ c = cc in record {
-            machine = λ f. subst (λ d. word new d f ≡ stored es f 0) q
-                (claimed_cards_say (machine keys cards s r id v here) r.stages es f r.invariant);
+            machine = λ f. subst (λ d. table_word new d f ≡ stored (tagged tag es) f 0) q
+                (claimed_cards_say (machine keys cards s r id v here) r.stages tag es f r.invariant ∙ is_tagged f);
             table = λ f. subst (λ d. listed list d f ≡ 0) q
-                (listed_same next f ∙ (r.settled next f (unclaimed-settled (r.stages next) fresh) ∙ blank.words f));
+                (listed_same next f ∙ (r.settled next f (unclaimed-settled (r.stages next) fresh) ∙ table_blank r.words next blank f));
           };
         }) (λ k h. h) refl;
         steps = l.1.steps;
       }
 
+  -- what the claimed card says in each field
+  claimed_words : (tag : ℕ) (es : List (Field × ℕ)) (f : Field) → word (claimed r.words tag es) next f ≡ stored es f 0
+  claimed_words tag es f = claimed_stored r.words tag es f (((r.invariant.words.cards next).blank fresh).words f)
+
+  -- a claim with these is one with the same
+  as_known : (tag other : ℕ) (es fields : List (Field × ℕ)) → tag ≡ other → es ≡ fields
+      → IsReached keys cards s r id v here (set s.words 0 (next + 1)) (claimed r.words tag es) (taking next tag es v) act.Claim Moved
+      → IsReached keys cards s r id v here (set s.words 0 (next + 1)) (claimed r.words other fields) (taking next other fields v) act.Claim Moved
+  as_known tag other es fields e g at =
+      subst (λ h. IsReached keys cards s r id v here (set s.words 0 (next + 1)) (claimed r.words other h) (taking next other h v) act.Claim Moved) g
+      (subst (λ n. IsReached keys cards s r id v here (set s.words 0 (next + 1)) (claimed r.words n es) (taking next n es v) act.Claim Moved) e at)
+
   -- what a claim needs of the word that it found: a won one is of the next card
   claims : (c : ℕ) → MayClaim v c → c ≤ cards → c ≡ next
-      → IsReached keys cards s r id v here (set s.words 0 (c + 1)) (claimed r.words (filling_of next v)) (after_claim true c v) act.Claim Moved
-  claims c may room same = subst (λ d. IsReached keys cards s r id v here (set s.words 0 (d + 1)) (claimed r.words (filling_of next v)) (after_claim true d v) act.Claim Moved)
+      → IsReached keys cards s r id v here (set s.words 0 (c + 1)) (claimed r.words (expected_tag v) (filling_of next v)) (after_claim true c v) act.Claim Moved
+  claims c may room same = subst (λ d. IsReached keys cards s r id v here (set s.words 0 (d + 1)) (claimed r.words (expected_tag v) (filling_of next v)) (after_claim true d v) act.Claim Moved)
       (sym same) (by may.op may.busy may.wants)
     where
       key_is : r.words.key may.leaf ≡ may.key
@@ -163,7 +220,7 @@ module _ (keys : List ℕ) (cards : ℕ) (s : TableState) (r : HasMachine keys c
 
       puts : (op : Op) (what : Put) → put_of op ≡ Some what → v.worker.operation ≡ Some op → (had : ℕ) → IsTold v (Value may.leaf had)
           → TakesPut what (r.words.key may.leaf) (r.words.value may.leaf)
-          → IsReached keys cards s r id v here (set s.words 0 (next + 1)) (claimed r.words (filling_of next v)) (after_claim true next v) act.Claim Moved
+          → IsReached keys cards s r id v here (set s.words 0 (next + 1)) (claimed r.words (expected_tag v) (filling_of next v)) (after_claim true next v) act.Claim Moved
       puts op what is_put busy had told takes_it =
           let leaf_value = told_value v.told may.leaf in
           let value_is = told_value_is r.words r.stages v.told may.leaf had (r.views id v here).entries told in
@@ -171,9 +228,12 @@ module _ (keys : List ℕ) (cards : ℕ) (s : TableState) (r : HasMachine keys c
           let is : es ≡ filling_of next v =
           put_filling op what is_put next may.leaf may.parent v.worker.search.grandparent may.key (told_value v.told)
           ∙ (λ t. filling_for next (sym busy t) (sym may.stands t) (sym may.behind t) v.worker.search.grandparent (unwrap_or (sym may.told t) 0) (told_value v.told)) in
-          let at = claimed_cards_say (machine keys cards s r id v here) r.stages es in
-          subst (λ fields. IsReached keys cards s r id v here (set s.words 0 (next + 1)) (claimed r.words fields) (taking next fields v) act.Claim Moved) is
-          (takes es (omega arith) (inl (record {
+          let tag_is : may.parent.tag ≡ expected_tag v =
+          put_tag op what is_put may.parent v.worker.search.grandparent
+          ∙ (λ t. tag_of_claim (sym busy t) (sym may.behind t) v.worker.search.grandparent) in
+          let at = claimed_words may.parent.tag es in
+          as_known may.parent.tag (expected_tag v) es (filling_of next v) tag_is is
+          (takes may.parent.tag es (insert_tagged may.parent.tag next what.key what.value may.parent.node may.leaf may.key leaf_value) (omega arith) (inl (record {
             op = op;
             what = what;
             leaf = may.leaf;
@@ -184,24 +244,24 @@ module _ (keys : List ℕ) (cards : ℕ) (s : TableState) (r : HasMachine keys c
             takes = takes_it;
             says = refl;
             gives = λ t. record {
-              words = claimed r.words (insert_filling next what.key what.value may.parent.node may.leaf (sym key_is t) (value_is t));
+              words = claimed r.words may.parent.tag (insert_filling next what.key what.value may.parent.node may.leaf (sym key_is t) (value_is t));
               worker = record (worker_of v.worker) { card = Some next; flagged = false };
             };
           })) (
-            at field.P r.invariant,
+            at field.P,
             (
-              at field.L r.invariant,
+              at field.L,
               (
-                at field.Key r.invariant,
+                at field.Key,
                 (
-                  at field.Left r.invariant,
+                  at field.Left,
                   (
-                    at field.Right r.invariant,
+                    at field.Right,
                     (
-                      at field.Update r.invariant,
+                      at field.Update,
                       (
-                        at field.LeftLeafKey r.invariant,
-                        (at field.RightLeafKey r.invariant, (at field.LeftValue r.invariant, (at field.RightValue r.invariant, tt))),
+                        at field.LeftLeafKey,
+                        (at field.RightLeafKey, (at field.LeftValue, (at field.RightValue, tt))),
                       ),
                     ),
                   ),
@@ -211,7 +271,7 @@ module _ (keys : List ℕ) (cards : ℕ) (s : TableState) (r : HasMachine keys c
           ))
 
       by : (op : Op) → v.worker.operation ≡ Some op → Wants v op may.leaf may.key
-          → IsReached keys cards s r id v here (set s.words 0 (next + 1)) (claimed r.words (filling_of next v)) (after_claim true next v) act.Claim Moved
+          → IsReached keys cards s r id v here (set s.words 0 (next + 1)) (claimed r.words (expected_tag v) (filling_of next v)) (after_claim true next v) act.Claim Moved
       by (Find k) busy wants = absurd wants
       by (Insert k value) busy wants = puts (Insert k value) (added k value) refl busy wants.1.0 wants.1.1 (λ e. wants.0 (sym key_is ∙ e))
       by (Swap k was value) busy wants = puts (Swap k was value) (replacing k was value) refl busy was wants.1
@@ -221,9 +281,10 @@ module _ (keys : List ℕ) (cards : ℕ) (s : TableState) (r : HasMachine keys c
           let es = delete_filling above.node may.parent.node may.leaf may.parent.word in
           let is : es ≡ filling_of next v =
           λ t. filling_for next (sym busy t) (sym may.stands t) (sym may.behind t) (sym wants.1.1 t) (unwrap_or v.here 0) (told_value v.told) in
-          let at = claimed_cards_say (machine keys cards s r id v here) r.stages es in
-          subst (λ fields. IsReached keys cards s r id v here (set s.words 0 (next + 1)) (claimed r.words fields) (taking next fields v) act.Claim Moved) is
-          (takes es (omega arith) (inr (record {
+          let tag_is : above.tag ≡ expected_tag v = λ t. tag_of_claim (sym busy t) (sym may.behind t) (sym wants.1.1 t) in
+          let at = claimed_words above.tag es in
+          as_known above.tag (expected_tag v) es (filling_of next v) tag_is is
+          (takes above.tag es (delete_tagged above.tag above.node may.parent.node may.leaf may.parent.word) (omega arith) (inr (record {
             key = k;
             leaf = may.leaf;
             parent = may.parent;
@@ -235,7 +296,7 @@ module _ (keys : List ℕ) (cards : ℕ) (s : TableState) (r : HasMachine keys c
             calm = wants.1.2;
             says = refl;
             gives = refl;
-          })) (at field.Gp r.invariant, (at field.P r.invariant, (at field.L r.invariant, (at field.Was r.invariant, tt)))))
+          })) (at field.Gp, (at field.P, (at field.L, (at field.Was, tt)))))
 
   -- the event of a claim by whether it was won
   record ClaimAt (c : ℕ) (b : Bool) : Type 0 where

@@ -1,4 +1,4 @@
-use Rattle.std.proofs.Common.{◌≡◌, ◌%◌, ◌==◌, ℕ, Bool, true, false, List, [], ◌∷◌, if◌then◌else◌, nat_le, refl, sym, ap, ◌∙◌, subst, inl, inr, eq-eqb, ne_eqb}
+use Rattle.std.proofs.Common.{◌≡◌, ◌%◌, ◌==◌, ℕ, Bool, true, false, List, [], ◌∷◌, if◌then◌else◌, nat_le, refl, sym, ap, ◌∙◌, subst, inl, inr, eq-eqb, ne_eqb, ◌<◌}
 use mathlib.Core.Option.{some}
 use lib.ListN.{get_elem?}
 use Rattle.ell_word.specs.Node.{card}
@@ -8,11 +8,11 @@ use Rattle.ell_core.specs.declared.event.Act.TheVariants as act
 use Rattle.ell_core.specs.declared.event.Stepped.TheVariants.{Won}
 use Rattle.ell_core.specs.declared.fact.Fact.TheVariants.{DFlagged, Marked, Unmarkable, Cut, DOver, Backed}
 use Rattle.ell_layout.specs.declared.field.Field.TheVariants as field
-use Rattle.ell_layout.specs.Words.{child_field, written}
+use Rattle.ell_layout.specs.Words.{child_field, table_written}
 use Rattle.ell_core.specs.state.Facts.{known_of, learned, learned_any, told_by}
 use Rattle.ell_core.specs.state.Machine.{Worker, worker_of}
 use Rattle.ell_layout.specs.Cards.{dflag, marked, exchange_side, sibling}
-use Rattle.ell_core.specs.acts.Exchanges.{won_or_lost, exchanged_child, found_child, knowing, mark_teaches}
+use Rattle.ell_core.specs.acts.Exchanges.{won_or_lost, exchanged_child, found_child, knowing, mark_teaches, finds_link, expected}
 use Rattle.ell_core.specs.acts.Events.{Happens}
 use Rattle.ell_core.specs.history.Stages.{Born}
 use Rattle.ell_core.specs.statements.StepLaws.{IsReadable}
@@ -33,9 +33,14 @@ use Rattle.ell_cards.proofs.lemmas.seats.Entries.{facts_known}
 use Rattle.ell_cards.proofs.lemmas.views.Facts.{knows_more, facts_by_more}
 use Rattle.ell_cards.proofs.lemmas.seats.Seats.{mine, becomes, mine_is, relies, stands_born}
 use Rattle.ell_cards.proofs.lemmas.seats.Frames.{Onward, is_event}
-use Rattle.ell_cards.proofs.lemmas.stepping.Looks.{found_entries, names_card}
-use Rattle.ell_cards.proofs.lemmas.stepping.Exchanges.{in_list, told_is, told_key, flags_never, found_at, exchanged_words, learning_on, exchange_leads, teaches, update_exchanged, update_says, child_exchanged, child_says, unflags}
+use Rattle.ell_cards.proofs.lemmas.stepping.Looks.{found_entries, names_card, born_small, child_born}
+use Rattle.ell_cards.proofs.lemmas.stepping.Exchanges.{in_list, told_is, told_key, flags_never, found_at, exchanged_words, learning_on, exchange_leads, teaches, update_exchanged, update_says, child_exchanged, child_says, unflags, told_tag}
 use Rattle.ell_cards.proofs.lemmas.stepping.Known.{known_delete, delete_cut, delete_unmarkable, update_found, child_found}
+use Rattle.ell_word.specs.Link.{linked, tag_unit}
+use Rattle.ell_word.specs.declared.link.Link.{Link}
+use Rattle.ell_core.specs.history.Invariant.{DeleteCard}
+use Rattle.ell_core.proofs.lemmas.words.Sides.{sibling_cases}
+use Rattle.ell_cards.specs.Calls.{next_link}
 
 -- what a mark teaches, as the view has it
 marking_worker : (v : View) (c x n : ℕ) (b : Bool)
@@ -118,7 +123,7 @@ module _ (keys : List ℕ) (cards : ℕ) (s : TableState) (r : HasMachine keys c
       is_event keys cards s r id v here (call.Mark c p was) a _ _
       (exchange_leads keys cards s r id v here a (card p) field.Update was (marked c) (λ b. exchanged (if_won b exchange.Mark c) n (after_mark b c p (unpacked n) v))
       (in_list keys cards s r id v here p field.Update born) (born-settled (r.stages (card p)) (p % 4) born) happens
-      (λ stages led d f wait still. absurd (flags_never keys cards s r id v here a Won (written w (card p) field.Update (marked c))
+      (λ stages led d f wait still. absurd (flags_never keys cards s r id v here a Won (table_written w (card p) field.Update (marked c))
       (exchanged (if_won true exchange.Mark c) n (after_mark true c p (unpacked n) v)) stages led exchange.Mark c (λ e. (cc)) (λ e. (cc)) (λ d. refl) d wait still))
       (λ d. refl) (mark_entries c p n reads is_p) (mark_on c p n))
       refl refl (names_card keys cards s r id v here p n reads is_p)
@@ -134,8 +139,18 @@ module _ (keys : List ℕ) (cards : ℕ) (s : TableState) (r : HasMachine keys c
       ap (λ (b : Bool). if b then r.words.child (r.words.p c) false else r.words.child (r.words.p c) true)
       (eq-eqb (r.words.child (r.words.p c) true) (r.words.l c) (right_is ∙ sym l_is)) ∙ ((r.views id v here).entries (Frozen c false y) b.1).2
 
+  -- its number is small
+  sibling_small : (c : ℕ) → DeleteCard r.words r.stages c → sibling r.words c < tag_unit
+  sibling_small c said =
+      let child = λ (right : Bool). born_small keys cards s r id v here (r.words.child (r.words.p c) right)
+      (child_born keys cards s r id v here (r.words.p c) right said.parent.inner said.parent.born) in
+      elim (sibling_cases r.words c) [
+        | inl e ↦ subst (λ z. z < tag_unit) (sym e) (child false)
+        | inr e ↦ subst (λ z. z < tag_unit) (sym e) (child true)
+      ]
+
   -- dchild
-  pub keeps_dchild : (c gp p y : ℕ) (right : Bool) → MayDChild v c gp p y right → IsEvent keys cards s r id v (call.DChild c gp p y right)
+  pub keeps_dchild : (c gp : ℕ) (p : Link) (y : ℕ) (right : Bool) → MayDChild v c gp p y right → IsEvent keys cards s r id v (call.DChild c gp p y right)
   keeps_dchild c gp p y right may =
       let w = r.words in
       let a = act.DChild c in
@@ -143,28 +158,32 @@ module _ (keys : List ℕ) (cards : ℕ) (s : TableState) (r : HasMachine keys c
       let n = found_at keys cards s r id v here (card gp) g in
       let said = known_delete keys cards s r id v here c (inr may.knows) in
       let gp_is : w.gp c ≡ gp = told_is keys cards s r id v here c field.Gp gp may.grandparent in
-      let p_is : w.p c ≡ p = told_is keys cards s r id v here c field.P p may.parent in
+      let p_is : w.p c ≡ p.node = told_is keys cards s r id v here c field.P p.node may.parent in
+      let tag_is : w.expects c ≡ p.tag = told_tag keys cards s r id v here c p.tag may.expects in
+      let link_is : p ≡ expected w c (w.p c) = λ t. record { node = sym p_is t; tag = sym tag_is t } in
       let l_is : w.l c ≡ may.leaf = told_is keys cards s r id v here c field.L may.leaf may.below in
-      let y_is : sibling w c ≡ y = sibling_told c p may.leaf y p_is l_is may.sibling in
+      let y_is : sibling w c ≡ y = sibling_told c p.node may.leaf y p_is l_is may.sibling in
       let side : exchange_side w (w.gp c) y ≡ right =
       ap (λ k. nat_le k (w.key y)) (ap w.key gp_is ∙ told_key keys cards s r id v here gp may.grandparent_key may.told_grandparent)
       ∙ (ap (nat_le may.grandparent_key) (told_key keys cards s r id v here y may.sibling_key may.told_sibling) ∙ sym may.side) in
       let born = subst (Born r.stages) gp_is said.grandparent.born in
       let inner = said.grandparent.inner in
       let is = child_found keys cards s r id v here (w.gp c) gp right gp_is inner said.grandparent.born in
+      let child_small = born_small keys cards s r id v here (w.child (w.gp c) right) (child_born keys cards s r id v here (w.gp c) right inner said.grandparent.born) in
+      let parent_small : p.node < tag_unit = subst (λ z. z < tag_unit) p_is (born_small keys cards s r id v here (w.p c) said.parent.born) in
+      let new_small : y < tag_unit = subst (λ z. z < tag_unit) y_is (sibling_small c said) in
+      let exchanged = child_exchanged w (w.gp c) gp p y n right gp_is inner side is child_small parent_small new_small in
       is_event keys cards s r id v here (call.DChild c gp p y right) a _ _
-      (teaches keys cards s r id v here a (card gp) g p y (Cut c) exchange.DChild c
+      (teaches keys cards s r id v here a (card gp) g (linked p) (linked (next_link p y)) (Cut c) exchange.DChild c
       (in_list keys cards s r id v here gp g born) (born-settled (r.stages (card gp)) (gp % 4) born)
       (λ e. (cc)) (λ e. (cc)) (λ e. refl) (λ e. refl) (record {
         owned = λ h. h;
         row = record {
           may = may.knows;
-          says = ap (λ z. won_or_lost (n == z)) (sym p_is) ∙ (child_says w (w.gp c) gp (w.p c) y n right gp_is inner side is
-              ∙ ap (λ z. won_or_lost (found_child w (w.gp c) z == w.p c)) (sym y_is));
+          says = child_says w (w.gp c) gp p y n right gp_is inner side is child_small parent_small new_small
+              ∙ λ t. won_or_lost (finds_link w (w.gp c) (link_is t) (sym y_is t));
           gives = λ t. record {
-            words = (ap (λ z. exchanged_words keys cards s r id v here (card gp) g y (n == z)) (sym p_is)
-                ∙ (child_exchanged w (w.gp c) gp (w.p c) y n right gp_is inner side is
-                ∙ ap (λ z. exchanged_child w (w.gp c) (w.p c) z) (sym y_is))) t;
+            words = (exchanged ∙ λ i. exchanged_child w (w.gp c) (link_is i) (sym y_is i)) t;
             worker = worker_of (with_fact (Cut c) v).worker;
           };
         };

@@ -1,4 +1,4 @@
-use Rattle.std.proofs.Common.{◌≡◌, ◌%◌, ◌≢◌, ℕ, ◌<◌, ◌==◌, if◌then◌else◌, Bool, true, false, List, [], ◌∷◌, ◌++◌, length, get_or, set, refl, sym, ap, ◌∙◌, subst, inl, inr, arith, true≢false}
+use Rattle.std.proofs.Common.{◌≡◌, ◌%◌, ◌≢◌, ℕ, ◌<◌, ◌==◌, if◌then◌else◌, Bool, true, false, List, [], ◌∷◌, ◌++◌, length, get_or, set, refl, sym, ap, ◌∙◌, subst, inl, inr, arith, true≢false, ◌+◌, ◌&&◌, ap₂, eq-eqb, ne_eqb, eqb-true}
 use Rattle.std.specs.Prelude.{Some}
 use mathlib.Core.Option.{some}
 use lib.ListN.{get_elem?}
@@ -12,30 +12,34 @@ use Rattle.ell_core.specs.declared.fact.Fact.{Fact}
 use Rattle.ell_layout.specs.declared.field.Field.{Field}
 use Rattle.ell_layout.specs.declared.field.Field.TheVariants as field
 use Rattle.ell_layout.specs.Layout.{listed, address}
-use Rattle.ell_layout.specs.Words.{Words, word, written, with_child, child_field}
+use Rattle.ell_layout.specs.Words.{Words, word, table_word, table_written, relinked, child_field}
 use Rattle.ell_core.specs.state.Machine.{worker_of}
 use Rattle.ell_layout.specs.Cards.{clean, exchange_side}
 use Rattle.ell_core.specs.state.Facts.{learned}
-use Rattle.ell_core.specs.acts.Exchanges.{won_or_lost, exchanged_update, exchanged_child, found_child, knowing}
+use Rattle.ell_core.specs.acts.Exchanges.{won_or_lost, exchanged_update, exchanged_child, found_child, found_tag, finds_link, knowing}
 use Rattle.ell_core.specs.acts.Events.{Happens}
 use Rattle.ell_core.specs.history.Stages.{Stages, Born, waits}
 use Rattle.ell_core.specs.history.Invariant.{IsInnerBorn}
 use Rattle.ell_core.specs.acts.Wins.{wins_by, win_for}
 use Rattle.ell_layout.proofs.lemmas.Listed.{address_inside}
 use Rattle.ell_cards.specs.declared.view.Told.{Told}
-use Rattle.ell_cards.specs.declared.view.Told.TheVariants.{Info, Key}
+use Rattle.ell_cards.specs.declared.view.Told.TheVariants.{Info, Key, Expects}
 use Rattle.ell_cards.specs.declared.view.View.{View}
 use Rattle.ell_cards.specs.Models.{IsTold}
 use Rattle.ell_cards.specs.Changes.{with_fact, if_won, exchanged}
 use Rattle.ell_cards.specs.States.{TableState}
 use Rattle.ell_cards.specs.Machines.{EntryHolds, HasMachine}
-use Rattle.ell_cards.specs.Calls.{after}
+use Rattle.ell_cards.specs.Calls.{after, next_link}
 use Rattle.ell_core.proofs.lemmas.stages.Waiting.{born-settled, waits-wins, first_win}
 use Rattle.ell_cards.proofs.lemmas.words.Fields.{write_update_at_node, write_child_at_node}
 use Rattle.ell_cards.proofs.lemmas.seats.Seats.{Leads, leads, kept_event, mine, becomes, stands_born, born_claimed, entries_on}
 use Rattle.ell_cards.proofs.lemmas.seats.Frames.{Onward, IsReached, looks, waits_on, view_on, moves_write}
 use Rattle.ell_cards.proofs.lemmas.views.Facts.{knows_more}
 use Rattle.ell_cards.proofs.lemmas.stepping.Known.{update_found}
+use Rattle.std.proofs.lemmas.Bool.{cases_eq}
+use Rattle.ell_word.specs.Link.{linked, tag_unit}
+use Rattle.ell_word.specs.declared.link.Link.{Link}
+use Rattle.ell_layout.proofs.lemmas.Writes.{same_links}
 
 module _ (keys : List ℕ) (cards : ℕ) (s : TableState) (r : HasMachine keys cards s) (id : ℕ) (v : View) (here : get_elem? s.views id ≡ some v) where
   -- a field of a node that came into the tree has an address in the table
@@ -48,6 +52,10 @@ module _ (keys : List ℕ) (cards : ℕ) (s : TableState) (r : HasMachine keys c
   -- a word of a card that was told
   pub told_is : (c : ℕ) (f : Field) (x : ℕ) → IsTold v (Info c f x) → word r.words c f ≡ x
   told_is c f x told = ((r.views id v here).entries (Info c f x) told).2
+
+  -- the tag that a card was told to expect
+  pub told_tag : (c tag : ℕ) → IsTold v (Expects c tag) → r.words.expects c ≡ tag
+  told_tag c tag told = ((r.views id v here).entries (Expects c tag) told).1
 
   -- the key of a node that was told
   pub told_key : (x key : ℕ) → IsTold v (Key x key) → r.words.key x ≡ key
@@ -71,19 +79,19 @@ module _ (keys : List ℕ) (cards : ℕ) (s : TableState) (r : HasMachine keys c
 
   -- the machine's words after such an exchange
   abbrev pub exchanged_words : ℕ → Field → ℕ → Bool → Words
-  exchanged_words d g value won = if won then written r.words d g value else r.words
+  exchanged_words d g value won = if won then table_written r.words d g value else r.words
 
   -- the words that are to be in the list where a win takes a card out of waiting
   abbrev pub Settles : Act → Words → View → Type 0
   Settles a new after = (stages : Stages) → Leads keys cards s r id v here a Won new after stages
-      → (c : ℕ) (f : Field) → waits (r.stages c) ≡ true → waits (stages c) ≡ false → listed s.words c f ≡ word r.words c f
+      → (c : ℕ) (f : Field) → waits (r.stages c) ≡ true → waits (stages c) ≡ false → listed s.words c f ≡ table_word r.words c f
 
   -- the machine after such an exchange
   pub exchange_leads : (a : Act) (d : ℕ) (g : Field) (expected value : ℕ) (view : Bool → View)
       → address d g < length s.words → waits (r.stages d) ≡ false
       → Happens cards a (mine keys cards s r id v here) (won_or_lost (found_at d g == expected))
       (becomes keys cards s r id v here (exchanged_words d g value (found_at d g == expected)) (view (found_at d g == expected)))
-      → Settles a (written r.words d g value) (view true)
+      → Settles a (table_written r.words d g value) (view true)
       → ((c : ℕ) → wins_by a v.worker.card Lost c ≡ [])
       → ((b : Bool) (e : Told) → IsTold (view b) e → EntryHolds r.words r.stages e)
       → ((b : Bool) → Onward r.words r.stages v (view b))
@@ -95,7 +103,7 @@ module _ (keys : List ℕ) (cards : ℕ) (s : TableState) (r : HasMachine keys c
           → IsReached keys cards s r id v here (set s.words (address d g) (if b then value else found_at d g)) (exchanged_words d g value b) (view b) a (won_or_lost b)
       by false h = looks keys cards s r id v here a Lost (view false) h none (entries false) (on false) (address d g)
       by true h =
-          let new = written r.words d g value in
+          let new = table_written r.words d g value in
           let l = leads keys cards s r id v here a Won new (view true) h in
           let moves = moves_write keys cards s r id v here d g value l.0 fits calm (settles l.0 l.1) in record {
             kept = kept_event keys cards s r id v here a Won new (view true) (set s.words (address d g) value) l.0 l.1 moves
@@ -128,28 +136,59 @@ module _ (keys : List ℕ) (cards : ℕ) (s : TableState) (r : HasMachine keys c
       (exchanged_words d g value (found_at d g == expected)) (exchanged (if_won (found_at d g == expected) k c) (found_at d g) (with_fact new v)) a (won_or_lost (found_at d g == expected))
   teaches a d g expected value new k c fits calm not_i not_d wins none happens =
       exchange_leads a d g expected value (λ b. exchanged (if_won b k c) (found_at d g) (with_fact new v)) fits calm happens
-      (λ stages led e f wait still. absurd (flags_never a Won (written r.words d g value) (exchanged (if_won true k c) (found_at d g) (with_fact new v)) stages led k c not_i not_d wins e wait still))
+      (λ stages led e f wait still. absurd (flags_never a Won (table_written r.words d g value) (exchanged (if_won true k c) (found_at d g) (with_fact new v)) stages led k c not_i not_d wins e wait still))
       none (λ b. (r.views id v here).entries) (λ b. learning_on new (if_won b k c) (found_at d g))
 
 module _ (w : Words) (x y expected value n : ℕ) (same : x ≡ y) (inner : IsInternal x) (is : w.update x ≡ n) where
   -- the exchange of an update word as the machine has it
-  pub update_exchanged : (if n == expected then written w (card y) field.Update value else w) ≡ exchanged_update w x expected value
-  update_exchanged = λ t. if sym is t == expected then (ap (λ z. written w (card z) field.Update value) (sym same) ∙ write_update_at_node w x value inner) t else w
+  pub update_exchanged : (if n == expected then table_written w (card y) field.Update value else w) ≡ exchanged_update w x expected value
+  update_exchanged = λ t. if sym is t == expected then (ap (λ z. table_written w (card z) field.Update value) (sym same) ∙ write_update_at_node w x value inner) t else w
 
   pub update_says : won_or_lost (n == expected) ≡ won_or_lost (w.update x == expected)
   update_says = ap (λ m. won_or_lost (m == expected)) (sym is)
 
-module _ (w : Words) (x y expected value n : ℕ) (right : Bool) (same : x ≡ y) (inner : IsInternal x) (side : exchange_side w x value ≡ right) (is : w.child x right ≡ n) where
-  found_is : found_child w x value ≡ n
-  found_is = ap (w.child x) side ∙ is
+module _ (w : Words) (x y : ℕ) (expected : Link) (q n : ℕ) (right : Bool) (same : x ≡ y) (inner : IsInternal x)
+    (side : exchange_side w x q ≡ right) (is : linked (record { node = w.child x right; tag = w.tag x right }) ≡ n)
+    (small : w.child x right < tag_unit) (expected_small : expected.node < tag_unit) (new_small : q < tag_unit) where
+  -- a child word is the expected one if child and tag are
+  same_link : n ≡ linked expected → (w.child x right ≡ expected.node) × (w.tag x right ≡ expected.tag)
+  same_link e = same_links (w.child x right) (w.tag x right) expected.node expected.tag small expected_small (is ∙ e)
 
-  -- the exchange of a child as the machine has it
-  pub child_exchanged : (if n == expected then written w (card y) (child_field right) value else w) ≡ exchanged_child w x expected value
-  child_exchanged = λ t. if sym found_is t == expected then (ap (λ z. written w (card z) (child_field right) value) (sym same)
-      ∙ (write_child_at_node w x right value inner ∙ ap (λ (b : Bool). with_child w x b value) (sym side))) t else w
+  -- so a table finds it where the machine does
+  finds_is : (n == linked expected) ≡ finds_link w x expected q
+  finds_is = elim (cases_eq n (linked expected)) [
+    | inl e ↦ (let both = same_link e in
+        eq-eqb n (linked expected) e
+        ∙ sym (ap₂ (λ a b. a && b) (eq-eqb (found_tag w x q) expected.tag (ap (w.tag x) side ∙ both.1))
+        (eq-eqb (found_child w x q) expected.node (ap (w.child x) side ∙ both.0))))
+    | inr m ↦ ne_eqb n (linked expected) m ∙ sym (by (found_tag w x q == expected.tag) (found_child w x q == expected.node) refl refl m)
+  ]
+    where
+      by : (a b : Bool) → (found_tag w x q == expected.tag) ≡ a → (found_child w x q == expected.node) ≡ b → n ≢ linked expected → (a && b) ≡ false
+      by false b tag child m = refl
+      by true false tag child m = refl
+      by true true tag child m = absurd (m (sym is ∙ λ t. linked (record {
+        node = (ap (w.child x) (sym side) ∙ eqb-true (found_child w x q) expected.node child) t;
+        tag = (ap (w.tag x) (sym side) ∙ eqb-true (found_tag w x q) expected.tag tag) t;
+      })))
 
-  pub child_says : won_or_lost (n == expected) ≡ won_or_lost (found_child w x value == expected)
-  child_says = ap (λ m. won_or_lost (m == expected)) (sym found_is)
+  -- the exchange of a child word as the machine has it
+  pub child_exchanged : (if n == linked expected then table_written w (card y) (child_field right) (linked (next_link expected q)) else w)
+      ≡ exchanged_child w x expected q
+  child_exchanged = by (n == linked expected) refl ∙ ap (λ (b : Bool). if b then relinked w x (exchange_side w x q) q else w) finds_is
+    where
+      by : (b : Bool) → (n == linked expected) ≡ b
+          → (if b then table_written w (card y) (child_field right) (linked (next_link expected q)) else w)
+          ≡ (if b then relinked w x (exchange_side w x q) q else w)
+      by false e = refl
+      by true e =
+          let tag = (same_link (eqb-true n (linked expected) e)).1 in
+          ap (λ z. table_written w (card z) (child_field right) (linked (next_link expected q))) (sym same)
+          ∙ (ap (λ t. table_written w (card x) (child_field right) (linked (record { node = q; tag = t + 1 }))) (sym tag)
+          ∙ (write_child_at_node w x right q new_small inner ∙ ap (λ (b : Bool). relinked w x b q) (sym side)))
+
+  pub child_says : won_or_lost (n == linked expected) ≡ won_or_lost (finds_link w x expected q)
+  child_says = ap won_or_lost finds_is
 
 module _ (keys : List ℕ) (cards : ℕ) (s : TableState) (r : HasMachine keys cards s) (id : ℕ) (v : View) (here : get_elem? s.views id ≡ some v) where
   -- an exchange of a flag of card c for a clean word, at node x, which was told to be y: it teaches one fact, and its row follows from

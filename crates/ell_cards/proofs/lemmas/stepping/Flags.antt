@@ -1,4 +1,4 @@
-use Rattle.std.proofs.Common.{◌≡◌, ◌%◌, ◌==◌, ℕ, Bool, true, false, List, ◌∷◌, [], set, if◌then◌else◌, Some, None, refl, sym, ap, ◌∙◌, inl, inr, ne_eqb, true≢false}
+use Rattle.std.proofs.Common.{◌≡◌, ◌%◌, ◌==◌, ℕ, Bool, true, false, List, ◌∷◌, [], set, if◌then◌else◌, Some, None, refl, sym, ap, ◌∙◌, inl, inr, ne_eqb, true≢false, subst}
 use Rattle.std.proofs.lemmas.Bool.{cases_eq}
 use mathlib.Core.Option.{some}
 use lib.ListN.{get_elem?}
@@ -14,10 +14,10 @@ use Rattle.ell_core.specs.declared.fact.Fact.{Fact}
 use Rattle.ell_core.specs.declared.fact.Fact.TheVariants.{IFlagged, DFlagged}
 use Rattle.ell_layout.specs.declared.field.Field.TheVariants as field
 use Rattle.ell_core.specs.declared.view.Seen.{Seen}
-use Rattle.ell_layout.specs.Words.{written}
+use Rattle.ell_layout.specs.Words.{table_written}
 use Rattle.ell_core.specs.state.Machine.{Worker, worker_of}
 use Rattle.ell_layout.specs.Cards.{iflag, dflag}
-use Rattle.ell_core.specs.acts.Exchanges.{won_or_lost, flagged_worker, flags}
+use Rattle.ell_core.specs.acts.Exchanges.{won_or_lost, flagged_worker, flags, exchanged_update}
 use Rattle.ell_core.specs.acts.Events.{Happens}
 use Rattle.ell_core.specs.acts.Wins.{wins_by, win_for}
 use Rattle.ell_core.specs.statements.StepLaws.{IsReadable}
@@ -88,16 +88,18 @@ module _ (keys : List ℕ) (cards : ℕ) (s : TableState) (r : HasMachine keys c
       (update_listed keys cards s r id v here x reads.inner reads.born) (r.views id v here).entries
 
   -- the scene after it
-  flag_scene : (new : Fact) (k : Exchange) (c x update value : ℕ) → IsReadable r.words r.stages x →
+  flag_scene : (new : Fact) (k : Exchange) (c x update value : ℕ) (seen : Seen) → seen.node ≡ x → seen.word ≡ update → IsReadable r.words r.stages x →
       becomes keys cards s r id v here (exchanged_words keys cards s r id v here (card x) field.Update value (found_at keys cards s r id v here (card x) field.Update == update))
       (flag_view new k c x (found_at keys cards s r id v here (card x) field.Update == update))
-      ≡ flags (mine keys cards s r id v here) (record { node = x; word = update }) value new
-  flag_scene new k c x update value reads =
+      ≡ flags (mine keys cards s r id v here) seen value new
+  flag_scene new k c x update value seen node word reads =
       let w = r.words in
       let n = found_at keys cards s r id v here (card x) field.Update in
       let is = update_listed keys cards s r id v here x reads.inner reads.born in λ t. record {
-        words = update_exchanged w x x update value n refl reads.inner is t;
-        worker = (flagging_worker v new x n (n == update) ∙ ap (λ m. flagged_worker (worker_of v.worker) (m == update) new m) (sym is)) t;
+        words = (update_exchanged w x x update value n refl reads.inner is
+            ∙ λ i. exchanged_update w (sym node i) (sym word i) value) t;
+        worker = (flagging_worker v new x n (n == update) ∙ (ap (λ m. flagged_worker (worker_of v.worker) (m == update) new m) (sym is)
+            ∙ λ i. flagged_worker (worker_of v.worker) (w.update (sym node i) == sym word i) new (w.update (sym node i)))) t;
       }
 
   -- a flag exchange of the card in hand, which is filled: a win takes that card out of waiting alone
@@ -116,11 +118,11 @@ module _ (keys : List ℕ) (cards : ℕ) (s : TableState) (r : HasMachine keys c
       (in_list keys cards s r id v here x field.Update reads.born) (born-settled (r.stages (card x)) (x % 4) reads.born)
       happens settles none (flag_entries new k c x reads) (flag_on new k c x)
     where
-      settles : Settles keys cards s r id v here a (written r.words (card x) field.Update value) (flag_view new k c x true)
+      settles : Settles keys cards s r id v here a (table_written r.words (card x) field.Update value) (flag_view new k c x true)
       settles stages led d f wait still = elim (cases_eq d c) [
         | inl e ↦ (let held = (r.views id v here).hand d (may.holds ∙ ap Some (sym e)) may.unflagged in
             held.table f ∙ (filled f ∙ sym (held.machine f)))
-        | inr m ↦ absurd (true≢false (sym (waits_on keys cards s r id v here a Won (written r.words (card x) field.Update value) (flag_view new k c x true) stages led d
+        | inr m ↦ absurd (true≢false (sym (waits_on keys cards s r id v here a Won (table_written r.words (card x) field.Update value) (flag_view new k c x true) stages led d
             (wins d ∙ (ap (λ o. win_for o k d) may.holds ∙ ap (λ (b : Bool). if b then k ∷ [] else []) (ne_eqb d c m))) wait) ∙ still))
       ]
 
@@ -129,8 +131,9 @@ module _ (keys : List ℕ) (cards : ℕ) (s : TableState) (r : HasMachine keys c
   keeps_iflag c p from may =
       let n = found_at keys cards s r id v here (card p) field.Update in
       let same = mine_is keys cards s r id v here in
-      let seen : Seen = record { node = p; word = packed from } in
-      let reads = ((relies keys cards s r id v here).parent may.leaf seen (ap (λ (z : Worker). z.search.node) same ∙ may.stands)
+      let seen = may.parent in
+      let reads : IsReadable r.words r.stages p = subst (IsReadable r.words r.stages) may.node
+      ((relies keys cards s r id v here).parent may.leaf seen (ap (λ (z : Worker). z.search.node) same ∙ may.stands)
       (ap (λ (z : Worker). z.search.parent) same ∙ may.behind)).node in
       let is = update_listed keys cards s r id v here p reads.inner reads.born in
       is_event keys cards s r id v here (call.IFlag c p from) act.IFlag _ _
@@ -146,8 +149,9 @@ module _ (keys : List ℕ) (cards : ℕ) (s : TableState) (r : HasMachine keys c
           holds = may.may.holds;
           unflagged = may.may.unflagged;
           behind = may.behind;
-          says = update_says r.words p p (packed from) (iflag c) n refl reads.inner is;
-          gives = flag_scene (IFlagged c) exchange.IFlag c p (packed from) (iflag c) reads;
+          says = update_says r.words p p (packed from) (iflag c) n refl reads.inner is
+              ∙ λ i. won_or_lost (r.words.update (sym may.node i) == sym may.read i);
+          gives = flag_scene (IFlagged c) exchange.IFlag c p (packed from) (iflag c) seen may.node may.read reads;
         };
         room = λ h. h;
       }))
@@ -158,8 +162,9 @@ module _ (keys : List ℕ) (cards : ℕ) (s : TableState) (r : HasMachine keys c
   keeps_dflag c gp from may =
       let n = found_at keys cards s r id v here (card gp) field.Update in
       let same = mine_is keys cards s r id v here in
-      let seen : Seen = record { node = gp; word = packed from } in
-      let reads = ((relies keys cards s r id v here).grandparent may.leaf may.parent seen (ap (λ (z : Worker). z.search.node) same ∙ may.stands)
+      let seen = may.grandparent in
+      let reads : IsReadable r.words r.stages gp = subst (IsReadable r.words r.stages) may.node
+      ((relies keys cards s r id v here).grandparent may.leaf may.parent seen (ap (λ (z : Worker). z.search.node) same ∙ may.stands)
       (ap (λ (z : Worker). z.search.parent) same ∙ may.behind) (ap (λ (z : Worker). z.search.grandparent) same ∙ may.above)).node in
       let is = update_listed keys cards s r id v here gp reads.inner reads.born in
       is_event keys cards s r id v here (call.DFlag c gp from) act.DFlag _ _
@@ -173,8 +178,9 @@ module _ (keys : List ℕ) (cards : ℕ) (s : TableState) (r : HasMachine keys c
           holds = may.may.holds;
           unflagged = may.may.unflagged;
           above = may.above;
-          says = update_says r.words gp gp (packed from) (dflag c) n refl reads.inner is;
-          gives = flag_scene (DFlagged c) exchange.DFlag c gp (packed from) (dflag c) reads;
+          says = update_says r.words gp gp (packed from) (dflag c) n refl reads.inner is
+              ∙ λ i. won_or_lost (r.words.update (sym may.node i) == sym may.read i);
+          gives = flag_scene (DFlagged c) exchange.DFlag c gp (packed from) (dflag c) seen may.node may.read reads;
         };
         room = λ h. h;
       }))

@@ -1,16 +1,16 @@
-use Rattle.std.proofs.Common.{◌≡◌, ◌%◌, ◌==◌, ℕ, Bool, List, nat_le, refl, sym, ap, ◌∙◌, subst}
+use Rattle.std.proofs.Common.{◌≡◌, ◌%◌, ◌==◌, ℕ, Bool, List, nat_le, refl, sym, ap, ◌∙◌, subst, ◌<◌, ◌≤◌, ◌+◌, true, false, arith}
 use Rattle.ell_core.proofs.lemmas.keeping.insert_child.IChild.{brought_side}
 use mathlib.Core.Option.{some}
 use lib.ListN.{get_elem?}
-use Rattle.ell_word.specs.Node.{card, internal, left_leaf, right_leaf}
+use Rattle.ell_word.specs.Node.{card, internal, left_leaf, right_leaf, greatest_card}
 use Rattle.ell_core.specs.declared.exchange.Exchange.TheVariants as exchange
 use Rattle.ell_core.specs.declared.event.Act.TheVariants as act
-use Rattle.ell_core.specs.declared.fact.Fact.TheVariants.{IChanged, IOver}
+use Rattle.ell_core.specs.declared.fact.Fact.TheVariants.{IChanged, IOver, IFlagged}
 use Rattle.ell_layout.specs.declared.field.Field.TheVariants as field
 use Rattle.ell_layout.specs.Words.{child_field}
 use Rattle.ell_core.specs.state.Machine.{worker_of}
 use Rattle.ell_layout.specs.Cards.{iflag, exchange_side, brought, brought_by}
-use Rattle.ell_core.specs.acts.Exchanges.{won_or_lost}
+use Rattle.ell_core.specs.acts.Exchanges.{won_or_lost, exchanged_child, finds_link, expected}
 use Rattle.ell_core.specs.history.Stages.{Born}
 use Rattle.ell_cards.specs.declared.call.Call.TheVariants as call
 use Rattle.ell_cards.specs.declared.view.View.{View}
@@ -21,12 +21,23 @@ use Rattle.ell_cards.specs.Machines.{HasMachine}
 use Rattle.ell_cards.specs.Laws.{IsEvent}
 use Rattle.ell_core.proofs.lemmas.stages.Waiting.{born-settled}
 use Rattle.ell_cards.proofs.lemmas.seats.Frames.{is_event}
-use Rattle.ell_cards.proofs.lemmas.stepping.Exchanges.{in_list, told_is, told_key, found_at, exchanged_words, teaches, child_exchanged, child_says, unflags}
+use Rattle.ell_cards.proofs.lemmas.stepping.Exchanges.{in_list, told_is, told_key, found_at, exchanged_words, teaches, child_exchanged, child_says, unflags, told_tag}
 use Rattle.ell_cards.proofs.lemmas.stepping.Known.{insert_flagged, insert_changed, child_found}
+use Rattle.ell_word.specs.Link.{linked, tag_unit}
+use Rattle.ell_word.specs.declared.link.Link.{Link}
+use Rattle.ell_cards.specs.Calls.{next_link}
+use Rattle.ell_cards.proofs.lemmas.stepping.Looks.{born_small, child_born}
+use Rattle.ell_cards.proofs.lemmas.seats.Seats.{mine_sound}
+use Rattle.ell_core.proofs.lemmas.stages.Order.{insert-claimed, insert_won-insert}
+
+-- a node that a card of the table brings is small
+brought_small : (c last q : ℕ) (replaces : Bool) → q ≡ brought_by c replaces → c ≤ last → last ≤ greatest_card → q < tag_unit
+brought_small c last q true e low room = omega arith
+brought_small c last q false e low room = omega arith
 
 module _ (keys : List ℕ) (cards : ℕ) (s : TableState) (r : HasMachine keys cards s) (id : ℕ) (v : View) (here : get_elem? s.views id ≡ some v) where
   -- ichild
-  pub keeps_ichild : (c p l q : ℕ) (right : Bool) → MayIChild v c p l q right → IsEvent keys cards s r id v (call.IChild c p l q right)
+  pub keeps_ichild : (c p : ℕ) (l : Link) (q : ℕ) (right : Bool) → MayIChild v c p l q right → IsEvent keys cards s r id v (call.IChild c p l q right)
   keeps_ichild c p l q right may =
       let w = r.words in
       let a = act.IChild c in
@@ -34,28 +45,34 @@ module _ (keys : List ℕ) (cards : ℕ) (s : TableState) (r : HasMachine keys c
       let n = found_at keys cards s r id v here (card p) g in
       let said = insert_flagged keys cards s r id v here c may.knows in
       let p_is : w.p c ≡ p = told_is keys cards s r id v here c field.P p may.parent in
-      let l_is : w.l c ≡ l = told_is keys cards s r id v here c field.L l may.leaf in
+      let l_is : w.l c ≡ l.node = told_is keys cards s r id v here c field.L l.node may.leaf in
+      let tag_is : w.expects c ≡ l.tag = told_tag keys cards s r id v here c l.tag may.expects in
+      let link_is : l ≡ expected w c (w.l c) = λ t. record { node = sym l_is t; tag = sym tag_is t } in
       let key_is : w.key (internal c) ≡ may.card_key = told_is keys cards s r id v here c field.Key may.card_key may.told_card in
       let left_is : w.key (left_leaf c) ≡ may.left_key = told_is keys cards s r id v here c field.LeftLeafKey may.left_key may.told_left in
       let right_is : w.key (right_leaf c) ≡ may.card_key = sym said.node_key ∙ key_is in
       let brought_is : brought w c ≡ q = (λ t. brought_by c (left_is t == right_is t)) ∙ sym may.brings in
-      let side : exchange_side w (w.p c) (brought w c) ≡ right =
-      brought_side w r.stages c said ∙ (ap (λ k. nat_le k (w.key (internal c))) (ap w.key p_is ∙ told_key keys cards s r id v here p may.parent_key may.told_parent)
-      ∙ (ap (nat_le may.parent_key) key_is ∙ sym may.side)) in
-      let born = subst (Born r.stages) p_is said.parent.born in
+      let side : exchange_side w (w.p c) q ≡ right =
+      ap (exchange_side w (w.p c)) (sym brought_is) ∙ (brought_side w r.stages c said ∙ (ap (λ k. nat_le k (w.key (internal c))) (ap w.key p_is ∙ told_key keys cards s r id v here p may.parent_key may.told_parent)
+      ∙ (ap (nat_le may.parent_key) key_is ∙ sym may.side))) in
       let is = child_found keys cards s r id v here (w.p c) p right p_is said.parent.inner said.parent.born in
+      let child_small = born_small keys cards s r id v here (w.child (w.p c) right) (child_born keys cards s r id v here (w.p c) right said.parent.inner said.parent.born) in
+      let leaf_small : l.node < tag_unit = subst (λ y. y < tag_unit) l_is (born_small keys cards s r id v here (w.l c) said.leaf.born) in
+      let claimed = (r.invariant.words.cards c).claimed.0 (insert-claimed (r.stages c) (insert_won-insert (r.stages c) ((mine_sound keys cards s r id v here).facts (IFlagged c) may.knows))) in
+      let new_small : q < tag_unit = brought_small c cards q (may.left_key == may.card_key) may.brings (let room = r.invariant.limit in omega arith) r.limit in
+      let exchanged = child_exchanged w (w.p c) p l q n right p_is said.parent.inner side is child_small leaf_small new_small in
+      let born = subst (Born r.stages) p_is said.parent.born in
       is_event keys cards s r id v here (call.IChild c p l q right) a _ _
-      (teaches keys cards s r id v here a (card p) g l q (IChanged c) exchange.IChild c
+      (teaches keys cards s r id v here a (card p) g (linked l) (linked (next_link l q)) (IChanged c) exchange.IChild c
       (in_list keys cards s r id v here p g born) (born-settled (r.stages (card p)) (p % 4) born)
       (λ e. (cc)) (λ e. (cc)) (λ e. refl) (λ e. refl) (record {
         owned = λ h. h;
         row = record {
           may = may.knows;
-          says = ap (λ z. won_or_lost (n == z)) (sym l_is) ∙ child_says w (w.p c) p (w.l c) (brought w c) n right p_is said.parent.inner side is;
+          says = child_says w (w.p c) p l q n right p_is said.parent.inner side is child_small leaf_small new_small
+              ∙ λ t. won_or_lost (finds_link w (w.p c) (link_is t) (sym brought_is t));
           gives = λ t. record {
-            words = (ap (λ z. exchanged_words keys cards s r id v here (card p) g q (n == z)) (sym l_is)
-                ∙ (ap (λ z. exchanged_words keys cards s r id v here (card p) g z (n == w.l c)) (sym brought_is)
-                ∙ child_exchanged w (w.p c) p (w.l c) (brought w c) n right p_is said.parent.inner side is)) t;
+            words = (exchanged ∙ λ i. exchanged_child w (w.p c) (link_is i) (sym brought_is i)) t;
             worker = worker_of (with_fact (IChanged c) v).worker;
           };
         };

@@ -4,11 +4,11 @@ use lib.ListN.{get_elem?}
 use Rattle.ell_word.specs.Node.{card, IsInternal}
 use Rattle.ell_core.specs.declared.fact.Fact.TheVariants.{IFlagged, IChanged, DFlagged, Marked, Unmarkable, Cut}
 use Rattle.ell_layout.specs.declared.field.Field.TheVariants as field
-use Rattle.ell_layout.specs.Words.{word, child_field}
+use Rattle.ell_layout.specs.Words.{word, child_field, table_word}
 use Rattle.ell_core.specs.history.Stages.{Born, is_insert, is_delete, waits}
 use Rattle.ell_core.specs.history.Invariant.{InsertCard, DeleteCard}
 use Rattle.ell_core.proofs.lemmas.stages.Order.{insert_won-insert, delete_won-delete, marked-delete, marked-won, changed-insert, insert-claimed, delete-claimed, cut-delete, unmarkable-delete}
-use Rattle.ell_layout.proofs.lemmas.Writes.{update_at_node, child_at_node}
+use Rattle.ell_layout.proofs.lemmas.Writes.{update_at_node, child_word_at_node}
 use Rattle.ell_cards.specs.declared.view.View.{View}
 use Rattle.ell_cards.specs.Models.{Knows, KnowsDelete, KnowsCard}
 use Rattle.ell_cards.specs.Calls.{update_address, child_address}
@@ -16,6 +16,7 @@ use Rattle.ell_cards.specs.States.{TableState}
 use Rattle.ell_cards.specs.Machines.{HasMachine}
 use Rattle.ell_core.proofs.lemmas.stages.Waiting.{born-settled, insert_won-settled, delete_won-settled}
 use Rattle.ell_cards.proofs.lemmas.seats.Seats.{mine_sound}
+use Rattle.ell_word.specs.Link.{linked}
 
 module _ (keys : List ℕ) (cards : ℕ) (s : TableState) (r : HasMachine keys cards s) (id : ℕ) (v : View) (here : get_elem? s.views id ≡ some v) where
   -- a card known flagged by an insert
@@ -60,10 +61,11 @@ module _ (keys : List ℕ) (cards : ℕ) (s : TableState) (r : HasMachine keys c
 
   -- the update word of a node x that is y, as the list has it
   pub update_found : (x y : ℕ) → x ≡ y → IsInternal x → Born r.stages x → r.words.update x ≡ get_or s.words (update_address y) 0
-  update_found x y same inner born = update_at_node r.words x inner ∙ (ap (λ z. word r.words (card z) field.Update) same
+  update_found x y same inner born = update_at_node r.words x inner ∙ (ap (λ z. table_word r.words (card z) field.Update) same
       ∙ sym (r.settled (card y) field.Update (born-settled (r.stages (card y)) (y % 4) (subst (Born r.stages) same born))))
 
-  -- a child of it
-  pub child_found : (x y : ℕ) (right : Bool) → x ≡ y → IsInternal x → Born r.stages x → r.words.child x right ≡ get_or s.words (child_address y right) 0
-  child_found x y right same inner born = child_at_node r.words x right inner ∙ (ap (λ z. word r.words (card z) (child_field right)) same
+  -- a child word of it
+  pub child_found : (x y : ℕ) (right : Bool) → x ≡ y → IsInternal x → Born r.stages x
+      → linked (record { node = r.words.child x right; tag = r.words.tag x right }) ≡ get_or s.words (child_address y right) 0
+  child_found x y right same inner born = sym (child_word_at_node r.words x right inner) ∙ (ap (λ z. table_word r.words (card z) (child_field right)) same
       ∙ sym (r.settled (card y) (child_field right) (born-settled (r.stages (card y)) (y % 4) (subst (Born r.stages) same born))))

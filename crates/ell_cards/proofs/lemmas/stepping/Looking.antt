@@ -1,4 +1,4 @@
-use Rattle.std.proofs.Common.{◌≡◌, List, ℕ, ◌<◌, Bool, false, get_or, refl, subst}
+use Rattle.std.proofs.Common.{◌≡◌, List, ℕ, ◌<◌, Bool, false, get_or, refl, subst, ap, sym}
 use mathlib.Core.Option.{some}
 use lib.ListN.{get_elem?}
 use Rattle.ell_word.specs.Node.{IsInternal}
@@ -17,16 +17,19 @@ use Rattle.ell_cards.specs.Machines.{EntryHolds, HasMachine}
 use Rattle.ell_cards.specs.Laws.{IsEvent}
 use Rattle.ell_cards.proofs.lemmas.seats.Entries.{with_entry}
 use Rattle.ell_cards.proofs.lemmas.seats.Frames.{kept_told, is_no_event}
-use Rattle.ell_cards.proofs.lemmas.stepping.Looks.{born_in_table, child_listed}
+use Rattle.ell_cards.proofs.lemmas.stepping.Looks.{born_in_table, child_read}
 use Rattle.ell_core.specs.tree.Rank.{rank}
+use Rattle.ell_word.specs.Link.{link_in}
+use Rattle.ell_word.specs.declared.link.Link.{Link}
 
 module _ (keys : List ℕ) (cards : ℕ) (s : TableState) (r : HasMachine keys cards s) (id : ℕ) (v : View) (here : get_elem? s.views id ≡ some v) where
   -- the child of an internal node that came into the tree, as it stands in the table
   child_there : (x : ℕ) (right : Bool) → IsInternal x → Born r.stages x
-      → Born r.stages (get_or s.words (child_address x right) 0) × (rank x < rank (get_or s.words (child_address x right) 0))
+      → Born r.stages (link_in (get_or s.words (child_address x right) 0)).node × (rank x < rank (link_in (get_or s.words (child_address x right) 0)).node)
   child_there x right inner born =
       let children = r.invariant.words.children x inner born in
-      subst (λ n. Born r.stages n × (rank x < rank n)) (child_listed keys cards s r id v here x right inner born) (children.born right, children.rising right)
+      subst (λ n. Born r.stages n × (rank x < rank n)) (ap (λ (l : Link). l.node) (sym (child_read keys cards s r id v here x right inner born)))
+      (children.born right, children.rising right)
 
   -- look
   pub keeps_look : IsFree v → IsEvent keys cards s r id v call.Look
@@ -36,15 +39,15 @@ module _ (keys : List ℕ) (cards : ℕ) (s : TableState) (r : HasMachine keys c
       let child = child_there 0 false refl (root_born r.words r.stages r.invariant.words) in
       is_no_event keys cards s r id v here call.Look
       (kept_told keys cards s r id v here (after_look n v) refl (record {
-        entries = with_entry (EntryHolds r.words r.stages) (Met n) v.told child.0 h.entries;
-        here = λ y k at told. earlier (Key y k) (Met n) v.told (h.here y k at told);
+        entries = with_entry (EntryHolds r.words r.stages) (Met (link_in n).node) v.told child.0 h.entries;
+        here = λ y k at told. earlier (Key y k) (Met (link_in n).node) v.told (h.here y k at told);
         hand = h.hand;
         read = h.read;
         least = h.least;
         knew = h.knew;
         walk = h.walk;
       }) (child_address 0 false))
-      refl refl (child.1, born_in_table keys cards s r id v here n child.0)
+      refl refl (child.1, born_in_table keys cards s r id v here (link_in n).node child.0)
 
   -- look_down
   pub keeps_look_down : (from : Glance) (key : ℕ) (right : Bool) → MayLookDown v from key → IsEvent keys cards s r id v (call.LookDown from key right)
@@ -54,12 +57,12 @@ module _ (keys : List ℕ) (cards : ℕ) (s : TableState) (r : HasMachine keys c
       let child = child_there from.node right may.inner (h.entries (Met from.node) may.met) in
       is_no_event keys cards s r id v here (call.LookDown from key right)
       (kept_told keys cards s r id v here (after_look_down from key right n v) refl (record {
-        entries = with_entry (EntryHolds r.words r.stages) (Met n) v.told child.0 h.entries;
-        here = λ y k at told. earlier (Key y k) (Met n) v.told (h.here y k at told);
+        entries = with_entry (EntryHolds r.words r.stages) (Met (link_in n).node) v.told child.0 h.entries;
+        here = λ y k at told. earlier (Key y k) (Met (link_in n).node) v.told (h.here y k at told);
         hand = h.hand;
         read = h.read;
         least = h.least;
         knew = h.knew;
         walk = h.walk;
       }) (child_address from.node right))
-      refl refl (child.1, born_in_table keys cards s r id v here n child.0)
+      refl refl (child.1, born_in_table keys cards s r id v here (link_in n).node child.0)

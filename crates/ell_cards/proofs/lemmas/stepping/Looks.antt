@@ -1,4 +1,4 @@
-use Rattle.std.proofs.Common.{◌≡◌, ◌≢◌, ◌↔◌, ℕ, ◌<◌, ◌≤◌, ◌==◌, ◌%◌, if◌then◌else◌, eqb-true, eq-eqb, nat_le, Bool, true, false, List, ◌∷◌, get_or, Option, Some, None, refl, sym, ap, ◌∙◌, subst, inl, inr, arith}
+use Rattle.std.proofs.Common.{◌≡◌, ◌≢◌, ◌↔◌, ℕ, ◌<◌, ◌≤◌, ◌==◌, ◌%◌, if◌then◌else◌, eqb-true, eq-eqb, nat_le, Bool, true, false, List, ◌∷◌, get_or, Option, Some, None, refl, sym, ap, ◌∙◌, subst, inl, inr, arith, zero, suc}
 use Rattle.std.specs.Prelude.{is_some}
 use Rattle.std.proofs.lemmas.Bool.{false≢true, cases_eq}
 use Rattle.std.proofs.lemmas.Option.{same_Some}
@@ -21,12 +21,12 @@ use Rattle.ell_core.specs.declared.event.Act.TheVariants as act
 use Rattle.ell_core.specs.declared.event.Stepped.TheVariants.{Moved}
 use Rattle.ell_layout.specs.declared.field.Field.TheVariants as field
 use Rattle.ell_core.specs.declared.view.Seen.{Seen}
-use Rattle.ell_layout.specs.Words.{key_field, value_field, child_field, IsLeaf}
+use Rattle.ell_layout.specs.Words.{key_field, value_field, child_field, IsLeaf, Words, word, table_word}
 use Rattle.ell_core.specs.state.Facts.{known_of, learned_any, told_by}
 use Rattle.ell_core.specs.declared.view.Entry.{Entry}
 use Rattle.ell_core.specs.declared.view.Entry.TheVariants.{Present, Absent}
 use Rattle.ell_core.specs.state.Machine.{Worker, worker_of, ledger_of}
-use Rattle.ell_layout.specs.Cards.{child_for, is_right}
+use Rattle.ell_layout.specs.Cards.{child_for, is_right, tag_for}
 use Rattle.ell_core.specs.acts.Searching.{value_at as value_there}
 use Rattle.ell_core.specs.acts.Events.{Happens}
 use Rattle.ell_core.specs.history.Stages.{Stage, Opening, Born, insert_open, delete_open, is_marked}
@@ -34,7 +34,7 @@ use Rattle.ell_core.specs.statements.StepLaws.{IsReadable}
 use Rattle.ell_core.specs.statements.Effects.{value_in, contents_in}
 use Rattle.ell_core.proofs.lemmas.outcomes.Decide.{some_not_none}
 use Rattle.ell_core.proofs.lemmas.stages.Order.{born_is_node}
-use Rattle.ell_layout.proofs.lemmas.Writes.{update_at_node, child_at_node, key_at_node, value_at_leaf}
+use Rattle.ell_layout.proofs.lemmas.Writes.{update_at_node, key_at_node, value_at_leaf, child_word_at_node, link_back}
 use Rattle.ell_cards.specs.declared.call.Call.TheVariants as call
 use Rattle.ell_cards.specs.declared.view.Told.{Told}
 use Rattle.ell_cards.specs.declared.view.Told.TheVariants.{Met, Key, Value}
@@ -55,6 +55,9 @@ use Rattle.ell_cards.proofs.lemmas.seats.Entries.{with_entry, places_hold, facts
 use Rattle.ell_cards.proofs.lemmas.seats.Seats.{mine, becomes, mine_is, mine_sound, relies, stands_born, born_claimed}
 use Rattle.ell_cards.proofs.lemmas.seats.Frames.{looks, kept_told, is_event, is_no_event}
 use Rattle.ell_core.specs.tree.Rank.{rank}
+use Rattle.ell_word.specs.Link.{linked, link_in, tag_unit}
+use Rattle.ell_word.specs.declared.link.Link.{Link}
+use Rattle.ell_cards.proofs.lemmas.words.Fields.{key_in_table, value_in_table}
 
 -- an entry that is not present has no value
 no_value : (entry : Option Entry) → ((value : ℕ) → entry ≢ Some (Present value)) → value_in entry ≡ None
@@ -78,17 +81,19 @@ some_if false value = refl
 module _ (keys : List ℕ) (cards : ℕ) (s : TableState) (r : HasMachine keys cards s) (id : ℕ) (v : View) (here : get_elem? s.views id ≡ some v) where
   -- a node that came into the tree has its key in the table
   pub key_listed : (x : ℕ) → Born r.stages x → r.words.key x ≡ get_or s.words (key_address x) 0
-  key_listed x born = key_at_node r.words x (born_is_node r.stages x born) ∙ sym (r.settled (card x) (key_field (x % 4)) (born-settled (r.stages (card x)) (x % 4) born))
+  key_listed x born = key_at_node r.words x (born_is_node r.stages x born) ∙ (key_in_table r.words (card x) (x % 4) ∙ sym (r.settled (card x) (key_field (x % 4)) (born-settled (r.stages (card x)) (x % 4) born)))
 
   -- a leaf its value
   pub value_listed : (x : ℕ) → IsLeaf x → Born r.stages x → r.words.value x ≡ get_or s.words (value_address x) 0
   value_listed x outer born =
-      value_at_leaf r.words x (born_is_node r.stages x born) outer ∙ sym (r.settled (card x) (value_field (x % 4)) (born-settled (r.stages (card x)) (x % 4) born))
+      value_at_leaf r.words x (born_is_node r.stages x born) outer
+      ∙ (value_in_table r.words (card x) (x % 4) ∙ sym (r.settled (card x) (value_field (x % 4)) (born-settled (r.stages (card x)) (x % 4) born)))
 
-  -- an internal one its children and its update word
-  pub child_listed : (x : ℕ) (right : Bool) → IsInternal x → Born r.stages x → r.words.child x right ≡ get_or s.words (child_address x right) 0
+  -- an internal one its child words and its update word
+  pub child_listed : (x : ℕ) (right : Bool) → IsInternal x → Born r.stages x
+      → linked (record { node = r.words.child x right; tag = r.words.tag x right }) ≡ get_or s.words (child_address x right) 0
   child_listed x right inner born =
-      child_at_node r.words x right inner ∙ sym (r.settled (card x) (child_field right) (born-settled (r.stages (card x)) (x % 4) born))
+      sym (child_word_at_node r.words x right inner) ∙ sym (r.settled (card x) (child_field right) (born-settled (r.stages (card x)) (x % 4) born))
 
   pub update_listed : (x : ℕ) → IsInternal x → Born r.stages x → r.words.update x ≡ get_or s.words (update_address x) 0
   update_listed x inner born =
@@ -98,6 +103,20 @@ module _ (keys : List ℕ) (cards : ℕ) (s : TableState) (r : HasMachine keys c
   pub born_in_table : (x : ℕ) → Born r.stages x → InTable cards x
   born_in_table x born = let below = born_claimed keys cards s r id v here x born in let room = r.invariant.limit in
       let node = born_is_node r.stages x born in omega (arith, node)
+
+  -- so its number is small
+  pub born_small : (x : ℕ) → Born r.stages x → x < tag_unit
+  born_small x born = let there = born_in_table x born in let room = r.limit in omega arith
+
+  -- a child of such a node came into the tree
+  pub child_born : (x : ℕ) (right : Bool) → IsInternal x → Born r.stages x → Born r.stages (r.words.child x right)
+  child_born x right inner born = (r.invariant.words.children x inner born).born right
+
+  -- a child word is read as the child and its tag
+  pub child_read : (x : ℕ) (right : Bool) → IsInternal x → Born r.stages x
+      → link_in (get_or s.words (child_address x right) 0) ≡ record { node = r.words.child x right; tag = r.words.tag x right }
+  child_read x right inner born = ap link_in (sym (child_listed x right inner born))
+      ∙ link_back (r.words.child x right) (r.words.tag x right) (born_small (r.words.child x right) (child_born x right inner born))
 
   -- the key of the node where the pass stands
   pub here_key : (x key : ℕ) → StandsAt v x → v.here ≡ Some key → r.words.key x ≡ key
@@ -223,13 +242,16 @@ module _ (keys : List ℕ) (cards : ℕ) (s : TableState) (r : HasMachine keys c
       let n = get_or s.words (child_address x right) 0 in
       let after = after_down x n v in
       let born = stands_born keys cards s r id v here x may.stands in
-      let seen : Seen = record { node = x; word = may.word } in
+      let link = link_in n in
+      let seen : Seen = record { node = x; word = may.word; tag = link.tag } in
       let side : right ≡ is_right r.words x (key_of may.op) =
       may.side ∙ ap (λ k. nat_le k (key_of may.op)) (sym (here_key x may.key may.stands may.told)) in
-      let is : child_for r.words (key_of may.op) x ≡ n = ap (r.words.child x) (sym side) ∙ child_listed x right may.inner born in
-      let behind : seen_at x v.worker.search.read ≡ Some seen = ap (seen_at x) may.read in
+      let read = child_read x right may.inner born in
+      let is : child_for r.words (key_of may.op) x ≡ link.node = ap (r.words.child x) (sym side) ∙ ap (λ (l : Link). l.node) (sym read) in
+      let tag_is : link.tag ≡ tag_for r.words (key_of may.op) x = ap (λ (l : Link). l.tag) read ∙ ap (r.words.tag x) side in
+      let behind : seen_at x v.worker.search.read link.tag ≡ Some seen = ap (λ o. seen_at x o link.tag) may.read in
       let children = r.invariant.words.children x may.inner born in
-      let child_born : Born r.stages n = subst (Born r.stages) is (children.born (is_right r.words x (key_of may.op))) in
+      let born_there : Born r.stages link.node = subst (Born r.stages) is (children.born (is_right r.words x (key_of may.op))) in
       let happens : Happens cards act.Down (mine keys cards s r id v here) Moved (becomes keys cards s r id v here r.words after) = record {
         owned = λ h. h;
         row = record {
@@ -239,6 +261,7 @@ module _ (keys : List ℕ) (cards : ℕ) (s : TableState) (r : HasMachine keys c
           stands = may.stands;
           internal = may.inner;
           read = may.read;
+          tagged = tag_is;
           says = refl;
           gives = λ t. record {
             words = r.words;
@@ -251,7 +274,7 @@ module _ (keys : List ℕ) (cards : ℕ) (s : TableState) (r : HasMachine keys c
       } in
       is_event keys cards s r id v here (call.Down x right) act.Down Moved r.words
       (looks keys cards s r id v here act.Down Moved after happens (λ c. refl)
-      (with_entry (EntryHolds r.words r.stages) (Met n) v.told child_born (r.views id v here).entries)
+      (with_entry (EntryHolds r.words r.stages) (Met link.node) v.told born_there (r.views id v here).entries)
       (record {
         here = λ y key at told. absurd (some_not_none told refl);
         hand = λ c has un. (has, un, refl, refl);
@@ -263,15 +286,15 @@ module _ (keys : List ℕ) (cards : ℕ) (s : TableState) (r : HasMachine keys c
         knew = (r.views id v here).knew;
         walk = λ op y busy at.
             let same_op : may.op ≡ op = (let first = may.busy in cc) in
-            subst (λ z. Born r.stages z × Avoids r.words (over_before v) (key_of op) z) (same_Some n y at) (
-              child_born,
-              subst (λ o. Avoids r.words (over_before v) (key_of o) n) same_op
+            subst (λ z. Born r.stages z × Avoids r.words (over_before v) (key_of op) z) (same_Some link.node y at) (
+              born_there,
+              subst (λ o. Avoids r.words (over_before v) (key_of o) link.node) same_op
                   (λ c has on. (r.views id v here).walk may.op x may.busy may.stands c has
                   (next may.inner (subst (λ z. OnWalk r.words (key_of may.op) z (r.words.p c)) (sym is) on))),
             );
       })
       (child_address x right))
-      refl refl (subst (λ y. rank x < rank y) is (children.rising (is_right r.words x (key_of may.op))), born_in_table n child_born)
+      refl refl (subst (λ y. rank x < rank y) is (children.rising (is_right r.words x (key_of may.op))), born_in_table link.node born_there)
 
   -- next
   pub keeps_next : IsEvent keys cards s r id v call.Next

@@ -5,10 +5,11 @@ use Rattle.ell_layout.specs.declared.field.Field.{Field}
 use Rattle.ell_layout.specs.declared.field.Field.TheVariants as field
 use Rattle.ell_core.specs.statements.Told.{is_fixed}
 use Rattle.ell_cards.specs.declared.view.Told.{Told}
-use Rattle.ell_cards.specs.declared.view.Told.TheVariants.{Met, Info}
+use Rattle.ell_cards.specs.declared.view.Told.TheVariants.{Met, Info, Expects}
 use Rattle.ell_cards.specs.Models.{Has, latest, earlier}
-use Rattle.ell_cards.specs.Changes.{places_by, told_info, told_filling}
+use Rattle.ell_cards.specs.Changes.{places_by, told_info, told_filling, says_by}
 use Rattle.ell_cards.specs.Guards.{NamesNode}
+use Rattle.ell_word.specs.Link.{link_in}
 
 -- what was told before where an update's card goes is told
 pub places_more : (x : ℕ) (st : State) (c : ℕ) (told : List Told) (e : Told) → Has told e → Has (places_by x st c told) e
@@ -19,23 +20,27 @@ places_more x state.Clean c told e h = h
 
 -- so is what was told before a word of a card
 pub info_more : (c : ℕ) (f : Field) (x : ℕ) (told : List Told) (e : Told) → Has told e → Has (told_info c f x told) e
-info_more c field.Gp x told e h = earlier e (Info c field.Gp x) (Met x ∷ told) (earlier e (Met x) told h)
-info_more c field.P x told e h = earlier e (Info c field.P x) (Met x ∷ told) (earlier e (Met x) told h)
-info_more c field.L x told e h = earlier e (Info c field.L x) (Met x ∷ told) (earlier e (Met x) told h)
+info_more c field.Gp x told e h = earlier e _ _ (earlier e (Met x) told h)
+info_more c field.P x told e h = earlier e _ _ (earlier e (Met x) told h)
+info_more c field.L x told e h = earlier e _ _ (earlier e _ _ (earlier e _ told h))
 info_more c f x told e h = earlier e (Info c f x) told h
 
--- that word is told, and a node that it names is met
-pub info_latest : (c : ℕ) (f : Field) (x : ℕ) (told : List Told) → Has (told_info c f x told) (Info c f x)
+-- what it says is told, and a node that it names is met
+pub info_latest : (c : ℕ) (f : Field) (x : ℕ) (told : List Told) → Has (told_info c f x told) (Info c f (says_by f x))
 info_latest c field.Gp x told = latest (Info c field.Gp x) (Met x ∷ told)
 info_latest c field.P x told = latest (Info c field.P x) (Met x ∷ told)
-info_latest c field.L x told = latest (Info c field.L x) (Met x ∷ told)
+info_latest c field.L x told = latest _ _
 info_latest c f x told = latest (Info c f x) told
 
-pub info_node : (c : ℕ) (f : Field) (x : ℕ) (told : List Told) → NamesNode f → Has (told_info c f x told) (Met x)
+pub info_node : (c : ℕ) (f : Field) (x : ℕ) (told : List Told) → NamesNode f → Has (told_info c f x told) (Met (says_by f x))
 info_node c field.Gp x told h = earlier (Met x) (Info c field.Gp x) (Met x ∷ told) (latest (Met x) told)
 info_node c field.P x told h = earlier (Met x) (Info c field.P x) (Met x ∷ told) (latest (Met x) told)
-info_node c field.L x told h = earlier (Met x) (Info c field.L x) (Met x ∷ told) (latest (Met x) told)
+info_node c field.L x told h = earlier _ _ _ (earlier _ _ _ (latest _ told))
 info_node c f x told h = absurd h
+
+-- with the leaf's word the tag that the card expects is told
+pub info_tag : (c x : ℕ) (told : List Told) → Has (told_info c field.L x told) (Expects c (link_in x).tag)
+info_tag c x told = earlier _ _ _ (latest _ _)
 
 -- what was told before what fills a card is told
 fixed_more : (c : ℕ) (f : Field) (x : ℕ) (told : List Told) (e : Told) → Has told e → Has (if is_fixed f then Info c f x ∷ told else told) e

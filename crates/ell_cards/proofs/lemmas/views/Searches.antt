@@ -14,9 +14,9 @@ use Rattle.ell_cards.proofs.lemmas.views.Afters.{after_key_of, after_next}
 use Rattle.ell_cards.specs.Guards.{MayGoDown, MayClaim, Wants}
 use Rattle.ell_cards.proofs.lemmas.views.Steps.{view_after, view_seen}
 
--- a node with the word that was read there, if one was
-abbrev pub seen_at : ℕ → Option ℕ → Option Seen
-seen_at x read = Some (record { node = x; word = unwrap_or read 0 })
+-- a node with the word that was read there, if one was, and the tag of a child word
+abbrev pub seen_at : ℕ → Option ℕ → ℕ → Option Seen
+seen_at x read tag = Some (record { node = x; word = unwrap_or read 0; tag = tag })
 
 -- the key that was asked at the node where the pass stands is the key there
 pub told_here : (o here : Option ℕ) (x key : ℕ) → o ≡ Some x → (if is_this o x then Some key else here) ≡ Some key

@@ -1,11 +1,14 @@
 use Rattle.std.proofs.Common.{◌≡◌, ℕ, Bool, sym, ap, subst}
 use Rattle.ell_layout.specs.declared.field.Field.{Field}
-use Rattle.ell_cards.specs.declared.view.Told.TheVariants.{Met, Key, Info, Frozen}
+use Rattle.ell_layout.specs.declared.field.Field.TheVariants as field
+use Rattle.ell_cards.specs.declared.view.Told.TheVariants.{Met, Key, Info, Frozen, Expects}
 use Rattle.ell_cards.specs.declared.view.View.{View}
 use Rattle.ell_cards.specs.Models.{PassModel, Sees, Steps, latest, earlier, IsTold}
 use Rattle.ell_cards.proofs.lemmas.views.Afters.{after_key_of, after_info, after_frozen_child}
 use Rattle.ell_cards.specs.Guards.{NamesNode}
-use Rattle.ell_cards.proofs.lemmas.views.Entries.{info_latest, info_node}
+use Rattle.ell_cards.proofs.lemmas.views.Entries.{info_latest, info_node, info_tag}
+use Rattle.ell_word.specs.Link.{link_in}
+use Rattle.ell_cards.specs.Changes.{says_by}
 
 -- the view after a step
 pub view_after : (old new : PassModel) (v : View) → Steps old new v → new.view ≡ v
@@ -20,17 +23,22 @@ pub key_told : (old new : PassModel) (x key : ℕ) → Sees old new (after_key_o
 key_told old new x key s = subst (λ (w : View). IsTold w (Key x key)) (sym (view_seen old new (after_key_of x key old.view) s)) (latest _ _)
 
 -- so is a word of a card, and a node that it names is met
-pub info_told : (old new : PassModel) (c : ℕ) (f : Field) (x : ℕ) → Steps old new (after_info c f x old.view) → IsTold new.view (Info c f x)
-info_told old new c f x s = subst (λ (w : View). IsTold w (Info c f x)) (sym (view_after old new (after_info c f x old.view) s)) (info_latest c f x old.view.told)
+pub info_told : (old new : PassModel) (c : ℕ) (f : Field) (x : ℕ) → Steps old new (after_info c f x old.view) → IsTold new.view (Info c f (says_by f x))
+info_told old new c f x s = subst (λ (w : View). IsTold w (Info c f (says_by f x))) (sym (view_after old new (after_info c f x old.view) s)) (info_latest c f x old.view.told)
 
-pub info_met : (old new : PassModel) (c : ℕ) (f : Field) (x : ℕ) → Steps old new (after_info c f x old.view) → NamesNode f → IsTold new.view (Met x)
-info_met old new c f x s h = subst (λ (w : View). IsTold w (Met x)) (sym (view_after old new (after_info c f x old.view) s)) (info_node c f x old.view.told h)
+pub info_met : (old new : PassModel) (c : ℕ) (f : Field) (x : ℕ) → Steps old new (after_info c f x old.view) → NamesNode f → IsTold new.view (Met (says_by f x))
+info_met old new c f x s h = subst (λ (w : View). IsTold w (Met (says_by f x))) (sym (view_after old new (after_info c f x old.view) s)) (info_node c f x old.view.told h)
+
+-- with the leaf's word the tag that the card expects is told
+pub tag_told : (old new : PassModel) (c x : ℕ) → Steps old new (after_info c field.L x old.view) → IsTold new.view (Expects c (link_in x).tag)
+tag_told old new c x s =
+    subst (λ (w : View). IsTold w (Expects c (link_in x).tag)) (sym (view_after old new (after_info c field.L x old.view) s)) (info_tag c x old.view.told)
 
 -- a child of a marked parent is told, and met
-pub frozen_told : (old new : PassModel) (c : ℕ) (right : Bool) (x : ℕ) → Steps old new (after_frozen_child c right x old.view) → IsTold new.view (Frozen c right x)
+pub frozen_told : (old new : PassModel) (c : ℕ) (right : Bool) (x : ℕ) → Steps old new (after_frozen_child c right x old.view) → IsTold new.view (Frozen c right (link_in x).node)
 frozen_told old new c right x s =
-    subst (λ (w : View). IsTold w (Frozen c right x)) (sym (view_after old new (after_frozen_child c right x old.view) s)) (latest _ _)
+    subst (λ (w : View). IsTold w (Frozen c right (link_in x).node)) (sym (view_after old new (after_frozen_child c right x old.view) s)) (latest _ _)
 
-pub frozen_met : (old new : PassModel) (c : ℕ) (right : Bool) (x : ℕ) → Steps old new (after_frozen_child c right x old.view) → IsTold new.view (Met x)
+pub frozen_met : (old new : PassModel) (c : ℕ) (right : Bool) (x : ℕ) → Steps old new (after_frozen_child c right x old.view) → IsTold new.view (Met (link_in x).node)
 frozen_met old new c right x s =
-    subst (λ (w : View). IsTold w (Met x)) (sym (view_after old new (after_frozen_child c right x old.view) s)) (earlier _ _ _ (latest _ _))
+    subst (λ (w : View). IsTold w (Met (link_in x).node)) (sym (view_after old new (after_frozen_child c right x old.view) s)) (earlier _ _ _ (latest _ _))

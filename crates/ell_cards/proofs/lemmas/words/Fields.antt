@@ -1,13 +1,16 @@
-use Rattle.std.proofs.Common.{◌≡◌, ◌≢◌, ℕ, ◌<◌, ◌==◌, if◌then◌else◌, eq-eqb, ne_eqb, Bool, true, false, List, [], ◌∷◌, length, get_or, set, refl, sym, ap, ◌∙◌, arith, inl, inr, get_or-set_same, get_or-set_other}
+use Rattle.std.proofs.Common.{◌≡◌, ◌≢◌, ℕ, ◌<◌, ◌==◌, if◌then◌else◌, eq-eqb, ne_eqb, Bool, true, false, List, [], ◌∷◌, length, get_or, set, refl, sym, ap, ◌∙◌, arith, inl, inr, get_or-set_same, get_or-set_other, ◌+◌, zero, suc}
 use Rattle.std.proofs.lemmas.Bool.{cases_eq}
 use Rattle.ell_layout.specs.declared.field.Field.{Field}
-use Rattle.ell_layout.specs.declared.field.Field.TheVariants.{Update}
+use Rattle.ell_layout.specs.declared.field.Field.TheVariants.{Gp, P, L, Was, Key, Left, Right, Update, LeftLeafKey, RightLeafKey, LeftValue, RightValue}
 use Rattle.ell_layout.specs.Layout.{address, place, listed}
 use Rattle.ell_word.specs.Node.{card, IsInternal}
-use Rattle.ell_layout.specs.Words.{Words, word, words_of, written, with_update, with_child, child_field}
+use Rattle.ell_layout.specs.Words.{Words, word, table_word, words_of, written, table_written, with_update, with_child, with_tag, relinked, child_field, key_field, value_field}
 use Rattle.ell_layout.specs.Cards.{filled}
-use Rattle.ell_layout.proofs.lemmas.Writes.{written_here, written_elsewhere, internal_at_node}
+use Rattle.ell_layout.proofs.lemmas.Writes.{written_here, written_elsewhere, internal_at_node, link_back}
 use Rattle.ell_layout.proofs.lemmas.Listed.{apart, same_place-field, words_are_listed}
+use Rattle.ell_word.specs.Link.{linked, tag_unit}
+use Rattle.ell_core.specs.history.Later.{SaysTheSame}
+use Rattle.ell_core.specs.history.Invariant.{Blank}
 
 if_same : (a b x y : ℕ) → a ≡ b → (if a == b then x else y) ≡ x
 if_same a b x y e = ap (λ t. if t then x else y) (eq-eqb a b e)
@@ -53,15 +56,70 @@ child_place true = omega arith
 child_place false = omega arith
 
 -- a write to the update word of an internal node, as one to its card
-pub write_update_at_node : (w : Words) (x value : ℕ) → IsInternal x → written w (card x) Update value ≡ with_update w x value
+pub write_update_at_node : (w : Words) (x value : ℕ) → IsInternal x → table_written w (card x) Update value ≡ with_update w x value
 write_update_at_node w x value inner = ap (λ n. with_update w n value) (sym (internal_at_node x inner))
 
--- a write to a child of an internal node
-pub write_child_at_node : (w : Words) (x : ℕ) (right : Bool) (value : ℕ) → IsInternal x
-    → written w (card x) (child_field right) value ≡ with_child w x right value
-write_child_at_node w x true value inner = ap (λ n. with_child w n true value) (sym (internal_at_node x inner))
-write_child_at_node w x false value inner = ap (λ n. with_child w n false value) (sym (internal_at_node x inner))
+-- a write of a child word of an internal node, with a small node and the next tag
+pub write_child_at_node : (w : Words) (x : ℕ) (right : Bool) (node : ℕ) → node < tag_unit → IsInternal x
+    → table_written w (card x) (child_field right) (linked (record { node = node; tag = w.tag x right + 1 })) ≡ relinked w x right node
+write_child_at_node w x true node small inner =
+    let at = sym (internal_at_node x inner) in
+    let back = link_back node (w.tag x true + 1) small in
+    λ t. with_tag (with_child w (at t) true (back t).node) (at t) true (back t).tag
+write_child_at_node w x false node small inner =
+    let at = sym (internal_at_node x inner) in
+    let back = link_back node (w.tag x false + 1) small in
+    λ t. with_tag (with_child w (at t) false (back t).node) (at t) false (back t).tag
+
+-- a card that says what it said has the words in a table that it had
+pub table_says : (old new : Words) (c : ℕ) → SaysTheSame old new c → (f : Field) → table_word new c f ≡ table_word old c f
+table_says old new c same L = λ t. linked (record { node = same.words L t; tag = same.expects t })
+table_says old new c same Left = λ t. linked (record { node = same.words Left t; tag = same.tags false t })
+table_says old new c same Right = λ t. linked (record { node = same.words Right t; tag = same.tags true t })
+table_says old new c same Gp = same.words Gp
+table_says old new c same P = same.words P
+table_says old new c same Was = same.words Was
+table_says old new c same Key = same.words Key
+table_says old new c same Update = same.words Update
+table_says old new c same LeftLeafKey = same.words LeftLeafKey
+table_says old new c same RightLeafKey = same.words RightLeafKey
+table_says old new c same LeftValue = same.words LeftValue
+table_says old new c same RightValue = same.words RightValue
+
+-- a card that was not claimed has zeros in a table
+pub table_blank : (w : Words) (c : ℕ) → Blank w c → (f : Field) → table_word w c f ≡ 0
+table_blank w c blank L = λ t. linked (record { node = blank.words L t; tag = blank.expects t })
+table_blank w c blank Left = λ t. linked (record { node = blank.words Left t; tag = blank.tags false t })
+table_blank w c blank Right = λ t. linked (record { node = blank.words Right t; tag = blank.tags true t })
+table_blank w c blank Gp = blank.words Gp
+table_blank w c blank P = blank.words P
+table_blank w c blank Was = blank.words Was
+table_blank w c blank Key = blank.words Key
+table_blank w c blank Update = blank.words Update
+table_blank w c blank LeftLeafKey = blank.words LeftLeafKey
+table_blank w c blank RightLeafKey = blank.words RightLeafKey
+table_blank w c blank LeftValue = blank.words LeftValue
+table_blank w c blank RightValue = blank.words RightValue
+
+-- the key of a node has no tag in a table
+pub key_in_table : (w : Words) (c n : ℕ) → word w c (key_field n) ≡ table_word w c (key_field n)
+key_in_table w c zero = refl
+key_in_table w c (suc zero) = refl
+key_in_table w c (suc (suc n)) = refl
+
+-- and the value of a leaf
+pub value_in_table : (w : Words) (c n : ℕ) → word w c (value_field n) ≡ table_word w c (value_field n)
+value_in_table w c zero = refl
+value_in_table w c (suc zero) = refl
+value_in_table w c (suc (suc n)) = refl
+
+-- so what a field of one says, a table has there
+pub table_key : (w : Words) (c n value : ℕ) (f : Field) → f ≡ key_field n → word w c f ≡ value → table_word w c f ≡ value
+table_key w c n value f e is = ap (table_word w c) e ∙ (sym (key_in_table w c n) ∙ (ap (word w c) (sym e) ∙ is))
+
+pub table_value : (w : Words) (c n value : ℕ) (f : Field) → f ≡ value_field n → word w c f ≡ value → table_word w c f ≡ value
+table_value w c n value f e is = ap (table_word w c) e ∙ (sym (value_in_table w c n) ∙ (ap (word w c) (sym e) ∙ is))
 
 -- a word of a list that was read at card c, which is d
-pub read_at : (words : List ℕ) (c d found value : ℕ) (f : Field) → found ≡ listed words c f → c ≡ d → word (words_of words) d f ≡ value → found ≡ value
+pub read_at : (words : List ℕ) (c d found value : ℕ) (f : Field) → found ≡ listed words c f → c ≡ d → table_word (words_of words) d f ≡ value → found ≡ value
 read_at words c d found value f read same is = read ∙ (ap (λ n. listed words n f) same ∙ (sym (words_are_listed words d f) ∙ is))

@@ -141,4 +141,4 @@ module _ (start : List (ℕ × ℕ)) where
 
   -- the cards after them are blank
   pub later_blank : (c : ℕ) → length start < c → Blank (start_words start) c
-  later_blank c past = record { words = λ field. later_word c field past; tags = λ right. refl }
+  later_blank c past = record { words = λ field. later_word c field past; expects = refl; tags = λ right. refl }

@@ -1,6 +1,9 @@
 use Rattle.std.proofs.Common.{arith, rules, ◌<◌, ◌≤◌, ap, ◌∙◌, refl, inl, false, Some}
 use Rattle.ell_core.specs.declared.event.Stepped.TheVariants.{Moved}
-use Rattle.ell_layout.specs.Cards.{claimed, insert_filling}
+use Rattle.ell_layout.specs.Cards.{table_claimed, insert_filling}
+use Rattle.ell_word.specs.Link.{tag_unit}
+use Rattle.ell_word.specs.Node.{greatest_card}
+use Rattle.ell_layout.proofs.lemmas.Claims.{tables_claim}
 use Rattle.ell_world.specs.Inside.{words_in, worker_in}
 use Rattle.ell_world.proofs.searching.claim_for_put.Goals as goal
 
@@ -35,10 +38,17 @@ returns-then-card-memory g c =
 
 pub returns : goal.returns
 returns g c =
+    let w = words_in c.args.memory.now in
+    let what = c.args.what in
+    let at = c.args.at in
+    let room : w.next ≤ c.args.memory.now.last_card = omega arith in
+    let low : w.next ≤ greatest_card = omega (arith, c.requires.ready.sized.limit) in
+    let small : at.leaf < tag_unit = omega (arith, c.requires.ready.sized.limit, (c.requires.ready.fits.worker.node at.leaf c.requires.at.stands).0) in
     let filling = c.insert_filling.ensures
-    ∙ (λ t. insert_filling (c.next-card.ensures t) c.args.what.key c.args.what.value c.args.at.parent.node c.args.at.leaf (c.key-leaf_key.ensures t) (c.value-leaf_value.ensures t)) in
-    let words = c.claim.ensures.words ∙ ap (claimed (words_in c.args.memory.now)) filling in
-    let room : (words_in c.args.memory.now).next ≤ c.args.memory.now.last_card = omega arith in record {
+    ∙ (λ t. insert_filling (c.next-card.ensures t) what.key what.value at.parent.node (c.word.ensures t) (c.key-leaf_key.ensures t) (c.value-leaf_value.ensures t)) in
+    let claim = (tables_claim w at.parent.node at.leaf at.parent.tag small).insert what.key what.value (w.key at.leaf) (w.value at.leaf) low in
+    let words = c.claim.ensures.words ∙ (ap (table_claimed w) filling ∙ claim) in
+    record {
       done = record {
         owned = λ h. h;
         row = inl (record {
@@ -56,7 +66,7 @@ returns g c =
             worker = record (worker_in c.args.worker.now) { card = Some (c.next-card.ensures t); flagged = false };
           };
         });
-        room = λ full. (let past : c.args.memory.now.last_card < (words_in c.args.memory.now).next = full in omega arith);
+        room = λ full. (let past : c.args.memory.now.last_card < w.next = full in omega arith);
       };
       refused = search rules;
       unchanged = search rules;

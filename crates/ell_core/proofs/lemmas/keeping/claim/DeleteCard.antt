@@ -1,7 +1,7 @@
 use Rattle.std.proofs.Common.{◌≡◌, ℕ, ◌≤◌, Some, inr, refl, sym, ap, ◌∙◌, subst, arith}
 use Rattle.std.proofs.lemmas.Bool.{false≢true}
 use Rattle.ell_ops.specs.Meaning.{greatest_key}
-use Rattle.ell_layout.specs.declared.field.Field.TheVariants.{Left}
+use Rattle.ell_layout.specs.declared.field.Field.TheVariants.{Left, Right}
 use Rattle.ell_core.specs.declared.view.Seen.{Seen}
 use Rattle.ell_layout.specs.Words.{Words, put, IsLeaf}
 use Rattle.ell_core.specs.state.Machine.{Worker}
@@ -75,6 +75,7 @@ module _ (w : Words) (stage : Stages) (v : Worker) (k leaf : ℕ) (parent grandp
     expected = let a = h.above.at_least in let e = filled.expects_is in
         let below = h.words.tags grandparent.node (is_right w grandparent.node k) in omega arith;
     no_left_child = (blank w after stage DClaimed claiming).words Left;
+    no_right_child = (blank w after stage DClaimed claiming).words Right;
   }
 
   -- the claimed card of a delete is sound

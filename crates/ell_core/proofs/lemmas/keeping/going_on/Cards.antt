@@ -103,9 +103,10 @@ module _ (old new : Words) (stage stages : Stages) (h : GoesOn old new stage sta
     delete_said : DeleteCard old stage c
     delete_said = (h.sound.cards c).delete deletes
 
-    -- a delete's card says what it said, if it has no left child still
-    pub delete_card_on : new.child (internal c) false ≡ old.child (internal c) false → DeleteCard new stages c
-    delete_card_on left =
+    -- a delete's card says what it said, if it has no children still
+    pub delete_card_on : new.child (internal c) false ≡ old.child (internal c) false → new.child (internal c) true ≡ old.child (internal c) true
+        → DeleteCard new stages c
+    delete_card_on left right =
         let same = delete_info old new stage h.sound h.words c deletes in
         let said = delete_said in
         record {
@@ -120,6 +121,7 @@ module _ (old new : Words) (stage stages : Stages) (h : GoesOn old new stage sta
           earlier = let a = said.earlier in let e = same.was in omega arith;
           expected = let a = said.expected in let e = same.expects in omega arith;
           no_left_child = left ∙ said.no_left_child;
+          no_right_child = right ∙ said.no_right_child;
         }
 
   -- a card says what it said
@@ -127,7 +129,7 @@ module _ (old new : Words) (stage stages : Stages) (h : GoesOn old new stage sta
   card_on c s = let was = h.sound.cards c in record {
     claimed = (λ e. s.next.1 (was.claimed.0 (sym s.claimed ∙ e)), λ e. s.claimed ∙ was.claimed.1 (s.next.0 e));
     insert = λ e. insert_card_on c (s.insert e);
-    delete = λ e. delete_card_on c (s.delete e) ((s.words (delete-unborn (stage c) (s.delete e))).words Left);
+    delete = λ e. (let same = s.words (delete-unborn (stage c) (s.delete e)) in delete_card_on c (s.delete e) (same.words Left) (same.words Right));
     unborn = λ e g. (let out = unborn_before c g in let nodes = was.unborn (s.insert e) out in record {
       left = (s.words out).words Left ∙ nodes.left;
       right = (s.words out).words Right ∙ nodes.right;
@@ -135,6 +137,7 @@ module _ (old new : Words) (stage stages : Stages) (h : GoesOn old new stage sta
     });
     blank = λ e. (let free = sym s.claimed ∙ e in let same = s.words (unclaimed-unborn (stage c) free) in record {
       words = λ field. same.words field ∙ (was.blank free).words field;
+      expects = same.expects ∙ (was.blank free).expects;
       tags = λ right. same.tags right ∙ (was.blank free).tags right;
     });
   }

@@ -1,9 +1,14 @@
-use Rattle.std.proofs.Common.{ap, ◌∙◌}
-use Rattle.ell_layout.specs.Words.{word}
+-- The word at the key's field has no tag.
+use Rattle.std.proofs.Common.{◌%◌}
+use Rattle.ell_word.specs.Node.{card}
+use Rattle.ell_layout.specs.Words.{key_field}
 use Rattle.ell_world.specs.Inside.{words_in}
+use Rattle.ell_world.proofs.lemmas.Links.{plain_is_read, key_word}
 use Rattle.ell_world.proofs.memory.Memory.key.Goals as goal
 
 pub returns : goal.returns
-returns g c = c.read.ensures
-    ∙ (ap (λ n. word (words_in c.args.self.now) n c.key_field.result) c.card_of.ensures
-    ∙ c.key_field.ensures.word (words_in c.args.self.now) c.requires.node.1)
+returns g c =
+    let w = words_in c.args.self.now in
+    let node = c.args.node in
+    plain_is_read w c.read.result c.card_of.result (card node) (w.key node) c.key_field.result (key_field (node % 4))
+    c.read.ensures c.card_of.ensures c.key_field.ensures.field (key_word w (card node) (node % 4)) (c.key_field.ensures.word w c.requires.node.1)

@@ -1,9 +1,14 @@
-use Rattle.std.proofs.Common.{ap, ◌∙◌}
-use Rattle.ell_layout.specs.Words.{word}
+-- The word at the value's field has no tag.
+use Rattle.std.proofs.Common.{◌%◌}
+use Rattle.ell_word.specs.Node.{card}
+use Rattle.ell_layout.specs.Words.{value_field}
 use Rattle.ell_world.specs.Inside.{words_in}
+use Rattle.ell_world.proofs.lemmas.Links.{plain_is_read, value_word}
 use Rattle.ell_world.proofs.memory.Memory.value.Goals as goal
 
 pub returns : goal.returns
-returns g c = c.read.ensures
-    ∙ (ap (λ n. word (words_in c.args.self.now) n c.value_field.result) c.card_of.ensures
-    ∙ c.value_field.ensures.word (words_in c.args.self.now) c.requires.node.1 c.requires.outer)
+returns g c =
+    let w = words_in c.args.self.now in
+    let leaf = c.args.leaf in
+    plain_is_read w c.read.result c.card_of.result (card leaf) (w.value leaf) c.value_field.result (value_field (leaf % 4))
+    c.read.ensures c.card_of.ensures c.value_field.ensures.field (value_word w (card leaf) (leaf % 4)) (c.value_field.ensures.word w c.requires.node.1 c.requires.outer)
