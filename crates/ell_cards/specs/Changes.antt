@@ -15,7 +15,7 @@ use Rattle.ell_core.specs.declared.fact.Fact.TheVariants as fact
 use Rattle.ell_layout.specs.declared.field.Field.{Field}
 use Rattle.ell_layout.specs.declared.field.Field.TheVariants.{Gp, P, L}
 use Rattle.ell_core.specs.declared.view.Seen.{Seen}
-use Rattle.ell_layout.specs.Cards.{insert_filling, delete_filling, tagged_for}
+use Rattle.ell_layout.specs.Cards.{insert_filling, delete_filling, tagged_for, says_by}
 use Rattle.ell_core.specs.state.Machine.{WorkerView, idle}
 use Rattle.ell_core.specs.acts.Searching.{with_read, begun, ended, with_card}
 use Rattle.ell_core.specs.acts.Exchanges.{knowing, off_the_tree}
@@ -249,17 +249,12 @@ abbrev pub is_this : Option ℕ → ℕ → Bool
 is_this None x = false
 is_this (Some y) x = y == x
 
--- what a field of a card says, by the word that a table has there: of the leaf's its node
-abbrev pub says_by : Field → ℕ → ℕ
-says_by L x = (link_in x).node
-says_by f x = x
-
 -- what was told with a word of a card; a node is met, and the leaf's has the tag that the card expects
 abbrev pub told_info : ℕ → Field → ℕ → List Told → List Told
 told_info c Gp x told = Info c Gp x ∷ Met x ∷ told
 told_info c P x told = Info c P x ∷ Met x ∷ told
 told_info c L x told = Info c L (link_in x).node ∷ Expects c (link_in x).tag ∷ Met (link_in x).node ∷ told
-told_info c f x told = Info c f x ∷ told
+told_info c f x told = Info c f (says_by f x) ∷ told
 
 -- where those keys have come that go from a node with this key to this child, which is on this side
 abbrev pub glance_down : Glance → ℕ → Bool → ℕ → Glance

@@ -1,17 +1,15 @@
-use Rattle.std.specs.Prelude.{◌≡◌, ◌≢◌, ℕ, ◌↔◌, Bool, false, List}
+use Rattle.std.specs.Prelude.{◌≡◌, ◌≢◌, ℕ, ◌↔◌, false, List}
 use mathlib.Core.Option.{some}
 use lib.ListN.{get_elem?}
-use Rattle.ell_word.specs.Node.{IsInternal, card, internal}
+use Rattle.ell_word.specs.Node.{IsInternal, card}
 use Rattle.ell_word.specs.Word.{unpacked}
 use Rattle.ell_word.specs.declared.update.State.TheVariants as state
-use Rattle.ell_layout.specs.declared.field.Field.{Field}
-use Rattle.ell_layout.specs.Words.{Words, table_word}
 use Rattle.ell_core.specs.state.Machine.{Machine}
 use Rattle.ell_core.specs.state.Handovers.{Split, Join}
 use Rattle.ell_core.specs.soundness.Sound.{IsSound}
 use Rattle.ell_core.specs.tree.Tree.{Reached}
-use Rattle.ell_core.specs.history.Stages.{waits, is_delete}
-use Rattle.ell_core.specs.history.Later.{SameInfo, SaysTheSame, StagesLater}
+use Rattle.ell_core.specs.history.Stages.{waits}
+use Rattle.ell_core.specs.history.Later.{SaysTheSame, StagesLater}
 use Rattle.ell_core.specs.statements.Effects.{SamePairs}
 use Rattle.ell_cards.specs.declared.call.Call.{Call}
 use Rattle.ell_cards.specs.declared.view.View.{View}
@@ -73,29 +71,19 @@ abbrev pub MachineIsSound : Type 0
 MachineIsSound =
     (keys : List ℕ) (last : ℕ) (s : TableState) (r : HasMachine keys last s) → IsSound (machine_of_table keys last s r)
 
--- words say of a card what others do: a table has the same words there, the card goes to the same places, and is of the
--- same kind; and all words of one that is no delete's are the same, with their tags
-pub record SameCard (old new : Words) (deletes : Bool) (c : ℕ) : Type 0 where
-  pub words : (field : Field) → table_word new c field ≡ table_word old c field
-  pub info : SameInfo old new c
-  pub left : new.child (internal c) false ≡ old.child (internal c) false
-  pub says : deletes ≡ false → SaysTheSame old new c
-
 -- where the machine's words are the table's own: the claim word, and each card that does not wait for its flag. That is
 -- each card of a node that is reached from the root, each that a flag or a mark of such a node names, and each that a
 -- pass knows flagged or marked, or has in hand, flagged. The same nodes are reached in both, and the trees have the
 -- same keys with the same values
 pub record WordsAreOwn (keys : List ℕ) (last : ℕ) (s : TableState) (r : HasMachine keys last s) : Type 0 where
   pub next : r.words.next ≡ (own_words s).next
-  pub settled : (c : ℕ) → waits (r.stages c) ≡ false → SameCard (own_words s) r.words (is_delete (r.stages c)) c
+  pub settled : (c : ℕ) → waits (r.stages c) ≡ false → SaysTheSame (own_words s) r.words c
   pub reached : (x : ℕ) → Reached r.words x ↔ Reached (own_words s) x
   pub nodes : (x : ℕ) → Reached (own_words s) x → SaysTheSame (own_words s) r.words (card x)
   pub flags : (x : ℕ) → Reached (own_words s) x → IsInternal x → (unpacked ((own_words s).update x)).state ≢ state.Clean
-      → SameCard (own_words s) r.words (is_delete (r.stages (unpacked ((own_words s).update x)).card)) (unpacked ((own_words s).update x)).card
-  pub known : (i c : ℕ) (v : View) → get_elem? s.views i ≡ some v → KnowsCard v c
-      → SameCard (own_words s) r.words (is_delete (r.stages c)) c
-  pub held : (i c : ℕ) (v : View) → get_elem? s.views i ≡ some v → HasFlagged v c
-      → SameCard (own_words s) r.words (is_delete (r.stages c)) c
+      → SaysTheSame (own_words s) r.words (unpacked ((own_words s).update x)).card
+  pub known : (i c : ℕ) (v : View) → get_elem? s.views i ≡ some v → KnowsCard v c → SaysTheSame (own_words s) r.words c
+  pub held : (i c : ℕ) (v : View) → get_elem? s.views i ≡ some v → HasFlagged v c → SaysTheSame (own_words s) r.words c
   pub tree : SamePairs (own_words s) r.words
 
 -- so they are in every state that has a machine

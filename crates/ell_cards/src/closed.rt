@@ -3,8 +3,8 @@ ghost use Rattle.std.specs.Prelude.{◌≡◌, ◌≢◌, ◌≤◌, length, Non
 ghost use Rattle.std.specs.List.{All};
 ghost use Rattle.std.specs.Slots.{slots_items, slots_len, IsFull};
 ghost use Rattle.ell_word.specs.Node.{card, greatest_card, IsNode};
-ghost use Rattle.ell_layout.specs.Layout.{listed, table_size};
-ghost use Rattle.ell_layout.specs.Words.{words_of};
+ghost use Rattle.ell_layout.specs.Layout.{table_size};
+ghost use Rattle.ell_layout.specs.Words.{word, words_of};
 ghost use Rattle.ell_core.specs.state.Machine.{ledger_of};
 ghost use Rattle.ell_cards.specs.Models.{IsFree, whole_share};
 ghost use Rattle.ell_cards.specs.Closed.{ClosedModel, TableEnds};
@@ -13,7 +13,7 @@ use crate::pass::Pass;
 use crate::table::CardTable;
 use ell_core::TreeWords;
 use ell_layout::{Field, child_field, key_field, value_field};
-use ell_word::{Link, card_of};
+use ell_word::card_of;
 use std::alloc::Allocator;
 use std::marker::Model;
 
@@ -79,13 +79,14 @@ impl<A: Allocator + Copy> Closed<A> {
         self.last_card
     }
 
-    /// A word of a card.
+    /// Returns what a field of a card says: of a child word, and of the leaf's, the node without its tag. Condition: the
+    /// card is at most the last card.
     pub fn word(&self, card: u64, field: Field) -> u64
         requires { card ≤ self.now.last_card }
-        // Returns the word in the card's field.
-        ensures { result ≡ listed self.now.words card field }
+        // Returns what the card's field says.
+        ensures { result ≡ word (words_of self.now.words) card field }
     {
-        self.closed.word(field.address(card))
+        field.says(self.closed.word(field.address(card)))
     }
 }
 
@@ -103,7 +104,7 @@ impl<A: Allocator + Copy> TreeWords for Closed<A> {
     }
 
     fn child(&self, node: u64, right: bool) -> u64 {
-        Link::of(self.word(card_of(node), child_field(right))).node
+        self.word(card_of(node), child_field(right))
     }
 }
 

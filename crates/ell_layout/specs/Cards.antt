@@ -2,7 +2,7 @@ use Rattle.std.specs.Prelude.{ℕ, ◌+◌, ◌==◌, if◌then◌else◌, Bool,
 use Rattle.ell_word.specs.declared.update.State.TheVariants as state
 use Rattle.ell_word.specs.Node.{internal, left_leaf, right_leaf}
 use Rattle.ell_word.specs.Word.{packed}
-use Rattle.ell_word.specs.Link.{linked}
+use Rattle.ell_word.specs.Link.{linked, link_in}
 use Rattle.ell_layout.specs.declared.field.Field.{Field}
 use Rattle.ell_layout.specs.declared.field.Field.TheVariants.{Gp, P, L, Was, Key, Left, Right, Update, LeftLeafKey, RightLeafKey, LeftValue, RightValue}
 use Rattle.ell_layout.specs.Layout.{place, address}
@@ -107,6 +107,14 @@ filled_list words c (e ∷ es) = filled_list (slice_set words (address c e.0) e.
 abbrev pub claimed : Words → ℕ → List (Field × ℕ) → Words
 claimed w tag filling =
     record (filled w w.next filling) { next = w.next + 1; expects = put w.expects w.next tag }
+
+-- what a field of a card says, by the word that a table has there: a child, and the leaf where a search ended, without
+-- their tags
+abbrev pub says_by : Field → ℕ → ℕ
+says_by L word = (link_in word).node
+says_by Left word = (link_in word).node
+says_by Right word = (link_in word).node
+says_by field word = word
 
 -- what a table has at a field of which a claim has this: a leaf with the tag that the card expects
 abbrev pub tagged_for : Field → ℕ → ℕ → ℕ

@@ -3,10 +3,11 @@ ghost use Rattle.std.specs.Prelude.{◌≡◌, ◌≤◌, ◌%◌, ℕ};
 ghost use Rattle.ell_word.specs.Link.{linked};
 ghost use Rattle.ell_word.specs.Node.{greatest_card, card, IsInternal, IsNode};
 ghost use Rattle.ell_word.specs.Word.{packed};
+ghost use Rattle.ell_layout.specs.Cards.{says_by};
 ghost use Rattle.ell_layout.specs.Layout.{place, address, table_size};
 ghost use Rattle.ell_layout.specs.Words.{table_word, Words, word, key_field, value_field, child_field, IsLeaf};
 
-use ell_word::{State, Update, pack};
+use ell_word::{Link, State, Update, pack};
 
 /// A word of a card: the first eight belong to its internal node and its two leaves, the others to the record of the
 /// operation that took it (Info, figure 7 of the paper).
@@ -86,6 +87,19 @@ impl Field {
             Field::P => 9,
             Field::L => 10,
             Field::Was => 11,
+        }
+    }
+
+    /// Returns what the field says by the word that a table has there: of a child word, and of the leaf's, the node
+    /// without its tag.
+    #[inline(always)]
+    pub fn says(self, word: u64) -> u64
+        // Returns what the field says by this word.
+        ensures { result ≡ says_by self word }
+    {
+        match self {
+            Field::L | Field::Left | Field::Right => Link::of(word).node,
+            _ => word,
         }
     }
 

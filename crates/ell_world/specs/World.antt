@@ -33,14 +33,6 @@ pub record WorldFits (w : WorldValue) : Type 0 where
   pub size : length w.words ≡ table_size w.last_card
   pub limit : w.last_card ≤ greatest_card
   pub lawful : HasInvariant (machine_of w)
-
--- what a table's word at a field says without a tag
-abbrev pub untagged : Field → ℕ → ℕ
-untagged L value = (link_in value).node
-untagged Left value = (link_in value).node
-untagged Right value = (link_in value).node
-untagged _ value = value
-
 -- a step is refused as the event is, or for want of memory
 abbrev pub StepRefused : Machine → Event → CoreFault → Type 0
 StepRefused m e NoSuchWorker = m.count ≤ e.worker

@@ -12,7 +12,7 @@ ghost use Rattle.ell_core.specs.tree.Tree.{ListsKeys, ListsTreePairs};
 ghost use Rattle.ell_core.specs.state.Machine.{idle};
 ghost use Rattle.ell_world.specs.Inside.{worker_at};
 ghost use Rattle.ell_core.specs.state.Opening.{opening, opening_ledger, last_card, is_given, Faultless, OpeningRefused};
-ghost use Rattle.ell_world.specs.World.{machine_of, untagged, StepRefused};
+ghost use Rattle.ell_world.specs.World.{machine_of, StepRefused};
 ghost use Rattle.ell_core.specs.soundness.Sound.{IsSound};
 ghost use Rattle.ell_core.specs.history.Invariant.{HasInvariant};
 
@@ -171,16 +171,14 @@ impl<A: Allocator + Copy> World<A> {
         Ok(pairs_of_tree(&self.memory, waiting, pairs))
     }
 
-    /// Returns the word that the table has at a field of a card: a child with its tag, and the leaf where a search ended
-    /// with the tag that the card expects. Condition: the card is at most the last card.
+    /// Returns what a field of a card says: of a child word, and of the leaf's, the node without its tag. Condition: the
+    /// card is at most the last card.
     pub fn word(&self, card: u64, field: Field) -> u64
         requires { card ≤ self.now.last_card }
-        // Returns the table's word in the card's field.
-        ensures table { result ≡ table_word (machine_of self.now).words card field }
-        // Without a tag it is what the field says.
-        ensures says { untagged field result ≡ word (machine_of self.now).words card field }
+        // Returns what the card's field says.
+        ensures { result ≡ word (machine_of self.now).words card field }
     {
-        self.memory.read(card, field)
+        field.says(self.memory.read(card, field))
     }
 
     /// Returns the claim word: the number of the next card.

@@ -1,13 +1,16 @@
-use Rattle.std.proofs.Common.{◌≡◌, ◌≢◌, ℕ, zero, suc, ◌+◌, ◌%◌, ◌<◌, ◌≤◌, Bool, List, [], ◌∷◌, length, length-set, get_or, slice_index, slice_set, refl, sym, ap, ◌∙◌, arith, inl, inr, get_or-set_same, get_or-set_other}
+use Rattle.std.proofs.Common.{◌≡◌, ◌≢◌, ℕ, zero, suc, ◌+◌, ◌%◌, ◌<◌, ◌≤◌, Bool, List, [], ◌∷◌, length, length-set, get_or, slice_index, slice_set, refl, sym, ap, ◌∙◌, arith, inl, inr, get_or-set_same, get_or-set_other, true, false}
 use Rattle.std.proofs.lemmas.Bool.{cases_eq}
 use Rattle.std.proofs.lemmas.Grind.{get_or_default_zero}
 use Rattle.ell_layout.specs.declared.field.Field.{Field}
 use Rattle.ell_layout.specs.declared.field.Field.TheVariants.{Gp, P, L, Was, Key, Left, Right, Update, LeftLeafKey, RightLeafKey, LeftValue, RightValue}
 use Rattle.ell_layout.specs.Layout.{address, place, table_size, listed}
 use Rattle.ell_layout.specs.Words.{Words, word, table_word, table_written, table_words, words_of}
-use Rattle.ell_layout.specs.Cards.{filled_list, table_filled, table_claimed}
+use Rattle.ell_layout.specs.Cards.{filled_list, table_filled, table_claimed, says_by}
 use Rattle.ell_layout.specs.Laws.{SameAfterSameWrite, WordsAreListed, FilledListsAreFilled}
-use Rattle.ell_layout.proofs.lemmas.Writes.{SmallNodes, equal_tables, table_written_here, table_written_elsewhere, table_written_next, table_written_small, table_written_no_key, table_written_no_value, table_written_inner_value, table_written_leaf_child, table_written_leaf_tag, table_written_leaf_update, made_table_word, made_small, made_no_key, made_no_value, made_inner_value, made_table_leaf_child, made_table_leaf_tag, made_leaf_update}
+use Rattle.ell_layout.proofs.lemmas.Writes.{SmallNodes, equal_tables, table_written_here, table_written_elsewhere, table_written_next, table_written_small, table_written_no_key, table_written_no_value, table_written_inner_value, table_written_leaf_child, table_written_leaf_tag, table_written_leaf_update, made_table_word, made_small, made_no_key, made_no_value, made_inner_value, made_table_leaf_child, made_table_leaf_tag, made_leaf_update, link_back}
+use Rattle.ell_word.specs.Link.{link_in}
+use Rattle.ell_word.specs.declared.link.Link.{Link}
+use Rattle.ell_word.specs.Node.{internal}
 
 -- The words that a list is have at each field the list's word.
 pub words_are_listed : WordsAreListed
@@ -201,6 +204,26 @@ words_after_fields words cards c [] size below = refl
 words_after_fields words cards c (e ∷ es) size below =
     words_after_fields (slice_set words (address c e.0) e.1) cards c es (length-set words (address c e.0) e.1 ∙ size) below
     ∙ ap (λ w. table_filled w c es) (words_after_write words c e.0 e.1 (address_inside words cards c e.0 size below))
+
+-- What a field says in the words that a list is, it says by the list's word.
+pub said_in_list : (words : List ℕ) (c : ℕ) (field : Field) → word (words_of words) c field ≡ says_by field (listed words c field)
+said_in_list words c L = ap (λ (l : Link). l.node) (sym (link_back ((words_of words).l c) ((words_of words).expects c) ((listed_small words).l c))
+    ∙ ap link_in (words_are_listed words c L))
+said_in_list words c Left = ap (λ (l : Link). l.node)
+    (sym (link_back ((words_of words).child (internal c) false) ((words_of words).tag (internal c) false) ((listed_small words).child (internal c) false))
+    ∙ ap link_in (words_are_listed words c Left))
+said_in_list words c Right = ap (λ (l : Link). l.node)
+    (sym (link_back ((words_of words).child (internal c) true) ((words_of words).tag (internal c) true) ((listed_small words).child (internal c) true))
+    ∙ ap link_in (words_are_listed words c Right))
+said_in_list words c Gp = words_are_listed words c Gp
+said_in_list words c P = words_are_listed words c P
+said_in_list words c Was = words_are_listed words c Was
+said_in_list words c Key = words_are_listed words c Key
+said_in_list words c Update = words_are_listed words c Update
+said_in_list words c LeftLeafKey = words_are_listed words c LeftLeafKey
+said_in_list words c RightLeafKey = words_are_listed words c RightLeafKey
+said_in_list words c LeftValue = words_are_listed words c LeftValue
+said_in_list words c RightValue = words_are_listed words c RightValue
 
 -- Another claim word leaves the words of the cards.
 pub same_but_next : (w : Words) (value c : ℕ) (field : Field) → word w c field ≡ word (record w { next = value }) c field

@@ -8,7 +8,7 @@ use Rattle.ell_layout.specs.declared.field.Field.{Field}
 use Rattle.ell_layout.specs.declared.field.Field.TheVariants.{Gp, P, L, Was, Key, Left, Right, Update, LeftLeafKey, RightLeafKey, LeftValue, RightValue}
 use Rattle.ell_layout.specs.Layout.{address}
 use Rattle.ell_layout.specs.Cards.{filled, table_filled}
-use Rattle.ell_layout.specs.Words.{Words, word, put, put_side, written, table_word, table_written, key_field, value_field, child_field, words_from, table_words}
+use Rattle.ell_layout.specs.Words.{Words, word, put, put_side, written, table_word, table_written, key_field, value_field, child_field, words_from, table_words, with_child, with_tag}
 
 -- A function with another value at a place has that value there.
 pub put_same : {A : Type 0} (f : ℕ → A) (i : ℕ) (v : A) → put f i v i ≡ v
@@ -583,3 +583,28 @@ same_at x v = grind (arith, nat_tests)
 -- Zeros are read without tags.
 pub zeros_are_read : (next : ℕ) → table_words next (λ c field. 0) ≡ words_from next (λ c field. 0)
 zeros_are_read next = λ t. record (words_from next (λ c field. 0)) { tag = λ x right. same_at x 0 t }
+
+-- A write of a child word of an internal node to its card is one of the child and its tag.
+pub child_written : (w : Words) (node : ℕ) (right : Bool) (child tag : ℕ) → child < tag_unit → node % 4 ≡ 0
+    → table_written w (card node) (child_field right) (linked (record { node = child; tag = tag }))
+    ≡ with_tag (with_child w node right child) node right tag
+child_written w node true child tag small inner =
+    let at = sym (internal_at_node node inner) in
+    let back = link_back child tag small in
+    λ t. with_tag (with_child w (at t) true (back t).node) (at t) true (back t).tag
+child_written w node false child tag small inner =
+    let at = sym (internal_at_node node inner) in
+    let back = link_back child tag small in
+    λ t. with_tag (with_child w (at t) false (back t).node) (at t) false (back t).tag
+
+-- The key of a node has no tag in a table.
+pub key_in_table : (w : Words) (c n : ℕ) → word w c (key_field n) ≡ table_word w c (key_field n)
+key_in_table w c zero = refl
+key_in_table w c (suc zero) = refl
+key_in_table w c (suc (suc n)) = refl
+
+-- Nor has the value of a leaf.
+pub value_in_table : (w : Words) (c n : ℕ) → word w c (value_field n) ≡ table_word w c (value_field n)
+value_in_table w c zero = refl
+value_in_table w c (suc zero) = refl
+value_in_table w c (suc (suc n)) = refl

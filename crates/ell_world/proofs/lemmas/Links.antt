@@ -6,8 +6,7 @@ use Rattle.ell_layout.specs.declared.field.Field.{Field}
 use Rattle.ell_layout.specs.declared.field.Field.TheVariants.{L, Left, Right}
 use Rattle.ell_layout.specs.Words.{Words, word, table_word, table_written, with_child, with_tag, key_field, value_field, child_field, words_of}
 use Rattle.ell_layout.proofs.lemmas.Listed.{listed_small}
-use Rattle.ell_layout.proofs.lemmas.Writes.{internal_at_node, child_word_at_node, link_back}
-use Rattle.ell_world.specs.World.{untagged}
+use Rattle.ell_layout.proofs.lemmas.Writes.{child_word_at_node, child_written, link_back}
 
 -- what a list says at a child of an internal node is the child with its tag
 pub child_link_is : (words : List ℕ) (node : ℕ) (right : Bool) → IsInternal node
@@ -22,45 +21,12 @@ pub leaf_link_is : (words : List ℕ) (c : ℕ)
     → link_in (table_word (words_of words) c L) ≡ record { node = (words_of words).l c; tag = (words_of words).expects c }
 leaf_link_is words c = link_back ((words_of words).l c) ((words_of words).expects c) ((listed_small words).l c)
 
--- without a tag a list's word is what the field says
-pub untagged_is : (words : List ℕ) (c : ℕ) (field : Field)
-    → untagged field (table_word (words_of words) c field) ≡ word (words_of words) c field
-untagged_is words c L = ap (λ (link : Link). link.node) (leaf_link_is words c)
-untagged_is words c Left = ap (λ (link : Link). link.node)
-    (link_back ((words_of words).child (internal c) false) ((words_of words).tag (internal c) false) ((listed_small words).child (internal c) false))
-untagged_is words c Right = ap (λ (link : Link). link.node)
-    (link_back ((words_of words).child (internal c) true) ((words_of words).tag (internal c) true) ((listed_small words).child (internal c) true))
-untagged_is words c field = refl
-
--- a write of a child with its tag at the card of an internal node
-child_written : (w : Words) (node : ℕ) (right : Bool) (child tag : ℕ) → IsInternal node → child < tag_unit
-    → table_written w (card node) (child_field right) (linked (record { node = child; tag = tag }))
-    ≡ with_tag (with_child w node right child) node right tag
-child_written w node true child tag inner small = λ t.
-    with_tag (with_child w (sym (internal_at_node node inner) t) true (link_back child tag small t).node)
-    (sym (internal_at_node node inner) t) true (link_back child tag small t).tag
-child_written w node false child tag inner small = λ t.
-    with_tag (with_child w (sym (internal_at_node node inner) t) false (link_back child tag small t).node)
-    (sym (internal_at_node node inner) t) false (link_back child tag small t).tag
-
--- so it is of the words after such a write
+-- the words after a write of a child word
 pub child_is_written : (w after : Words) (node : ℕ) (right : Bool) (child tag c value : ℕ) (field : Field) → IsInternal node → child < tag_unit
     → after ≡ table_written w c field value → c ≡ card node → field ≡ child_field right → value ≡ linked (record { node = child; tag = tag })
     → after ≡ with_tag (with_child w node right child) node right tag
 child_is_written w after node right child tag c value field inner small is card_is field_is value_is =
-    is ∙ ((λ t. table_written w (card_is t) (field_is t) (value_is t)) ∙ child_written w node right child tag inner small)
-
--- a table's word at the key of a node is the key
-pub key_word : (w : Words) (c r : ℕ) → table_word w c (key_field r) ≡ word w c (key_field r)
-key_word w c zero = refl
-key_word w c (suc zero) = refl
-key_word w c (suc (suc r)) = refl
-
--- a table's word at the value of a leaf is the value
-pub value_word : (w : Words) (c r : ℕ) → table_word w c (value_field r) ≡ word w c (value_field r)
-value_word w c zero = refl
-value_word w c (suc zero) = refl
-value_word w c (suc (suc r)) = refl
+    is ∙ ((λ t. table_written w (card_is t) (field_is t) (value_is t)) ∙ child_written w node right child tag small inner)
 
 -- what is read of a field that has no tag is what the field says
 pub plain_is_read : (w : Words) (found c d value : ℕ) (field plain : Field) → found ≡ table_word w c field → c ≡ d → field ≡ plain

@@ -3,6 +3,7 @@ use mathlib.Core.Option.{Option, some, none}
 use lib.ListN.{get_elem?}
 use Rattle.ell_ops.specs.declared.op.Op.{Op}
 use Rattle.ell_ops.specs.declared.op.Op.TheVariants.{Find, Insert, Delete, Swap}
+use Rattle.ell_word.specs.Link.{linked}
 use Rattle.ell_word.specs.Node.{left_leaf, right_leaf}
 use Rattle.ell_core.specs.declared.exchange.Exchange.{Exchange}
 use Rattle.ell_core.specs.declared.exchange.Exchange.TheVariants as exchange
@@ -110,7 +111,7 @@ one_win c k = ap (λ b. if b then k ∷ [] else []) (eq-eqb c c refl)
 
 pub table_changes_are_operations : OperationsByMachine
 table_changes_are_operations keys cards s r id v (call.IChild c p l q right) here may =
-    let step = steps_are_events keys cards s r id v (call.IChild c p l q right) here may in by step.kept (found_by s (call.IChild c p l q right) == l) step.event
+    let step = steps_are_events keys cards s r id v (call.IChild c p l q right) here may in by step.kept (found_by s (call.IChild c p l q right) == linked l) step.event
   where
     by : (r' : HasMachine keys cards (state_after s id v (call.IChild c p l q right))) (b : Bool)
         → Becomes id (Some (act.IChild c)) (won_or_lost b) (machine_of_table keys cards s r) (machine_of_table keys cards (state_after s id v (call.IChild c p l q right)) r')
@@ -126,7 +127,7 @@ table_changes_are_operations keys cards s r id v (call.IChild c p l q right) her
         subst (IsAtWork s c) (work.1 ∙ (λ i. op_brought (same.0 i) (sym key i) (same.1 i) (sym value i))) work.2
     by r' false h = tt
 table_changes_are_operations keys cards s r id v (call.DChild c gp p y right) here may =
-    let step = steps_are_events keys cards s r id v (call.DChild c gp p y right) here may in by step.kept (found_by s (call.DChild c gp p y right) == p) step.event
+    let step = steps_are_events keys cards s r id v (call.DChild c gp p y right) here may in by step.kept (found_by s (call.DChild c gp p y right) == linked p) step.event
   where
     by : (r' : HasMachine keys cards (state_after s id v (call.DChild c gp p y right))) (b : Bool)
         → Becomes id (Some (act.DChild c)) (won_or_lost b) (machine_of_table keys cards s r) (machine_of_table keys cards (state_after s id v (call.DChild c gp p y right)) r')

@@ -12,10 +12,10 @@ use Rattle.ell_layout.specs.Cards.{iflag, dflag, marked, is_delete_card, card_ke
 use Rattle.ell_core.specs.state.Facts.{card_of_fact}
 use Rattle.ell_core.specs.soundness.Holds.{IFlagHolds, IChangeHolds, DFlagHolds, MarkHolds, UnmarkableHolds, CutHolds, Holds, is_changed_in, is_cut_in, entry_made, made_in, with_made, effective_of, effective}
 use Rattle.ell_core.specs.soundness.Sound.{flags_at}
-use Rattle.ell_core.specs.history.Stages.{Stage, Stages, allows, waits, is_claimed, is_delete}
+use Rattle.ell_core.specs.history.Stages.{Stage, Stages, allows, waits, is_claimed}
 use Rattle.ell_core.specs.history.Invariant.{WordsAreSound}
+use Rattle.ell_core.specs.history.Later.{SaysTheSame}
 use Rattle.ell_core.specs.statements.StepLaws.{IsReadable, GoesInTree}
-use Rattle.ell_cards.specs.Laws.{SameCard}
 use Rattle.ell_cards.proofs.lemmas.own_words.OwnTree.{key_same, value_same, tag_same, update_same}
 
 -- a card of which a fact may be known does not wait
@@ -27,17 +27,17 @@ pub allowed_claimed : (f : Fact) (s : Stage) → allows f s ≡ true → is_clai
 allowed_claimed f s h = grind arith
 
 -- sound words w, and others, t, that say the same at each card that does not wait; a card of these that goes in the tree
-module _ (w t : Words) (stage : Stages) (sound : WordsAreSound w stage) (same : (c : ℕ) → waits (stage c) ≡ false → SameCard w t (is_delete (stage c)) c)
+module _ (w t : Words) (stage : Stages) (sound : WordsAreSound w stage) (same : (c : ℕ) → waits (stage c) ≡ false → SaysTheSame w t c)
     (c : ℕ) (calm : waits (stage c) ≡ false) (goes : GoesInTree w stage c) where
-  here : SameCard w t (is_delete (stage c)) c
+  here : SaysTheSame w t c
   here = same c calm
 
   -- its kind and its key
   is_delete_same : is_delete_card t c ≡ is_delete_card w c
-  is_delete_same = ap (λ n. n == 0) here.left
+  is_delete_same = ap (λ n. n == 0) (here.words field.Left)
 
   leaf_key_same : t.key (t.l c) ≡ w.key (w.l c)
-  leaf_key_same = ap t.key here.info.l ∙ key_same w t stage sound same (w.l c) goes.leaf
+  leaf_key_same = ap t.key (here.words field.L) ∙ key_same w t stage sound same (w.l c) goes.leaf
 
   pub card_key_same : card_key t c ≡ card_key w c
   card_key_same = λ i. if is_delete_same i then leaf_key_same i
@@ -45,7 +45,7 @@ module _ (w t : Words) (stage : Stages) (sound : WordsAreSound w stage) (same : 
 
   -- its value, where it goes to a leaf
   pub leaf_value_same : IsLeaf (w.l c) → t.value (t.l c) ≡ w.value (w.l c)
-  leaf_value_same outer = ap t.value here.info.l ∙ value_same w t stage sound same (w.l c) outer goes.leaf
+  leaf_value_same outer = ap t.value (here.words field.L) ∙ value_same w t stage sound same (w.l c) outer goes.leaf
 
   pub card_value_same : IsLeaf (w.l c) → card_value t c ≡ card_value w c
   card_value_same outer = λ i. if is_delete_same i then leaf_value_same outer i
@@ -56,10 +56,10 @@ module _ (w t : Words) (stage : Stages) (sound : WordsAreSound w stage) (same : 
   update_there x y is reads = ap t.update is ∙ update_same w t stage sound same y reads.inner reads.born
 
   parent_update : t.update (t.p c) ≡ w.update (w.p c)
-  parent_update = update_there (t.p c) (w.p c) here.info.p goes.parent
+  parent_update = update_there (t.p c) (w.p c) (here.words field.P) goes.parent
 
   grandparent_update : t.update (t.gp c) ≡ w.update (w.gp c)
-  grandparent_update = update_there (t.gp c) (w.gp c) here.info.gp goes.grandparent
+  grandparent_update = update_there (t.gp c) (w.gp c) (here.words field.Gp) goes.grandparent
 
   -- the tag of the child there on the side of its key
   tag_there : (x y : ℕ) → x ≡ y → IsReadable w stage y → card_tag t c x ≡ card_tag w c y
@@ -69,34 +69,34 @@ module _ (w t : Words) (stage : Stages) (sound : WordsAreSound w stage) (same : 
       ∙ tag_same w t stage sound same y (nat_le (w.key y) (card_key w c)) reads.inner reads.born)
 
   parent_tag : card_tag t c (t.p c) ≡ card_tag w c (w.p c)
-  parent_tag = tag_there (t.p c) (w.p c) here.info.p goes.parent
+  parent_tag = tag_there (t.p c) (w.p c) (here.words field.P) goes.parent
 
   grandparent_tag : card_tag t c (t.gp c) ≡ card_tag w c (w.gp c)
-  grandparent_tag = tag_there (t.gp c) (w.gp c) here.info.gp goes.grandparent
+  grandparent_tag = tag_there (t.gp c) (w.gp c) (here.words field.Gp) goes.grandparent
 
   -- what it has made
   changed_same : is_changed_in t c ≡ is_changed_in w c
-  changed_same = λ i. not (parent_tag i == here.info.expects i)
+  changed_same = λ i. not (parent_tag i == here.expects i)
 
   cut_same : is_cut_in t c ≡ is_cut_in w c
-  cut_same = λ i. if parent_update i == marked c then not (grandparent_tag i == here.info.expects i) else false
+  cut_same = λ i. if parent_update i == marked c then not (grandparent_tag i == here.expects i) else false
 
   pub made_same : (op : Op) → made_in t op c ≡ made_in w op c
   made_same op = λ i. entry_made op (changed_same i) (cut_same i)
 
   -- where it flags and marks
   pub place_same : (s : State) → flags_at t s c ≡ flags_at w s c
-  place_same state.DFlag = here.info.gp
-  place_same state.IFlag = here.info.p
-  place_same state.Mark = here.info.p
-  place_same state.Clean = here.info.p
+  place_same state.DFlag = here.words field.Gp
+  place_same state.IFlag = here.words field.P
+  place_same state.Mark = here.words field.P
+  place_same state.Clean = here.words field.P
 
   -- what facts say of it
   iflag_holds : IFlagHolds t c ≡ IFlagHolds w c
   iflag_holds = λ i. (is_delete_same i ≡ false) × (iflag c ≤ parent_update i)
 
   ichange_holds : IChangeHolds t c ≡ IChangeHolds w c
-  ichange_holds = λ i. iflag_holds i × (parent_tag i ≢ here.info.expects i)
+  ichange_holds = λ i. iflag_holds i × (parent_tag i ≢ here.expects i)
 
   iover_holds : Holds t (fact.IOver c) ≡ Holds w (fact.IOver c)
   iover_holds = λ i. ichange_holds i × (iflag c < parent_update i)
@@ -108,10 +108,10 @@ module _ (w t : Words) (stage : Stages) (sound : WordsAreSound w stage) (same : 
   mark_holds = λ i. dflag_holds i × (parent_update i ≡ marked c)
 
   unmarkable_holds : UnmarkableHolds t c ≡ UnmarkableHolds w c
-  unmarkable_holds = λ i. dflag_holds i × (here.info.was i < parent_update i) × (parent_update i ≢ marked c)
+  unmarkable_holds = λ i. dflag_holds i × (here.words field.Was i < parent_update i) × (parent_update i ≢ marked c)
 
   cut_holds : CutHolds t c ≡ CutHolds w c
-  cut_holds = λ i. mark_holds i × (grandparent_tag i ≢ here.info.expects i)
+  cut_holds = λ i. mark_holds i × (grandparent_tag i ≢ here.expects i)
 
   dover_holds : Holds t (fact.DOver c) ≡ Holds w (fact.DOver c)
   dover_holds = λ i. cut_holds i × (dflag c < grandparent_update i)
@@ -120,7 +120,7 @@ module _ (w t : Words) (stage : Stages) (sound : WordsAreSound w stage) (same : 
   backed_holds = λ i. unmarkable_holds i × (dflag c < grandparent_update i)
 
 -- what any fact says of its card
-pub fact_same : (w t : Words) (stage : Stages) (sound : WordsAreSound w stage) (same : (c : ℕ) → waits (stage c) ≡ false → SameCard w t (is_delete (stage c)) c)
+pub fact_same : (w t : Words) (stage : Stages) (sound : WordsAreSound w stage) (same : (c : ℕ) → waits (stage c) ≡ false → SaysTheSame w t c)
     (f : Fact) → waits (stage (card_of_fact f)) ≡ false → GoesInTree w stage (card_of_fact f) → Holds t f ≡ Holds w f
 fact_same w t stage sound same (fact.IFlagged c) calm goes = iflag_holds w t stage sound same c calm goes
 fact_same w t stage sound same (fact.IChanged c) calm goes = ichange_holds w t stage sound same c calm goes

@@ -7,19 +7,19 @@ use Rattle.ell_core.specs.state.Facts.{card_of_fact}
 use Rattle.ell_core.specs.state.Machine.{Machine}
 use Rattle.ell_core.specs.soundness.Holds.{effective}
 use Rattle.ell_core.specs.soundness.Sound.{LedgersAreSound, WalksAreSound, FactsAreSound, NamesAreSound, IsInHand, flags_at, FlagsAreSound, IsSound}
-use Rattle.ell_core.specs.history.Stages.{Stages, is_delete, waits}
+use Rattle.ell_core.specs.history.Stages.{Stages, waits}
 use Rattle.ell_core.specs.history.Invariant.{Invariant}
+use Rattle.ell_core.specs.history.Later.{SaysTheSame}
 use Rattle.ell_core.specs.statements.StepLaws.{GoesInTree}
 use Rattle.ell_core.proofs.lemmas.following.Reliance.{may_rely}
 use Rattle.ell_core.proofs.lemmas.following.Sound.{sound}
 use Rattle.ell_core.proofs.lemmas.following.waiting.Cards.{flagged_made, hand_claimed}
-use Rattle.ell_cards.specs.Laws.{SameCard}
 use Rattle.ell_cards.proofs.lemmas.own_words.OwnTree.{update_same, reached_same, reached_born, finds_same, joins_same, same_keys, pairs_same, lawful_same}
 use Rattle.ell_cards.proofs.lemmas.own_words.OwnCards.{allowed_settled, allowed_claimed, made_same, place_same, fact_same, effective_same}
 
 -- a machine that the invariant holds of, and other words that say the same at each card that does not wait
 module _ (m : Machine) (t : Words) (stage : Stages) (holds : Invariant m stage) (next : t.next ≡ m.words.next)
-    (same : (c : ℕ) → waits (stage c) ≡ false → SameCard m.words t (is_delete (stage c)) c) where
+    (same : (c : ℕ) → waits (stage c) ≡ false → SaysTheSame m.words t c) where
   -- the same machine with those words
   abbrev own : Machine
   own = record m { words = t }

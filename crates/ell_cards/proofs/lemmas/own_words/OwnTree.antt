@@ -6,7 +6,7 @@ use Rattle.ell_layout.specs.declared.field.Field.TheVariants.{Update}
 use Rattle.ell_layout.specs.Words.{Words, key_field, value_field, child_field, IsLeaf}
 use Rattle.ell_layout.specs.Cards.{child_for}
 use Rattle.ell_core.specs.tree.Tree.{OnWalk, here, next, Finds, Leads, Below, Reached, IsTreeKey, HasGrandparent, LeftIsLawful, IsLawful}
-use Rattle.ell_core.specs.history.Stages.{Stage, Stages, is_delete, is_node_born, waits, Born}
+use Rattle.ell_core.specs.history.Stages.{Stages, waits, Born}
 use Rattle.ell_core.specs.history.Invariant.{WordsAreSound}
 use Rattle.ell_core.specs.history.Later.{SaysTheSame}
 use Rattle.ell_core.specs.statements.Effects.{SamePairs}
@@ -14,7 +14,6 @@ use Rattle.ell_core.proofs.lemmas.stages.Order.{born_is_node}
 use Rattle.ell_layout.proofs.lemmas.Writes.{internal_at_node, key_at_node, value_at_leaf, child_at_node, update_at_node}
 use Rattle.ell_core.proofs.lemmas.stages.Waiting.{born-settled}
 use Rattle.ell_core.specs.tree.Rank.{rank}
-use Rattle.ell_cards.specs.Laws.{SameCard}
 
 -- trees of the same keys with the same values have the same keys
 pub same_keys : (old new : Words) → SamePairs old new → (k : ℕ) → IsTreeKey new k ↔ IsTreeKey old k
@@ -23,15 +22,11 @@ same_keys old new same k = (
   λ h. (h.0, (same k h.0).1 h.1),
 )
 
--- a card of which a node came into the tree is no delete's
-pub born-no_delete : (s : Stage) (place : ℕ) → is_node_born s place ≡ true → is_delete s ≡ false
-born-no_delete s place h = grind arith
-
 -- sound words w, and others, t, that say the same at each card that does not wait
-module _ (w t : Words) (stage : Stages) (sound : WordsAreSound w stage) (same : (c : ℕ) → waits (stage c) ≡ false → SameCard w t (is_delete (stage c)) c) where
+module _ (w t : Words) (stage : Stages) (sound : WordsAreSound w stage) (same : (c : ℕ) → waits (stage c) ≡ false → SaysTheSame w t c) where
   -- a node that came into the tree is as it was
   at_card : (x : ℕ) → Born stage x → SaysTheSame w t (card x)
-  at_card x born = (same (card x) (born-settled (stage (card x)) (x % 4) born)).says (born-no_delete (stage (card x)) (x % 4) born)
+  at_card x born = same (card x) (born-settled (stage (card x)) (x % 4) born)
 
   pub key_same : (x : ℕ) → Born stage x → t.key x ≡ w.key x
   key_same x born = let node = born_is_node stage x born in

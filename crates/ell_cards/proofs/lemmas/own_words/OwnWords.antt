@@ -1,5 +1,4 @@
 use Rattle.std.proofs.Common.{◌≡◌, ℕ, ◌<◌, ◌≤◌, ◌⊎◌, Bool, true, false, List, refl, sym, ◌∙◌, inl, inr, ◌%◌, ◌==◌, arith}
-use Rattle.std.proofs.lemmas.Bool.{false≢true}
 use mathlib.Core.Option.{some}
 use lib.ListN.{get_elem?}
 use Rattle.ell_word.specs.Node.{card, internal, right_leaf}
@@ -10,6 +9,7 @@ use Rattle.ell_layout.specs.declared.field.Field.TheVariants as field
 use Rattle.ell_layout.specs.Words.{IsLeaf, word, table_word}
 use Rattle.ell_core.specs.soundness.Sound.{IsSound}
 use Rattle.ell_core.specs.history.Stages.{Stage, Born, is_claimed, is_start, is_insert, is_delete, is_born, is_node_born, waits, delete_won}
+use Rattle.ell_core.specs.history.Later.{SaysTheSame}
 use Rattle.ell_core.specs.statements.StepLaws.{GoesInTree}
 use Rattle.ell_core.specs.statements.Effects.{SamePairs}
 use Rattle.ell_layout.proofs.lemmas.Listed.{words_are_listed, listed_next, listed_small}
@@ -25,11 +25,11 @@ use Rattle.ell_cards.specs.Models.{KnowsCard}
 use Rattle.ell_cards.specs.States.{TableState, seated}
 use Rattle.ell_cards.specs.Machines.{HasMachine}
 use Rattle.ell_cards.specs.TurnEffects.{own_words, own_machine}
-use Rattle.ell_cards.specs.Laws.{SameCard, MachineIsSound, WordsAreOwn, MachineHasOwnWords}
+use Rattle.ell_cards.specs.Laws.{MachineIsSound, WordsAreOwn, MachineHasOwnWords}
 use Rattle.ell_cards.proofs.lemmas.seats.Statements.{SoundByMachine}
 use Rattle.ell_cards.proofs.lemmas.stepping.Known.{known_card, known_settled, known_claimed}
 use Rattle.ell_cards.proofs.lemmas.seats.Seats.{mine_sound}
-use Rattle.ell_cards.proofs.lemmas.own_words.OwnTree.{born-no_delete, reached_same, reached_born, pairs_same}
+use Rattle.ell_cards.proofs.lemmas.own_words.OwnTree.{reached_same, reached_born, pairs_same}
 use Rattle.ell_cards.proofs.lemmas.own_words.OwnCards.{card_key_same, card_value_same, leaf_value_same}
 use Rattle.ell_cards.proofs.lemmas.own_words.OwnSound.{own_sound}
 
@@ -47,9 +47,9 @@ module _ (keys : List ℕ) (cards : ℕ) (s : TableState) (r : HasMachine keys c
   node_is_small x born =
       let below = born_below r.words r.stages r.invariant.words x born in let most = r.invariant.limit in let limit = r.limit in omega arith
 
-  -- so does a leaf of a claimed card
-  leaf_is_small : (c x : ℕ) → is_claimed (r.stages c) ≡ true → x ≤ right_leaf c → x < 67108864
-  leaf_is_small c x claimed low =
+  -- so does each node of a claimed card
+  own_is_small : (c x : ℕ) → is_claimed (r.stages c) ≡ true → x ≤ right_leaf c → x < 67108864
+  own_is_small c x claimed low =
       let below = (r.invariant.words.cards c).claimed.0 claimed in let most = r.invariant.limit in let limit = r.limit in omega arith
 
   -- so do the children of a card's node that came into the tree
@@ -60,11 +60,13 @@ module _ (keys : List ℕ) (cards : ℕ) (s : TableState) (r : HasMachine keys c
       let there : Born r.stages (internal c) = (λ t. is_node_born (r.stages (same t)) (inner t)) ∙ born in
       node_is_small (r.words.child (internal c) right) ((r.invariant.words.children (internal c) inner there).born right)
 
-  -- so do the leaf where a card goes and the left child of its node
+  -- what a card says fits beside a tag
   module _ (c : ℕ) where
+    -- where it was not claimed, it says 0
     blank_is_small : is_claimed (r.stages c) ≡ false → (x : ℕ) → x ≡ 0 → x < 67108864
     blank_is_small unclaimed x is = omega (arith, is)
 
+    -- the children of an insert's card came into the tree, or are its own leaves
     insert_child_is_small : is_insert (r.stages c) ≡ true → (right : Bool) → r.words.child (internal c) right < 67108864
     insert_child_is_small inserts right = by (is_born (r.stages c)) refl right
       where
@@ -72,11 +74,12 @@ module _ (keys : List ℕ) (cards : ℕ) (s : TableState) (r : HasMachine keys c
         by true born right = born_child_is_small c right (all-born (r.stages c) 0 (omega arith) born)
         by false unborn true =
             let is = ((r.invariant.words.cards c).unborn inserts unborn).right in
-            leaf_is_small c (r.words.child (internal c) true) (insert-claimed (r.stages c) inserts) (omega (arith, is))
+            own_is_small c (r.words.child (internal c) true) (insert-claimed (r.stages c) inserts) (omega (arith, is))
         by false unborn false =
             let is = ((r.invariant.words.cards c).unborn inserts unborn).left in
-            leaf_is_small c (r.words.child (internal c) false) (insert-claimed (r.stages c) inserts) (omega (arith, is))
+            own_is_small c (r.words.child (internal c) false) (insert-claimed (r.stages c) inserts) (omega (arith, is))
 
+    -- the leaf where it goes
     goes_small : r.words.l c < 67108864
     goes_small = elim (stage_kinds (r.stages c)) [
       | inl unclaimed ↦ blank_is_small unclaimed (r.words.l c) (((r.invariant.words.cards c).blank unclaimed).words field.L)
@@ -85,72 +88,57 @@ module _ (keys : List ℕ) (cards : ℕ) (s : TableState) (r : HasMachine keys c
       | inr (inr (inr deletes)) ↦ node_is_small (r.words.l c) ((r.invariant.words.cards c).delete deletes).leaf.born
     ]
 
-    left_is_small : r.words.child (internal c) false < 67108864
-    left_is_small = elim (stage_kinds (r.stages c)) [
-      | inl unclaimed ↦ blank_is_small unclaimed (r.words.child (internal c) false) (((r.invariant.words.cards c).blank unclaimed).words field.Left)
-      | inr (inl start) ↦ born_child_is_small c false (start-born (r.stages c) 0 (omega arith) start)
-      | inr (inr (inl inserts)) ↦ insert_child_is_small inserts false
-      | inr (inr (inr deletes)) ↦ (let is = ((r.invariant.words.cards c).delete deletes).no_left_child in omega (arith, is))
+    -- the children of its node
+    child_is_small : (right : Bool) → r.words.child (internal c) right < 67108864
+    child_is_small right = elim (stage_kinds (r.stages c)) [
+      | inl unclaimed ↦ by_blank right unclaimed
+      | inr (inl start) ↦ born_child_is_small c right (start-born (r.stages c) 0 (omega arith) start)
+      | inr (inr (inl inserts)) ↦ insert_child_is_small inserts right
+      | inr (inr (inr deletes)) ↦ by_delete right deletes
     ]
+      where
+        by_blank : (right : Bool) → is_claimed (r.stages c) ≡ false → r.words.child (internal c) right < 67108864
+        by_blank true unclaimed = blank_is_small unclaimed (r.words.child (internal c) true) (((r.invariant.words.cards c).blank unclaimed).words field.Right)
+        by_blank false unclaimed = blank_is_small unclaimed (r.words.child (internal c) false) (((r.invariant.words.cards c).blank unclaimed).words field.Left)
 
-    -- so does the right child of one that is no delete's
-    right_is_small : is_delete (r.stages c) ≡ false → r.words.child (internal c) true < 67108864
-    right_is_small other = elim (stage_kinds (r.stages c)) [
-      | inl unclaimed ↦ blank_is_small unclaimed (r.words.child (internal c) true) (((r.invariant.words.cards c).blank unclaimed).words field.Right)
-      | inr (inl start) ↦ born_child_is_small c true (start-born (r.stages c) 0 (omega arith) start)
-      | inr (inr (inl inserts)) ↦ insert_child_is_small inserts true
-      | inr (inr (inr deletes)) ↦ absurd (false≢true (sym other ∙ deletes))
-    ]
+        by_delete : (right : Bool) → is_delete (r.stages c) ≡ true → r.words.child (internal c) right < 67108864
+        by_delete true deletes = let is = ((r.invariant.words.cards c).delete deletes).no_right_child in omega (arith, is)
+        by_delete false deletes = let is = ((r.invariant.words.cards c).delete deletes).no_left_child in omega (arith, is)
 
   -- a card that does not wait has the table's own words
   module _ (c : ℕ) (calm : waits (r.stages c) ≡ false) where
+    -- a table has the same words there
     table_there : (field : Field) → table_word (own_words s) c field ≡ table_word r.words c field
     table_there field = words_are_listed s.words c field ∙ r.settled c field calm
 
+    -- the same leaf and the tag that is expected
     link_there : (r.words.l c ≡ (own_words s).l c) × (r.words.expects c ≡ (own_words s).expects c)
     link_there = same_links (r.words.l c) (r.words.expects c) ((own_words s).l c) ((own_words s).expects c) (goes_small c)
         ((listed_small s.words).l c) (sym (table_there field.L))
 
-    child_there : (right : Bool) → r.words.child (internal c) right < 67108864
+    -- the same child on a side, and its tag
+    child_there : (right : Bool)
         → (r.words.child (internal c) right ≡ (own_words s).child (internal c) right) × (r.words.tag (internal c) right ≡ (own_words s).tag (internal c) right)
-    child_there true small =
+    child_there true =
         same_links (r.words.child (internal c) true) (r.words.tag (internal c) true) ((own_words s).child (internal c) true) ((own_words s).tag (internal c) true)
-        small ((listed_small s.words).child (internal c) true) (sym (table_there field.Right))
-    child_there false small =
+        (child_is_small c true) ((listed_small s.words).child (internal c) true) (sym (table_there field.Right))
+    child_there false =
         same_links (r.words.child (internal c) false) (r.words.tag (internal c) false) ((own_words s).child (internal c) false) ((own_words s).tag (internal c) false)
-        small ((listed_small s.words).child (internal c) false) (sym (table_there field.Left))
+        (child_is_small c false) ((listed_small s.words).child (internal c) false) (sym (table_there field.Left))
 
-    word_there : is_delete (r.stages c) ≡ false → (field : Field) → word r.words c field ≡ word (own_words s) c field
-    word_there other field.L = link_there.0
-    word_there other field.Left = (child_there false (left_is_small c)).0
-    word_there other field.Right = (child_there true (right_is_small c other)).0
-    word_there other field = sym (table_there field)
+    -- and all that its fields say
+    word_there : (field : Field) → word r.words c field ≡ word (own_words s) c field
+    word_there field.L = link_there.0
+    word_there field.Left = (child_there false).0
+    word_there field.Right = (child_there true).0
+    word_there field = sym (table_there field)
 
-    tag_there : is_delete (r.stages c) ≡ false → (right : Bool) → r.words.tag (internal c) right ≡ (own_words s).tag (internal c) right
-    tag_there other true = (child_there true (right_is_small c other)).1
-    tag_there other false = (child_there false (left_is_small c)).1
+  settled_card : (c : ℕ) → waits (r.stages c) ≡ false → SaysTheSame (own_words s) r.words c
+  settled_card c calm = record { words = word_there c calm; expects = (link_there c calm).1; tags = λ right. (child_there c calm right).1 }
 
-  pub settled_card : (c : ℕ) → waits (r.stages c) ≡ false → SameCard (own_words s) r.words (is_delete (r.stages c)) c
-  settled_card c calm = record {
-    words = λ field. sym (table_there c calm field);
-    info = record {
-      gp = sym (table_there c calm field.Gp);
-      p = sym (table_there c calm field.P);
-      l = (link_there c calm).0;
-      expects = (link_there c calm).1;
-      was = sym (table_there c calm field.Was);
-    };
-    left = (child_there c calm false (left_is_small c)).0;
-    says = λ other. record { words = word_there c calm other; expects = (link_there c calm).1; tags = tag_there c calm other };
-  }
-
-  pub same_card : (c : ℕ) → waits (r.stages c) ≡ false → SameCard r.words (own_words s) (is_delete (r.stages c)) c
-  same_card c calm = let h = settled_card c calm in record {
-    words = table_there c calm;
-    info = record { gp = sym h.info.gp; p = sym h.info.p; l = sym h.info.l; expects = sym h.info.expects; was = sym h.info.was };
-    left = sym h.left;
-    says = λ other. (let all = h.says other in record { words = λ field. sym (all.words field); expects = sym all.expects; tags = λ right. sym (all.tags right) });
-  }
+  pub same_card : (c : ℕ) → waits (r.stages c) ≡ false → SaysTheSame r.words (own_words s) c
+  same_card c calm = let h = settled_card c calm in
+      record { words = λ field. sym (h.words field); expects = sym h.expects; tags = λ right. sym (h.tags right) }
 
   -- the table's own words are a sound state
   sound_state : IsSound (own_machine cards s)
@@ -197,9 +185,8 @@ module _ (keys : List ℕ) (cards : ℕ) (s : TableState) (r : HasMachine keys c
     next = sym same_next;
     settled = settled_card;
     reached = reached_same r.words (own_words s) r.stages r.invariant.words same_card;
-    nodes = λ x reached.
-        let born = reached_born r.words (own_words s) r.stages r.invariant.words same_card x reached in
-        (settled_card (card x) (born-settled (r.stages (card x)) (x % 4) born)).says (born-no_delete (r.stages (card x)) (x % 4) born);
+    nodes = λ x reached. settled_card (card x)
+        (born-settled (r.stages (card x)) (x % 4) (reached_born r.words (own_words s) r.stages r.invariant.words same_card x reached));
     flags = λ x reached inner dirty.
         let hand = (sound_state.flags x reached inner dirty).in_hand in
         let c = (unpacked ((own_words s).update x)).card in

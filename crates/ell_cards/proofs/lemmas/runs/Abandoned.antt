@@ -5,6 +5,7 @@ use lib.ListN.{get_elem?}
 use Rattle.atomic_table.proofs.Lists.{at_set}
 use Rattle.ell_core.specs.declared.exchange.Exchange.{Exchange}
 use Rattle.ell_core.specs.declared.exchange.Exchange.TheVariants as exchange
+use Rattle.ell_word.specs.Link.{linked}
 use Rattle.ell_word.specs.Word.{packed}
 use Rattle.ell_core.specs.state.Machine.{worker_of}
 use Rattle.ell_layout.specs.Cards.{iflag, dflag}
@@ -107,11 +108,11 @@ one_win true k c d = by (d == c)
 call_wins_one : (c : Call) (n d : ℕ) → wins_in_all d (won_by c n) ≤ 1
 call_wins_one (call.Claim c) n d = one_win (n == c) exchange.Claim c d
 call_wins_one (call.IFlag c p from) n d = one_win (n == packed from) exchange.IFlag c d
-call_wins_one (call.IChild c p l q right) n d = one_win (n == l) exchange.IChild c d
+call_wins_one (call.IChild c p l q right) n d = one_win (n == linked l) exchange.IChild c d
 call_wins_one (call.IUnflag c p) n d = one_win (n == iflag c) exchange.IUnflag c d
 call_wins_one (call.DFlag c gp from) n d = one_win (n == packed from) exchange.DFlag c d
 call_wins_one (call.Mark c p was) n d = one_win (n == was) exchange.Mark c d
-call_wins_one (call.DChild c gp p y right) n d = one_win (n == p) exchange.DChild c d
+call_wins_one (call.DChild c gp p y right) n d = one_win (n == linked p) exchange.DChild c d
 call_wins_one (call.DUnflag c gp) n d = one_win (n == dflag c) exchange.DUnflag c d
 call_wins_one (call.Backtrack c gp) n d = one_win (n == dflag c) exchange.Backtrack c d
 call_wins_one _ n d = omega arith

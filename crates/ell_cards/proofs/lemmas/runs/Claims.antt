@@ -6,6 +6,7 @@ use lib.ListN.{get_elem?}
 use Rattle.atomic_table.proofs.Lists.{set_else, at_longer}
 use Rattle.ell_ops.specs.declared.op.Op.{Op}
 use Rattle.ell_ops.specs.declared.op.Op.TheVariants.{Find, Insert, Delete, Swap}
+use Rattle.ell_word.specs.Link.{link_in}
 use Rattle.ell_word.specs.Word.{packed, unpacked}
 use Rattle.ell_word.specs.declared.update.Update.{Update}
 use Rattle.ell_core.specs.declared.fact.Fact.{Fact}
@@ -16,10 +17,10 @@ use Rattle.ell_layout.proofs.lemmas.Listed.{listed_next}
 use Rattle.ell_cards.specs.declared.call.Call.{Call}
 use Rattle.ell_cards.specs.declared.call.Call.TheVariants as call
 use Rattle.ell_cards.specs.declared.view.Told.{Told}
-use Rattle.ell_cards.specs.declared.view.Told.TheVariants.{Met, Key, Value, Info, Frozen}
+use Rattle.ell_cards.specs.declared.view.Told.TheVariants.{Met, Key, Value, Info, Frozen, Expects}
 use Rattle.ell_cards.specs.declared.view.View.{View}
 use Rattle.ell_cards.specs.Models.{TablePlan, Has, latest, earlier, IsTold}
-use Rattle.ell_cards.specs.Changes.{told_filling, filling_of, filling_for, told_value, after_claim, after_flag, after_mark, is_mark_of, with_fact, unmarking, left_view, right_view, joined_view, spent_view}
+use Rattle.ell_cards.specs.Changes.{expected_tag, told_filling, filling_of, filling_for, told_value, after_claim, after_flag, after_mark, is_mark_of, with_fact, unmarking, left_view, right_view, joined_view, spent_view}
 use Rattle.ell_cards.specs.Guards.{MayClaim, Wants}
 use Rattle.ell_cards.specs.Calls.{word_of, atomic_of, left_by, after}
 use Rattle.ell_cards.specs.States.{TableState}
@@ -43,7 +44,7 @@ mark_told false c x u v e h = by (is_mark_of c u.state u.card)
     by false = places_more x u.state u.card v.told e h
 
 claim_told : (b : Bool) (c : ℕ) (v : View) (e : Told) → IsTold v e → IsTold (after_claim b c v) e
-claim_told true c v e h = filling_more c (filling_of c v) v.told e h
+claim_told true c v e h = earlier e (Expects c (expected_tag v)) (told_filling c (filling_of c v) v.told) (filling_more c (filling_of c v) v.told e h)
 claim_told false c v e h = h
 
 -- what was told stays told
@@ -51,13 +52,14 @@ pub after_told : (c : Call) (n : ℕ) (v : View) (e : Told) → IsTold v e → I
 after_told (call.Begin op) n v e h = earlier e (Met 0) v.told h
 after_told call.Again n v e h = earlier e (Met 0) v.told h
 after_told (call.Upd x) n v e h = places_more x (unpacked n).state (unpacked n).card v.told e h
-after_told (call.Down x right) n v e h = earlier e (Met n) v.told h
+after_told (call.Down x right) n v e h = earlier e (Met (link_in n).node) v.told h
 after_told (call.KeyOf x) n v e h = earlier e (Key x n) v.told h
 after_told (call.ValueOf x) n v e h = earlier e (Value x n) v.told h
 after_told (call.Info c f) n v e h = info_more c f n v.told e h
-after_told (call.FrozenChild c p right) n v e h = earlier e (Frozen c right n) (Met n ∷ v.told) (earlier e (Met n) v.told h)
-after_told call.Look n v e h = earlier e (Met n) v.told h
-after_told (call.LookDown from key right) n v e h = earlier e (Met n) v.told h
+after_told (call.FrozenChild c p right) n v e h =
+    earlier e (Frozen c right (link_in n).node) (Met (link_in n).node ∷ v.told) (earlier e (Met (link_in n).node) v.told h)
+after_told call.Look n v e h = earlier e (Met (link_in n).node) v.told h
+after_told (call.LookDown from key right) n v e h = earlier e (Met (link_in n).node) v.told h
 after_told (call.Claim c) n v e h = claim_told (n == c) c v e h
 after_told (call.IFlag c p from) n v e h = flag_told (n == packed from) (fact.IFlagged c) p (unpacked n) v e h
 after_told (call.DFlag c gp from) n v e h = flag_told (n == packed from) (fact.DFlagged c) gp (unpacked n) v e h
@@ -66,9 +68,9 @@ after_told _ n v e h = h
 
 -- who claims a card is told its parent
 claims_told : (v : View) (c : ℕ) (may : MayClaim v c) → IsTold (after_claim true c v) (Info c P may.parent.node)
-claims_told v c may = by may.op may.busy may.wants
+claims_told v c may = earlier (Info c P may.parent.node) (Expects c (expected_tag v)) (told_filling c (filling_of c v) v.told) (by may.op may.busy may.wants)
   where
-    by : (op : Op) → v.worker.operation ≡ Some op → Wants v op may.leaf may.key → IsTold (after_claim true c v) (Info c P may.parent.node)
+    by : (op : Op) → v.worker.operation ≡ Some op → Wants v op may.leaf may.key → Has (told_filling c (filling_of c v) v.told) (Info c P may.parent.node)
     by (Find k) busy wants = absurd wants
     by (Insert k value) busy wants =
         subst (λ es. Has (told_filling c es v.told) (Info c P may.parent.node))

@@ -2,6 +2,7 @@ use Rattle.std.proofs.Common.{◌≡◌, ◌≢◌, ℕ, ◌+◌, ◌<◌, ◌�
 use Rattle.std.proofs.lemmas.Bool.{cases_eq, ne_eqb, eq-eqb}
 use Rattle.ell_core.specs.declared.exchange.Exchange.{Exchange}
 use Rattle.ell_core.specs.declared.exchange.Exchange.TheVariants as exchange
+use Rattle.ell_word.specs.Link.{linked}
 use Rattle.ell_word.specs.Word.{packed}
 use Rattle.ell_layout.specs.Cards.{iflag, dflag}
 use Rattle.ell_layout.specs.Words.{Words}
@@ -61,11 +62,11 @@ pub record ClaimsCount (first : ℕ) (s : TableState) : Type 0 where
 pub claims_none : (c : Call) (n d : ℕ) → ((e : ℕ) → c ≢ call.Claim e) → times exchange.Claim d (won_by c n) ≡ 0
 claims_none (call.Claim c) n d apart = absurd (apart c refl)
 claims_none (call.IFlag c p from) n d apart = other_kind (n == packed from) exchange.IFlag exchange.Claim c d refl
-claims_none (call.IChild c p l q right) n d apart = other_kind (n == l) exchange.IChild exchange.Claim c d refl
+claims_none (call.IChild c p l q right) n d apart = other_kind (n == linked l) exchange.IChild exchange.Claim c d refl
 claims_none (call.IUnflag c p) n d apart = other_kind (n == iflag c) exchange.IUnflag exchange.Claim c d refl
 claims_none (call.DFlag c gp from) n d apart = other_kind (n == packed from) exchange.DFlag exchange.Claim c d refl
 claims_none (call.Mark c p was) n d apart = other_kind (n == was) exchange.Mark exchange.Claim c d refl
-claims_none (call.DChild c gp p y right) n d apart = other_kind (n == p) exchange.DChild exchange.Claim c d refl
+claims_none (call.DChild c gp p y right) n d apart = other_kind (n == linked p) exchange.DChild exchange.Claim c d refl
 claims_none (call.DUnflag c gp) n d apart = other_kind (n == dflag c) exchange.DUnflag exchange.Claim c d refl
 claims_none (call.Backtrack c gp) n d apart = other_kind (n == dflag c) exchange.Backtrack exchange.Claim c d refl
 claims_none _ n d apart = refl

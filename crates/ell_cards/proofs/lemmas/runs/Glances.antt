@@ -5,6 +5,8 @@ use Rattle.std.proofs.Math.Seq.{take-append_seam, drop-append_seam}
 use mathlib.Core.Option.{some, some-injective}
 use lib.ListN.{get_elem?}
 use Rattle.ell_ops.specs.Meaning.{greatest_key}
+use Rattle.ell_word.specs.declared.link.Link.{Link}
+use Rattle.ell_word.specs.Link.{link_in}
 use Rattle.ell_word.specs.Node.{IsInternal, card}
 use Rattle.ell_word.specs.Word.{packed, unpacked}
 use Rattle.ell_word.specs.declared.update.Update.{Update}
@@ -47,7 +49,7 @@ use Rattle.ell_cards.proofs.lemmas.own_words.OwnTree.{same_keys}
 use Rattle.ell_cards.proofs.lemmas.own_words.OwnWords.{own_pairs}
 use Rattle.ell_cards.proofs.lemmas.seats.Seats.{set_there}
 use Rattle.ell_cards.proofs.lemmas.runs.OwnSeat.{Only, turn_seat, turn_free, first_looks}
-use Rattle.ell_cards.proofs.lemmas.stepping.Looks.{child_listed}
+use Rattle.ell_cards.proofs.lemmas.stepping.Looks.{child_read}
 use Rattle.ell_cards.proofs.lemmas.runs.TurnsOfRuns.{one_more_turn, run_append, turn_lawful}
 use Rattle.ell_cards.proofs.lemmas.runs.GoingOn.{run_goes}
 
@@ -289,8 +291,8 @@ module _ (keys : List ℕ) (cards : ℕ) (seat : ℕ) where
     goes_down from k right may g (latest _ _) =
         let c = may.come in
         let was = subst (λ x. Came keys cards s0 turns s x c.glance.low c.glance.high) c.there (at.came c.glance c.among) in
-        came_down keys cards seat s at.view at.there from.node k may.told s0 turns from.low from.high right (found_by s (call.LookDown from k right)) may.inner
-        (λ end born. child_listed keys cards s end seat at.view at.there from.node right may.inner born)
+        came_down keys cards seat s at.view at.there from.node k may.told s0 turns from.low from.high right (link_in (found_by s (call.LookDown from k right))).node may.inner
+        (λ end born. sym (ap (λ (k : Link). k.node) (child_read keys cards s end seat at.view at.there from.node right may.inner born)))
         (came_part keys cards s0 turns s from.node c.glance.low c.glance.high from.low from.high c.from c.upto was)
     goes_down from k right may g (earlier _ _ _ has) = at.came g has
 
@@ -354,12 +356,13 @@ module _ (keys : List ℕ) (cards : ℕ) (seat : ℕ) where
   look_begins s r s1 h =
       let turn = turn_lawful keys cards s r (Makes seat call.Look) s1 h in
       let kept = turn.0 in
-      let n = found_by s call.Look in
+      let n = (link_in (found_by s call.Look)).node in
       let sound = r.invariant.words in
       let now : get_elem? s1.views seat ≡ some (view_after s h.view call.Look) =
       ap (λ (t : TableState). get_elem? t.views seat) h.gives ∙ set_there s.views seat (view_after s h.view call.Look) h.view h.there in
       let same : kept.words ≡ r.words = ap (λ (m : Machine). m.words) turn.1.machine in
-      let is : r.words.child 0 false ≡ n = child_listed keys cards s r seat h.view h.there 0 false refl (root_born r.words r.stages sound) in
+      let is : r.words.child 0 false ≡ n =
+      sym (ap (λ (k : Link). k.node) (child_read keys cards s r seat h.view h.there 0 false refl (root_born r.words r.stages sound))) in
       let come : AllCome kept.words n 0 (greatest_key + 1) = λ k low less.
       subst (λ (w : Words). OnWalk w k 0 n) (sym same)
       (next refl (here (sym (ap (r.words.child 0) (sym (left_of_top (r.words.key 0) greatest_key k sound.tree.root_key (omega arith))) ∙ is)))) in
@@ -370,8 +373,8 @@ module _ (keys : List ℕ) (cards : ℕ) (seat : ℕ) where
         came = λ g has. first g has kept come;
       }
     where
-      first : (g : Glance) → Has (record { node = found_by s call.Look; low = 0; high = greatest_key + 1 } ∷ []) g → (kept : HasMachine keys cards s1)
-          → AllCome kept.words (found_by s call.Look) 0 (greatest_key + 1) → Came keys cards s1 [] s1 g.node g.low g.high
+      first : (g : Glance) → Has (record { node = (link_in (found_by s call.Look)).node; low = 0; high = greatest_key + 1 } ∷ []) g → (kept : HasMachine keys cards s1)
+          → AllCome kept.words (link_in (found_by s call.Look)).node 0 (greatest_key + 1) → Came keys cards s1 [] s1 g.node g.low g.high
       first g (latest _ _) kept come = record {
         before = [];
         after = [];

@@ -1,4 +1,4 @@
-use Rattle.std.proofs.Common.{◌≡◌, ◌≢◌, ℕ, ◌⊎◌, ◌/◌, ◌%◌, ◌<◌, ◌≤◌, ◌==◌, if◌then◌else◌, Bool, true, false, Option, Some, None, List, [], ◌∷◌, ◌++◌, inl, inr, refl, sym, ap, ◌∙◌, subst, arith, eq-eqb, eqb-true, true≢false}
+use Rattle.std.proofs.Common.{◌≡◌, ◌≢◌, ℕ, ◌⊎◌, ◌/◌, ◌%◌, ◌<◌, ◌≤◌, ◌==◌, if◌then◌else◌, Bool, true, false, Option, Some, None, List, [], ◌∷◌, ◌++◌, inl, inr, refl, sym, ap, ◌∙◌, subst, arith, eq-eqb, eqb-true, true≢false, unwrap_or}
 use Rattle.ell_core.specs.acts.Searching.{put_of}
 use Rattle.ell_core.proofs.lemmas.keeping.Puts.{putting_hand}
 use Rattle.std.proofs.lemmas.Bool.{cases_eq, false≢true}
@@ -44,8 +44,7 @@ use Rattle.ell_cards.specs.declared.view.Hindrance.{Hindrance}
 use Rattle.ell_cards.specs.declared.view.Hindrance.TheVariants.{Claim, Found}
 use Rattle.ell_cards.specs.declared.view.View.{View}
 use Rattle.ell_cards.specs.Changes.{unless_clean, read_in_way, first_in_way, in_the_way, way_now, after_again, after_leave, after_answer, after_claim, after_flag, after_mark, if_won, exchanged, with_fact, unmarking, is_mark_of, is_this}
-use Rattle.ell_cards.proofs.lemmas.views.Searches.{seen_at}
-use Rattle.ell_cards.specs.Calls.{after, May}
+use Rattle.ell_cards.specs.Calls.{after, May, seen_below}
 use Rattle.ell_cards.specs.States.{TableState, seat_worker}
 use Rattle.ell_cards.specs.Machines.{HasMachine}
 use Rattle.ell_cards.specs.Turns.{found_by}
@@ -103,7 +102,7 @@ module _ (w : Words) (stage : Stages) (now : Words) (after : Stages) where
 
   -- a word that was read at a node since names a card below the claim word
   abbrev ReadSince : Seen → Type 0
-  ReadSince seen = SeenSince w stage seen × ((unpacked seen.word).card < now.next)
+  ReadSince seen = SeenSince w stage seen.node seen.word × ((unpacked seen.word).card < now.next)
 
   read_met : (o : Option Seen) → ((seen : Seen) → o ≡ Some seen → ReadSince seen) → AllMet w stage now after (read_in_way o)
   read_met None h = tt
@@ -253,11 +252,17 @@ module _ (keys : List ℕ) (cards : ℕ) (m0 : Machine) (stage : Stages) (first 
     )
   ]
 
-  place_of : (seen : Seen) → SeenSince m0.words stage seen → PlaceSince m0.words stage seen.node seen.word
+  place_of : (seen : Seen) → SeenSince m0.words stage seen.node seen.word → PlaceSince m0.words stage seen.node seen.word
   place_of seen h = record { least = h.word; there = h.there }
 
   three : (n : ℕ) → IsClean n → 3 ≤ n
   three n h = let rest = clean_remainder n h in omega (arith, rest)
+
+  -- in place of one that a search has read at a node since, which has these names
+  finds_seen : (seen : Seen) (x from n : ℕ) → seen.node ≡ x → seen.word ≡ from → IsInternal seen.node → Born now seen.node → PlaceSince m0.words stage seen.node seen.word
+      → seen.word ≤ r.words.update seen.node → IsClean seen.word → r.words.update x ≡ n → n ≢ from → Met m0.words stage later_words ends (Found (unpacked n))
+  finds_seen seen x from n node word inner born place low calm is other =
+      finds seen.node seen.word n inner born place low (three seen.word calm) (ap r.words.update node ∙ is) (λ e. other (e ∙ word))
 
   -- a lost claim
   claim_hindered : (c : ℕ) → May cards (call.Claim c) v → (b : Bool) → (found_by s (call.Claim c) == c) ≡ b → HinderedSince m0.words stage later_words ends old (after_claim b c v)
@@ -339,31 +344,31 @@ module _ (keys : List ℕ) (cards : ℕ) (m0 : Machine) (stage : Stages) (first 
       → HinderedSince m0.words stage later_words ends old (after (call.IFlag c p from) (found_by s (call.IFlag c p from)) v)
   iflag_hindered c p from may =
       let n = found_by s (call.IFlag c p from) in
-      let seen : Seen = record { node = p; word = packed from } in
+      let seen = may.parent in
       let stands = ap (λ (z : Worker). z.search.node) me ∙ may.stands in
       let behind = ap (λ (z : Worker). z.search.parent) me ∙ may.behind in
       let there_now = (rely.parent may.leaf seen stands behind).node in
       let there_then = ((relies keys cards s r seat v there).parent may.leaf seen stands behind).node in
-      let is = update_listed keys cards s r seat v there p there_then.inner there_then.born in
+      let is = update_listed keys cards s r seat v there p (subst IsInternal may.node there_then.inner) (subst (Born r.stages) may.node there_then.born) in
       let low = ((sound.stands may.op may.leaf may.busy may.stands).parent seen may.behind).0.word in
       let held = putting_hand r.words now (worker_of v.worker) may.what c may.op may.puts (sound.unflagged may.op c may.busy may.may.holds may.may.unflagged) in
       let same = same_Some held.parent seen (sym held.behind ∙ may.behind) in
       flag_hindered exchange.IFlag c (IFlagged c) p (packed from) n (n == packed from) refl
       (λ k d busy has. absurd (put_is_no_delete k may.op may.what may.puts (sym busy ∙ may.busy)))
-      (finds p (packed from) n there_now.inner there_now.born (place_of seen (since.parent seen behind)) low
-      (three (packed from) (subst (λ (z : Seen). IsClean z.word) same held.calm)) is)
+      (finds_seen seen p (packed from) n may.node may.read there_now.inner there_now.born (place_of seen (since.parent seen behind)) low
+      (subst (λ (z : Seen). IsClean z.word) same held.calm) is)
 
   dflag_hindered : (c gp : ℕ) (from : Update) → May cards (call.DFlag c gp from) v
       → HinderedSince m0.words stage later_words ends old (after (call.DFlag c gp from) (found_by s (call.DFlag c gp from)) v)
   dflag_hindered c gp from may =
       let n = found_by s (call.DFlag c gp from) in
-      let seen : Seen = record { node = gp; word = packed from } in
+      let seen = may.grandparent in
       let stands = ap (λ (z : Worker). z.search.node) me ∙ may.stands in
       let behind = ap (λ (z : Worker). z.search.parent) me ∙ may.behind in
       let above = ap (λ (z : Worker). z.search.grandparent) me ∙ may.above in
       let there_now = (rely.grandparent may.leaf may.parent seen stands behind above).node in
       let there_then = ((relies keys cards s r seat v there).grandparent may.leaf may.parent seen stands behind above).node in
-      let is = update_listed keys cards s r seat v there gp there_then.inner there_then.born in
+      let is = update_listed keys cards s r seat v there gp (subst IsInternal may.node there_then.inner) (subst (Born r.stages) may.node there_then.born) in
       let low = ((sound.stands (Delete may.key) may.leaf may.busy may.stands).grandparent may.parent seen may.behind may.above).word in
       let held = sound.unflagged (Delete may.key) c may.busy may.may.holds may.may.unflagged in
       let same = same_Some held.grandparent seen (sym held.above ∙ may.above) in
@@ -375,8 +380,8 @@ module _ (keys : List ℕ) (cards : ℕ) (m0 : Machine) (stage : Stages) (first 
       let one : c ≡ d = same_Some c d (sym may.may.holds ∙ has) in
       subst (λ e. PlaceSince m0.words stage (later_words.p e) (later_words.was e)) one
       (hand_later c (rely.hand c (ap (λ (z : Worker). z.card) me ∙ may.may.holds)) goes))
-      (finds gp (packed from) n there_now.inner there_now.born (place_of seen (since.grandparent seen above)) low
-      (three (packed from) (subst (λ (z : Seen). IsClean z.word) same held.calm)) is)
+      (finds_seen seen gp (packed from) n may.node may.read there_now.inner there_now.born (place_of seen (since.grandparent seen above)) low
+      (subst (λ (z : Seen). IsClean z.word) same held.calm) is)
 
   -- a mark of the card in hand that was lost
   mark_met : (c p was n : ℕ) → May cards (call.Mark c p was) v → r.words.update p ≡ n → n ≢ was → v.worker.card ≡ Some c
@@ -474,10 +479,11 @@ module _ (keys : List ℕ) (cards : ℕ) (m0 : Machine) (stage : Stages) (first 
   went_down : (x : ℕ) (right : Bool) → May cards (call.Down x right) v → (seen : Seen) → IsBehind (after (call.Down x right) (found_by s (call.Down x right)) v).worker.search seen
       → (unpacked seen.word).card < later_words.next
   went_down x right may seen (inl e) =
-      let read : Some (record { node = x; word = may.word }) ≡ Some seen = ap (seen_at x) (sym may.read) ∙ e in
+      let read : unwrap_or v.worker.search.read 0 ≡ may.word = ap (λ o. unwrap_or o 0) may.read in
       let low = rely.has_read x may.word (ap (λ (z : Worker). z.search.node) me ∙ may.stands) may.inner (ap (λ (z : Worker). z.search.read) me ∙ may.read) in
       let more = words'.next in
-      subst (λ (z : Seen). (unpacked z.word).card < later_words.next) (same_Some (record { node = x; word = may.word }) seen read) (omega arith)
+      subst (λ (z : Seen). (unpacked z.word).card < later_words.next) (same_Some (seen_below v x (found_by s (call.Down x right))) seen e)
+      (subst (λ n. (unpacked n).card < later_words.next) (sym read) (omega arith))
   went_down x right may seen (inr e) = named_later seen (inl e)
 
   -- the end of a try, with nothing in hand then, nor anything behind the search

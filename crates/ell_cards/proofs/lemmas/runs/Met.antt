@@ -1,8 +1,9 @@
-use Rattle.std.proofs.Common.{◌≡◌, ◌≢◌, ℕ, ◌==◌, if◌then◌else◌, Bool, true, false, Option, Some, None, List, [], ◌∷◌, set, unwrap_or, refl, sym, ap, ◌∙◌, subst, ⊎_elim}
+use Rattle.std.proofs.Common.{◌≡◌, ◌≢◌, ℕ, ◌==◌, if◌then◌else◌, Bool, true, false, Some, None, List, [], ◌∷◌, set, unwrap_or, refl, sym, ap, ◌∙◌, subst, ⊎_elim}
 use mathlib.Core.Option.{some}
 use lib.ListN.{get_elem?}
 use Rattle.atomic_table.proofs.Lists.{at_set}
 use Rattle.ell_word.specs.Node.{IsInternal}
+use Rattle.ell_word.specs.Link.{link_in}
 use Rattle.ell_word.specs.Word.{packed, unpacked}
 use Rattle.ell_word.specs.declared.update.Update.{Update}
 use Rattle.ell_core.specs.declared.fact.Fact.{Fact}
@@ -17,8 +18,7 @@ use Rattle.ell_cards.specs.declared.view.Told.TheVariants.{Met}
 use Rattle.ell_cards.specs.declared.view.View.{View}
 use Rattle.ell_cards.specs.Models.{TablePlan, latest, IsTold}
 use Rattle.ell_cards.specs.Changes.{first_of, left_view, right_view, joined_view, after_claim, after_flag, after_mark, is_mark_of, with_fact, unmarking}
-use Rattle.ell_cards.proofs.lemmas.views.Searches.{seen_at}
-use Rattle.ell_cards.specs.Calls.{after, May}
+use Rattle.ell_cards.specs.Calls.{after, May, seen_below}
 use Rattle.ell_cards.specs.States.{TableState}
 use Rattle.ell_cards.specs.Turns.{Turn, Makes, Splits, Joins, TableTurns, TableRun, found_by}
 use Rattle.ell_cards.specs.Starts.{IsReached}
@@ -92,8 +92,8 @@ met_same : (v w : View) → ((e : Told) → IsTold v e → IsTold w e) → w.wor
 met_same v w more same = met_still v w more (λ x e. sym (ap (λ (k : Search). k.node) same) ∙ e) (ap (λ (k : Search). k.parent) same) (ap (λ (k : Search). k.grandparent) same)
 
 -- the parent, once it went down from a node
-seen_met : (x : ℕ) (read : Option ℕ) (seen : Seen) → seen_at x read ≡ Some seen → x ≡ seen.node
-seen_met x read seen e = ap (λ (k : Seen). k.node) (some_same e)
+seen_met : (below seen : Seen) → Some below ≡ Some seen → below.node ≡ seen.node
+seen_met below seen e = ap (λ (k : Seen). k.node) (some_same e)
 
 after_met : (cards : ℕ) (c : Call) (n : ℕ) (v : View) → May cards c v → SearchIsMet v → SearchIsMet (after c n v)
 after_met cards (call.Begin op) n v may h = met_root (after (call.Begin op) n v) refl (latest (Met 0) v.told) refl refl
@@ -104,8 +104,8 @@ after_met cards (call.Upd x) n v may h = met_still v (after (call.Upd x) n v) (a
 after_met cards (call.Down x right) n v may h =
     let w = after (call.Down x right) n v in
     let more = after_told (call.Down x right) n v in record {
-      node = λ y e. subst (λ z. IsTold w (Met z)) (some_same e) (latest (Met n) v.told);
-      parent = λ seen e. subst (IsPassed w) (seen_met x v.worker.search.read seen e) (record { inner = may.inner; met = more (Met x) (h.node x may.stands) });
+      node = λ y e. subst (λ z. IsTold w (Met z)) (some_same e) (latest (Met (link_in n).node) v.told);
+      parent = λ seen e. subst (IsPassed w) (seen_met (seen_below v x n) seen e) (record { inner = may.inner; met = more (Met x) (h.node x may.stands) });
       grandparent = λ seen e. passed_still v w more seen.node (h.parent seen e);
     }
 after_met cards (call.Claim c) n v may h = met_same v (after (call.Claim c) n v) (after_told (call.Claim c) n v) (claim_search (n == c) c v) h

@@ -1,4 +1,4 @@
-use Rattle.std.proofs.Common.{◌≡◌, ◌%◌, ℕ, Bool, List, sym, ◌∙◌, arith}
+use Rattle.std.proofs.Common.{◌≡◌, ◌%◌, ◌<◌, ℕ, Bool, List, sym, ◌∙◌, arith}
 use Rattle.ell_core.specs.history.Later.{StagesLater}
 use Rattle.ell_word.specs.Node.{IsInternal, card}
 use Rattle.ell_word.specs.Word.{unpacked}
@@ -14,7 +14,7 @@ use Rattle.ell_cards.specs.Laws.{machine_of_table}
 use Rattle.ell_cards.specs.TurnEffects.{own_words, run_wins}
 use Rattle.ell_cards.specs.OwnWords.{NodeGoesOn}
 use Rattle.ell_cards.proofs.lemmas.seats.Statements.{NodesByMachine}
-use Rattle.ell_cards.proofs.lemmas.own_words.OwnTree.{key_same, child_same, update_same, reached_born}
+use Rattle.ell_cards.proofs.lemmas.own_words.OwnTree.{key_same, child_same, tag_same, update_same, reached_born}
 use Rattle.ell_cards.proofs.lemmas.own_words.OwnWords.{same_card}
 use Rattle.ell_cards.proofs.lemmas.runs.GoingOn.{Went, run_goes}
 
@@ -41,21 +41,34 @@ module _ (keys : List ℕ) (cards : ℕ) (s : TableState) (r : HasMachine keys c
   child_now : IsInternal x → (right : Bool) → (own_words s').child x right ≡ k.words.child x right
   child_now inner right = child_same k.words (own_words s') k.stages k.invariant.words (same_card keys cards s' k) x right inner later
 
+  tag_then : IsInternal x → (right : Bool) → (own_words s).tag x right ≡ r.words.tag x right
+  tag_then inner right = tag_same r.words (own_words s) r.stages r.invariant.words (same_card keys cards s r) x right inner born
+
+  tag_now : IsInternal x → (right : Bool) → (own_words s').tag x right ≡ k.words.tag x right
+  tag_now inner right = tag_same k.words (own_words s') k.stages k.invariant.words (same_card keys cards s' k) x right inner later
+
   update_then : IsInternal x → (own_words s).update x ≡ r.words.update x
   update_then inner = update_same r.words (own_words s) r.stages r.invariant.words (same_card keys cards s r) x inner born
 
   update_now : IsInternal x → (own_words s').update x ≡ k.words.update x
   update_now inner = update_same k.words (own_words s') k.stages k.invariant.words (same_card keys cards s' k) x inner later
 
+  -- its card was claimed
+  below : card x < r.words.next
+  below = (r.invariant.words.cards (card x)).claimed.0 (born-claimed (r.stages (card x)) (x % 4) born)
+
   -- and go on as those do
   node_goes_on : NodeGoesOn (own_words s) (own_words s') x
   node_goes_on = record {
-    key = key_now ∙ (went.words.key x ((r.invariant.words.cards (card x)).claimed.0 (born-claimed (r.stages (card x)) (x % 4) born)) ∙ sym key_then);
-    children = λ inner right.
-        let before = child_then inner right in
-        let after = child_now inner right in
-        let rises = went.words.child x right in
+    key = key_now ∙ (went.words.key x below ∙ sym key_then);
+    tags = λ inner right.
+        let before = tag_then inner right in
+        let after = tag_now inner right in
+        let rises = went.words.tag x right in
         omega arith;
+    children = λ inner right same.
+        child_now inner right
+        ∙ (went.words.child x right below (sym (tag_now inner right) ∙ (same ∙ tag_then inner right)) ∙ sym (child_then inner right));
     update = λ inner.
         let before = update_then inner in
         let after = update_now inner in
@@ -67,6 +80,7 @@ module _ (keys : List ℕ) (cards : ℕ) (s : TableState) (r : HasMachine keys c
         record {
           update = update_now inner ∙ (still.update ∙ sym (update_then inner));
           child = λ right. child_now inner right ∙ (still.child right ∙ sym (child_then inner right));
+          tag = λ right. tag_now inner right ∙ (still.tag right ∙ sym (tag_then inner right));
         };
   }
 

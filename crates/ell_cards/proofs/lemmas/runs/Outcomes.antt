@@ -19,7 +19,7 @@ use Rattle.ell_layout.specs.declared.field.Field.{Field}
 use Rattle.ell_layout.specs.declared.field.Field.TheVariants as field
 use Rattle.ell_core.specs.state.Facts.{card_of_fact}
 use Rattle.ell_layout.specs.Layout.{listed}
-use Rattle.ell_layout.specs.Words.{word}
+use Rattle.ell_layout.specs.Words.{table_word}
 use Rattle.ell_core.specs.state.Machine.{Worker}
 use Rattle.ell_layout.specs.Cards.{iflag, dflag, marked}
 use Rattle.ell_core.specs.soundness.Sound.{IsInHand}
@@ -242,7 +242,7 @@ module _ (plan : TablePlan) (s : TableState) (h : IsReached plan s) (id : ℕ) (
   ]
 
   -- a card that is filled goes where the machine says, in the table and after it too, if the step left its word
-  goes_there : (r : HasMachine plan.keys plan.last_card T) (F : Field) → IsFilled v → left ≡ found_by s c → waits (r.stages d) ≡ false → word r.words d F ≡ word before.words d F
+  goes_there : (r : HasMachine plan.keys plan.last_card T) (F : Field) → IsFilled v → left ≡ found_by s c → waits (r.stages d) ≡ false → table_word r.words d F ≡ table_word before.words d F
   goes_there r F filled same calm =
       let held = (before.views id v here).hand d hand.holds hand.unflagged in
       let words : T.words ≡ s.words = ap (set s.words (word_of c)) same ∙ set-get_or s.words (word_of c) 0 in
@@ -254,7 +254,7 @@ module _ (plan : TablePlan) (s : TableState) (h : IsReached plan s) (id : ℕ) (
 
   -- where the flag was lost and told as won, its card would have it at that node, which has it not
   flag_before : (counts : Counts plan.keys plan.last_card T) (F : Field) (flag : ℕ) → IsFilled v → left ≡ found_by s c → waits (counts.machine.stages d) ≡ false
-      → word before.words d F ≡ x → counts.machine.words.update (word counts.machine.words d F) ≡ flag → before.words.update x ≡ flag
+      → table_word before.words d F ≡ x → counts.machine.words.update (table_word counts.machine.words d F) ≡ flag → before.words.update x ≡ flag
   flag_before counts F flag filled same calm goes stands =
       sym (listed_update plan.keys plan.last_card s before x passed.inner born_before) ∙ (sym (ap (λ i. get_or s.words i 0) at)
       ∙ (sym same ∙ (flag_listed counts.machine ∙ (ap counts.machine.words.update (sym (goes_there counts.machine F filled same calm ∙ goes)) ∙ stands))))
@@ -396,7 +396,7 @@ module _ (plan : TablePlan) (s : TableState) (h : IsReached plan s) (id : ℕ) (
       i = call.IFlag c p from
 
       passed : IsPassed v p
-      passed = (searches_are_met plan s h id v here).parent (record { node = p; word = packed from }) may.behind
+      passed = subst (IsPassed v) may.node ((searches_are_met plan s h id v here).parent may.parent may.behind)
 
       r : HasMachine plan.keys plan.last_card (told_of s id v i n)
       r = reached_kept plan (told_of s id v i n) on
@@ -415,7 +415,7 @@ module _ (plan : TablePlan) (s : TableState) (h : IsReached plan s) (id : ℕ) (
           let same = mine_is plan.keys plan.last_card s q id v here in
           let says = putting_hand q.words q.stages _ may.what c may.op may.puts ((q.invariant.workers.each id).unflagged may.op c (ap (λ (u : Worker). u.operation) same ∙ may.busy)
           (ap (λ (u : Worker). u.card) same ∙ may.may.holds) (ap (λ (u : Worker). u.flagged) same ∙ may.may.unflagged)) in
-          sym says.node ∙ ap (λ (k : Seen). k.node) (some_same (sym says.behind ∙ (ap (λ (u : Worker). u.search.parent) same ∙ may.behind)))
+          sym says.node ∙ (ap (λ (k : Seen). k.node) (some_same (sym says.behind ∙ (ap (λ (u : Worker). u.search.parent) same ∙ may.behind))) ∙ may.node)
 
       lost_won : (n == packed from) ≡ true → (found_by s i == packed from) ≡ false → ⊥
       lost_won e g =
@@ -439,7 +439,7 @@ module _ (plan : TablePlan) (s : TableState) (h : IsReached plan s) (id : ℕ) (
       i = call.DFlag c gp from
 
       passed : IsPassed v gp
-      passed = (searches_are_met plan s h id v here).grandparent (record { node = gp; word = packed from }) may.above
+      passed = subst (IsPassed v) may.node ((searches_are_met plan s h id v here).grandparent may.grandparent may.above)
 
       r : HasMachine plan.keys plan.last_card (told_of s id v i n)
       r = reached_kept plan (told_of s id v i n) on
@@ -458,7 +458,7 @@ module _ (plan : TablePlan) (s : TableState) (h : IsReached plan s) (id : ℕ) (
           let same = mine_is plan.keys plan.last_card s q id v here in
           let says = (q.invariant.workers.each id).unflagged (Delete may.key) c (ap (λ (u : Worker). u.operation) same ∙ may.busy)
           (ap (λ (u : Worker). u.card) same ∙ may.may.holds) (ap (λ (u : Worker). u.flagged) same ∙ may.may.unflagged) in
-          sym says.top_node ∙ ap (λ (k : Seen). k.node) (some_same (sym says.above ∙ (ap (λ (u : Worker). u.search.grandparent) same ∙ may.above)))
+          sym says.top_node ∙ (ap (λ (k : Seen). k.node) (some_same (sym says.above ∙ (ap (λ (u : Worker). u.search.grandparent) same ∙ may.above))) ∙ may.node)
 
       lost_won : (n == packed from) ≡ true → (found_by s i == packed from) ≡ false → ⊥
       lost_won e g =

@@ -5,6 +5,8 @@ use lib.ListN.{get_elem?}
 use Rattle.ell_ops.specs.declared.op.Op.{Op}
 use Rattle.ell_ops.specs.declared.reply.Reply.{Reply}
 use Rattle.ell_ops.specs.Meaning.{greatest_key, key_of}
+use Rattle.ell_word.specs.declared.link.Link.{Link}
+use Rattle.ell_word.specs.Link.{link_in}
 use Rattle.ell_word.specs.Node.{card}
 use Rattle.ell_word.specs.Word.{packed, unpacked}
 use Rattle.ell_word.specs.declared.update.Update.{Update}
@@ -41,7 +43,7 @@ use Rattle.ell_cards.proofs.lemmas.own_words.OwnTree.{same_keys}
 use Rattle.ell_cards.proofs.lemmas.own_words.OwnWords.{own_pairs}
 use Rattle.ell_cards.proofs.lemmas.seats.Seats.{set_there, relied_born}
 use Rattle.ell_cards.proofs.lemmas.runs.OwnSeat.{Only, SeatGoesOn, turn_seat}
-use Rattle.ell_cards.proofs.lemmas.stepping.Looks.{child_listed, here_key}
+use Rattle.ell_cards.proofs.lemmas.stepping.Looks.{child_read, here_key}
 use Rattle.ell_cards.proofs.lemmas.runs.TurnsOfRuns.{turn_lawful}
 use Rattle.ell_cards.proofs.lemmas.runs.Walked.{gone_by, WasOn, was_first, was_later}
 use Rattle.ell_cards.proofs.lemmas.runs.GoingOn.{run_goes}
@@ -106,7 +108,7 @@ module _ (keys : List ℕ) (cards : ℕ) (seat key : ℕ) (real : key ≤ greate
     goes_down x right may = record {
       same = at.same;
       was = λ op y does stands.
-          let n = found_by s (call.Down x right) in
+          let n = (link_in (found_by s (call.Down x right))).node in
           let h = at.kept.views seat at.view at.there in
           let child : n ≡ y = same_Some n y stands in
           let is_key : key_of may.op ≡ key = ap key_of (at.same may.op may.busy) ∙ for_key in
@@ -114,7 +116,7 @@ module _ (keys : List ℕ) (cards : ℕ) (seat key : ℕ) (real : key ≤ greate
           let has : at.kept.words.key x ≡ may.key = here_key keys cards s at.kept seat at.view at.there x may.key may.stands may.told in
           let side : right ≡ nat_le (at.kept.words.key x) key = may.side ∙ (ap (λ k. nat_le may.key k) is_key ∙ ap (λ k. nat_le k key) (sym has)) in
           let is : child_for at.kept.words key x ≡ n =
-          ap (at.kept.words.child x) (sym side) ∙ child_listed keys cards s at.kept seat at.view at.there x right may.inner born in
+          ap (at.kept.words.child x) (sym side) ∙ sym (ap (λ (k : Link). k.node) (child_read keys cards s at.kept seat at.view at.there x right may.inner born)) in
           inl (subst met (is ∙ child) (at.are.child x (at.was may.op x may.busy may.stands) may.inner));
     }
 

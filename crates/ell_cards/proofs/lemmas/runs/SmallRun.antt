@@ -7,6 +7,7 @@ use lib.ListN.{get_elem?}
 use Rattle.ell_ops.specs.KeySet.{set_of}
 use Rattle.ell_ops.specs.Meaning.{greatest_key}
 use Rattle.ell_ops.specs.declared.op.Op.TheVariants.{Find, Insert, Delete}
+use Rattle.ell_word.specs.Link.{linked}
 use Rattle.ell_word.specs.Node.{infinity1, infinity2}
 use Rattle.ell_core.specs.declared.fact.Fact.TheVariants.{Backed}
 use Rattle.ell_layout.specs.declared.field.Field.{Field}
@@ -17,7 +18,7 @@ use Rattle.ell_core.proofs.lemmas.outcomes.Decide.{some_not_none}
 use Rattle.ell_cards.specs.declared.view.Told.{Told}
 use Rattle.ell_cards.specs.declared.view.View.{View}
 use Rattle.ell_cards.specs.Models.{Has, latest, earlier, IsFree, Knows, stored_at, MayPart}
-use Rattle.ell_cards.specs.Changes.{first_of, spent_view}
+use Rattle.ell_cards.specs.Changes.{first_of, spent_view, tagged}
 use Rattle.ell_cards.specs.Calls.{May}
 use Rattle.ell_cards.specs.States.{TableState}
 use Rattle.ell_cards.specs.Starts.{Starts, StartWords, MayStart, IsSharedIn}
@@ -103,24 +104,24 @@ leaf_14 : IsLeaf 14
 leaf_14 e = let h : ◌≡◌ {A = ℕ} 2 0 = e in omega arith
 
 -- what is stored of a delete's card, and of the insert's, is what it is to say
-filled_delete : (gp p l was : ℕ) (f : Field)
-    → stored_at ((field.Was, was) ∷ (field.L, l) ∷ (field.P, p) ∷ (field.Gp, gp) ∷ []) f ≡ stored (delete_filling gp p l was) f 0
-filled_delete gp p l was field.Gp = refl
-filled_delete gp p l was field.P = refl
-filled_delete gp p l was field.L = refl
-filled_delete gp p l was field.Was = refl
-filled_delete gp p l was field.Key = refl
-filled_delete gp p l was field.Left = refl
-filled_delete gp p l was field.Right = refl
-filled_delete gp p l was field.Update = refl
-filled_delete gp p l was field.LeftLeafKey = refl
-filled_delete gp p l was field.RightLeafKey = refl
-filled_delete gp p l was field.LeftValue = refl
-filled_delete gp p l was field.RightValue = refl
+filled_delete : (gp p l was tag : ℕ) (f : Field)
+    → stored_at ((field.Was, was) ∷ (field.L, linked (record { node = l; tag = tag })) ∷ (field.P, p) ∷ (field.Gp, gp) ∷ []) f ≡ stored (tagged tag (delete_filling gp p l was)) f 0
+filled_delete gp p l was tag field.Gp = refl
+filled_delete gp p l was tag field.P = refl
+filled_delete gp p l was tag field.L = refl
+filled_delete gp p l was tag field.Was = refl
+filled_delete gp p l was tag field.Key = refl
+filled_delete gp p l was tag field.Left = refl
+filled_delete gp p l was tag field.Right = refl
+filled_delete gp p l was tag field.Update = refl
+filled_delete gp p l was tag field.LeftLeafKey = refl
+filled_delete gp p l was tag field.RightLeafKey = refl
+filled_delete gp p l was tag field.LeftValue = refl
+filled_delete gp p l was tag field.RightValue = refl
 
 filled_insert : (f : Field)
     → stored_at ((field.RightValue, 70) ∷ (field.LeftValue, 50) ∷ (field.RightLeafKey, 7) ∷ (field.LeftLeafKey, 5) ∷ (field.Update, 3) ∷ (field.Right, 14)
-    ∷ (field.Left, 13) ∷ (field.Key, 7) ∷ (field.L, 5) ∷ (field.P, 4) ∷ []) f ≡ stored (insert_filling 3 7 70 4 5 5 50) f 0
+    ∷ (field.Left, 13) ∷ (field.Key, 7) ∷ (field.L, 5) ∷ (field.P, 4) ∷ []) f ≡ stored (tagged 0 (insert_filling 3 7 70 4 5 5 50)) f 0
 filled_insert field.Gp = refl
 filled_insert field.P = refl
 filled_insert field.L = refl
@@ -159,7 +160,7 @@ start_is_given zero d low = inl refl
 start_is_given (suc k) d low = absurd (omega (arith, low))
 
 may_there : MayStart small_plan
-may_there = record { ascending = keys_rise; real = keys_are_real; start_ascending = start_rises; given = start_is_given; room = omega arith }
+may_there = record { ascending = keys_rise; real = keys_are_real; start_ascending = start_rises; given = start_is_given; room = omega arith; few = omega arith; limit = omega arith }
 
 starts_there : Starts small_plan at_0
 starts_there = record {
@@ -189,12 +190,12 @@ delete_flags_asks =
     ▸ (refl, record { op = Delete 5; word = 3; key = infinity1; busy = refl; stands = refl; inner = refl; read = refl; told = refl; side = refl })
     ▸ (refl, told_at 0 _ _ refl)
     ▸ (refl, tt)
-    ▸ (refl, (record { op = Delete 5; leaf = 5; key = 5; parent = record { node = 4; word = 3 }; read = refl; no_card = refl; busy = refl; stands = refl; outer = leaf_5; told = refl; behind = refl; calm = refl; wants = (refl, (record { node = 0; word = 3 }, refl, refl)) }, omega arith))
+    ▸ (refl, (record { op = Delete 5; leaf = 5; key = 5; parent = record { node = 4; word = 3; tag = 0 }; read = refl; no_card = refl; busy = refl; stands = refl; outer = leaf_5; told = refl; behind = refl; calm = refl; wants = (refl, (record { node = 0; word = 3; tag = 0 }, refl, refl)) }, omega arith))
     ▸ (refl, record { holds = refl; unflagged = refl })
     ▸ (refl, record { holds = refl; unflagged = refl })
     ▸ (refl, record { holds = refl; unflagged = refl })
     ▸ (refl, record { holds = refl; unflagged = refl })
-    ▸ (refl, record { key = 5; leaf = 5; parent = record { node = 4; word = 3 }; busy = refl; may = record { holds = refl; unflagged = refl }; stands = refl; behind = refl; above = refl; filled = filled_delete 0 4 5 3 })
+    ▸ (refl, record { key = 5; leaf = 5; parent = record { node = 4; word = 3; tag = 0 }; busy = refl; may = record { holds = refl; unflagged = refl }; stands = refl; grandparent = record { node = 0; word = 3; tag = 0 }; behind = refl; above = refl; node = refl; read = refl; filled = filled_delete 0 4 5 3 0 })
     ▸ tt
 
 abbrev at_2 : TableState
@@ -213,7 +214,7 @@ insert_claims_asks =
     ▸ (refl, told_at 0 _ _ refl)
     ▸ (refl, (told_at 1 _ _ refl, leaf_5))
     ▸ (refl, tt)
-    ▸ (refl, (record { op = Insert 7 70; leaf = 5; key = 5; parent = record { node = 4; word = 3 }; read = refl; no_card = refl; busy = refl; stands = refl; outer = leaf_5; told = refl; behind = refl; calm = refl; wants = ((λ e. let h : ◌≡◌ {A = ℕ} 5 7 = e in omega arith), (50, told_at 0 _ _ refl)) }, omega arith))
+    ▸ (refl, (record { op = Insert 7 70; leaf = 5; key = 5; parent = record { node = 4; word = 3; tag = 0 }; read = refl; no_card = refl; busy = refl; stands = refl; outer = leaf_5; told = refl; behind = refl; calm = refl; wants = ((λ e. let h : ◌≡◌ {A = ℕ} 5 7 = e in omega arith), (50, told_at 0 _ _ refl)) }, omega arith))
     ▸ tt
 
 abbrev at_3 : TableState
@@ -232,7 +233,7 @@ insert_flags_asks =
     ▸ (refl, record { holds = refl; unflagged = refl })
     ▸ (refl, record { holds = refl; unflagged = refl })
     ▸ (refl, record { holds = refl; unflagged = refl })
-    ▸ (refl, record { op = Insert 7 70; what = record { key = 7; value = 70; was = None }; leaf = 5; busy = refl; puts = refl; may = record { holds = refl; unflagged = refl }; stands = refl; behind = refl; filled = filled_insert })
+    ▸ (refl, record { op = Insert 7 70; what = record { key = 7; value = 70; was = None }; leaf = 5; busy = refl; puts = refl; may = record { holds = refl; unflagged = refl }; parent = record { node = 4; word = 3; tag = 0 }; stands = refl; behind = refl; node = refl; read = refl; filled = filled_insert })
     ▸ tt
 
 abbrev at_4 : TableState
@@ -241,13 +242,13 @@ at_4 = run_leads at_3 insert_flags
 -- seat 0 loses the mark, helps the insert to its end, and takes its own flag away
 mark_is_lost_asks : RunAsks 4 at_4 mark_is_lost
 mark_is_lost_asks =
-    (refl, (record { knows = refl; place = told_at 1 _ _ refl }, told_at 3 _ _ refl))
+    (refl, (record { knows = refl; place = told_at 2 _ _ refl }, told_at 4 _ _ refl))
     ▸ (refl, (inl refl, refl))
     ▸ (refl, (inl refl, refl))
     ▸ (refl, (inl refl, refl))
-    ▸ (refl, record { parent_key = infinity1; card_key = 7; left_key = 5; knows = refl; parent = told_at 4 _ _ refl; leaf = told_at 2 _ _ refl; told_parent = told_at 11 _ _ refl; told_card = told_at 1 _ _ refl; told_left = told_at 0 _ _ refl; brings = refl; side = refl })
-    ▸ (refl, record { knows = refl; place = told_at 4 _ _ refl })
+    ▸ (refl, record { parent_key = infinity1; card_key = 7; left_key = 5; knows = refl; parent = told_at 5 _ _ refl; leaf = told_at 2 _ _ refl; expects = told_at 3 _ _ refl; told_parent = told_at 13 _ _ refl; told_card = told_at 1 _ _ refl; told_left = told_at 0 _ _ refl; brings = refl; side = refl })
     ▸ (refl, record { knows = refl; place = told_at 5 _ _ refl })
+    ▸ (refl, record { knows = refl; place = told_at 7 _ _ refl })
     ▸ tt
 
 abbrev at_5 : TableState
@@ -256,8 +257,8 @@ at_5 = run_leads at_4 mark_is_lost
 -- seat 1 finds that its insert was made, and answers
 insert_ends_asks : RunAsks 4 at_5 insert_ends
 insert_ends_asks =
-    (refl, record { parent_key = infinity1; card_key = 7; left_key = 5; knows = refl; parent = told_at 0 _ _ refl; leaf = told_at 1 _ _ refl; told_parent = told_at 10 _ _ refl; told_card = told_at 2 _ _ refl; told_left = told_at 3 _ _ refl; brings = refl; side = refl })
-    ▸ (refl, record { knows = refl; place = told_at 0 _ _ refl })
+    (refl, record { parent_key = infinity1; card_key = 7; left_key = 5; knows = refl; parent = told_at 1 _ _ refl; leaf = told_at 2 _ _ refl; expects = told_at 0 _ _ refl; told_parent = told_at 11 _ _ refl; told_card = told_at 3 _ _ refl; told_left = told_at 4 _ _ refl; brings = refl; side = refl })
+    ▸ (refl, record { knows = refl; place = told_at 1 _ _ refl })
     ▸ (refl, record { op = Insert 7 70; busy = refl; answers = inr (record { card = 3; holds = refl; flagged = refl; over = refl; says = refl }) })
     ▸ tt
 
@@ -279,7 +280,7 @@ delete_begins_anew_asks =
     ▸ (refl, record { op = Delete 5; word = 3; key = 7; busy = refl; stands = refl; inner = refl; read = refl; told = refl; side = refl })
     ▸ (refl, told_at 0 _ _ refl)
     ▸ (refl, tt)
-    ▸ (refl, (record { op = Delete 5; leaf = 13; key = 5; parent = record { node = 12; word = 3 }; read = refl; no_card = refl; busy = refl; stands = refl; outer = leaf_13; told = refl; behind = refl; calm = refl; wants = (refl, (record { node = 4; word = 15 }, refl, refl)) }, omega arith))
+    ▸ (refl, (record { op = Delete 5; leaf = 13; key = 5; parent = record { node = 12; word = 3; tag = 0 }; read = refl; no_card = refl; busy = refl; stands = refl; outer = leaf_13; told = refl; behind = refl; calm = refl; wants = (refl, (record { node = 4; word = 15; tag = 1 }, refl, refl)) }, omega arith))
     ▸ tt
 
 abbrev at_7 : TableState
@@ -292,12 +293,12 @@ delete_ends_asks =
     ▸ (refl, record { holds = refl; unflagged = refl })
     ▸ (refl, record { holds = refl; unflagged = refl })
     ▸ (refl, record { holds = refl; unflagged = refl })
-    ▸ (refl, record { key = 5; leaf = 13; parent = record { node = 12; word = 3 }; busy = refl; may = record { holds = refl; unflagged = refl }; stands = refl; behind = refl; above = refl; filled = filled_delete 4 12 13 3 })
-    ▸ (refl, (record { knows = refl; place = told_at 1 _ _ refl }, told_at 3 _ _ refl))
-    ▸ (refl, record { knows = refl; place = told_at 1 _ _ refl })
+    ▸ (refl, record { key = 5; leaf = 13; parent = record { node = 12; word = 3; tag = 0 }; busy = refl; may = record { holds = refl; unflagged = refl }; stands = refl; grandparent = record { node = 4; word = 15; tag = 1 }; behind = refl; above = refl; node = refl; read = refl; filled = filled_delete 4 12 13 3 1 })
+    ▸ (refl, (record { knows = refl; place = told_at 2 _ _ refl }, told_at 4 _ _ refl))
+    ▸ (refl, record { knows = refl; place = told_at 2 _ _ refl })
     ▸ (refl, told_at 1 _ _ refl)
-    ▸ (refl, record { leaf = 13; grandparent_key = infinity1; sibling_key = 7; knows = refl; grandparent = told_at 3 _ _ refl; parent = told_at 4 _ _ refl; below = told_at 5 _ _ refl; sibling = inl (told_at 1 _ _ refl, λ e. let h : ◌≡◌ {A = ℕ} 14 13 = e in omega arith); told_grandparent = told_at 11 _ _ refl; told_sibling = told_at 0 _ _ refl; side = refl })
-    ▸ (refl, record { knows = refl; place = told_at 3 _ _ refl })
+    ▸ (refl, record { leaf = 13; grandparent_key = infinity1; sibling_key = 7; knows = refl; grandparent = told_at 4 _ _ refl; parent = told_at 5 _ _ refl; expects = told_at 3 _ _ refl; below = told_at 6 _ _ refl; sibling = inl (told_at 1 _ _ refl, λ e. let h : ◌≡◌ {A = ℕ} 14 13 = e in omega arith); told_grandparent = told_at 12 _ _ refl; told_sibling = told_at 0 _ _ refl; side = refl })
+    ▸ (refl, record { knows = refl; place = told_at 4 _ _ refl })
     ▸ (refl, record { op = Delete 5; busy = refl; answers = inr (record { card = 4; holds = refl; flagged = refl; over = refl; says = refl }) })
     ▸ tt
 
@@ -308,7 +309,7 @@ at_8 = run_leads at_7 delete_ends
 look_asks : RunAsks 4 at_8 look
 look_asks =
     (refl, refl)
-    ▸ (refl, record { come = record { glance = record { node = 4; low = 0; high = greatest_key + 1 }; among = latest _ _; there = refl; from = omega arith; upto = omega arith }; met = told_at 0 _ _ refl; inner = refl; told = told_at 11 _ _ refl })
+    ▸ (refl, record { come = record { glance = record { node = 4; low = 0; high = greatest_key + 1 }; among = latest _ _; there = refl; from = omega arith; upto = omega arith }; met = told_at 0 _ _ refl; inner = refl; told = told_at 12 _ _ refl })
     ▸ (refl, told_at 0 _ _ refl)
     ▸ (refl, (told_at 1 _ _ refl, leaf_14))
     ▸ tt

@@ -173,11 +173,11 @@ no_claim true k c d more = by (d == c)
 call_counts : (k : Exchange) → 0 < number k → (c : Call) (d n : ℕ) → times k d (won_by c n) ≡ count k (if is_won (atomic_of c) n then win_of c d else [])
 call_counts k more (call.Claim c) d n = no_claim (n == c) k c d more
 call_counts k more (call.IFlag c p from) d n = single (n == packed from) exchange.IFlag c k d
-call_counts k more (call.IChild c p l q right) d n = single (n == l) exchange.IChild c k d
+call_counts k more (call.IChild c p l q right) d n = single (n == linked l) exchange.IChild c k d
 call_counts k more (call.IUnflag c p) d n = single (n == iflag c) exchange.IUnflag c k d
 call_counts k more (call.DFlag c gp from) d n = single (n == packed from) exchange.DFlag c k d
 call_counts k more (call.Mark c p was) d n = single (n == was) exchange.Mark c k d
-call_counts k more (call.DChild c gp p y right) d n = single (n == p) exchange.DChild c k d
+call_counts k more (call.DChild c gp p y right) d n = single (n == linked p) exchange.DChild c k d
 call_counts k more (call.DUnflag c gp) d n = single (n == dflag c) exchange.DUnflag c k d
 call_counts k more (call.Backtrack c gp) d n = single (n == dflag c) exchange.Backtrack c k d
 call_counts k more _ d n = refl

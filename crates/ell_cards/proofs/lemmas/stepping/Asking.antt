@@ -14,7 +14,7 @@ use Rattle.ell_cards.specs.declared.view.Told.{Told}
 use Rattle.ell_cards.specs.declared.view.Told.TheVariants.{Met, Key, Info, Frozen, Expects}
 use Rattle.ell_cards.specs.declared.view.View.{View}
 use Rattle.ell_cards.specs.Models.{Has, earlier, InTable, KnowsCard}
-use Rattle.ell_cards.specs.Changes.{told_info, says_by}
+use Rattle.ell_cards.specs.Changes.{told_info}
 use Rattle.ell_cards.proofs.lemmas.views.Afters.{after_info, after_frozen_child}
 use Rattle.ell_cards.specs.Guards.{MayAsk, KnowsPlace}
 use Rattle.ell_cards.specs.Calls.{child_address, TellsNode, TellsDepth}
@@ -34,6 +34,7 @@ use Rattle.std.proofs.lemmas.Bool.{false≢true}
 use Rattle.ell_word.specs.Link.{linked, link_in}
 use Rattle.ell_word.specs.declared.link.Link.{Link}
 use Rattle.ell_layout.proofs.lemmas.Writes.{link_back}
+use Rattle.ell_layout.specs.Cards.{says_by}
 
 module _ (keys : List ℕ) (cards : ℕ) (s : TableState) (r : HasMachine keys cards s) (id : ℕ) (v : View) (here : get_elem? s.views id ≡ some v) where
   -- where a known card goes came into the tree; an insert's has no grandparent, which is node 0

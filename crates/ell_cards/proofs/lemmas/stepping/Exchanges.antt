@@ -31,7 +31,7 @@ use Rattle.ell_cards.specs.States.{TableState}
 use Rattle.ell_cards.specs.Machines.{EntryHolds, HasMachine}
 use Rattle.ell_cards.specs.Calls.{after, next_link}
 use Rattle.ell_core.proofs.lemmas.stages.Waiting.{born-settled, waits-wins, first_win}
-use Rattle.ell_cards.proofs.lemmas.words.Fields.{write_update_at_node, write_child_at_node}
+use Rattle.ell_cards.proofs.lemmas.words.Fields.{write_update_at_node}
 use Rattle.ell_cards.proofs.lemmas.seats.Seats.{Leads, leads, kept_event, mine, becomes, stands_born, born_claimed, entries_on}
 use Rattle.ell_cards.proofs.lemmas.seats.Frames.{Onward, IsReached, looks, waits_on, view_on, moves_write}
 use Rattle.ell_cards.proofs.lemmas.views.Facts.{knows_more}
@@ -39,7 +39,7 @@ use Rattle.ell_cards.proofs.lemmas.stepping.Known.{update_found}
 use Rattle.std.proofs.lemmas.Bool.{cases_eq}
 use Rattle.ell_word.specs.Link.{linked, tag_unit}
 use Rattle.ell_word.specs.declared.link.Link.{Link}
-use Rattle.ell_layout.proofs.lemmas.Writes.{same_links}
+use Rattle.ell_layout.proofs.lemmas.Writes.{same_links, child_written}
 
 module _ (keys : List ℕ) (cards : ℕ) (s : TableState) (r : HasMachine keys cards s) (id : ℕ) (v : View) (here : get_elem? s.views id ≡ some v) where
   -- a field of a node that came into the tree has an address in the table
@@ -185,7 +185,7 @@ module _ (w : Words) (x y : ℕ) (expected : Link) (q n : ℕ) (right : Bool) (s
           let tag = (same_link (eqb-true n (linked expected) e)).1 in
           ap (λ z. table_written w (card z) (child_field right) (linked (next_link expected q))) (sym same)
           ∙ (ap (λ t. table_written w (card x) (child_field right) (linked (record { node = q; tag = t + 1 }))) (sym tag)
-          ∙ (write_child_at_node w x right q new_small inner ∙ ap (λ (b : Bool). relinked w x b q) (sym side)))
+          ∙ (child_written w x right q (w.tag x right + 1) new_small inner ∙ ap (λ (b : Bool). relinked w x b q) (sym side)))
 
   pub child_says : won_or_lost (n == linked expected) ≡ won_or_lost (finds_link w x expected q)
   child_says = ap won_or_lost finds_is

@@ -34,7 +34,7 @@ use Rattle.ell_core.specs.statements.StepLaws.{IsReadable}
 use Rattle.ell_core.specs.statements.Effects.{value_in, contents_in}
 use Rattle.ell_core.proofs.lemmas.outcomes.Decide.{some_not_none}
 use Rattle.ell_core.proofs.lemmas.stages.Order.{born_is_node}
-use Rattle.ell_layout.proofs.lemmas.Writes.{update_at_node, key_at_node, value_at_leaf, child_word_at_node, link_back}
+use Rattle.ell_layout.proofs.lemmas.Writes.{update_at_node, key_at_node, value_at_leaf, child_word_at_node, link_back, key_in_table, value_in_table}
 use Rattle.ell_cards.specs.declared.call.Call.TheVariants as call
 use Rattle.ell_cards.specs.declared.view.Told.{Told}
 use Rattle.ell_cards.specs.declared.view.Told.TheVariants.{Met, Key, Value}
@@ -57,7 +57,6 @@ use Rattle.ell_cards.proofs.lemmas.seats.Frames.{looks, kept_told, is_event, is_
 use Rattle.ell_core.specs.tree.Rank.{rank}
 use Rattle.ell_word.specs.Link.{linked, link_in, tag_unit}
 use Rattle.ell_word.specs.declared.link.Link.{Link}
-use Rattle.ell_cards.proofs.lemmas.words.Fields.{key_in_table, value_in_table}
 
 -- an entry that is not present has no value
 no_value : (entry : Option Entry) → ((value : ℕ) → entry ≢ Some (Present value)) → value_in entry ≡ None

@@ -7,9 +7,10 @@ use Rattle.ell_core.specs.statements.Told.{is_fixed}
 use Rattle.ell_cards.specs.declared.view.Told.{Told}
 use Rattle.ell_cards.specs.declared.view.Told.TheVariants.{Met, Info, Expects}
 use Rattle.ell_cards.specs.Models.{Has, latest, earlier}
-use Rattle.ell_cards.specs.Changes.{places_by, told_info, told_filling, says_by}
+use Rattle.ell_cards.specs.Changes.{places_by, told_info, told_filling}
 use Rattle.ell_cards.specs.Guards.{NamesNode}
 use Rattle.ell_word.specs.Link.{link_in}
+use Rattle.ell_layout.specs.Cards.{says_by}
 
 -- what was told before where an update's card goes is told
 pub places_more : (x : ℕ) (st : State) (c : ℕ) (told : List Told) (e : Told) → Has told e → Has (places_by x st c told) e
@@ -23,14 +24,14 @@ pub info_more : (c : ℕ) (f : Field) (x : ℕ) (told : List Told) (e : Told) �
 info_more c field.Gp x told e h = earlier e _ _ (earlier e (Met x) told h)
 info_more c field.P x told e h = earlier e _ _ (earlier e (Met x) told h)
 info_more c field.L x told e h = earlier e _ _ (earlier e _ _ (earlier e _ told h))
-info_more c f x told e h = earlier e (Info c f x) told h
+info_more c f x told e h = earlier e _ told h
 
 -- what it says is told, and a node that it names is met
 pub info_latest : (c : ℕ) (f : Field) (x : ℕ) (told : List Told) → Has (told_info c f x told) (Info c f (says_by f x))
 info_latest c field.Gp x told = latest (Info c field.Gp x) (Met x ∷ told)
 info_latest c field.P x told = latest (Info c field.P x) (Met x ∷ told)
 info_latest c field.L x told = latest _ _
-info_latest c f x told = latest (Info c f x) told
+info_latest c f x told = latest _ told
 
 pub info_node : (c : ℕ) (f : Field) (x : ℕ) (told : List Told) → NamesNode f → Has (told_info c f x told) (Met (says_by f x))
 info_node c field.Gp x told h = earlier (Met x) (Info c field.Gp x) (Met x ∷ told) (latest (Met x) told)

@@ -8,7 +8,7 @@ use Rattle.ell_cards.proofs.lemmas.views.Afters.{after_key_of, after_info, after
 use Rattle.ell_cards.specs.Guards.{NamesNode}
 use Rattle.ell_cards.proofs.lemmas.views.Entries.{info_latest, info_node, info_tag}
 use Rattle.ell_word.specs.Link.{link_in}
-use Rattle.ell_cards.specs.Changes.{says_by}
+use Rattle.ell_layout.specs.Cards.{says_by}
 
 -- the view after a step
 pub view_after : (old new : PassModel) (v : View) → Steps old new v → new.view ≡ v

@@ -59,18 +59,6 @@ child_place false = omega arith
 pub write_update_at_node : (w : Words) (x value : ℕ) → IsInternal x → table_written w (card x) Update value ≡ with_update w x value
 write_update_at_node w x value inner = ap (λ n. with_update w n value) (sym (internal_at_node x inner))
 
--- a write of a child word of an internal node, with a small node and the next tag
-pub write_child_at_node : (w : Words) (x : ℕ) (right : Bool) (node : ℕ) → node < tag_unit → IsInternal x
-    → table_written w (card x) (child_field right) (linked (record { node = node; tag = w.tag x right + 1 })) ≡ relinked w x right node
-write_child_at_node w x true node small inner =
-    let at = sym (internal_at_node x inner) in
-    let back = link_back node (w.tag x true + 1) small in
-    λ t. with_tag (with_child w (at t) true (back t).node) (at t) true (back t).tag
-write_child_at_node w x false node small inner =
-    let at = sym (internal_at_node x inner) in
-    let back = link_back node (w.tag x false + 1) small in
-    λ t. with_tag (with_child w (at t) false (back t).node) (at t) false (back t).tag
-
 -- a card that says what it said has the words in a table that it had
 pub table_says : (old new : Words) (c : ℕ) → SaysTheSame old new c → (f : Field) → table_word new c f ≡ table_word old c f
 table_says old new c same L = λ t. linked (record { node = same.words L t; tag = same.expects t })
@@ -100,26 +88,3 @@ table_blank w c blank LeftLeafKey = blank.words LeftLeafKey
 table_blank w c blank RightLeafKey = blank.words RightLeafKey
 table_blank w c blank LeftValue = blank.words LeftValue
 table_blank w c blank RightValue = blank.words RightValue
-
--- the key of a node has no tag in a table
-pub key_in_table : (w : Words) (c n : ℕ) → word w c (key_field n) ≡ table_word w c (key_field n)
-key_in_table w c zero = refl
-key_in_table w c (suc zero) = refl
-key_in_table w c (suc (suc n)) = refl
-
--- and the value of a leaf
-pub value_in_table : (w : Words) (c n : ℕ) → word w c (value_field n) ≡ table_word w c (value_field n)
-value_in_table w c zero = refl
-value_in_table w c (suc zero) = refl
-value_in_table w c (suc (suc n)) = refl
-
--- so what a field of one says, a table has there
-pub table_key : (w : Words) (c n value : ℕ) (f : Field) → f ≡ key_field n → word w c f ≡ value → table_word w c f ≡ value
-table_key w c n value f e is = ap (table_word w c) e ∙ (sym (key_in_table w c n) ∙ (ap (word w c) (sym e) ∙ is))
-
-pub table_value : (w : Words) (c n value : ℕ) (f : Field) → f ≡ value_field n → word w c f ≡ value → table_word w c f ≡ value
-table_value w c n value f e is = ap (table_word w c) e ∙ (sym (value_in_table w c n) ∙ (ap (word w c) (sym e) ∙ is))
-
--- a word of a list that was read at card c, which is d
-pub read_at : (words : List ℕ) (c d found value : ℕ) (f : Field) → found ≡ listed words c f → c ≡ d → table_word (words_of words) d f ≡ value → found ≡ value
-read_at words c d found value f read same is = read ∙ (ap (λ n. listed words n f) same ∙ (sym (words_are_listed words d f) ∙ is))

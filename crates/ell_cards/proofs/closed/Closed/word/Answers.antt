@@ -2,7 +2,9 @@ use Rattle.std.proofs.Common.{◌≡◌, ℕ, zero, suc, List, [], ◌∷◌, ge
 use mathlib.Core.Option.{some, some-injective, some-ne-none}
 use lib.ListN.{get_elem?}
 use Rattle.std.specs.Slots.{slots_items}
-use Rattle.ell_layout.specs.Layout.{listed}
+use Rattle.ell_layout.specs.Words.{word, words_of}
+use Rattle.ell_layout.specs.Cards.{says_by}
+use Rattle.ell_layout.proofs.lemmas.Listed.{said_in_list}
 use Rattle.ell_cards.specs.Closed.{ClosedModel}
 use Rattle.ell_cards.proofs.closed.Closed.word.Goals as goal
 
@@ -15,5 +17,8 @@ read_there (y ∷ ys) (suc i) x e = read_there ys i x e
 pub returns : goal.returns
 returns g c =
     let words = slots_items c.self.inside.closed.words in
-    sym (read_there words c.address.result c.word.result c.word.ensures)
-    ∙ (ap (slice_index words) c.address.ensures ∙ ap (λ (m : ClosedModel). listed m.words c.args.card c.args.field) c.self.view_is)
+    let stands = sym (read_there words c.address.result c.word.result c.word.ensures) ∙ ap (slice_index words) c.address.ensures in
+    c.says.ensures
+    ∙ (ap (says_by c.args.field) stands
+    ∙ (sym (said_in_list words c.args.card c.args.field)
+    ∙ ap (λ (m : ClosedModel). word (words_of m.words) c.args.card c.args.field) c.self.view_is))

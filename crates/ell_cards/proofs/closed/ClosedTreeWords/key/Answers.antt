@@ -1,8 +1,8 @@
-use Rattle.ell_layout.specs.Words.{words_of}
-use Rattle.ell_cards.proofs.lemmas.words.Fields.{read_at, table_key}
+use Rattle.std.proofs.Common.{ap, ◌∙◌}
+use Rattle.ell_layout.specs.Words.{word, words_of}
 use Rattle.ell_cards.proofs.closed.ClosedTreeWords.key.Goals as goal
 
 pub returns : goal.returns
 returns g c =
     let words = c.args.self.now.words in
-    read_at words _ _ _ _ c.key_field.result c.word.ensures c.card_of.ensures (table_key (words_of words) _ _ _ c.key_field.result c.key_field.ensures.field (c.key_field.ensures.word (words_of words) c.requires.1))
+    c.word.ensures ∙ (ap (λ n. word (words_of words) n c.key_field.result) c.card_of.ensures ∙ c.key_field.ensures.word (words_of words) c.requires.1)
