@@ -8,6 +8,8 @@ pub mod Halting
 pub mod Trying
 -- steps that read a word
 pub mod Reading
+-- child words, and what they say
+pub mod Links
 -- a search, node by node
 pub mod Searches
 -- a mark, won or lost

@@ -1,8 +1,9 @@
 use Rattle.std.specs.Prelude.{◌≡◌, ℕ, ◌+◌, ◌-◌, ◌*◌, ◌<◌, ◌≤◌, if◌then◌else◌, Option, Some, None, Result, Ok, Err, List, ◌∷◌, length}
+use Rattle.ell_word.specs.declared.link.Link.{Link}
 use Rattle.ell_word.specs.declared.update.Update.{Update}
 use Rattle.ell_core.specs.declared.fact.Fact.TheVariants as fact
 use Rattle.ell_layout.specs.declared.field.Field.TheVariants as field
-use Rattle.ell_cards.specs.declared.view.Told.TheVariants.{Info, Key, Met}
+use Rattle.ell_cards.specs.declared.view.Told.TheVariants.{Info, Expects, Key, Met}
 use Rattle.ell_cards.specs.declared.view.Hindrance.{Hindrance}
 use Rattle.ell_cards.specs.declared.view.Hindrance.TheVariants.{Found}
 use Rattle.ell_cards.specs.declared.view.View.{View}
@@ -19,11 +20,12 @@ use Rattle.ell_tree.specs.Levels.{level}
 use Rattle.ell_core.specs.tree.Rank.{rank}
 
 -- the flag of an insert is known, and where its card goes
-pub record IsInsert (v : View) (c p l k j : ℕ) : Type 0 where
+pub record IsInsert (v : View) (c p : ℕ) (l : Link) (k j : ℕ) : Type 0 where
   pub knows : Knows v (fact.IFlagged c)
   pub met : IsTold v (Met p)
   pub parent : IsTold v (Info c field.P p)
-  pub leaf : IsTold v (Info c field.L l)
+  pub leaf : IsTold v (Info c field.L l.node)
+  pub expects : IsTold v (Expects c l.tag)
   pub key : IsTold v (Info c field.Key k)
   pub left_key : IsTold v (Info c field.LeftLeafKey j)
 

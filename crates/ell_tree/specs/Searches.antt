@@ -1,7 +1,9 @@
-use Rattle.std.specs.Prelude.{◌≡◌, ◌≢◌, ℕ, ◌==◌, if◌then◌else◌, IfSome, Option, Some, None, []}
+use Rattle.std.specs.Prelude.{◌≡◌, ◌≢◌, ◌≤◌, ℕ, ◌==◌, if◌then◌else◌, IfSome, Option, Some, None, []}
 use Rattle.ell_ops.specs.declared.op.Op.{Op}
 use Rattle.ell_ops.specs.Meaning.{key_of}
+use Rattle.ell_word.specs.Link.{greatest_tag}
 use Rattle.ell_word.specs.Word.{packed}
+use Rattle.ell_word.specs.declared.link.Link.{Link}
 use Rattle.ell_core.specs.declared.view.Seen.{Seen}
 use Rattle.ell_core.specs.declared.view.Search.{Search}
 use Rattle.ell_core.specs.state.Machine.{ledger_of}
@@ -27,7 +29,7 @@ pub record AtRoot (op : Op) (v : View) : Type 0 where
 
 -- a node that a search passed, as the view has it
 abbrev pub seen : Passed → Seen
-seen x = record { node = x.node; word = packed x.update }
+seen x = record { node = x.node; word = packed x.update; tag = x.tag }
 
 abbrev pub seen_any : Option Passed → Option Seen
 seen_any None = None
@@ -37,9 +39,10 @@ seen_any (Some x) = Some (seen x)
 abbrev pub below : ℕ → Passed → Option Seen → Search
 below child x above = record { node = Some child; read = None; parent = Some (seen x); grandparent = above }
 
--- what a search read at a node that it passed is known
-abbrev pub KnowsPassed : ℕ → View → Passed → Type 0
-KnowsPassed last w x = IsSeenAt last w x.node x.update
+-- what a search read at a node that it passed is known: the update, and a tag of a child word
+pub record KnowsPassed (last : ℕ) (w : View) (x : Passed) : Type 0 where
+  pub seen : IsSeenAt last w x.node x.update
+  pub tag : x.tag ≤ greatest_tag
 
 -- what it read there is clean, or of a card whose end the pass did not know when its search began
 abbrev pub EndWasUnknownAt : View → Passed → Type 0
@@ -67,10 +70,15 @@ pub record IsAt (w : View) (place : LeafFound) : Type 0 where
 abbrev pub there_at : LeafFound → ℕ → Option ℕ
 there_at place k = if place.key == k then Some place.value else None
 
+-- the leaf of a place with a tag
+abbrev pub leaf_with : LeafFound → ℕ → Link
+leaf_with place tag = record { node = place.leaf; tag = tag }
+
 -- a search ended at a place, which has of the operation's key what the ledger has, if that has the key; and if the
 -- place has the key, there is a grandparent
 pub record EndsAt (last : ℕ) (w : View) (op : Op) (place : LeafFound) : Type 0 where
   pub at : IsAt w place
+  pub leaf : InTable last place.leaf
   pub passed : KnowsPassed last w place.parent
   pub passed_above : IfSome place.grandparent (λ x. KnowsPassed last w x)
   pub unknown : EndWasUnknownAt w place.parent

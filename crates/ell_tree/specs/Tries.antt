@@ -14,11 +14,12 @@ use Rattle.ell_core.specs.declared.fact.Fact.{Fact}
 use Rattle.ell_core.specs.declared.fact.Fact.TheVariants as fact
 use Rattle.ell_layout.specs.declared.field.Field.{Field}
 use Rattle.ell_cards.specs.declared.view.Told.{Told}
+use Rattle.ell_cards.specs.declared.view.Told.TheVariants.{Expects}
 use Rattle.ell_cards.specs.declared.view.Hindrance.{Hindrance}
 use Rattle.ell_cards.specs.declared.view.Hindrance.TheVariants.{Found}
 use Rattle.ell_cards.specs.declared.view.View.{View}
 use Rattle.ell_cards.specs.Models.{PassModel, Has, IsTold, Knows, Does, StandsAt}
-use Rattle.ell_cards.specs.Changes.{told_filling, filling_of, with_stores, tries_hindered}
+use Rattle.ell_cards.specs.Changes.{expected_tag, told_filling, filling_of, tagged, with_stores, tries_hindered}
 use Rattle.ell_cards.specs.Guards.{IsFilled, MayFill}
 use Rattle.ell_tree.specs.declared.searching.LeafFound.{LeafFound}
 use Rattle.ell_tree.specs.declared.trying.Claimed.{Claimed}
@@ -125,17 +126,18 @@ TryTakesValue t (Insert key value) old new ended = Unit {0}
 TryTakesValue t (Delete key) old new ended = TryTook t key old new ended
 TryTakesValue t (Swap key was value) old new ended = Unit {0}
 
--- a card was taken for an operation whose search ended at a place: it is to say this, nothing of it was stored, and its
--- words that never change are told
-pub record HasCard (op : Op) (place : LeafFound) (filling : List (Field × ℕ)) (v : View) (c : ℕ) : Type 0 where
+-- a card was taken for an operation whose search ended at a place: it is to say this, and to expect this tag; nothing of
+-- it was stored, and what it says that never changes is told
+pub record HasCard (op : Op) (place : LeafFound) (tag : ℕ) (filling : List (Field × ℕ)) (v : View) (c : ℕ) : Type 0 where
   pub busy : Does v op
   pub may : MayFill v c
   pub stands : StandsAt v place.leaf
   pub behind : v.worker.search.parent ≡ Some (seen place.parent)
   pub above : v.worker.search.grandparent ≡ seen_any place.grandparent
-  pub says : v.planned ≡ filling
+  pub says : v.planned ≡ tagged tag filling
   pub empty : v.stores ≡ []
   pub told : (e : Told) → Has (told_filling c filling []) e → IsTold v e
+  pub expects : IsTold v (Expects c tag)
 
 abbrev pub found_for : Option ℕ → Option ℕ → Option ℕ
 found_for None there = None
@@ -155,7 +157,7 @@ put_reply (Some was) = replaced.Found was
 pub record HasCardToPut (what : Put) (place : LeafFound) (v : View) (c : ℕ) : Type 0 where
   pub op : Op
   pub puts : put_of op ≡ Some what
-  pub card : HasCard op place
+  pub card : HasCard op place place.parent.tag
       (insert_filling c what.key what.value place.parent.node place.leaf place.key place.value) v c
 
 -- no card was taken, and the search stands where it stood
@@ -166,7 +168,7 @@ pub record HasNone (old new : PassModel) : Type 0 where
 -- what comes of asking for a card
 abbrev pub Claims : ℕ → Op → LeafFound → PassModel → PassModel → Claimed → Type 0
 Claims last op place old new (claimed.Card c) =
-    HasCard op place (filling_of c old.view) new.view c × (c ≤ last) × (new.view.hindrances ≡ old.view.hindrances)
+    HasCard op place (expected_tag old.view) (filling_of c old.view) new.view c × (c ≤ last) × (new.view.hindrances ≡ old.view.hindrances)
     × GivesOut last old.view new.view
 Claims last op place old new claimed.NoneLeft =
     HasNone old new × (new.view.next ≡ Some (last + 1)) × (new.view.hindrances ≡ old.view.hindrances)

@@ -46,11 +46,12 @@ impl Cursor {
         ensures begins { BeginsALook pass.old pass.new }
         ensures kept { AreKept table.now.plan.last_card pass.new.view result }
     {
+        table.facts_stay_inside(pass);
         gate.before(pass.label(), Kind::Look);
-        let node = table.look(pass);
+        let child = table.look(pass);
         pass.count(1);
         let first = Glance {
-            node,
+            node: child.node,
             low: 0,
             high: KEY_MAX + 1,
         };
@@ -93,7 +94,7 @@ impl Cursor {
             }
             gate.before(label, Kind::Look);
             let child = table.look_down(pass, here, node_key, right);
-            here = here.down(node_key, right, child);
+            here = here.down(node_key, right, child.node);
             steps += 2;
         }
         let (about, at_the_leaf) = found_at(table, pass, key, here, gate);

@@ -2,6 +2,7 @@
 ghost use Rattle.std.specs.Prelude.{◌≡◌, ◌≤◌, ◌+◌, ℕ, Some};
 ghost use Rattle.std.specs.Bool.{OnTrue, OnFalse};
 ghost use Rattle.ell_ops.specs.declared.op.Op.TheVariants.{Delete};
+ghost use Rattle.ell_word.specs.Link.{IsLink};
 ghost use Rattle.ell_word.specs.Node.{greatest_card};
 ghost use Rattle.ell_word.specs.Word.{packed};
 ghost use Rattle.ell_core.specs.declared.fact.Fact.TheVariants.{DFlagged, DOver};
@@ -14,12 +15,12 @@ ghost use Rattle.ell_tree.specs.Ends.{rest_steps, try_steps};
 ghost use Rattle.ell_tree.specs.Helps.{IsBacked, IsParent, help_steps};
 ghost use Rattle.ell_tree.specs.Hindrances.{Meets};
 ghost use Rattle.ell_tree.specs.Keeping.{Keeps, IsInnerMet, KeepsAllButMet};
-ghost use Rattle.ell_tree.specs.Searches.{AtRoot, HasSearched};
+ghost use Rattle.ell_tree.specs.Searches.{AtRoot, HasSearched, leaf_with};
 ghost use Rattle.ell_tree.specs.Tries.{Fills, Flags, HasCard, TryEnds, TryTook, TryTookThis};
 
 use crate::gate::{Kind, StepGate};
 use crate::helping::{DeleteFlag, Ending, finish_delete, help, help_delete};
-use crate::searching::{LeafFound, Passed, search};
+use crate::searching::{LeafFound, Passed, leaf_with, search};
 use crate::steps::answer;
 use crate::trying::{Claimed, Tried, fill, take_card};
 use ell_cards::{CardTable, Pass};
@@ -115,36 +116,40 @@ fn flag_delete<A: Allocator + Copy, G: StepGate>(
     requires own { pass.old.table ≡ table.now.id }
     requires above { place.grandparent ≡ Some above }
     requires limit { place.parent.update.card ≤ greatest_card }
-    requires card { (key : ℕ) × HasCard (Delete key) place
+    requires link { IsLink (leaf_with place above.tag) }
+    requires card { (key : ℕ) × HasCard (Delete key) place above.tag
         (delete_filling above.node place.parent.node place.leaf (packed place.parent.update)) pass.old.view card }
     requires node { IsInnerMet table.now.plan.last_card pass.old.view above.node }
     ensures keeps { Keeps pass.old pass.new 5 }
     ensures taken { TakesNoCard pass.old pass.new }
     ensures flags { Flags table.now.plan.last_card DFlagged card above.node pass.old pass.new result }
 {
-    fill_delete(table, pass, card, above.node, place, gate);
+    fill_delete(table, pass, card, above, place, gate);
     gate.before(pass.label(), Kind::Exchange(Exchange::DFlag));
     table.dflag(pass, card, above.node, above.update)
 }
 
-// Fills the card of a delete: where it cuts, and the update that its search read at the parent.
+// Fills the card of a delete: where it cuts, with the tag that its search read at the grandparent, and the update that it
+// read at the parent.
 fn fill_delete<A: Allocator + Copy, G: StepGate>(
     table: &CardTable<A>,
     pass: &mut Pass<A>,
     card: u64,
-    grandparent: u64,
+    above: Passed,
     place: LeafFound,
     gate: &G,
 )
     requires own { pass.old.table ≡ table.now.id }
     requires limit { place.parent.update.card ≤ greatest_card }
-    requires card { (key : ℕ) × HasCard (Delete key) place
-        (delete_filling grandparent place.parent.node place.leaf (packed place.parent.update)) pass.old.view card }
+    requires link { IsLink (leaf_with place above.tag) }
+    requires card { (key : ℕ) × HasCard (Delete key) place above.tag
+        (delete_filling above.node place.parent.node place.leaf (packed place.parent.update)) pass.old.view card }
     ensures { Fills pass.old pass.new 4 }
 {
-    fill(table, pass, card, Field::Gp, grandparent, gate);
+    fill(table, pass, card, Field::Gp, above.node, gate);
     fill(table, pass, card, Field::P, place.parent.node, gate);
-    fill(table, pass, card, Field::L, place.leaf, gate);
+    let leaf = leaf_with(place, above.tag).word();
+    fill(table, pass, card, Field::L, leaf, gate);
     let was = pack(place.parent.update);
     fill(table, pass, card, Field::Was, was, gate);
 }

@@ -14,11 +14,11 @@ ghost use Rattle.ell_tree.specs.Keeping.{IsSeenAt, KeepsAll, KeepsAllButMet};
 use crate::gate::StepGate;
 use crate::steps::{
     KeyedNode, change_child, clear_delete, clear_insert, cut_parent, go_back, read_child,
-    read_info, read_key, set_mark,
+    read_info, read_key, read_leaf, set_mark,
 };
 use ell_cards::{CardTable, Pass};
 use ell_layout::Field;
-use ell_word::{State, Update};
+use ell_word::{Link, State, Update};
 use std::alloc::Allocator;
 
 /// The flag of a delete, and the node where it stands.
@@ -83,7 +83,7 @@ pub(crate) fn help_insert<A: Allocator + Copy, G: StepGate>(
     ensures keeps_all { KeepsAll pass.old pass.new 6 }
     ensures over { Knows pass.new.view (fact.IOver card) }
 {
-    let leaf = read_info(table, pass, card, Field::L, gate);
+    let leaf = read_leaf(table, pass, card, gate);
     let card_key = read_info(table, pass, card, Field::Key, gate);
     let left_key = read_info(table, pass, card, Field::LeftLeafKey, gate);
     finish_insert(table, pass, card, parent, leaf, card_key, left_key, gate);
@@ -95,7 +95,7 @@ pub(crate) fn finish_insert<A: Allocator + Copy, G: StepGate>(
     pass: &mut Pass<A>,
     card: u64,
     parent: u64,
-    leaf: u64,
+    leaf: Link,
     card_key: u64,
     left_key: u64,
     gate: &G,
@@ -142,8 +142,13 @@ fn finish_marked<A: Allocator + Copy, G: StepGate>(
     ensures keeps_all { KeepsAll pass.old pass.new 7 }
     ensures over { Knows pass.new.view (fact.DOver card) }
 {
-    let sibling = find_sibling(table, pass, card, parent, gate);
+    let leaf = read_leaf(table, pass, card, gate);
+    let sibling = find_sibling(table, pass, card, parent, leaf.node, gate);
     let above = read_key(table, pass, grandparent, gate);
+    let parent = Link {
+        node: parent,
+        tag: leaf.tag,
+    };
     cut_parent(table, pass, card, above, parent, sibling, gate);
     clear_delete(table, pass, card, grandparent, gate);
 }
@@ -154,15 +159,16 @@ fn find_sibling<A: Allocator + Copy, G: StepGate>(
     pass: &mut Pass<A>,
     card: u64,
     parent: u64,
+    leaf: u64,
     gate: &G,
 ) -> KeyedNode
     requires own { pass.old.table ≡ table.now.id }
     requires marked { Knows pass.old.view (fact.Marked card) }
     requires parent { IsTold pass.old.view (told.Info card field.P parent) }
-    ensures keeps_all { KeepsAll pass.old pass.new 4 }
+    requires leaf { IsTold pass.old.view (told.Info card field.L leaf) }
+    ensures keeps_all { KeepsAll pass.old pass.new 3 }
     ensures sibling { HasSibling pass.new.view card result }
 {
-    let leaf = read_info(table, pass, card, Field::L, gate);
     let right = read_child(table, pass, card, parent, true, gate);
     let sibling = if right == leaf {
         read_child(table, pass, card, parent, false, gate)

@@ -1,17 +1,18 @@
 //! Inserts (paper of 2010, figure 8: Insert), and swaps, which work the same way.
 ghost use Rattle.std.specs.Prelude.{◌≡◌, ◌≤◌, ◌+◌, Some};
+ghost use Rattle.ell_word.specs.Link.{IsLink};
 ghost use Rattle.ell_word.specs.Node.{greatest_card};
 ghost use Rattle.ell_core.specs.acts.Searching.{put_of};
 ghost use Rattle.ell_core.specs.declared.fact.Fact.TheVariants.{IFlagged};
 ghost use Rattle.ell_tree.specs.CardsTaken.{TakesNoCard, TryTakes};
 ghost use Rattle.ell_tree.specs.Ends.{try_steps};
 ghost use Rattle.ell_tree.specs.Keeping.{Keeps, IsInnerMet};
-ghost use Rattle.ell_tree.specs.Searches.{AtRoot};
+ghost use Rattle.ell_tree.specs.Searches.{AtRoot, leaf_with};
 ghost use Rattle.ell_tree.specs.Tries.{told_of_put, put_reply, Fills, Flags, HasCardToPut, TryEnds};
 
 use crate::gate::{Kind, StepGate};
 use crate::helping::{finish_insert, help};
-use crate::searching::{LeafFound, Passed, search};
+use crate::searching::{LeafFound, leaf_with, search};
 use crate::steps::answer;
 use crate::trying::{Claimed, Tried, fill, take_card};
 use ell_cards::{CardTable, Pass};
@@ -45,10 +46,7 @@ pub(crate) fn try_put<A: Allocator + Copy, G: StepGate>(
         answer(table, pass, Reply::found(found), gate);
         return Tried::Answered(found);
     }
-    let Passed {
-        node: parent,
-        update,
-    } = place.parent;
+    let (parent, update) = (place.parent.node, place.parent.update);
     if update.state != State::Clean {
         help(table, pass, parent, update, gate);
         return Tried::Hindered;
@@ -61,9 +59,8 @@ pub(crate) fn try_put<A: Allocator + Copy, G: StepGate>(
     match flag_insert(table, pass, card, what, place, gate) {
         Ok(()) => {
             let (left_key, card_key) = (what.key.min(place.key), what.key.max(place.key));
-            finish_insert(
-                table, pass, card, parent, place.leaf, card_key, left_key, gate,
-            );
+            let leaf = leaf_with(place, place.parent.tag);
+            finish_insert(table, pass, card, parent, leaf, card_key, left_key, gate);
             answer(table, pass, reply_once_done(what), gate);
             Tried::Answered(Some(what.was.unwrap_or(what.value)))
         }
@@ -105,6 +102,7 @@ fn flag_insert<A: Allocator + Copy, G: StepGate>(
 ) -> Result<(), Update>
     requires own { pass.old.table ≡ table.now.id }
     requires limit { card ≤ greatest_card }
+    requires link { IsLink (leaf_with place place.parent.tag) }
     requires card { HasCardToPut what place pass.old.view card }
     requires node { IsInnerMet table.now.plan.last_card pass.old.view place.parent.node }
     ensures keeps { Keeps pass.old pass.new 11 }
@@ -116,7 +114,7 @@ fn flag_insert<A: Allocator + Copy, G: StepGate>(
     table.iflag(pass, card, place.parent.node, place.parent.update)
 }
 
-// Fills the card of an insert or a swap: an internal node, and below it the leaf of the key and a copy of the old leaf,
+// Fills the card of an insert or a swap: the leaf with the tag that its search read at the parent, an internal node, and below it the leaf of the key and a copy of the old leaf,
 // the lesser key left, each with its value.
 fn fill_insert<A: Allocator + Copy, G: StepGate>(
     table: &CardTable<A>,
@@ -128,6 +126,7 @@ fn fill_insert<A: Allocator + Copy, G: StepGate>(
 )
     requires own { pass.old.table ≡ table.now.id }
     requires limit { card ≤ greatest_card }
+    requires link { IsLink (leaf_with place place.parent.tag) }
     requires card { HasCardToPut what place pass.old.view card }
     ensures { Fills pass.old pass.new 10 }
 {
@@ -139,7 +138,8 @@ fn fill_insert<A: Allocator + Copy, G: StepGate>(
         (place.value, value)
     };
     fill(table, pass, card, Field::P, place.parent.node, gate);
-    fill(table, pass, card, Field::L, place.leaf, gate);
+    let leaf = leaf_with(place, place.parent.tag).word();
+    fill(table, pass, card, Field::L, leaf, gate);
     fill(table, pass, card, Field::Key, greater, gate);
     fill(table, pass, card, Field::Left, left_leaf_of(card), gate);
     fill(table, pass, card, Field::Right, right_leaf_of(card), gate);

@@ -5,6 +5,7 @@
 mod computing;
 mod cursor;
 mod deleting;
+mod ending;
 mod gate;
 mod helping;
 mod inserting;

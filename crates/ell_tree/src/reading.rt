@@ -55,7 +55,8 @@ fn walk<A: Allocator + Copy, G: StepGate>(
     table.facts_stay_inside(pass);
     let label = pass.label();
     gate.before(label, Kind::Look);
-    let mut node = table.look(pass);
+    let first = table.look(pass);
+    let mut node = first.node;
     let mut steps = 1;
     while is_internal(node) {
         gate.before(label, Kind::Look);
@@ -66,7 +67,8 @@ fn walk<A: Allocator + Copy, G: StepGate>(
             low: key,
             high: key + 1,
         };
-        node = table.look_down(pass, here, node_key, node_key <= key);
+        let child = table.look_down(pass, here, node_key, node_key <= key);
+        node = child.node;
         steps += 2;
     }
     gate.before(label, Kind::Look);

@@ -5,22 +5,24 @@ ghost use Rattle.ell_cards.specs.Models.{Does, InTable, IsTold, StandsAt};
 ghost use Rattle.ell_cards.specs.declared.view.Told.TheVariants.{Met};
 ghost use Rattle.ell_tree.specs.Counts.{CountsAll, HasUncounted};
 ghost use Rattle.ell_tree.specs.Keeping.{IsInnerMet, KeepsAllButSearch};
-ghost use Rattle.ell_tree.specs.Searches.{AtRoot, EndsAt, EndWasUnknownAt, KnowsPassed, below};
+ghost use Rattle.ell_tree.specs.Searches.{AtRoot, EndsAt, EndWasUnknownAt, KnowsPassed, below, leaf_with};
 
 use crate::gate::{Kind, StepGate};
 use ell_cards::{CardTable, Pass};
 use ell_ops::Op;
-use ell_word::{Update, is_internal};
+use ell_word::{Link, Update, is_internal};
 use std::alloc::Allocator;
 
 // A search reads the update word, the key and a child of each internal node that it passes.
 const STEPS_AT_A_NODE: u64 = 3;
 
-/// A node that a search passed, with the update that it read there.
+/// A node that a search passed, with the update that it read there, and the tag of the child word that was read there
+/// after the update.
 #[derive(Clone, Copy)]
 pub(crate) struct Passed {
     pub node: u64,
     pub update: Update,
+    pub tag: u64,
 }
 
 /// Where a search ended: a leaf with its key and its value, its parent, and its grandparent if there is one.
@@ -31,6 +33,16 @@ pub(crate) struct LeafFound {
     pub value: u64,
     pub parent: Passed,
     pub grandparent: Option<Passed>,
+}
+
+/// Returns the leaf of a place with a tag, as a card says it.
+pub(crate) fn leaf_with(place: LeafFound, tag: u64) -> Link
+    ensures { result ≡ leaf_with place tag }
+{
+    Link {
+        node: place.leaf,
+        tag,
+    }
 }
 
 /// Searches for the operation's key from the root. Its steps are counted once it has ended.
@@ -102,11 +114,12 @@ fn rebuild(passed: Passed) -> Passed
     Passed {
         node: passed.node,
         update: Update { state, card },
+        tag: passed.tag,
     }
 }
 
-// Goes down from an internal node, whose update it reads before the child. Returns what it read there, and the child.
-// The steps are not counted.
+// Goes down from an internal node, whose update it reads before the child word. Returns what it read there, and the
+// child. The steps are not counted.
 fn descend<A: Allocator + Copy, G: StepGate>(
     table: &CardTable<A>,
     pass: &mut Pass<A>,
@@ -136,5 +149,10 @@ fn descend<A: Allocator + Copy, G: StepGate>(
     let node_key = table.key_of(pass, node);
     gate.before(label, Kind::Look);
     let child = table.down(pass, node, node_key <= op.key());
-    (Passed { node, update }, child)
+    let passed = Passed {
+        node,
+        update,
+        tag: child.tag,
+    };
+    (passed, child.node)
 }

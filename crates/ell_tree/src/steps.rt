@@ -7,6 +7,7 @@ ghost use Rattle.ell_layout.specs.declared.field.Field.TheVariants as field;
 ghost use Rattle.ell_core.specs.soundness.Sound.{MayChange};
 ghost use Rattle.ell_core.specs.state.Machine.{worker_of};
 ghost use Rattle.ell_core.specs.acts.Searching.{MayStop};
+ghost use Rattle.ell_layout.specs.Cards.{says_by};
 ghost use Rattle.ell_cards.specs.declared.view.Told.TheVariants as told;
 ghost use Rattle.ell_cards.specs.Models.{Does, IsFree, IsTold, Knows};
 ghost use Rattle.ell_cards.specs.Changes.{answered_so, is_mark_of, taken_by, tries_hindered, with_answer};
@@ -26,7 +27,7 @@ use ell_cards::{CardTable, Pass};
 use ell_core::Exchange;
 use ell_layout::{Field, brought_node};
 use ell_ops::{Op, Reply};
-use ell_word::{State, Update};
+use ell_word::{Link, State, Update};
 use std::alloc::Allocator;
 
 /// A node with its key.
@@ -139,13 +140,31 @@ pub(crate) fn read_info<A: Allocator + Copy, G: StepGate>(
     requires own { pass.old.table ≡ table.now.id }
     requires may { MayAsk pass.old.view card field }
     ensures keeps_all { KeepsAll pass.old pass.new 1 }
-    ensures told { IsTold pass.new.view (told.Info card field result) }
-    ensures met { NamesNode field → IsTold pass.new.view (told.Met result) }
+    ensures told { IsTold pass.new.view (told.Info card field (says_by field result)) }
+    ensures met { NamesNode field → IsTold pass.new.view (told.Met (says_by field result)) }
     ensures node { TellsNode table.now.plan.last_card field result }
     ensures depth { TellsDepth pass.old.view card field result }
 {
     gate.before(pass.label(), Kind::Look);
     table.info(pass, card, field)
+}
+
+/// Reads the leaf of a card that the pass knows flagged or marked, with the tag that the card expects.
+pub(crate) fn read_leaf<A: Allocator + Copy, G: StepGate>(
+    table: &CardTable<A>,
+    pass: &mut Pass<A>,
+    card: u64,
+    gate: &G,
+) -> Link
+    requires own { pass.old.table ≡ table.now.id }
+    requires may { MayAsk pass.old.view card field.L }
+    ensures keeps_all { KeepsAll pass.old pass.new 1 }
+    ensures told { IsTold pass.new.view (told.Info card field.L result.node) }
+    ensures expects { IsTold pass.new.view (told.Expects card result.tag) }
+{
+    gate.before(pass.label(), Kind::Look);
+    let word = table.info(pass, card, Field::L);
+    Link::of(word)
 }
 
 /// Reads a child of the parent that a card has marked.
@@ -164,16 +183,18 @@ pub(crate) fn read_child<A: Allocator + Copy, G: StepGate>(
     ensures met { IsTold pass.new.view (told.Met result) }
 {
     gate.before(pass.label(), Kind::Look);
-    table.frozen_child(pass, card, parent, right)
+    table.facts_stay_inside(pass);
+    let child = table.frozen_child(pass, card, parent, right);
+    child.node
 }
 
-/// Makes the child exchange of an insert or a swap.
+/// Makes the child exchange of an insert or a swap, given the leaf with the tag that the card expects.
 pub(crate) fn change_child<A: Allocator + Copy, G: StepGate>(
     table: &CardTable<A>,
     pass: &mut Pass<A>,
     card: u64,
     parent: KeyedNode,
-    leaf: u64,
+    leaf: Link,
     card_key: u64,
     left_key: u64,
     gate: &G,
@@ -182,7 +203,8 @@ pub(crate) fn change_child<A: Allocator + Copy, G: StepGate>(
     requires flagged { Knows pass.old.view (fact.IFlagged card) }
     requires parent { IsTold pass.old.view (told.Info card field.P parent.node) }
     requires parent_key { IsTold pass.old.view (told.Key parent.node parent.key) }
-    requires leaf { IsTold pass.old.view (told.Info card field.L leaf) }
+    requires leaf { IsTold pass.old.view (told.Info card field.L leaf.node) }
+    requires expects { IsTold pass.old.view (told.Expects card leaf.tag) }
     requires card_key { IsTold pass.old.view (told.Info card field.Key card_key) }
     requires left_key { IsTold pass.old.view (told.Info card field.LeftLeafKey left_key) }
     ensures keeps_all { KeepsAll pass.old pass.new 1 }
@@ -257,18 +279,19 @@ fn is_mark(card: u64, update: Update) -> bool
     }
 }
 
-/// Makes the child exchange of a delete.
+/// Makes the child exchange of a delete, given the parent with the tag that the card expects.
 pub(crate) fn cut_parent<A: Allocator + Copy, G: StepGate>(
     table: &CardTable<A>,
     pass: &mut Pass<A>,
     card: u64,
     grandparent: KeyedNode,
-    parent: u64,
+    parent: Link,
     sibling: KeyedNode,
     gate: &G,
 )
     requires own { pass.old.table ≡ table.now.id }
-    requires marked { KnowsMark pass.old.view card grandparent.node parent }
+    requires marked { KnowsMark pass.old.view card grandparent.node parent.node }
+    requires expects { IsTold pass.old.view (told.Expects card parent.tag) }
     requires above { IsTold pass.old.view (told.Key grandparent.node grandparent.key) }
     requires sibling { HasSibling pass.old.view card sibling }
     ensures keeps_all { KeepsAll pass.old pass.new 1 }

@@ -1,5 +1,5 @@
 //! The tree.
-ghost use Rattle.std.specs.Prelude.{◌≡◌, ◌≢◌, ◌<◌, ◌≤◌, ◌+◌, ◌*◌, ◌++◌, [], true, false, length, Err, Ok, IfOk, IfErr, IfSome, OnOk, drop, vec_capacity};
+ghost use Rattle.std.specs.Prelude.{◌≡◌, ◌≢◌, ◌<◌, ◌≤◌, ◌+◌, ◌*◌, ◌++◌, [], true, false, length, Err, Ok, IfOk, IfErr, IfSome, OnOk, drop};
 ghost use Rattle.std.specs.List.{All};
 ghost use Rattle.std.specs.List.Sorted.{IsStrictlyIncreasing};
 ghost use Rattle.std.specs.Map.{keys_of};
@@ -8,14 +8,11 @@ ghost use Rattle.ell_ops.specs.KeySet.{set_of};
 ghost use Rattle.ell_ops.specs.Meaning.{greatest_key, found};
 ghost use Rattle.ell_word.specs.Node.{most_start};
 ghost use Rattle.ell_core.specs.state.Opening.{last_card};
-ghost use Rattle.ell_cards.specs.Accounts.{AreOfOneThread};
 ghost use Rattle.ell_cards.specs.Changes.{inherited};
-ghost use Rattle.ell_cards.specs.Models.{IsCardCount, MayPart, RefusesCards, SplitRefuses, whole_share};
-ghost use Rattle.ell_cards.specs.Stories.{HasStory};
+ghost use Rattle.ell_cards.specs.Models.{IsCardCount, MayPart, RefusesCards, SplitRefuses};
 ghost use Rattle.ell_tree.specs.Called.{IsCalled, IsDeleteCalled, IsPutCalled, IsRemoveCalled, IsTakeCalled, IsUpdateCalled};
 ghost use Rattle.ell_tree.specs.CardsLeft.{AreLeftAtMost, ReadsCardsLeft};
 ghost use Rattle.ell_tree.specs.CardsTaken.{TakesNoCard};
-ghost use Rattle.ell_tree.specs.Closing.{ClosesTo};
 ghost use Rattle.ell_tree.specs.Computing.{AreTried, AreTriedOrRead, IsNotDone, IsSum, PutsValue, RemovesIf, UpdatesValue, update_steps, whether_put};
 ghost use Rattle.ell_tree.specs.Counts.{Took};
 ghost use Rattle.ell_tree.specs.Ends.{Answers, CountsTries, Ends, TakesValue, find_steps, found_or_not_done, replied, whether, whether_swapped};
@@ -36,17 +33,16 @@ use crate::reading::{cards_left, look, look_about};
 use crate::removing::remove_if;
 use crate::scanning::{Pair, Scanned, last_below, next_from, scan};
 use ell_cards::{CardFault, CardTable, Pass, SplitFault};
-use ell_core::pairs_of_tree;
 use ell_ops::{KEY_MAX, NoMemory, Op};
-use std::alloc::{AllocError, Allocator};
+use std::alloc::Allocator;
 use std::marker::Model;
 
 /// A map from keys to values that many threads share, each through a pass of its own. A pass finds, inserts and deletes
 /// the keys that it owns, which no other pass does, and the shared ones, if the tree has any, as every pass does.
 #[derive(Drop)]
 pub struct Tree<A: Allocator + Copy> {
-    table: CardTable<A>,
-    alloc: A,
+    pub(crate) table: CardTable<A>,
+    pub(crate) alloc: A,
 }
 
 impl<A: Allocator + Copy> Model for Tree<A> {
@@ -771,29 +767,6 @@ impl<A: Allocator + Copy> Tree<A> {
         Ok(remove_if(&self.table, pass, key, was, tries, gate)?)
     }
 
-    /// Reads one word, so that the pass knows what was done with the tree up to now, by whichever passes: that was one
-    /// history, which is linearizable, and has the calls that the pass was answered (`story`). Whatever a program
-    /// concludes from the answers of several threads, it concludes from this, once it has joined their passes.
-    pub fn story(&self, pass: &mut Pass<A>)
-        requires own { pass.old.table ≡ self.now.id }
-        // All that was done with the tree is one history, which is linearizable. Its order has the calls that the pass
-        // was answered, it and the passes that were joined to it, and no others if it has the whole share. Each delete
-        // stands where the key had the value that it took.
-        ensures story { HasStory self.now.plan pass.new.view }
-        // It makes one step. Otherwise the pass is unchanged.
-        ensures table { pass.new.table ≡ pass.old.table }
-        ensures label { pass.new.label ≡ pass.old.label }
-        ensures worker { pass.new.view.worker ≡ pass.old.view.worker }
-        ensures called { pass.new.view.answers ≡ pass.old.view.answers }
-        ensures share { pass.new.view.share ≡ pass.old.view.share }
-        ensures steps { Took pass.old pass.new 1 }
-        // It takes no card.
-        ensures cards { TakesNoCard pass.old pass.new }
-    {
-        self.table.story(pass);
-        pass.count(1);
-    }
-
     /// A law, the contract of a function that does nothing: a pass of the tree knows of at most two milestones of each
     /// card, whatever it did.
     pub fn known_milestones_are_few(&self, pass: &Pass<A>)
@@ -803,45 +776,4 @@ impl<A: Allocator + Copy> Tree<A> {
     {
         self.table.claims_stay_inside(pass);
     }
-
-    /// Ends the tree, given a pass that owns each key that may have an owner, and, if the other keys are shared, has
-    /// the whole share. Returns the keys that are present with their values, the keys strictly ascending. If an
-    /// allocation fails, tree and pass come back as they were.
-    pub fn close(self, pass: Pass<A>) -> Result<Vec<(u64, u64), A>, (Tree<A>, Pass<A>, NoMemory)>
-        requires may { IsIdlePassOf self pass }
-        requires all { All (λ k. Owns pass k) self.plan.keys }
-        requires whole { self.plan.shared ≡ true → pass.view.share ≡ whole_share }
-        // The pairs are those of the tree to which a run led, strictly ascending by their keys: of the keys that may
-        // have an owner, those that the pass has present, and besides these only shared ones.
-        ensures pairs { IfOk result (λ pairs. ClosesTo self pass pairs.items) }
-        // If the other keys are shared, one thread that makes the calls that the pass was answered, it and all that
-        // were joined to it, in some order, is answered so, and leaves the pairs.
-        ensures thread { IfOk result (λ pairs. self.plan.shared ≡ true
-            → AreOfOneThread (contents_of self.plan.start) pass.view.answers (contents_of pairs.items)) }
-        // If an allocation fails, tree and pass come back as they were.
-        ensures refused { IfErr result (λ refused. (refused.0 ≡ self) × (refused.1 ≡ pass)) }
-    {
-        let places = self.table.last_card() as usize + 2;
-        let most = self.table.most_pairs(pass.keys().len());
-        let Ok((waiting, pairs)) = empty_lists(self.alloc, places, most) else {
-            return Err((self, pass, NoMemory));
-        };
-        let Tree { table, alloc: _ } = self;
-        let closed = table.close(pass);
-        Ok(pairs_of_tree(&closed, waiting, pairs))
-    }
-}
-
-// Two empty lists, with room for the given numbers of nodes and of keys with their values.
-fn empty_lists<A: Allocator + Copy>(
-    alloc: A,
-    nodes: usize,
-    keys: usize,
-) -> Result<(Vec<u64, A>, Vec<(u64, u64), A>), AllocError>
-    ensures nodes { IfOk result (λ made. (made.0.items ≡ []) × (nodes ≤ vec_capacity made.0)) }
-    ensures pairs { IfOk result (λ made. (made.1.items ≡ []) × (keys ≤ vec_capacity made.1)) }
-{
-    let nodes = Vec::with_capacity(alloc, nodes)?;
-    let pairs = Vec::with_capacity(alloc, keys)?;
-    Ok((nodes, pairs))
 }

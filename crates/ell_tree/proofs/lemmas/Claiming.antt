@@ -10,7 +10,7 @@ use Rattle.ell_cards.specs.declared.view.Told.TheVariants.{Info}
 use Rattle.ell_cards.specs.declared.view.Hindrance.TheVariants.{Claim}
 use Rattle.ell_cards.specs.declared.view.View.{View}
 use Rattle.ell_cards.specs.Models.{PassModel, Steps, one_more as one_step_more, Has, latest, earlier, Does}
-use Rattle.ell_cards.specs.Changes.{after_claim, filling_of, told_filling}
+use Rattle.ell_cards.specs.Changes.{after_claim, expected_tag, filling_of, told_filling}
 use Rattle.ell_cards.proofs.lemmas.views.Afters.{after_next}
 use Rattle.ell_cards.specs.Guards.{MayClaim, Wants}
 use Rattle.ell_cards.proofs.lemmas.words.Updates.{clean_word}
@@ -57,7 +57,7 @@ won_keeps c v low = record {
   answers = refl;
   share = record { share = refl; ownable = refl };
   knows = λ f h. h;
-  told = filling_more c (filling_of c v) v.told;
+  told = λ e h. earlier e _ _ (filling_more c (filling_of c v) v.told e h);
   before = refl;
   least = omega arith;
   hindered = refl;
@@ -99,9 +99,9 @@ module _ (a b d : PassModel) (c : ℕ) (read : Steps a b (after_next c a.view)) 
 
   -- the card is in hand then
   pub has_card : (op : Op) (place : LeafFound) → Steps b d (after_claim true c b.view) → Does a.view op → IsAt a.view place
-      → HasCard op place (filling_of c a.view) d.view c
+      → HasCard op place (expected_tag a.view) (filling_of c a.view) d.view c
   has_card op place s busy at =
-      subst (λ (w : View). HasCard op place (filling_of c a.view) w c)
+      subst (λ (w : View). HasCard op place (expected_tag a.view) (filling_of c a.view) w c)
       (sym (view_after b d (after_claim true c b.view) s ∙ ap (after_claim true c) (view_after a b (after_next c a.view) read)))
       (record {
         busy = busy;
@@ -111,7 +111,8 @@ module _ (a b d : PassModel) (c : ℕ) (read : Steps a b (after_next c a.view)) 
         above = ap (λ (r : Search). r.grandparent) at.search;
         says = refl;
         empty = refl;
-        told = told_filling_over c (filling_of c a.view) a.view.told;
+        told = λ e h. earlier e _ _ (told_filling_over c (filling_of c a.view) a.view.told e h);
+        expects = latest _ _;
       })
 
   -- and the pass took it

@@ -3,6 +3,7 @@ use Rattle.std.proofs.lemmas.Bool.{cases_eq, cases_lt, false≢true}
 use Rattle.std.proofs.lemmas.List.{get_or-replicate, length-replicate, length-set}
 use Rattle.std.proofs.Math.Nat.{max-eq_left, max-eq_right, min-eq_left, min-eq_right}
 use Rattle.ell_ops.specs.Meaning.{greatest_key}
+use Rattle.ell_word.specs.Link.{link_in}
 use Rattle.ell_word.specs.Node.{IsInternal}
 use Rattle.ell_layout.specs.Words.{IsLeaf}
 use Rattle.ell_core.specs.statements.Readers.{from_of, upto_of}
@@ -61,12 +62,12 @@ value_on old new x value s =
       looks = ap (λ (v : View). v.looks) view;
     }
 
-pub down_on : (old new : PassModel) (from : Glance) (k : ℕ) (right : Bool) (child : ℕ) → Sees old new (after_look_down from k right child old.view) → KeepsLooking old new 1
-down_on old new from k right child s =
-    let view = view_seen old new (after_look_down from k right child old.view) s in
+pub down_on : (old new : PassModel) (from : Glance) (k : ℕ) (right : Bool) (n : ℕ) → Sees old new (after_look_down from k right n old.view) → KeepsLooking old new 1
+down_on old new from k right n s =
+    let view = view_seen old new (after_look_down from k right n old.view) s in
     record {
-      only = down_only old new from k right child s;
-      glances = λ g has. subst (λ (v : View). Has v.glances g) (sym view) (earlier g (glance_down from k right child) old.view.glances has);
+      only = down_only old new from k right n s;
+      glances = λ g has. subst (λ (v : View). Has v.glances g) (sym view) (earlier g (glance_down from k right (link_in n).node) old.view.glances has);
       looks = ap (λ (v : View). v.looks) view;
     }
 
@@ -117,21 +118,21 @@ all_on cards p q n c h k = record {
 }
 
 -- a look begins at a node to which all real keys come
-pub begins_look : (old seen new : PassModel) (child : ℕ) → Sees old seen (after_look child old.view) → Counts seen new 1 → BeginsALook old new
-begins_look old seen new child s counts = record {
-  only = only_counted old seen new 1 1 (look_only old seen child s) (uncounted_one old seen (after_look child old.view) s refl) counts;
-  one = ap (λ (m : PassModel). m.view.looks) counts ∙ ap (λ (v : View). v.looks) (view_seen old seen (after_look child old.view) s);
+pub begins_look : (old seen new : PassModel) (n : ℕ) → Sees old seen (after_look n old.view) → Counts seen new 1 → BeginsALook old new
+begins_look old seen new n s counts = record {
+  only = only_counted old seen new 1 1 (look_only old seen n s) (uncounted_one old seen (after_look n old.view) s refl) counts;
+  one = ap (λ (m : PassModel). m.view.looks) counts ∙ ap (λ (v : View). v.looks) (view_seen old seen (after_look n old.view) s);
 }
 
-pub first_kept : (cards : ℕ) (old new : PassModel) (child : ℕ) → Sees old new (after_look child old.view) → rank 0 < rank child → InTable cards child
+pub first_kept : (cards : ℕ) (old new : PassModel) (n child : ℕ) → (link_in n).node ≡ child → Sees old new (after_look n old.view) → rank 0 < rank child → InTable cards child
     → MayGoOnFrom cards new.view (record { node = child; low = 0; high = greatest_key + 1 })
-first_kept cards old new child s low there =
-    let view = view_seen old new (after_look child old.view) s in
-    let g : Glance = record { node = child; low = 0; high = greatest_key + 1 } in
+first_kept cards old new n child says s low there =
+    let view = view_seen old new (after_look n old.view) s in
+    let g : Glance = record { node = (link_in n).node; low = 0; high = greatest_key + 1 } in
     record {
       come = subst (λ (v : View). HasCome v child 0 (greatest_key + 1)) (sym view)
-          (record { glance = g; among = latest _ _; there = refl; from = omega arith; upto = omega arith });
-      met = subst (λ (v : View). IsTold v (Met child)) (sym view) (latest (Met child) old.view.told);
+          (record { glance = g; among = latest _ _; there = says; from = omega arith; upto = omega arith });
+      met = subst (λ x. IsTold new.view (Met x)) says (subst (λ (v : View). IsTold v (Met (link_in n).node)) (sym view) (latest _ _));
       there = there;
       below = low;
       lower = inl refl;
@@ -251,11 +252,11 @@ module _ (cards : ℕ) (old a b : PassModel) (key : ℕ) (here : Glance) (cursor
   pub may_go_down : IsInternal here.node → MayLookDown b.view here k
   may_go_down inner = record { come = stands_still.come; met = stands_still.met; inner = inner; told = told_key }
 
-  pub goes_down : (d : PassModel) (right : Bool) (child : ℕ) (after : Cursor) → Sees b d (after_look_down here k right child b.view) → IsInternal here.node
+  pub goes_down : (d : PassModel) (right : Bool) (n child : ℕ) (after : Cursor) → (link_in n).node ≡ child → Sees b d (after_look_down here k right n b.view) → IsInternal here.node
       → rank here.node < rank child → InTable cards child → right ≡ nat_le k key → AreKept cards b.view after → GoesDown cards old d key (glance_down here k right child) after
-  goes_down d right child after s inner deeper there side kept =
-      let view = view_seen b d (after_look_down here k right child b.view) s in
-      let on = down_on b d here k right child s in
+  goes_down d right n child after says s inner deeper there side kept =
+      let view = view_seen b d (after_look_down here k right n b.view) s in
+      let on = down_on b d here k right n s in
       let is : IsNodeKey cards d.view k = record { node = here.node; inner = inner; there = at.stands.there; below = (let other = ranked_apart 0 here.node at.stands.below in omega arith); told = on.only.told (Key here.node k) told_key } in
       record {
         count = at.count + 2;
@@ -263,8 +264,8 @@ module _ (cards : ℕ) (old a b : PassModel) (key : ℕ) (here : Glance) (cursor
         few = (let few = at.few in let above = above_rises here.node child inner deeper in omega arith);
         stands = record {
           come = subst (λ (v : View). HasCome v child (from_of right here.low k) (upto_of right here.high k)) (sym view)
-              (record { glance = glance_down here k right child; among = latest _ _; there = refl; from = omega arith; upto = omega arith });
-          met = subst (λ (v : View). IsTold v (Met child)) (sym view) (latest (Met child) b.view.told);
+              (record { glance = glance_down here k right (link_in n).node; among = latest _ _; there = says; from = omega arith; upto = omega arith });
+          met = subst (λ x. IsTold d.view (Met x)) says (subst (λ (v : View). IsTold v (Met (link_in n).node)) (sym view) (latest _ _));
           there = there;
           below = (let above = at.stands.below in omega arith);
           lower = lower_down right cards d.view here.low k (lower_on cards b d 1 here.low on stands_still.lower) is;

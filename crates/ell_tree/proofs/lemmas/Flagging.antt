@@ -45,24 +45,30 @@ may_iflag a b n c what place h fills = record {
   leaf = place.leaf;
   busy = ap (λ (u : View). u.worker.operation) fills.view ∙ h.card.busy;
   may = may_fill_still a b n c fills h.card.may;
+  parent = seen place.parent;
   stands = ap (λ (u : View). u.worker.search.node) fills.view ∙ h.card.stands;
   behind = ap (λ (u : View). u.worker.search.parent) fills.view ∙ h.card.behind;
+  node = refl;
+  read = refl;
   filled = fills.filled;
 }
 
 -- a delete's the grandparent
 pub may_dflag : (a b : PassModel) (n c k : ℕ) (place : LeafFound) (above : Passed) → place.grandparent ≡ Some above
-    → HasCard (Delete k) place (delete_filling above.node place.parent.node place.leaf (packed place.parent.update)) a.view c
+    → HasCard (Delete k) place above.tag (delete_filling above.node place.parent.node place.leaf (packed place.parent.update)) a.view c
     → Fills a b n → MayDFlag b.view c above.node above.update
 may_dflag a b n c k place above is h fills = record {
   key = k;
   leaf = place.leaf;
   parent = seen place.parent;
+  grandparent = seen above;
   busy = ap (λ (u : View). u.worker.operation) fills.view ∙ h.busy;
   may = may_fill_still a b n c fills h.may;
   stands = ap (λ (u : View). u.worker.search.node) fills.view ∙ h.stands;
   behind = ap (λ (u : View). u.worker.search.parent) fills.view ∙ h.behind;
   above = ap (λ (u : View). u.worker.search.grandparent) fills.view ∙ (h.above ∙ ap seen_any is);
+  node = refl;
+  read = refl;
   filled = fills.filled;
 }
 

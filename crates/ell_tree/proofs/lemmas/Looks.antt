@@ -1,5 +1,6 @@
 use Rattle.std.proofs.Common.{◌≡◌, ◌≢◌, ℕ, ◌+◌, ◌*◌, ◌<◌, ◌≤◌, Bool, nat_le, Option, Some, None, List, refl, sym, ap, ◌∙◌, subst, arith}
 use Rattle.ell_ops.specs.Meaning.{greatest_key}
+use Rattle.ell_word.specs.Link.{link_in}
 use Rattle.ell_word.specs.Node.{IsInternal}
 use Rattle.ell_core.specs.statements.Readers.{from_of, upto_of}
 use Rattle.ell_core.proofs.lemmas.runs.Stretches.{key_from, key_upto}
@@ -122,12 +123,12 @@ only_counted a b c n k h u s =
     })
 
 -- the steps of a look
-pub look_only : (old new : PassModel) (child : ℕ) → Sees old new (after_look child old.view) → OnlyLooks old new 1
-look_only old new child s = only_step old new _ _ _ _ s (λ e h. earlier e _ _ h)
+pub look_only : (old new : PassModel) (n : ℕ) → Sees old new (after_look n old.view) → OnlyLooks old new 1
+look_only old new n s = only_step old new _ _ _ _ s (λ e h. earlier e _ _ h)
 
-pub down_only : (old new : PassModel) (from : Glance) (k : ℕ) (right : Bool) (child : ℕ) → Sees old new (after_look_down from k right child old.view)
+pub down_only : (old new : PassModel) (from : Glance) (k : ℕ) (right : Bool) (n : ℕ) → Sees old new (after_look_down from k right n old.view)
     → OnlyLooks old new 1
-down_only old new from k right child s = only_step old new _ _ _ _ s (λ e h. earlier e _ _ h)
+down_only old new from k right n s = only_step old new _ _ _ _ s (λ e h. earlier e _ _ h)
 
 pub key_only : (old new : PassModel) (x key : ℕ) → Sees old new (after_key_of x key old.view) → OnlyLooks old new 1
 key_only old new x key s = only_step old new _ _ _ _ s (λ e h. earlier e _ _ h)
@@ -145,17 +146,17 @@ pub record Comes (cards : ℕ) (old new : PassModel) (key node : ℕ) : Type 0 w
   pub there : InTable cards node
   pub one : new.view.looks ≡ old.view.looks + 1
 
-pub comes_first : (cards : ℕ) (old new : PassModel) (key child : ℕ) → key ≤ greatest_key → Sees old new (after_look child old.view) → rank 0 < rank child
-    → InTable cards child → Comes cards old new key child
-comes_first cards old new key child real s low there =
-    let view = view_seen old new (after_look child old.view) s in
+pub comes_first : (cards : ℕ) (old new : PassModel) (key n child : ℕ) → (link_in n).node ≡ child → key ≤ greatest_key → Sees old new (after_look n old.view)
+    → rank 0 < rank child → InTable cards child → Comes cards old new key child
+comes_first cards old new key n child says real s low there =
+    let view = view_seen old new (after_look n old.view) s in
     record {
       count = 1;
-      only = look_only old new child s;
+      only = look_only old new n s;
       few = (let above = above_rises 0 child refl low in omega arith);
       come = subst (λ (v : View). HasCome v child key (key + 1)) (sym view)
-          (record { glance = record { node = child; low = 0; high = greatest_key + 1 }; among = latest _ _; there = refl; from = omega arith; upto = omega arith });
-      met = subst (λ (v : View). IsTold v (Met child)) (sym view) (latest (Met child) old.view.told);
+          (record { glance = record { node = (link_in n).node; low = 0; high = greatest_key + 1 }; among = latest _ _; there = says; from = omega arith; upto = omega arith });
+      met = subst (λ x. IsTold new.view (Met x)) says (subst (λ (v : View). IsTold v (Met (link_in n).node)) (sym view) (latest _ _));
       there = there;
       one = ap (λ (v : View). v.looks) view;
     }
@@ -195,23 +196,23 @@ module _ (cards : ℕ) (old a b : PassModel) (key node k : ℕ) (at : Comes card
   pub may_down : IsInternal node → MayLookDown b.view (record { node = node; low = key; high = key + 1 }) k
   may_down inner = record { come = come_still; met = met_still; inner = inner; told = told_key }
 
-  pub comes_down : (d : PassModel) (child : ℕ)
-      → Sees b d (after_look_down (record { node = node; low = key; high = key + 1 }) k (nat_le k key) child b.view) → IsInternal node → rank node < rank child
+  pub comes_down : (d : PassModel) (n child : ℕ) → (link_in n).node ≡ child
+      → Sees b d (after_look_down (record { node = node; low = key; high = key + 1 }) k (nat_le k key) n b.view) → IsInternal node → rank node < rank child
       → InTable cards child → Comes cards old d key child
-  comes_down d child s inner deeper there =
+  comes_down d n child says s inner deeper there =
       let from : Glance = record { node = node; low = key; high = key + 1 } in
-      let view = view_seen b d (after_look_down from k (nat_le k key) child b.view) s in
-      let next : Glance = record { node = child; low = from_of (nat_le k key) key k; high = upto_of (nat_le k key) (key + 1) k } in
+      let view = view_seen b d (after_look_down from k (nat_le k key) n b.view) s in
+      let next : Glance = record { node = (link_in n).node; low = from_of (nat_le k key) key k; high = upto_of (nat_le k key) (key + 1) k } in
       let low = key_from k key key (omega arith) in
       let high = key_upto k (key + 1) key (omega arith) in
       record {
         count = at.count + 2;
         only = only_trans old a d at.count 2 (at.count + 2) at.only
-            (only_trans a b d 1 1 2 (key_only a b node k asked) (down_only b d from k (nat_le k key) child s) (omega arith)) (omega arith);
+            (only_trans a b d 1 1 2 (key_only a b node k asked) (down_only b d from k (nat_le k key) n s) (omega arith)) (omega arith);
         few = (let few = at.few in let above = above_rises node child inner deeper in omega arith);
         come = subst (λ (v : View). HasCome v child key (key + 1)) (sym view)
-            (record { glance = next; among = latest _ _; there = refl; from = low; upto = omega arith });
-        met = subst (λ (v : View). IsTold v (Met child)) (sym view) (latest (Met child) b.view.told);
+            (record { glance = next; among = latest _ _; there = says; from = low; upto = omega arith });
+        met = subst (λ x. IsTold d.view (Met x)) says (subst (λ (v : View). IsTold v (Met (link_in n).node)) (sym view) (latest _ _));
         there = there;
         one = ap (λ (v : View). v.looks) view ∙ one_none;
       }

@@ -3,6 +3,8 @@ use Rattle.std.specs.Option.{is_some}
 use Rattle.ell_ops.specs.declared.op.Op.{Op}
 use Rattle.ell_ops.specs.declared.reply.Reply.{Reply}
 use Rattle.ell_ops.specs.Meaning.{key_of}
+use Rattle.ell_word.specs.Link.{IsLink, linked, link_in}
+use Rattle.ell_word.specs.declared.link.Link.{Link}
 use Rattle.ell_word.specs.declared.update.Update.{Update}
 use Rattle.ell_core.specs.declared.view.Search.{Search}
 use Rattle.ell_core.specs.acts.Searching.{leaf_answer}
@@ -21,12 +23,13 @@ use Rattle.ell_cards.proofs.lemmas.views.Steps.{view_seen}
 use Rattle.ell_cards.proofs.lemmas.views.Searches.{told_here}
 use Rattle.ell_tree.specs.declared.searching.Passed.{Passed}
 use Rattle.ell_tree.specs.declared.searching.LeafFound.{LeafFound}
-use Rattle.ell_tree.specs.Keeping.{LosesNothing, KeepsAllButSearch, IsInnerMet}
+use Rattle.ell_tree.specs.Keeping.{LosesNothing, KeepsAllButSearch, IsInnerMet, IsSeenAt}
 use Rattle.ell_word.specs.declared.update.State.TheVariants as state
 use Rattle.ell_core.specs.declared.fact.Fact.{Fact}
 use Rattle.ell_tree.specs.Searches.{seen_any, below, KnowsPassed, EndWasUnknownAt, Stands, IsAt, there_at, EndsAt, HasSearched}
 use Rattle.ell_tree.specs.Counts.{HasUncounted}
 use Rattle.ell_tree.proofs.lemmas.Counts.{uncounted_one, uncounted_trans}
+use Rattle.ell_tree.proofs.lemmas.Links.{link_same}
 use Rattle.ell_tree.proofs.lemmas.Keeping.{keeps_but_search_unseen, keeps_but_search_trans, upd_keeps, key_of_keeps, value_of_keeps, down_keeps, loses_trans, seen_kept, place_told}
 
 -- an update is read in a step, and so are a key and a value
@@ -39,49 +42,54 @@ key_seeks old new x key s = keeps_but_search_unseen old new (after_key_of x key 
 pub value_seeks : (old new : PassModel) (x value : ℕ) → Sees old new (after_value_of x value old.view) → KeepsAllButSearch old new 1
 value_seeks old new x value s = keeps_but_search_unseen old new (after_value_of x value old.view) s (value_of_keeps x value old.view) refl refl refl refl refl
 
--- a node goes by in three steps: its update, its key, its child
-module _ (a b d e : PassModel) (x : ℕ) (u : Update) (key child : ℕ)
-    (read : Sees a b (after_upd x u a.view)) (asked : Sees b d (after_key_of x key b.view)) (gone : Sees d e (after_down x child d.view)) where
+-- a node goes by in three steps: its update, its key, its child word
+module _ (a b d e : PassModel) (x : ℕ) (u : Update) (key : ℕ) (l : Link)
+    (read : Sees a b (after_upd x u a.view)) (asked : Sees b d (after_key_of x key b.view)) (gone : Sees d e (after_down x (linked l) d.view)) where
   read_view : b.view ≡ after_upd x u a.view
   read_view = view_seen a b (after_upd x u a.view) read
 
   asked_view : d.view ≡ after_key_of x key (after_upd x u a.view)
   asked_view = view_seen b d (after_key_of x key b.view) asked ∙ ap (after_key_of x key) read_view
 
-  gone_view : e.view ≡ after_down x child (after_key_of x key (after_upd x u a.view))
-  gone_view = view_seen d e (after_down x child d.view) gone ∙ ap (after_down x child) asked_view
+  gone_view : e.view ≡ after_down x (linked l) (after_key_of x key (after_upd x u a.view))
+  gone_view = view_seen d e (after_down x (linked l) d.view) gone ∙ ap (after_down x (linked l)) asked_view
 
   pub descend_seeks : KeepsAllButSearch a e 3
   descend_seeks =
       keeps_but_search_trans a d e 2 1 3
       (keeps_but_search_trans a b d 1 1 2 (upd_seeks a b x u read) (key_seeks b d x key asked) (omega arith))
-      (keeps_but_search_unseen d e (after_down x child d.view) gone (down_keeps x child d.view) refl refl refl refl refl) (omega arith)
+      (keeps_but_search_unseen d e (after_down x (linked l) d.view) gone (down_keeps x (linked l) d.view) refl refl refl refl refl) (omega arith)
 
   pub descend_uncounted : HasUncounted a e 3
   descend_uncounted =
       uncounted_trans a d e 2 1
       (uncounted_trans a b d 1 1 (uncounted_one a b (after_upd x u a.view) read refl) (uncounted_one b d (after_key_of x key b.view) asked refl))
-      (uncounted_one d e (after_down x child d.view) gone refl)
+      (uncounted_one d e (after_down x (linked l) d.view) gone refl)
 
-  pub descend_search : e.view.worker.search ≡ below child (record { node = x; update = u }) a.view.worker.search.parent
-  descend_search = ap (λ (v : View). v.worker.search) gone_view
+  pub descend_search : IsLink l → e.view.worker.search ≡ below l.node (record { node = x; update = u; tag = l.tag }) a.view.worker.search.parent
+  descend_search small = ap (λ (v : View). v.worker.search) gone_view
+      ∙ ap (λ (m : Link). below m.node (record { node = x; update = u; tag = m.tag }) a.view.worker.search.parent) (link_same l small.node)
 
-  pub descend_met : IsTold e.view (Met child)
-  descend_met = subst (λ (v : View). IsTold v (Met child)) (sym gone_view) (latest _ _)
+  pub descend_met : IsLink l → IsTold e.view (Met l.node)
+  descend_met small = subst (λ (m : Link). IsTold e.view (Met m.node)) (link_same l small.node)
+      (subst (λ (v : View). IsTold v (Met (link_in (linked l)).node)) (sym gone_view) (latest _ _))
 
-  pub descend_passed : (cards : ℕ) → IsInnerMet cards a.view x → u.card ≤ cards → KnowsPassed cards e.view (record { node = x; update = u })
-  descend_passed cards node named =
+  pub descend_passed : (cards : ℕ) → IsLink l → IsInnerMet cards a.view x → u.card ≤ cards → KnowsPassed cards e.view (record { node = x; update = u; tag = l.tag })
+  descend_passed cards small node named =
       let v = after_upd x u a.view in
-      let w = after_down x child (after_key_of x key v) in
-      subst (λ (y : View). KnowsPassed cards y (record { node = x; update = u })) (sym gone_view)
-      (seen_kept cards v w x u (loses_trans v (after_key_of x key v) w (key_of_keeps x key v) (down_keeps x child (after_key_of x key v))) (record {
-        node = record { met = places_more x u.state u.card a.view.told (Met x) node.met; inner = node.inner; there = node.there };
-        named = named;
-        place = place_told x u.state u.card a.view v refl refl;
-      }))
+      let w = after_down x (linked l) (after_key_of x key v) in
+      record {
+        seen = subst (λ (y : View). IsSeenAt cards y x u) (sym gone_view)
+            (seen_kept cards v w x u (loses_trans v (after_key_of x key v) w (key_of_keeps x key v) (down_keeps x (linked l) (after_key_of x key v))) (record {
+              node = record { met = places_more x u.state u.card a.view.told (Met x) node.met; inner = node.inner; there = node.there };
+              named = named;
+              place = place_told x u.state u.card a.view v refl refl;
+            }));
+        tag = small.tag;
+      }
 
-  pub descend_unknown : EndWasUnknown a.view u.state u.card → EndWasUnknownAt e.view (record { node = x; update = u })
-  descend_unknown unknown = subst (λ (y : View). EndWasUnknownAt y (record { node = x; update = u })) (sym gone_view) unknown
+  pub descend_unknown : EndWasUnknown a.view u.state u.card → EndWasUnknownAt e.view (record { node = x; update = u; tag = l.tag })
+  descend_unknown unknown = subst (λ (y : View). EndWasUnknownAt y (record { node = x; update = u; tag = l.tag })) (sym gone_view) unknown
 
 -- what was unknown is unknown as long as the search goes on
 pub unknown_kept : (a b : View) (x : Passed) → LosesNothing a b → EndWasUnknownAt a x → EndWasUnknownAt b x
@@ -95,8 +103,11 @@ unknown_any_kept a b (Some x) k h = unknown_kept a b x k h
 pub unknown_above : (v : View) (o : Option Passed) (x : Passed) → o ≡ Some x → IfSome o (EndWasUnknownAt v) → EndWasUnknownAt v x
 unknown_above v o x e h = subst (λ p. IfSome p (EndWasUnknownAt v)) e h
 
+pub passed_above : (cards : ℕ) (v : View) (o : Option Passed) (x : Passed) → o ≡ Some x → IfSome o (λ y. KnowsPassed cards v y) → KnowsPassed cards v x
+passed_above cards v o x e h = subst (λ p. IfSome p (λ y. KnowsPassed cards v y)) e h
+
 pub named_above : (cards : ℕ) (v : View) (o : Option Passed) (x : Passed) → o ≡ Some x → IfSome o (λ y. KnowsPassed cards v y) → x.update.card ≤ cards
-named_above cards v o x e h = (subst (λ p. IfSome p (λ y. KnowsPassed cards v y)) e h).named
+named_above cards v o x e h = (passed_above cards v o x e h).seen.named
 
 -- a try that has met nothing met all that came to be in the way meanwhile
 pub searched_in_try : (cards : ℕ) (op : Op) (place : LeafFound) (v : View) → HasSearched cards op place v → v.hindrances ≡ v.met ++ v.hindrances
@@ -104,7 +115,7 @@ searched_in_try cards op place v h = ap (λ hs. hs ++ v.hindrances) (sym h.unmet
 
 -- what a search passed stays so
 pub passes_kept : (cards : ℕ) (a b : View) (x : Passed) → LosesNothing a b → KnowsPassed cards a x → KnowsPassed cards b x
-passes_kept cards a b x k h = seen_kept cards a b x.node x.update k h
+passes_kept cards a b x k h = record { seen = seen_kept cards a b x.node x.update k h.seen; tag = h.tag }
 
 passes_any_kept : (cards : ℕ) (a b : View) (o : Option Passed) → LosesNothing a b → IfSome o (λ x. KnowsPassed cards a x) → IfSome o (λ x. KnowsPassed cards b x)
 passes_any_kept cards a b None k h = tt
@@ -157,6 +168,7 @@ search_ends cards a b d op place s s' busy outer h tells says =
         value_told = latest _ _;
         value = ap (λ t. if t then place.value else told_value keyed.told place.leaf) (eq-eqb place.leaf place.leaf refl);
       };
+      leaf = h.there;
       passed = passes_kept cards a.view w place.parent kept h.passed;
       passed_above = passes_any_kept cards a.view w place.grandparent kept h.passed_above;
       unknown = unknown_kept a.view w place.parent kept h.unknown;

@@ -2,10 +2,11 @@ use Rattle.std.proofs.Common.{◌≡◌, ℕ, ◌+◌, if◌then◌else◌, nat_
 use Rattle.ell_word.specs.Node.{left_leaf, right_leaf}
 use Rattle.ell_layout.specs.declared.field.Field.{Field}
 use Rattle.ell_layout.specs.declared.field.Field.TheVariants as field
-use Rattle.ell_layout.specs.Cards.{clean, stored, insert_filling}
+use Rattle.ell_word.specs.Link.{linked}
+use Rattle.ell_layout.specs.Cards.{clean, stored, insert_filling, delete_filling}
 use Rattle.ell_cards.specs.declared.view.View.{View}
 use Rattle.ell_cards.specs.Models.{PassModel, Steps, stored_at}
-use Rattle.ell_cards.specs.Changes.{after_fill, with_stores}
+use Rattle.ell_cards.specs.Changes.{after_fill, tagged, with_stores}
 use Rattle.ell_cards.proofs.lemmas.views.Steps.{view_after}
 use Rattle.ell_tree.specs.Counts.{Took}
 use Rattle.ell_tree.specs.Tries.{Fills}
@@ -44,38 +45,75 @@ insert_stores parent leaf lesser greater left right update left_value right_valu
     ∷ (field.Update, update) ∷ (field.Right, right) ∷ (field.Left, left) ∷ (field.Key, greater) ∷ (field.L, leaf) ∷ (field.P, parent) ∷ []
 
 -- it is what the card is to say
-stored_of_insert : (c k value parent leaf leaf_key leaf_value : ℕ) (f : Field)
-    → stored_at (insert_stores parent leaf (min k leaf_key) (max k leaf_key) (left_leaf c) (right_leaf c) (clean 0)
+stored_of_insert : (c k value parent leaf tag leaf_key leaf_value : ℕ) (f : Field)
+    → stored_at (insert_stores parent (linked (record { node = leaf; tag = tag })) (min k leaf_key) (max k leaf_key) (left_leaf c) (right_leaf c) (clean 0)
     (if nat_lt k leaf_key then value else leaf_value) (if nat_lt k leaf_key then leaf_value else value)) f
-    ≡ stored (insert_filling c k value parent leaf leaf_key leaf_value) f 0
-stored_of_insert c k value parent leaf leaf_key leaf_value field.Gp = refl
-stored_of_insert c k value parent leaf leaf_key leaf_value field.P = refl
-stored_of_insert c k value parent leaf leaf_key leaf_value field.L = refl
-stored_of_insert c k value parent leaf leaf_key leaf_value field.Was = refl
-stored_of_insert c k value parent leaf leaf_key leaf_value field.Key = refl
-stored_of_insert c k value parent leaf leaf_key leaf_value field.Left = refl
-stored_of_insert c k value parent leaf leaf_key leaf_value field.Right = refl
-stored_of_insert c k value parent leaf leaf_key leaf_value field.Update = refl
-stored_of_insert c k value parent leaf leaf_key leaf_value field.LeftLeafKey = refl
-stored_of_insert c k value parent leaf leaf_key leaf_value field.RightLeafKey = refl
-stored_of_insert c k value parent leaf leaf_key leaf_value field.LeftValue = refl
-stored_of_insert c k value parent leaf leaf_key leaf_value field.RightValue = refl
+    ≡ stored (tagged tag (insert_filling c k value parent leaf leaf_key leaf_value)) f 0
+stored_of_insert c k value parent leaf tag leaf_key leaf_value field.Gp = refl
+stored_of_insert c k value parent leaf tag leaf_key leaf_value field.P = refl
+stored_of_insert c k value parent leaf tag leaf_key leaf_value field.L = refl
+stored_of_insert c k value parent leaf tag leaf_key leaf_value field.Was = refl
+stored_of_insert c k value parent leaf tag leaf_key leaf_value field.Key = refl
+stored_of_insert c k value parent leaf tag leaf_key leaf_value field.Left = refl
+stored_of_insert c k value parent leaf tag leaf_key leaf_value field.Right = refl
+stored_of_insert c k value parent leaf tag leaf_key leaf_value field.Update = refl
+stored_of_insert c k value parent leaf tag leaf_key leaf_value field.LeftLeafKey = refl
+stored_of_insert c k value parent leaf tag leaf_key leaf_value field.RightLeafKey = refl
+stored_of_insert c k value parent leaf tag leaf_key leaf_value field.LeftValue = refl
+stored_of_insert c k value parent leaf tag leaf_key leaf_value field.RightValue = refl
 
--- an insert's card is filled by ten stores
-pub fills_insert : (a b : PassModel) (c k value parent leaf leaf_key leaf_value lesser greater left right update left_value right_value : ℕ)
-    → Stores a b (insert_stores parent leaf lesser greater left right update left_value right_value) 10
-    → a.view.planned ≡ insert_filling c k value parent leaf leaf_key leaf_value
-    → lesser ≡ min k leaf_key → greater ≡ max k leaf_key → left ≡ left_leaf c → right ≡ right_leaf c → update ≡ clean 0
-    → left_value ≡ (if nat_lt k leaf_key then value else leaf_value) → right_value ≡ (if nat_lt k leaf_key then leaf_value else value)
-    → Fills a b 10
-fills_insert a b c k value parent leaf leaf_key leaf_value lesser greater left right update left_value right_value h says low high l r u lv rv =
+-- a card of which all that it is to say was stored is filled
+fills : (a b : PassModel) (n : ℕ) (stores says : List (Field × ℕ)) → Stores a b stores n → a.view.planned ≡ says
+    → ((f : Field) → stored_at stores f ≡ stored says f 0) → Fills a b n
+fills a b n stores says h planned same =
     let filled = ap (λ (v : View). v.stores) h.view in
-    let filling = ap (λ (v : View). v.planned) h.view ∙ says in record {
+    let filling = ap (λ (v : View). v.planned) h.view ∙ planned in record {
       table = h.table;
       label = h.label;
       took = h.took;
       view = h.view ∙ ap (λ es. with_stores es a.view) (sym filled);
-      filled = λ f. ap (λ es. stored_at es f) filled
-          ∙ ((λ t. stored_at (insert_stores parent leaf (low t) (high t) (l t) (r t) (u t) (lv t) (rv t)) f)
-          ∙ (stored_of_insert c k value parent leaf leaf_key leaf_value f ∙ ap (λ es. stored es f 0) (sym filling)));
+      filled = λ f. ap (λ es. stored_at es f) filled ∙ (same f ∙ ap (λ es. stored es f 0) (sym filling));
     }
+
+-- an insert's card is filled by ten stores
+pub fills_insert : (a b : PassModel) (c k value parent leaf tag leaf_key leaf_value word lesser greater left right update left_value right_value : ℕ)
+    → Stores a b (insert_stores parent word lesser greater left right update left_value right_value) 10
+    → a.view.planned ≡ tagged tag (insert_filling c k value parent leaf leaf_key leaf_value)
+    → word ≡ linked (record { node = leaf; tag = tag })
+    → lesser ≡ min k leaf_key → greater ≡ max k leaf_key → left ≡ left_leaf c → right ≡ right_leaf c → update ≡ clean 0
+    → left_value ≡ (if nat_lt k leaf_key then value else leaf_value) → right_value ≡ (if nat_lt k leaf_key then leaf_value else value)
+    → Fills a b 10
+fills_insert a b c k value parent leaf tag leaf_key leaf_value word lesser greater left right update left_value right_value h says w low high l r u lv rv =
+    fills a b 10 (insert_stores parent word lesser greater left right update left_value right_value)
+    (tagged tag (insert_filling c k value parent leaf leaf_key leaf_value)) h says
+    (λ f. (λ t. stored_at (insert_stores parent (w t) (low t) (high t) (l t) (r t) (u t) (lv t) (rv t)) f)
+    ∙ stored_of_insert c k value parent leaf tag leaf_key leaf_value f)
+
+-- what is stored of a delete's card is what it is to say
+abbrev pub delete_stores : ℕ → ℕ → ℕ → ℕ → List (Field × ℕ)
+delete_stores grandparent parent leaf was = (field.Was, was) ∷ (field.L, leaf) ∷ (field.P, parent) ∷ (field.Gp, grandparent) ∷ []
+
+stored_of_delete : (grandparent parent leaf tag was : ℕ) (f : Field)
+    → stored_at (delete_stores grandparent parent (linked (record { node = leaf; tag = tag })) was) f
+    ≡ stored (tagged tag (delete_filling grandparent parent leaf was)) f 0
+stored_of_delete grandparent parent leaf tag was field.Gp = refl
+stored_of_delete grandparent parent leaf tag was field.P = refl
+stored_of_delete grandparent parent leaf tag was field.L = refl
+stored_of_delete grandparent parent leaf tag was field.Was = refl
+stored_of_delete grandparent parent leaf tag was field.Key = refl
+stored_of_delete grandparent parent leaf tag was field.Left = refl
+stored_of_delete grandparent parent leaf tag was field.Right = refl
+stored_of_delete grandparent parent leaf tag was field.Update = refl
+stored_of_delete grandparent parent leaf tag was field.LeftLeafKey = refl
+stored_of_delete grandparent parent leaf tag was field.RightLeafKey = refl
+stored_of_delete grandparent parent leaf tag was field.LeftValue = refl
+stored_of_delete grandparent parent leaf tag was field.RightValue = refl
+
+-- it is filled by four stores
+pub fills_delete : (a b : PassModel) (grandparent parent leaf tag word was read : ℕ)
+    → Stores a b (delete_stores grandparent parent word was) 4
+    → a.view.planned ≡ tagged tag (delete_filling grandparent parent leaf read)
+    → word ≡ linked (record { node = leaf; tag = tag }) → was ≡ read → Fills a b 4
+fills_delete a b grandparent parent leaf tag word was read h says w r =
+    fills a b 4 (delete_stores grandparent parent word was) (tagged tag (delete_filling grandparent parent leaf read)) h says
+    (λ f. (λ t. stored_at (delete_stores grandparent parent (w t) (r t)) f) ∙ stored_of_delete grandparent parent leaf tag read f)

@@ -9,15 +9,16 @@ use Rattle.ell_cards.specs.Changes.{answered_so}
 use Rattle.ell_cards.proofs.lemmas.runs.Taking.{deletes_take_the_told_value}
 use Rattle.ell_tree.specs.CardsTaken.{cards_taken}
 use Rattle.ell_tree.specs.Hindrances.{way_of}
-use Rattle.ell_tree.specs.Searches.{seen_any, below}
+use Rattle.ell_tree.specs.Searches.{seen_any, below, leaf_with}
 use Rattle.ell_tree.proofs.lemmas.Called.{takes_told}
 use Rattle.ell_tree.proofs.lemmas.Keeping.{inner_kept, share_trans}
 use Rattle.ell_tree.proofs.lemmas.Owning.{keeps_answers, had_value, would_delete}
 use Rattle.ell_tree.proofs.lemmas.Meeting.{meets_trans, meets_more, above_way, parent_way, nowhere_way, way_over, way_free, no_way}
 use Rattle.ell_tree.proofs.lemmas.Halting.{keeps_meets, said_meets, flag_lost}
-use Rattle.ell_tree.proofs.lemmas.Filling.{delete_wants, told_grandparent, told_leaf, told_parent, told_was}
+use Rattle.ell_tree.proofs.lemmas.Filling.{delete_card, delete_wants, told_grandparent, told_leaf, told_parent, told_was}
+use Rattle.ell_tree.proofs.lemmas.Links.{has_word}
 use Rattle.ell_tree.proofs.lemmas.Milestones.{sees_end, gives_out}
-use Rattle.ell_tree.proofs.lemmas.Searches.{unknown_above, named_above, searched_in_try}
+use Rattle.ell_tree.proofs.lemmas.Searches.{unknown_above, named_above, passed_above, searched_in_try}
 use Rattle.ell_tree.proofs.deleting.delete_at.Goals as goal
 
 pub take_card-requires-clause-wants : goal.take_card-requires-clause-wants
@@ -25,24 +26,44 @@ take_card-requires-clause-wants g c =
     let calm : c.in-Some.above.update.state ≡ Clean = search rules in
     delete_wants c.args.pass.now.view c.args.key c.args.place c.in-Some.above c.requires.searched.ends.at c.requires.key c.in-Some.is calm
 
+pub flag_delete-requires-clause-link : goal.flag_delete-requires-clause-link
+flag_delete-requires-clause-link g c =
+    let cards = c.args.table.now.plan.last_card in
+    let place = c.args.place in
+    let above = c.in-Some.above in
+    let ends = c.requires.searched.ends in
+    has_word cards (leaf_with place above.tag) ends.leaf c.take_card.ensures.limit (passed_above cards c.args.pass.now.view place.grandparent above c.in-Some.is ends.passed_above).tag
+
+pub flag_delete-requires-clause-card : goal.flag_delete-requires-clause-card
+flag_delete-requires-clause-card g c =
+    let a = c.args.pass.now in (
+      c.args.key,
+      delete_card a.view c.take_card.new.pass.view c.in-Card.card c.args.key c.args.place c.in-Some.above c.in-Some.is c.requires.searched.busy
+          c.requires.searched.ends.at c.in-Card.ensures.claims.0,
+    )
+
 pub finish_own-requires-clause-grandparent : goal.finish_own-requires-clause-grandparent
 finish_own-requires-clause-grandparent g c =
-    told_grandparent c.args.pass.now.view c.take_card.new.pass.view c.flag_delete.new.pass.view c.in-Card.card c.args.key c.args.place c.flag_delete.ensures.keeps.view
-    c.in-Some.above c.in-Some.is c.requires.searched.busy c.requires.searched.ends.at c.in-Card.ensures.claims.0
+    let a = c.args.pass.now in
+    let card = delete_card a.view c.take_card.new.pass.view c.in-Card.card c.args.key c.args.place c.in-Some.above c.in-Some.is c.requires.searched.busy
+    c.requires.searched.ends.at c.in-Card.ensures.claims.0 in
+    told_grandparent c.take_card.new.pass.view c.flag_delete.new.pass.view c.in-Card.card c.args.place c.flag_delete.ensures.keeps.view c.args.key c.in-Some.above card
 
 pub finish_own-requires-clause-parent : goal.finish_own-requires-clause-parent
 finish_own-requires-clause-parent g c =
     let a = c.args.pass.now in
-    let ends = c.requires.searched.ends in
     let cards = c.args.table.now.plan.last_card in
-    told_parent a.view c.take_card.new.pass.view c.flag_delete.new.pass.view c.in-Card.card c.args.key c.args.place c.flag_delete.ensures.keeps.view
-    c.in-Some.above c.in-Some.is c.requires.searched.busy ends.at c.in-Card.ensures.claims.0 cards
-    (inner_kept cards a.view c.take_card.new.pass.view c.args.place.parent.node c.take_card.ensures.keeps.view ends.passed.node)
+    let card = delete_card a.view c.take_card.new.pass.view c.in-Card.card c.args.key c.args.place c.in-Some.above c.in-Some.is c.requires.searched.busy
+    c.requires.searched.ends.at c.in-Card.ensures.claims.0 in
+    told_parent c.take_card.new.pass.view c.flag_delete.new.pass.view c.in-Card.card c.args.place c.flag_delete.ensures.keeps.view c.args.key c.in-Some.above card cards
+    (inner_kept cards a.view c.take_card.new.pass.view c.args.place.parent.node c.take_card.ensures.keeps.view c.requires.searched.ends.passed.seen.node)
 
 pub finish_own-requires-clause-read : goal.finish_own-requires-clause-read
 finish_own-requires-clause-read g c =
-    told_was c.args.pass.now.view c.take_card.new.pass.view c.flag_delete.new.pass.view c.in-Card.card c.args.key c.args.place c.flag_delete.ensures.keeps.view
-    c.in-Some.above c.in-Some.is c.requires.searched.busy c.requires.searched.ends.at c.in-Card.ensures.claims.0
+    let a = c.args.pass.now in
+    let card = delete_card a.view c.take_card.new.pass.view c.in-Card.card c.args.key c.args.place c.in-Some.above c.in-Some.is c.requires.searched.busy
+    c.requires.searched.ends.at c.in-Card.ensures.claims.0 in
+    told_was c.take_card.new.pass.view c.flag_delete.new.pass.view c.in-Card.card c.args.place c.flag_delete.ensures.keeps.view c.args.key c.in-Some.above card
 
 -- a flag or a mark stood at the grandparent
 pub returns-then-ne-clause-ends : goal.returns-then-ne-clause-ends
@@ -112,7 +133,7 @@ returns-then-ne-2-clause-ends g c =
         stops = search rules;
       },
       omega (arith, way.1, more),
-      sees_end cards a.view a.view new.view update.state update.card refl ends.unknown ends.passed.named stands help.ensures.ended met.keeps.view.least,
+      sees_end cards a.view a.view new.view update.state update.card refl ends.unknown ends.passed.seen.named stands help.ensures.ended met.keeps.view.least,
     )
 
 -- no card was left
@@ -250,8 +271,8 @@ returns-clause-took g c =
     let busy : Does m.view (Delete c.args.key) = search rules in
     let hand : m.view.worker.card ≡ Some card = c.finish_own.ensures.keeps_but_met.card ∙ c.in_default-flag_delete.ensures.flags.card in
     let stays : (e : Told) → IsTold m.view e → IsTold new.view e = λ e has. subst (λ (es : List Told). Has es e) (sym said.ensures.told) has in
-    let leaf = told_leaf a.view t.view f.view card c.args.key place c.flag_delete.ensures.keeps.view
-    c.in-Some.above c.in-Some.is c.requires.searched.busy ends.at c.in-Card.ensures.claims.0 in
+    let leaf = told_leaf t.view f.view card place c.flag_delete.ensures.keeps.view c.args.key c.in-Some.above
+    (delete_card a.view t.view card c.args.key place c.in-Some.above c.in-Some.is c.requires.searched.busy ends.at c.in-Card.ensures.claims.0) in
     let value = c.flag_delete.ensures.keeps.view.told _ (c.take_card.ensures.keeps.view.told _ ends.at.value_told) in
     let on = c.finish_own.ensures.keeps_but_met.keeps.view.told in
     let same = c.finish_own.ensures.keeps_but_met.keeps.view.answers ∙ (c.flag_delete.ensures.keeps.view.answers ∙ c.take_card.ensures.keeps.view.answers) in (

@@ -1,16 +1,16 @@
-use Rattle.std.proofs.Common.{◌+◌, ◌≡◌, ◌≢◌, ℕ, Some, List, length, sym, ap, ◌∙◌, subst, rules, arith}
+use Rattle.std.proofs.Common.{◌+◌, ◌≡◌, ◌≢◌, ℕ, Some, length, sym, ap, ◌∙◌, subst, rules, arith}
 use Rattle.ell_word.specs.declared.update.State.TheVariants.{Clean}
 use Rattle.ell_core.specs.declared.view.Search.{Search}
 use Rattle.ell_cards.specs.declared.view.Told.TheVariants.{Met}
-use Rattle.ell_layout.specs.declared.field.Field.{Field}
 use Rattle.std.proofs.lemmas.Bool.{false≢true}
 use Rattle.ell_ops.specs.Meaning.{found}
 use Rattle.ell_tree.specs.CardsTaken.{cards_taken, TakesOneCard, TakesOneIf}
 use Rattle.ell_tree.specs.Ends.{Answers, changes_by, reply_by}
 use Rattle.ell_tree.specs.Hindrances.{way_of}
-use Rattle.ell_tree.specs.Tries.{HasCard}
+use Rattle.ell_tree.specs.Searches.{leaf_with}
 use Rattle.ell_tree.proofs.lemmas.Searches.{may_answer}
-use Rattle.ell_tree.proofs.lemmas.Filling.{put_fills, is_insert}
+use Rattle.ell_tree.proofs.lemmas.Filling.{put_card, is_insert}
+use Rattle.ell_tree.proofs.lemmas.Links.{has_word}
 use Rattle.ell_tree.proofs.lemmas.Keeping.{share_trans}
 use Rattle.ell_tree.proofs.lemmas.Owning.{keeps_answers, would_put}
 use Rattle.ell_tree.proofs.lemmas.Meeting.{meets_trans, meets_more, put_way, nowhere_way, way_over, way_free, no_way}
@@ -33,15 +33,19 @@ answer-requires-clause-may g c =
     may_answer s.new.pass.view c.args.op s.result c.found.result (s.ensures.keeps_but_search.keeps.view.operation ∙ c.requires.root.busy) s.ensures.ends.at
     (refused.says ∙ ap Some (sym (c.found.ensures ∙ ap found c.told_of_put-found.ensures)))
 
+pub flag_insert-requires-clause-link : goal.flag_insert-requires-clause-link
+flag_insert-requires-clause-link g c =
+    let place = c.search-place.result in
+    let ends = c.search-place.ensures.ends in
+    has_word c.args.table.now.plan.last_card (leaf_with place place.parent.tag) ends.leaf c.take_card.ensures.limit ends.passed.tag
+
 pub flag_insert-requires-clause-card : goal.flag_insert-requires-clause-card
 flag_insert-requires-clause-card g c =
     let s = c.search-place in record {
       op = c.args.op;
       puts = c.requires.puts;
-      card = subst (λ (es : List (Field × ℕ)). HasCard c.args.op s.result es c.take_card.new.pass.view c.in-Card.card)
-          (put_fills c.in-Card.card c.args.op c.args.what s.new.pass.view s.result c.requires.puts
-          (s.ensures.keeps_but_search.keeps.view.operation ∙ c.requires.root.busy) s.ensures.ends.at)
-          c.in-Card.ensures.claims.0;
+      card = put_card s.new.pass.view c.take_card.new.pass.view c.in-Card.card c.args.op c.args.what s.result c.requires.puts
+          (s.ensures.keeps_but_search.keeps.view.operation ∙ c.requires.root.busy) s.ensures.ends.at c.in-Card.ensures.claims.0;
     }
 
 pub finish_insert-requires-clause-insert : goal.finish_insert-requires-clause-insert
@@ -49,11 +53,13 @@ finish_insert-requires-clause-insert g c =
     let s = c.search-place in
     let place = s.result in
     let ends = s.ensures.ends in
+    let card = put_card s.new.pass.view c.take_card.new.pass.view c.in-Card.card c.args.op c.args.what place c.requires.puts
+    (s.ensures.keeps_but_search.keeps.view.operation ∙ c.requires.root.busy) ends.at c.in-Card.ensures.claims.0 in
     rw c.max-card_key.ensures
     rw c.min-left_key.ensures
-    (is_insert s.new.pass.view c.take_card.new.pass.view c.flag_insert.new.pass.view c.in-Card.card place c.flag_insert.ensures.keeps.view
-    c.args.op c.args.what c.requires.puts (s.ensures.keeps_but_search.keeps.view.operation ∙ c.requires.root.busy) ends.at c.in-Card.ensures.claims.0
-    c.in-Ok.ensures.flags.knows (c.take_card.ensures.keeps.view.told (Met place.parent.node) ends.passed.node.met))
+    rw c.leaf_with-leaf.ensures
+    (is_insert c.take_card.new.pass.view c.flag_insert.new.pass.view c.in-Card.card place c.flag_insert.ensures.keeps.view c.args.op c.args.what card
+    c.in-Ok.ensures.flags.knows (c.take_card.ensures.keeps.view.told (Met place.parent.node) ends.passed.seen.node.met))
 
 -- there was no place for it
 pub returns-then-not-may_replace-clause-ends : goal.returns-then-not-may_replace-clause-ends
@@ -108,7 +114,7 @@ returns-then-ne-clause-ends g c =
       },
       omega (arith, way.1, more),
       sees_end c.args.table.now.plan.last_card a.view s.new.pass.view new.view update.state update.card s.ensures.keeps_but_search.keeps.view.before s.ensures.ends.unknown
-          s.ensures.ends.passed.named stands c.help.ensures.ended
+          s.ensures.ends.passed.seen.named stands c.help.ensures.ended
           (omega (arith, s.ensures.keeps_but_search.keeps.view.least, c.help.ensures.keeps_but_met.keeps.view.least)),
     )
 

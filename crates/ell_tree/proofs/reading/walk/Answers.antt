@@ -1,18 +1,21 @@
 use Rattle.std.proofs.Common.{◌≡◌, ◌≢◌, refl, Some, None, ◌∙◌, arith, rules}
+use Rattle.ell_word.specs.Link.{linked}
 use Rattle.ell_word.specs.Node.{IsInternal}
 use Rattle.ell_layout.specs.Words.{IsLeaf}
 use Rattle.ell_cards.proofs.lemmas.views.Afters.{after_look, after_key_of, after_value_of}
 use Rattle.ell_tree.proofs.lemmas.Counts.{uncounted_one, uncounted_trans}
 use Rattle.ell_tree.proofs.lemmas.Looks.{comes_first, met_still, may_down, comes_down, found_none, only_none, found_some, only_some, one_none, one_some, key_only, reads_mine}
+use Rattle.ell_tree.proofs.lemmas.Links.{child_same}
 use Rattle.ell_tree.proofs.reading.walk.Goals as goal
 use Rattle.ell_tree.proofs.lemmas.Levels.{above_within, rank_within}
 
 pub loop-pass-init : goal.loop-pass-init
 loop-pass-init g c =
-    let f = c.look-node in
+    let f = c.look-first in
     record {
-      comes = comes_first c.args.table.now.plan.last_card c.args.pass.now f.new.pass c.args.key f.result c.requires.real f.ensures.step f.ensures.greater f.ensures.there;
-      uncounted = uncounted_one c.args.pass.now f.new.pass (after_look f.result c.args.pass.now.view) f.ensures.step refl;
+      comes = comes_first c.args.table.now.plan.last_card c.args.pass.now f.new.pass c.args.key (linked f.result) f.result.node
+          (child_same c.args.table.now.plan.last_card f.result f.ensures.there c.facts_stay_inside.ensures.room) c.requires.real f.ensures.step f.ensures.greater f.ensures.there;
+      uncounted = uncounted_one c.args.pass.now f.new.pass (after_look (linked f.result) c.args.pass.now.view) f.ensures.step refl;
     }
 
 pub key_of-node_key-requires-clause-own : goal.key_of-node_key-requires-clause-own
@@ -21,14 +24,14 @@ key_of-node_key-requires-clause-own g c = c.loop-pass.invariant.comes.only.table
 pub key_of-node_key-requires-clause-met : goal.key_of-node_key-requires-clause-met
 key_of-node_key-requires-clause-met g c = c.loop-pass.invariant.comes.met
 
-pub look_down-node-requires-clause-own : goal.look_down-node-requires-clause-own
-look_down-node-requires-clause-own g c =
+pub look_down-child-requires-clause-own : goal.look_down-child-requires-clause-own
+look_down-child-requires-clause-own g c =
     let l = c.loop-pass in
     let k = c.key_of-node_key in
     (key_only l.pass k.new.pass l.node k.result k.ensures.step).table ∙ (l.invariant.comes.only.table ∙ c.requires.may.0)
 
-pub look_down-node-requires-clause-may : goal.look_down-node-requires-clause-may
-look_down-node-requires-clause-may g c =
+pub look_down-child-requires-clause-may : goal.look_down-child-requires-clause-may
+look_down-child-requires-clause-may g c =
     let l = c.loop-pass in
     let k = c.key_of-node_key in
     let inner : IsInternal l.node = search rules in
@@ -36,20 +39,20 @@ look_down-node-requires-clause-may g c =
 
 pub loop-pass-smaller : goal.loop-pass-smaller
 loop-pass-smaller g c =
-    let d = c.look_down-node in
+    let d = c.look_down-child in
     let deeper = d.ensures.greater in
-    let room = rank_within c.args.table.now.plan.last_card d.result d.ensures.there in
+    let room = rank_within c.args.table.now.plan.last_card d.result.node d.ensures.there in
     omega arith
 
 pub loop-pass-preserved : goal.loop-pass-preserved
 loop-pass-preserved g c =
     let l = c.loop-pass in
     let k = c.key_of-node_key in
-    let d = c.look_down-node in
+    let d = c.look_down-child in
     let inner : IsInternal l.node = search rules in
     record {
       comes = comes_down c.args.table.now.plan.last_card c.args.pass.now l.pass k.new.pass c.args.key l.node k.result l.invariant.comes k.ensures.step
-          d.new.pass d.result d.ensures.step inner d.ensures.greater d.ensures.there;
+          d.new.pass (linked d.result) d.result.node (child_same c.args.table.now.plan.last_card d.result d.ensures.there c.facts_stay_inside.ensures.room) d.ensures.step inner d.ensures.greater d.ensures.there;
       uncounted = uncounted_trans c.args.pass.now l.pass d.new.pass l.steps 2 l.invariant.uncounted
           (uncounted_trans l.pass k.new.pass d.new.pass 1 1 (uncounted_one l.pass k.new.pass (after_key_of l.node k.result l.pass.view) k.ensures.step refl)
           (uncounted_one k.new.pass d.new.pass _ d.ensures.step refl));

@@ -20,18 +20,22 @@ returns g c =
     let b = c.upd-update.new.pass in
     let d = c.key_of-node_key.new.pass in
     let e = c.down-child.new.pass in
+    let x = c.args.node in
+    let u = c.upd-update.result in
+    let key = c.key_of-node_key.result in
+    let l = c.down-child.result in
     let read = c.upd-update.ensures.step in
     let asked = c.key_of-node_key.ensures.step in
     let gone = c.down-child.ensures.step in
+    let small = c.down-child.ensures.word in
     record {
-      keeps_but_search = descend_seeks a b d e c.args.node c.upd-update.result c.key_of-node_key.result c.down-child.result read asked gone;
-      uncounted = descend_uncounted a b d e c.args.node c.upd-update.result c.key_of-node_key.result c.down-child.result read asked gone;
+      keeps_but_search = descend_seeks a b d e x u key l read asked gone;
+      uncounted = descend_uncounted a b d e x u key l read asked gone;
       here = refl;
       deeper = c.down-child.ensures.greater;
       there = c.down-child.ensures.there;
-      search = descend_search a b d e c.args.node c.upd-update.result c.key_of-node_key.result c.down-child.result read asked gone;
-      met = descend_met a b d e c.args.node c.upd-update.result c.key_of-node_key.result c.down-child.result read asked gone;
-      passed = descend_passed a b d e c.args.node c.upd-update.result c.key_of-node_key.result c.down-child.result read asked gone
-          c.args.table.now.plan.last_card c.requires.node c.upd-update.ensures.card;
-      unknown = descend_unknown a b d e c.args.node c.upd-update.result c.key_of-node_key.result c.down-child.result read asked gone c.upd-update.ensures.unknown;
+      search = descend_search a b d e x u key l read asked gone small;
+      met = descend_met a b d e x u key l read asked gone small;
+      passed = descend_passed a b d e x u key l read asked gone c.args.table.now.plan.last_card small c.requires.node c.upd-update.ensures.card;
+      unknown = descend_unknown a b d e x u key l read asked gone c.upd-update.ensures.unknown;
     }

@@ -23,7 +23,7 @@ loop-grandparent-preserved g c =
           d.ensures.keeps_but_search.keeps.view i.stands d.ensures.search d.ensures.met d.ensures.there d.ensures.passed d.ensures.unknown;
       down = omega (arith, ap rank d.ensures.here, d.ensures.deeper);
       keeps_but_search = keeps_but_search_trans c.args.pass.now l.pass d.new.pass (3 * level l.parent.node + 3) 3 (3 * level d.result.0.node + 3) i.keeps_but_search d.ensures.keeps_but_search
-          (omega (arith, level_rises l.parent.node l.node i.stands.passed.node.inner inner i.down, ap rank d.ensures.here));
+          (omega (arith, level_rises l.parent.node l.node i.stands.passed.seen.node.inner inner i.down, ap rank d.ensures.here));
       uncounted = uncounted_trans c.args.pass.now l.pass d.new.pass l.steps 3 i.uncounted d.ensures.uncounted;
     })
 
@@ -49,7 +49,7 @@ returns g c =
       keeps_but_search = keeps_but_search_trans c.args.pass.now l.pass v.new.pass (3 * level l.parent.node + 3) 2 (3 * c.args.table.now.plan.last_card + 5) i.keeps_but_search
           (keeps_but_search_trans l.pass k.new.pass v.new.pass 1 1 2 (key_seeks l.pass k.new.pass l.node k.result k.ensures.step)
           (value_seeks k.new.pass v.new.pass l.node v.result v.ensures.step) (omega arith))
-          (omega (arith, level_within c.args.table.now.plan.last_card l.parent.node i.stands.passed.node.there));
+          (omega (arith, level_within c.args.table.now.plan.last_card l.parent.node i.stands.passed.seen.node.there));
       uncounted = uncounted_trans c.args.pass.now l.pass v.new.pass l.steps 2 i.uncounted
           (uncounted_trans l.pass k.new.pass v.new.pass 1 1 (uncounted_one l.pass k.new.pass (after_key_of l.node k.result l.pass.view) k.ensures.step refl)
           (uncounted_one k.new.pass v.new.pass (after_value_of l.node v.result k.new.pass.view) v.ensures.step refl));
@@ -62,12 +62,12 @@ pub overflow_add-result : goal.overflow_add-result
 overflow_add-result g c =
     let i = c.loop-grandparent.invariant in
     let room = c.facts_stay_inside.ensures.room in
-    let low = level_within c.args.table.now.plan.last_card c.loop-grandparent.parent.node i.stands.passed.node.there in
+    let low = level_within c.args.table.now.plan.last_card c.loop-grandparent.parent.node i.stands.passed.seen.node.there in
     omega (arith, i.uncounted.made, i.keeps_but_search.keeps.took.made, low, room)
 
 pub overflow_add-steps : goal.overflow_add-steps
 overflow_add-steps g c =
     let i = c.loop-grandparent.invariant in
     let room = c.facts_stay_inside.ensures.room in
-    let low = level_within c.args.table.now.plan.last_card c.loop-grandparent.parent.node i.stands.passed.node.there in
+    let low = level_within c.args.table.now.plan.last_card c.loop-grandparent.parent.node i.stands.passed.seen.node.there in
     omega (arith, i.uncounted.made, i.keeps_but_search.keeps.took.made, low, room)

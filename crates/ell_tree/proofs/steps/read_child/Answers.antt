@@ -1,10 +1,20 @@
+use Rattle.std.proofs.Common.{subst}
+use Rattle.ell_word.specs.Link.{linked}
+use Rattle.ell_cards.specs.declared.view.Told.TheVariants.{Met, Frozen}
+use Rattle.ell_cards.specs.Models.{IsTold}
 use Rattle.ell_cards.proofs.lemmas.views.Steps.{frozen_told, frozen_met}
+use Rattle.ell_tree.proofs.lemmas.Links.{child_same}
 use Rattle.ell_tree.proofs.lemmas.Reading.{child_walks}
 use Rattle.ell_tree.proofs.steps.read_child.Goals as goal
 
 pub returns : goal.returns
-returns g c = record {
-  keeps_all = child_walks c.args.pass.now c.frozen_child.new.pass c.args.card c.args.right c.frozen_child.result c.frozen_child.ensures.step;
-  told = frozen_told c.args.pass.now c.frozen_child.new.pass c.args.card c.args.right c.frozen_child.result c.frozen_child.ensures.step;
-  met = frozen_met c.args.pass.now c.frozen_child.new.pass c.args.card c.args.right c.frozen_child.result c.frozen_child.ensures.step;
-}
+returns g c =
+    let f = c.frozen_child-child in
+    let says = child_same c.args.table.now.plan.last_card f.result f.ensures.there c.facts_stay_inside.ensures.room in
+    record {
+      keeps_all = child_walks c.args.pass.now f.new.pass c.args.card c.args.right (linked f.result) f.ensures.step;
+      told = subst (λ x. IsTold f.new.pass.view (Frozen c.args.card c.args.right x)) says
+          (frozen_told c.args.pass.now f.new.pass c.args.card c.args.right (linked f.result) f.ensures.step);
+      met = subst (λ x. IsTold f.new.pass.view (Met x)) says
+          (frozen_met c.args.pass.now f.new.pass c.args.card c.args.right (linked f.result) f.ensures.step);
+    }

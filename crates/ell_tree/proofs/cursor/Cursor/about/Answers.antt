@@ -1,4 +1,5 @@
 use Rattle.std.proofs.Common.{◌+◌, ◌%◌, nat_le, refl, ap, sym, ◌∙◌, subst, arith, rules}
+use Rattle.ell_word.specs.Link.{linked}
 use Rattle.ell_word.specs.Node.{IsInternal}
 use Rattle.ell_cards.specs.declared.glance.Glance.{Glance}
 use Rattle.ell_cards.specs.Looking.{KeysAreFixed}
@@ -8,6 +9,7 @@ use Rattle.ell_tree.specs.Cursors.{AreKept, FindsAbout}
 use Rattle.ell_tree.specs.Looks.{stretch_steps}
 use Rattle.ell_tree.proofs.lemmas.Counts.{counted_all, uncounted_none, uncounted_one, uncounted_trans}
 use Rattle.ell_tree.proofs.lemmas.Cursors.{GoesDown, all_on, keeps_first, goes_down, keeps_found, on_counted, key_on, kept_still, may_go_down, one_kept, stands_still}
+use Rattle.ell_tree.proofs.lemmas.Links.{child_same}
 use Rattle.ell_tree.proofs.cursor.Cursor.about.Goals as goal
 use Rattle.ell_tree.proofs.cursor.Cursor.about.Goals.{then-not-right, else-not-right}
 use Rattle.ell_tree.proofs.lemmas.Levels.{above_within, rank_within}
@@ -47,7 +49,7 @@ loop-pass-preserved g c =
     record {
       keeps = subst (λ h. GoesDown cards c.args.pass.now d.new.pass c.args.key h c.if-not-right.self) (sym c.down-here.ensures)
           (goes_down cards c.args.pass.now l.pass k.new.pass c.args.key l.here l.self k.result l.invariant.keeps k.ensures.step d.new.pass (nat_le k.result c.args.key)
-          d.result c.if-not-right.self d.ensures.step inner d.ensures.greater d.ensures.there refl kept);
+          (linked d.result) d.result.node c.if-not-right.self (child_same cards d.result d.ensures.there c.facts_stay_inside.ensures.room) d.ensures.step inner d.ensures.greater d.ensures.there refl kept);
       uncounted = uncounted_trans c.args.pass.now l.pass d.new.pass l.steps 2 l.invariant.uncounted
           (uncounted_trans l.pass k.new.pass d.new.pass 1 1 (uncounted_one l.pass k.new.pass _ k.ensures.step refl) (uncounted_one k.new.pass d.new.pass _ d.ensures.step refl));
     }
@@ -56,7 +58,7 @@ pub loop-pass-smaller : goal.loop-pass-smaller
 loop-pass-smaller g c =
     let d = c.look_down-child in
     let deeper = d.ensures.greater in
-    let room = rank_within c.args.table.now.plan.last_card d.result d.ensures.there in
+    let room = rank_within c.args.table.now.plan.last_card d.result.node d.ensures.there in
     let is = ap (λ (h : Glance). rank h.node) c.down-here.ensures in
     omega arith
 

@@ -1,0 +1,83 @@
+//! The end of a tree, and what a pass may know of all that was done with it.
+ghost use Rattle.std.specs.Prelude.{◌≡◌, ◌≤◌, [], true, IfOk, IfErr, vec_capacity};
+ghost use Rattle.std.specs.List.{All};
+ghost use Rattle.ell_ops.specs.Contents.{contents_of};
+ghost use Rattle.ell_cards.specs.Accounts.{AreOfOneThread};
+ghost use Rattle.ell_cards.specs.Models.{whole_share};
+ghost use Rattle.ell_cards.specs.Stories.{HasStory};
+ghost use Rattle.ell_tree.specs.CardsTaken.{TakesNoCard};
+ghost use Rattle.ell_tree.specs.Closing.{ClosesTo};
+ghost use Rattle.ell_tree.specs.Counts.{Took};
+ghost use Rattle.ell_tree.specs.Ledgers.{IsIdlePassOf, Owns};
+
+use crate::tree::Tree;
+use ell_cards::Pass;
+use ell_core::pairs_of_tree;
+use ell_ops::NoMemory;
+use std::alloc::{AllocError, Allocator};
+
+impl<A: Allocator + Copy> Tree<A> {
+    /// Reads one word, so that the pass knows what was done with the tree up to now, by whichever passes: that was one
+    /// history, which is linearizable, and has the calls that the pass was answered (`story`). Whatever a program
+    /// concludes from the answers of several threads, it concludes from this, once it has joined their passes.
+    pub fn story(&self, pass: &mut Pass<A>)
+        requires own { pass.old.table ≡ self.now.id }
+        // All that was done with the tree is one history, which is linearizable. Its order has the calls that the pass
+        // was answered, it and the passes that were joined to it, and no others if it has the whole share. Each delete
+        // stands where the key had the value that it took.
+        ensures story { HasStory self.now.plan pass.new.view }
+        // It makes one step. Otherwise the pass is unchanged.
+        ensures table { pass.new.table ≡ pass.old.table }
+        ensures label { pass.new.label ≡ pass.old.label }
+        ensures worker { pass.new.view.worker ≡ pass.old.view.worker }
+        ensures called { pass.new.view.answers ≡ pass.old.view.answers }
+        ensures share { pass.new.view.share ≡ pass.old.view.share }
+        ensures steps { Took pass.old pass.new 1 }
+        // It takes no card.
+        ensures cards { TakesNoCard pass.old pass.new }
+    {
+        self.table.story(pass);
+        pass.count(1);
+    }
+
+    /// Ends the tree, given a pass that owns each key that may have an owner, and, if the other keys are shared, has
+    /// the whole share. Returns the keys that are present with their values, the keys strictly ascending. If an
+    /// allocation fails, tree and pass come back as they were.
+    pub fn close(self, pass: Pass<A>) -> Result<Vec<(u64, u64), A>, (Tree<A>, Pass<A>, NoMemory)>
+        requires may { IsIdlePassOf self pass }
+        requires all { All (λ k. Owns pass k) self.plan.keys }
+        requires whole { self.plan.shared ≡ true → pass.view.share ≡ whole_share }
+        // The pairs are those of the tree to which a run led, strictly ascending by their keys: of the keys that may
+        // have an owner, those that the pass has present, and besides these only shared ones.
+        ensures pairs { IfOk result (λ pairs. ClosesTo self pass pairs.items) }
+        // If the other keys are shared, one thread that makes the calls that the pass was answered, it and all that
+        // were joined to it, in some order, is answered so, and leaves the pairs.
+        ensures thread { IfOk result (λ pairs. self.plan.shared ≡ true
+            → AreOfOneThread (contents_of self.plan.start) pass.view.answers (contents_of pairs.items)) }
+        // If an allocation fails, tree and pass come back as they were.
+        ensures refused { IfErr result (λ refused. (refused.0 ≡ self) × (refused.1 ≡ pass)) }
+    {
+        let places = self.table.last_card() as usize + 2;
+        let most = self.table.most_pairs(pass.keys().len());
+        let Ok((waiting, pairs)) = empty_lists(self.alloc, places, most) else {
+            return Err((self, pass, NoMemory));
+        };
+        let Tree { table, alloc: _ } = self;
+        let closed = table.close(pass);
+        Ok(pairs_of_tree(&closed, waiting, pairs))
+    }
+}
+
+// Two empty lists, with room for the given numbers of nodes and of keys with their values.
+fn empty_lists<A: Allocator + Copy>(
+    alloc: A,
+    nodes: usize,
+    keys: usize,
+) -> Result<(Vec<u64, A>, Vec<(u64, u64), A>), AllocError>
+    ensures nodes { IfOk result (λ made. (made.0.items ≡ []) × (nodes ≤ vec_capacity made.0)) }
+    ensures pairs { IfOk result (λ made. (made.1.items ≡ []) × (keys ≤ vec_capacity made.1)) }
+{
+    let nodes = Vec::with_capacity(alloc, nodes)?;
+    let pairs = Vec::with_capacity(alloc, keys)?;
+    Ok((nodes, pairs))
+}
