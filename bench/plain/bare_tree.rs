@@ -22,7 +22,11 @@ const GROUP: u64 = 64;
 /// How many words a card has in each part of its group: the internal nodes, the leaves, and the records.
 const PART: u64 = 4;
 
-/// The twelve words of a card, in the order of their places: those of its internal node, of its two leaves, and of its record.
+/// Node numbers are below this one, so that a mask gives the node of a child word.
+const TAG_UNIT: u64 = 1 << 26;
+
+/// The twelve words of a card, in the order of their places: those of its internal node, of its two leaves, and of its record. `Left` and
+/// `Right` are child words. `L` has the leaf where the search ended, with the tag of the child word that the card is to exchange.
 #[derive(Clone, Copy)]
 enum Field {
     Key,
@@ -74,6 +78,20 @@ fn is_internal(node: u64) -> bool {
     node.is_multiple_of(4)
 }
 
+/// A child word has a node in its low bits, and above it a tag, which counts the changes of the word. So no two of its values are the
+/// same, even if a node comes back. A new node's child words have the tag 0, so each is the number of the child.
+fn child_word(node: u64, tag: u64) -> u64 {
+    TAG_UNIT * tag + node
+}
+
+fn node_of(child: u64) -> u64 {
+    child % TAG_UNIT
+}
+
+fn tag_of(child: u64) -> u64 {
+    child / TAG_UNIT
+}
+
 /// An update word is four times a card, and one of these.
 #[derive(Clone, Copy, PartialEq)]
 enum State {
@@ -100,11 +118,12 @@ fn is_clean(update: u64) -> bool {
     state_of(update) == State::Clean
 }
 
-/// A node that a search passed, with the update word that it read there.
+/// A node that a search passed, with the update word that it read there, and the tag of the child word that it read after it.
 #[derive(Clone, Copy)]
 struct Passed {
     node: u64,
     update: u64,
+    tag: u64,
 }
 
 /// Where a search ended: a leaf with its key and its value, its parent, and its grandparent if there is one.
@@ -114,6 +133,13 @@ struct Place {
     value: u64,
     parent: Passed,
     grandparent: Option<Passed>,
+}
+
+impl Place {
+    /// The child word of the parent, by which the search came to the leaf.
+    fn leaf_word(&self) -> u64 {
+        child_word(self.leaf, self.parent.tag)
+    }
 }
 
 /// How a try ended: with an answer, if not without a card or hindered.
@@ -167,6 +193,7 @@ impl BareTree {
     /// The opening tree of some ascending keys with their values, and so many cards more, of which all words are 0.
     pub fn reserve(start: &[(u64, u64)], cards: u64) -> BareTree {
         let cards = start.len() as u64 + cards;
+        assert!(node(cards, Kind::RightLeaf) < TAG_UNIT, "a child word has no room for so many nodes");
         let words = (0..table_size(cards)).map(|_| AtomicU64::new(0)).collect();
         let tree = BareTree { words, cards };
         tree.claimed().store(start.len() as u64 + 1, SeqCst);
@@ -233,6 +260,10 @@ impl BareTree {
         &self[(card_of(node), if right { Field::Right } else { Field::Left })]
     }
 
+    fn child_node(&self, node: u64, right: bool) -> u64 {
+        node_of(self.child(node, right).load(SeqCst))
+    }
+
     fn key(&self, node: u64) -> u64 {
         let field = match node % 4 {
             0 => Field::Key,
@@ -261,7 +292,8 @@ impl BareTree {
     fn descend(&self, key: u64, node: u64) -> (Passed, u64) {
         let update = self.update(node).load(SeqCst);
         let right = self.key(node) <= key;
-        (Passed { node, update }, self.child(node, right).load(SeqCst))
+        let child = self.child(node, right).load(SeqCst);
+        (Passed { node, update, tag: tag_of(child) }, node_of(child))
     }
 
     fn search(&self, key: u64) -> Place {
@@ -287,9 +319,9 @@ impl BareTree {
     /// As a find, by the least loads that tell it: no update word, and no step that begins or ends an operation.
     #[allow(dead_code)]
     pub fn look(&self, key: u64) -> Option<u64> {
-        let mut node = self.child(0, false).load(SeqCst);
+        let mut node = self.child_node(0, false);
         while is_internal(node) {
-            node = self.child(node, self.key(node) <= key).load(SeqCst);
+            node = self.child_node(node, self.key(node) <= key);
         }
         (self.key(node) == key).then(|| self.value(node))
     }
@@ -304,7 +336,7 @@ impl BareTree {
     /// Where a look begins: no key comes to the root's right child.
     #[allow(dead_code)]
     fn first_glance(&self) -> Glance {
-        Glance { node: self.child(0, false).load(SeqCst), low: 0, high: INF1 }
+        Glance { node: self.child_node(0, false), low: 0, high: INF1 }
     }
 
     /// The keys of the leaves with their values, the keys ascending, when no thread is at work.
@@ -313,8 +345,8 @@ impl BareTree {
         let (mut pairs, mut pending) = (Vec::new(), vec![0]);
         while let Some(node) = pending.pop() {
             if is_internal(node) {
-                pending.push(self.child(node, true).load(SeqCst));
-                pending.push(self.child(node, false).load(SeqCst));
+                pending.push(self.child_node(node, true));
+                pending.push(self.child_node(node, false));
             } else {
                 pairs.push((self.key(node), self.value(node)));
             }
@@ -402,7 +434,7 @@ impl BareTree {
             self.help(parent.node, found);
             return Tried::Hindered;
         }
-        self.finish_insert(card, parent.node, place.leaf, key.max(place.key));
+        self.finish_insert(card, parent.node, place.leaf_word(), key.max(place.key));
         self.touch();
         Tried::Answered(answer)
     }
@@ -411,7 +443,7 @@ impl BareTree {
         let (lesser, greater) = (key.min(place.key), key.max(place.key));
         let (left_value, right_value) = if key < place.key { (value, place.value) } else { (place.value, value) };
         self.fill(card, Field::P, place.parent.node);
-        self.fill(card, Field::L, place.leaf);
+        self.fill(card, Field::L, place.leaf_word());
         self.fill(card, Field::Key, greater);
         self.fill(card, Field::Left, node(card, Kind::LeftLeaf));
         self.fill(card, Field::Right, node(card, Kind::RightLeaf));
@@ -447,7 +479,7 @@ impl BareTree {
         };
         self.fill(card, Field::Gp, above.node);
         self.fill(card, Field::P, parent.node);
-        self.fill(card, Field::L, place.leaf);
+        self.fill(card, Field::L, child_word(place.leaf, above.tag));
         self.fill(card, Field::Was, parent.update);
         let flag = update_word(State::DFlag, card);
         if let Err(found) = exchange(self.update(above.node), above.update, flag) {
@@ -465,9 +497,9 @@ impl BareTree {
         let card = update / 4;
         match state_of(update) {
             State::IFlag => {
-                let leaf = self.word(card, Field::L);
+                let leaf_word = self.word(card, Field::L);
                 let card_key = self.word(card, Field::Key);
-                self.finish_insert(card, node, leaf, card_key);
+                self.finish_insert(card, node, leaf_word, card_key);
             }
             State::DFlag => {
                 let parent = self.word(card, Field::P);
@@ -482,11 +514,11 @@ impl BareTree {
         }
     }
 
-    fn finish_insert(&self, card: u64, parent: u64, leaf: u64, card_key: u64) {
+    fn finish_insert(&self, card: u64, parent: u64, leaf_word: u64, card_key: u64) {
         let right = self.key(parent) <= card_key;
         let flag = update_word(State::IFlag, card);
         let clean = update_word(State::Clean, card);
-        let _ = exchange(self.child(parent, right), leaf, self.brought(card, card_key));
+        self.exchange_child(parent, right, leaf_word, self.brought(card, card_key));
         let _ = exchange(self.update(parent), flag, clean);
     }
 
@@ -519,14 +551,19 @@ impl BareTree {
     }
 
     fn finish_marked(&self, card: u64, grandparent: u64, parent: u64) {
-        let leaf = self.word(card, Field::L);
-        let right_child = self.child(parent, true).load(SeqCst);
-        let sibling = if right_child == leaf { self.child(parent, false).load(SeqCst) } else { right_child };
+        let leaf_and_tag = self.word(card, Field::L);
+        let right_child = self.child_node(parent, true);
+        let sibling = if right_child == node_of(leaf_and_tag) { self.child_node(parent, false) } else { right_child };
         let right = self.key(grandparent) <= self.key(sibling);
         let flag = update_word(State::DFlag, card);
         let clean = update_word(State::Clean, card);
-        let _ = exchange(self.child(grandparent, right), parent, sibling);
+        self.exchange_child(grandparent, right, child_word(parent, tag_of(leaf_and_tag)), sibling);
         let _ = exchange(self.update(grandparent), flag, clean);
+    }
+
+    /// Puts a node with the next tag in the place of an expected child word, unless another thread has done so.
+    fn exchange_child(&self, node: u64, right: bool, expected: u64, new: u64) {
+        let _ = exchange(self.child(node, right), expected, child_word(new, tag_of(expected) + 1));
     }
 }
 
@@ -554,7 +591,7 @@ impl Range<'_> {
                 self.kept[self.count % KEPT] = here;
                 self.count += 1;
             }
-            here.node = self.tree.child(here.node, right).load(SeqCst);
+            here.node = self.tree.child_node(here.node, right);
             if right {
                 here.low = here.low.max(node_key);
             } else {
