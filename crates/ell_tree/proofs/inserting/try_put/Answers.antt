@@ -1,4 +1,4 @@
-use Rattle.std.proofs.Common.{◌+◌, ◌≡◌, ◌≢◌, ℕ, Some, length, sym, ap, ◌∙◌, subst, rules, arith}
+use Rattle.std.proofs.Common.{◌+◌, ◌≡◌, ◌≢◌, Some, length, sym, ap, ◌∙◌, subst, rules, arith}
 use Rattle.ell_word.specs.declared.update.State.TheVariants.{Clean}
 use Rattle.ell_core.specs.declared.view.Search.{Search}
 use Rattle.ell_cards.specs.declared.view.Told.TheVariants.{Met}
