@@ -28,7 +28,7 @@ pub fn blocks_nest()
     ensures branches { BranchesNest }
 {}
 
-/// A new inner node fits between the nodes of a path: its key is the branch of the new key and of the key of the node
+/// A new internal node fits between the nodes of a path: its key is the branch of the new key and of the key of the node
 /// that comes below it.
 pub fn branches_fit()
     // For each key outside a block there is a block that has the key in one half and the first block in the other. It is
