@@ -215,11 +215,13 @@ ELLTREE_MUST_USE int32_t elltree_map_update(struct elltree_map *map, uint64_t ke
 /* Writes the keys from one on and below another that are present, ascending, with their values, as many as the array has room for. Returns
    ELLTREE_YES, and writes how many they are and where to go on, which is upto if the whole range has been listed. So you list a whole range by
 
-       for (next = from; next < upto;)
-           if ((code = elltree_map_range(map, next, upto, out, room, &count, &next)) == ELLTREE_YES)
-               .. the first count pairs of out ..
+       for (next = from; next < upto;) {
+           if ((code = elltree_map_range(map, next, upto, out, room, &count, &next)) != ELLTREE_YES)
+               break; .. the call was refused, which writes nothing ..
+           .. the first count pairs of out ..
+       }
 
-   with a room of at least 1, and a way out if the call is refused. A range is not a snapshot, but it shows each key as it was at one moment
+   with a room of at least 1. A range is not a snapshot, but it shows each key as it was at one moment
    of the call: a key that was present all along is listed, one that was absent all along is not, and each listed pair was there. No key is
    above ELLTREE_KEY_MAX, so if upto is UINT64_MAX, the range has no end. A range that ends where it begins, or before, has no keys. Without
    room the array may be null.

@@ -218,7 +218,8 @@ class Map(Ordered, collections.abc.MutableMapping[int, int]):
     def pop_first(self) -> tuple[int, int] | None:
         """Removes the smallest key, and returns it with the value that it had, or None if there is none. No other call returns this pair, so that
         threads that empty a map get each pair once. Each smaller key was absent at a moment of the call: so the key was the smallest one when it was
-        removed, unless another thread has added a smaller one during the call."""
+        removed, unless another thread has added a smaller one during the call. None means that each key was absent at a moment of the call, and not
+        that the map was empty, unless nobody adds keys meanwhile."""
         return self._core.pop_first()
 
     def pop_last(self) -> tuple[int, int] | None:

@@ -527,7 +527,8 @@ impl Map {
 
     /// Removes the least key, and returns it with its value, or `None` if there is none. No other call returns this pair, so threads that empty a
     /// map get each pair once. Each smaller key was absent at a moment of the call: so the key was the least one when it was removed, unless
-    /// another thread has added a smaller one during the call.
+    /// another thread has added a smaller one during the call. `None` means that each key was absent at a moment of the call, and not that the
+    /// map was empty, unless nobody adds keys meanwhile.
     ///
     /// # Errors
     ///

@@ -144,7 +144,7 @@ other! {
 /// A [`Map`] whose keys and values have types of their own, and are `u64` underneath: see [`Key`] and [`Value`]. Ranges go over the keys in the order
 /// of their type.
 ///
-/// Its calls are those of [`Map`], which says more about each, and cost the same.
+/// Its calls are those of [`Map`], which says more about each, and cost the same; for `put` and `delete` write `insert` and `remove`.
 ///
 /// ```
 /// use elltree::TypedMap;
