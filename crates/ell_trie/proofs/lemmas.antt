@@ -1,0 +1,12 @@
+-- Blocks by their middles alone.
+pub mod Middles
+-- Paths in a trie, and the rank of its nodes.
+pub mod Paths
+-- Nodes on course, and what is found below a node.
+pub mod Courses
+-- Cuts.
+pub mod Cuts
+-- Links at leaves.
+pub mod Leaves
+-- Links at edges.
+pub mod links

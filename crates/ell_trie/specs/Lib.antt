@@ -1,0 +1,16 @@
+-- A half of the block of a branch, and a block in it, by numbers alone.
+pub mod Halves
+-- Tries: trees whose inner nodes have branches as their keys, with how short their paths are.
+pub mod Tries
+-- Nodes on course for a key in a trie.
+pub mod Courses
+-- Links at edges, with what they keep.
+pub mod Links
+-- Links at leaves.
+pub mod Leaves
+-- Cuts, with what they keep.
+pub mod Cuts
+-- What a walk finds before an event and after it.
+pub mod Truths
+-- Readers, who go on while the tree changes.
+pub mod Readers

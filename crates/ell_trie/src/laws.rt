@@ -1,0 +1,43 @@
+//! Laws of tries. Each is the contract of a function that does nothing.
+ghost use Rattle.ell_trie.specs.Courses.{CoursesTell, CoursesGoOn, MissesAreTrue};
+ghost use Rattle.ell_trie.specs.Cuts.{CutsKeep};
+ghost use Rattle.ell_trie.specs.Leaves.{LeafLinksStay};
+ghost use Rattle.ell_trie.specs.Links.{LinksKeep, EdgeInsertsKeep};
+ghost use Rattle.ell_trie.specs.Tries.{PathsAreShort, TriesAreShallow};
+
+/// Paths in a trie are short.
+pub fn tries_are_shallow()
+    // A path from an inner node of a trie to another one, also where it was cut out, is no longer than the bit of the first
+    // one's block less that of the second one's.
+    ensures paths { PathsAreShort }
+    // From node 0 to an inner node there are at most 64 steps more than the opening tree is deep.
+    ensures shallow { TriesAreShallow }
+{}
+
+/// Links keep a trie.
+pub fn links_keep()
+    // A link at an edge keeps the trie, its order, each other key, nodes on course, nodes that are reached and nodes that
+    // were cut out, and it adds its key, which the tree lacked.
+    ensures links { LinksKeep }
+    // An edge insert is such a link, if it is made with the branch of the old node's key and the added one, under a parent
+    // that is reached and on course for the added key.
+    ensures edges { EdgeInsertsKeep }
+    // A link at a leaf leaves a trie.
+    ensures leaves { LeafLinksStay }
+{}
+
+/// Cuts keep a trie.
+pub fn cuts_keep()
+    // A cut keeps the trie, its order, each other key and nodes on course, and it takes its leaf's key away.
+    ensures { CutsKeep }
+{}
+
+/// What a search may conclude at a node that is on course for its key.
+pub fn courses_tell()
+    // If an inner node that is on course for a key is reached, and its block has the key, then the key is in its range.
+    ensures range { CoursesTell }
+    // The next node on the walk for a key from a node on course is on course.
+    ensures next { CoursesGoOn }
+    // If a node is reached with a key in its range, and its block lacks the key, then the tree lacks it.
+    ensures misses { MissesAreTrue }
+{}
