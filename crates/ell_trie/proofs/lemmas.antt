@@ -10,3 +10,7 @@ pub mod Cuts
 pub mod Leaves
 -- Links at edges.
 pub mod links
+-- What walks find stays true.
+pub mod Truths
+-- Readers.
+pub mod Readers

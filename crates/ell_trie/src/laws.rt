@@ -3,7 +3,9 @@ ghost use Rattle.ell_trie.specs.Courses.{CoursesTell, CoursesGoOn, MissesAreTrue
 ghost use Rattle.ell_trie.specs.Cuts.{CutsKeep};
 ghost use Rattle.ell_trie.specs.Leaves.{LeafLinksStay};
 ghost use Rattle.ell_trie.specs.Links.{LinksKeep, EdgeInsertsKeep};
+ghost use Rattle.ell_trie.specs.Readers.{LooksFindWhatWas};
 ghost use Rattle.ell_trie.specs.Tries.{PathsAreShort, TriesAreShallow};
+ghost use Rattle.ell_trie.specs.Truths.{LinksStayTrue, CutsStayTrue};
 
 /// Paths in a trie are short.
 pub fn tries_are_shallow()
@@ -40,4 +42,20 @@ pub fn courses_tell()
     ensures next { CoursesGoOn }
     // If a node is reached with a key in its range, and its block lacks the key, then the tree lacks it.
     ensures misses { MissesAreTrue }
+{}
+
+/// What walks find stays true.
+pub fn looks_stay_true()
+    // From a node on course, the walk for a key finds after a link at an edge what it found before, or what the tree has of
+    // the key after the link.
+    ensures links { LinksStayTrue }
+    // So it is at cuts.
+    ensures cuts { CutsStayTrue }
+{}
+
+/// What a reader finds is true of one state.
+pub fn looks_find_what_was()
+    // While edge inserts and cuts change the tree, what a reader finds at his leaf, however slowly he comes to it, is what
+    // the tree had of his key in one of the states since he began.
+    ensures { LooksFindWhatWas }
 {}

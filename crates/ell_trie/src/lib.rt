@@ -6,4 +6,4 @@
 
 mod laws;
 
-pub use laws::{courses_tell, cuts_keep, links_keep, tries_are_shallow};
+pub use laws::{courses_tell, cuts_keep, links_keep, looks_find_what_was, looks_stay_true, tries_are_shallow};
