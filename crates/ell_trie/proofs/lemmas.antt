@@ -14,3 +14,5 @@ pub mod links
 pub mod Truths
 -- Readers.
 pub mod Readers
+-- A small trie.
+pub mod SmallTrie

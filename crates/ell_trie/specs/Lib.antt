@@ -14,3 +14,5 @@ pub mod Cuts
 pub mod Truths
 -- Readers, who go on while the tree changes.
 pub mod Readers
+-- A small trie, and one with an inner key that is no branch.
+pub mod Examples

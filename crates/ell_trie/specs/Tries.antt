@@ -7,13 +7,12 @@ use Rattle.ell_trie.specs.Halves.{InHalfOf, InsideOf}
 abbrev pub In : (ℕ → Bool) → ℕ → Type 0
 In nodes x = nodes x ≡ true
 
--- The opening tree: which nodes are of it, the depth of each, and a depth that none of them exceeds. Their keys need not be
--- branches.
+-- The opening tree: which nodes are of it, the depth of each, and a depth that none of them is to exceed. Their keys need
+-- not be branches.
 pub record Opening : Type 0 where
   pub holds : ℕ → Bool
   pub depth : ℕ → ℕ
   pub most : ℕ
-  pub few : (x : ℕ) → holds x ≡ true → depth x ≤ most
 
 -- A tree is a trie, whose nodes are those that were born: the key of each inner node, but for those of the opening tree,
 -- is a branch below 2 ^ 64, and what is below the node on a side is in that half of the branch's block.
@@ -21,10 +20,11 @@ pub record IsTrie (Born : ℕ → Type 0) (opening : Opening) (key : ℕ → ℕ
   -- node 0 was born, and so were the children of each inner node that was born
   pub start : Born 0
   pub closed : (x : ℕ) (side : Bool) → IsInternal x → Born x → Born (child x side)
-  -- no node of the opening tree is below one that is not of it, and each has a greater depth than its parent
+  -- no node of the opening tree is below one that is not of it, and each has a greater depth than its parent, up to the most
   pub plain : (x : ℕ) (side : Bool) → IsInternal x → Born x → opening.holds x ≡ false → opening.holds (child x side) ≡ false
   pub deeper : (x : ℕ) (side : Bool) → IsInternal x → Born x → opening.holds (child x side) ≡ true →
       opening.depth x < opening.depth (child x side)
+  pub few : (x : ℕ) → opening.holds x ≡ true → opening.depth x ≤ opening.most
   -- the key of an inner node is below 2 ^ 64
   pub small : (x : ℕ) → IsInternal x → Born x → opening.holds x ≡ false → key x < 2 ^ 64
   -- a leaf has its key in the half of its parent's block, and an inner node has its block there

@@ -71,6 +71,7 @@ module _ {Born : ℕ → Type 0} {o : Opening} {key : ℕ → ℕ} {child after 
     plain = λ z u i b plain. cut_cases z u (λ v. o.holds v ≡ false) (λ e f. plain_w (plain_p (ap o.holds (sym e) ∙ plain))) (trie.plain z u i b plain);
     deeper = λ z u i b. cut_cases z u (λ v. o.holds v ≡ true → o.depth z < o.depth v)
         (λ e f held. subst (λ v. o.depth v < o.depth w) (sym e) (w_deeper held)) (trie.deeper z u i b);
+    few = trie.few;
     small = trie.small;
     leaf = λ z u i b plain. cut_cases z u (λ v. ¬ IsInternal v → InHalfOf (key z) u (key v))
         (λ e f c. subst (λ v. InHalfOf (key v) u (key w)) (sym e) (subst (λ v. InHalfOf (key g) v (key w)) (sym f) (leaf_there (ap o.holds (sym e) ∙ plain) c)))

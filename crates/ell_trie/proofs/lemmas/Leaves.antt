@@ -32,6 +32,7 @@ module _ {Born : ℕ → Type 0} {o : Opening} {key : ℕ → ℕ} {child after 
     plain = λ z u i b plain. cases_after z u (λ v. o.holds v ≡ false) i b (λ e f. at.plain) (λ c. trie.plain z u i c plain) (λ e. at.plain_leaves u);
     deeper = λ z u i b. cases_after z u (λ v. o.holds v ≡ true → o.depth z < o.depth v) i b
         (λ e f c. absurd (false≢true (sym at.plain ∙ c))) (λ c. trie.deeper z u i c) (λ e c. absurd (false≢true (sym (at.plain_leaves u) ∙ c)));
+    few = trie.few;
     small = small_after;
     leaf = λ z u i b plain. cases_after z u (λ v. ¬ IsInternal v → InHalfOf (key z) u (key v)) i b
         (λ e f c. absurd (c at.node)) (λ c. trie.leaf z u i c plain) (λ e c. subst (λ v. InHalfOf (key v) u (key (child q u))) (sym e) (at.halves u));

@@ -33,9 +33,9 @@ module _ (o : Opening) (key : ℕ → ℕ) (x : ℕ) where
   rank_leaf e i = ap (λ b. rank_by o.most b (x % 4 == 0) (o.depth x) (bit_of (key x))) e
       ∙ ap (λ b. rank_by o.most false b (o.depth x) (bit_of (key x))) (ne_eqb (x % 4) 0 i)
 
-  rank_most : IsInternal x → rank_of o key x ≤ o.most + 64
-  rank_most i = elim (cases_Bool (o.holds x)) [
-    | inl up ↦ (let a = rank_open up in let most = o.few x up in omega arith)
+  rank_most : (o.holds x ≡ true → o.depth x ≤ o.most) → IsInternal x → rank_of o key x ≤ o.most + 64
+  rank_most few i = elim (cases_Bool (o.holds x)) [
+    | inl up ↦ (let a = rank_open up in let most = few up in omega arith)
     | inr e ↦ (let a = rank_inner e i in omega arith)
   ]
 
@@ -83,12 +83,12 @@ module _ {Born : ℕ → Type 0} {o : Opening} {key : ℕ → ℕ} {child : ℕ 
       let b = rank_inner o key (child x t) plain j in
       let low = bit_low (child x t) j (trie.closed x t i born) plain in
       elim (cases_Bool (o.holds x)) [
-        | inl up ↦ (let a = rank_open o key x up in let most = o.few x up in omega arith)
+        | inl up ↦ (let a = rank_open o key x up in let most = trie.few x up in omega arith)
         | inr e ↦ (let a = rank_inner o key x e i in let less = inside_falls (trie.inner x t i born e j) in let mine = bit_low x i born e in omega arith)
       ]
 
   rises_leaf : (x : ℕ) (t : Bool) → IsInternal x → o.holds (child x t) ≡ false → ¬ IsInternal (child x t) → rank_of o key x < rank_of o key (child x t)
-  rises_leaf x t i plain j = let b = rank_leaf o key (child x t) plain j in let most = rank_most o key x i in omega arith
+  rises_leaf x t i plain j = let b = rank_leaf o key (child x t) plain j in let most = rank_most o key x (trie.few x) i in omega arith
 
   pub rank_rises : (x : ℕ) (t : Bool) → IsInternal x → Born x → rank_of o key x < rank_of o key (child x t)
   rank_rises x t i born = elim (cases_Bool (o.holds (child x t))) [
@@ -150,4 +150,4 @@ paths_are_short born o key child trie path x y upper lower is_born plain i j lea
 -- from node 0 ranks rise to that of an inner node at most
 pub tries_are_shallow : TriesAreShallow
 tries_are_shallow born o key child trie path y j leads =
-    let all = path_rises trie path 0 y trie.start leads in let most = rank_most o key y j in omega arith
+    let all = path_rises trie path 0 y trie.start leads in let most = rank_most o key y (trie.few y) j in omega arith

@@ -39,6 +39,7 @@ module _ {Born : ℕ → Type 0} {o : Opening} {key : ℕ → ℕ} {child after 
     deeper = λ z u i b. child_cases z u (λ v. o.holds v ≡ true → o.depth z < o.depth v) i b
         (λ e f l. absurd (false≢true (sym link.shape.new_plain ∙ l))) (λ c. trie.deeper z u i c)
         (λ e f l. absurd (false≢true (sym link.shape.leaf_plain ∙ l))) (λ e f l. absurd (false≢true (sym link.shape.old_plain ∙ l)));
+    few = trie.few;
     small = small_after;
     leaf = λ z u i b plain. child_cases z u (λ v. ¬ IsInternal v → InHalfOf (key z) u (key v)) i b
         (λ e f c. absurd (c link.shape.node)) (λ c. trie.leaf z u i c plain)
