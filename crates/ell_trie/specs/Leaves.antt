@@ -1,22 +1,43 @@
-use Rattle.std.specs.Prelude.{◌≡◌, ℕ, ◌^◌, ◌<◌, ◌⊎◌, Bool, true, false}
+use Rattle.std.specs.Prelude.{◌≡◌, ℕ, ◌^◌, nat_le, ◌<◌, ◌⊎◌, Bool, true, false, not}
 use Rattle.ell_word.specs.Node.{IsInternal}
 use Rattle.ell_core.specs.tree.Ranges.{Relinked}
-use Rattle.ell_trie.specs.Halves.{InHalfOf, InsideOf}
+use Rattle.ell_block.specs.Blocks.{InBlockOf}
+use Rattle.ell_trie.specs.Halves.{InHalfOf, InsideOf, IsBranchBeside}
 use Rattle.ell_trie.specs.Tries.{In, Opening, IsTrie}
 
--- A link at a leaf: the child of the parent on a side is now a new node, whose two leaves have their keys in the halves of
--- its block. That block is in a half of the parent's.
-pub record LeafLink (opening : Opening) (key : ℕ → ℕ) (child after : ℕ → Bool → ℕ) (parent : ℕ) (side : Bool) (new : ℕ)
+-- The shape of a link at a leaf: the child of the parent on a side is now the new node, which has two leaves. None of the
+-- three is of the opening tree.
+pub record LeafShape (opening : Opening) (key : ℕ → ℕ) (child after : ℕ → Bool → ℕ) (parent : ℕ) (side : Bool) (new : ℕ)
     : Type 0 where
   pub relinks : Relinked child after parent side new
   pub node : IsInternal new
   pub outer : (half : Bool) → ¬ IsInternal (child new half)
-  pub halves : (half : Bool) → InHalfOf (key new) half (key (child new half))
   pub small : key new < 2 ^ 64
-  pub fits : opening.holds parent ≡ false → InsideOf (key new) (key parent) side
-  -- none of the three is of the opening tree
   pub plain : opening.holds new ≡ false
   pub plain_leaves : (half : Bool) → opening.holds (child new half) ≡ false
+
+-- A link at a leaf: the leaves have their keys in the halves of the new node's block, and that is in a half of the parent's.
+pub record LeafLink (opening : Opening) (key : ℕ → ℕ) (child after : ℕ → Bool → ℕ) (parent : ℕ) (side : Bool) (new : ℕ)
+    : Type 0 where
+  pub shape : LeafShape opening key child after parent side new
+  pub halves : (half : Bool) → InHalfOf (key new) half (key (child new half))
+  pub fits : opening.holds parent ≡ false → InsideOf (key new) (key parent) side
+
+-- A leaf insert, with what is known when it is made: the added key is in the parent's block, unless the parent is of the
+-- opening tree. The old leaf is the parent's child on the key's side. The key of the new node is the branch of the old leaf's
+-- key and the added one, and its leaves have these two keys.
+pub record LeafInsert (Born : ℕ → Type 0) (opening : Opening) (key : ℕ → ℕ) (child after : ℕ → Bool → ℕ)
+    (parent : ℕ) (side : Bool) (old new : ℕ) (half : Bool) (added : ℕ) : Type 0 where
+  pub shape : LeafShape opening key child after parent side new
+  pub from : IsInternal parent
+  pub born : Born parent
+  pub inside : opening.holds parent ≡ false → InBlockOf (key parent) added
+  pub toward : nat_le (key parent) added ≡ side
+  pub was : child parent side ≡ old
+  pub leaf : ¬ IsInternal old
+  pub parts : IsBranchBeside half (key old) added (key new)
+  pub beside : key (child new half) ≡ added
+  pub copied : key (child new (not half)) ≡ key old
 
 -- what was born before such a link, and its new nodes
 abbrev pub BornLeaves : (ℕ → Type 0) → (ℕ → Bool → ℕ) → ℕ → ℕ → Type 0
@@ -27,4 +48,11 @@ abbrev pub LeafLinksStay : Type 0
 LeafLinksStay = (born : ℕ → Bool) (opening : Opening) (key : ℕ → ℕ) (child after : ℕ → Bool → ℕ)
     (parent : ℕ) (side : Bool) (new : ℕ) →
     IsTrie (In born) opening key child → LeafLink opening key child after parent side new →
+    IsTrie (BornLeaves (In born) child new) opening key after
+
+-- and leaf inserts do
+abbrev pub LeafInsertsStay : Type 0
+LeafInsertsStay = (born : ℕ → Bool) (opening : Opening) (key : ℕ → ℕ) (child after : ℕ → Bool → ℕ)
+    (parent : ℕ) (side : Bool) (old new : ℕ) (half : Bool) (added : ℕ) →
+    IsTrie (In born) opening key child → LeafInsert (In born) opening key child after parent side old new half added →
     IsTrie (BornLeaves (In born) child new) opening key after

@@ -1,7 +1,7 @@
 //! Laws of tries. Each is the contract of a function that does nothing.
 ghost use Rattle.ell_trie.specs.Courses.{CoursesTell, CoursesGoOn, MissesAreTrue};
 ghost use Rattle.ell_trie.specs.Cuts.{CutsKeep};
-ghost use Rattle.ell_trie.specs.Leaves.{LeafLinksStay};
+ghost use Rattle.ell_trie.specs.Leaves.{LeafLinksStay, LeafInsertsStay};
 ghost use Rattle.ell_trie.specs.Links.{LinksKeep, EdgeInsertsKeep};
 ghost use Rattle.ell_trie.specs.Readers.{LooksFindWhatWas};
 ghost use Rattle.ell_trie.specs.Tries.{PathsAreShort, TriesAreShallow};
@@ -26,6 +26,8 @@ pub fn links_keep()
     ensures edges { EdgeInsertsKeep }
     // A link at a leaf leaves a trie.
     ensures leaves { LeafLinksStay }
+    // A leaf insert is such a link, if it is made with the branch of the old leaf's key and the added one.
+    ensures leaf_inserts { LeafInsertsStay }
 {}
 
 /// Cuts keep a trie.

@@ -1,4 +1,5 @@
 //! A small trie, into which a key is inserted at an edge.
+ghost use Rattle.std.specs.Prelude.{true, false};
 ghost use Rattle.ell_trie.specs.Courses.{IsInOrder};
 ghost use Rattle.ell_trie.specs.Examples.{small_key, small_child, small_born, small_opening, small_after, greater_key};
 ghost use Rattle.ell_trie.specs.Links.{EdgeInsert};

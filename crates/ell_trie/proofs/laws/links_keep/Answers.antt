@@ -1,4 +1,4 @@
-use Rattle.ell_trie.proofs.lemmas.Leaves.{leaf_links_stay}
+use Rattle.ell_trie.proofs.lemmas.Leaves.{leaf_links_stay, leaf_inserts_stay}
 use Rattle.ell_trie.proofs.lemmas.links.Laws.{links_keep, edge_inserts_keep}
 use Rattle.ell_trie.proofs.laws.links_keep.Goals as goal
 
@@ -10,3 +10,6 @@ returns-clause-edges c = edge_inserts_keep
 
 pub returns-clause-leaves : goal.returns-clause-leaves
 returns-clause-leaves c = leaf_links_stay
+
+pub returns-clause-leaf_inserts : goal.returns-clause-leaf_inserts
+returns-clause-leaf_inserts c = leaf_inserts_stay
