@@ -1,4 +1,4 @@
-use Rattle.std.specs.Prelude.{ℕ, ◌==◌, ◌≤◌, if◌then◌else◌, nat_le, Bool, true, false}
+use Rattle.std.specs.Prelude.{ℕ, ◌==◌, if◌then◌else◌, nat_le, Bool, true, false}
 use Rattle.ell_trie.specs.Tries.{Opening}
 
 -- A small trie, with the keys 3 and 6: below the root, node 0, which alone is of the opening tree, are node 4, whose key is

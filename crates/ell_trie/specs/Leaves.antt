@@ -1,4 +1,4 @@
-use Rattle.std.specs.Prelude.{◌≡◌, ℕ, ◌^◌, nat_le, ◌<◌, ◌⊎◌, Bool, true, false, not}
+use Rattle.std.specs.Prelude.{◌≡◌, ℕ, ◌^◌, nat_le, ◌<◌, ◌⊎◌, Bool, false, not}
 use Rattle.ell_word.specs.Node.{IsInternal}
 use Rattle.ell_core.specs.tree.Ranges.{Relinked}
 use Rattle.ell_block.specs.Blocks.{InBlockOf}

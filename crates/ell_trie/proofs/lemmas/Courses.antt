@@ -1,12 +1,12 @@
-use Rattle.std.proofs.Common.{◌≡◌, ◌≢◌, ℕ, ◌%◌, ◌<◌, ◌≤◌, ◌⊎◌, ◌↔◌, Bool, true, false, nat_le, inl, inr, refl, sym, ap, ◌∙◌, subst, arith}
+use Rattle.std.proofs.Common.{◌≡◌, ℕ, ◌%◌, Bool, false, nat_le, inl, inr, sym, ap, ◌∙◌, subst}
 use Rattle.std.proofs.lemmas.Bool.{cases_eq}
 use Rattle.ell_word.specs.Node.{IsInternal}
-use Rattle.ell_core.specs.tree.Ranges.{next_node, Spans, FindsLeaf, at_leaf, below, IsOrdered, OnCourse, here, off, dead}
+use Rattle.ell_core.specs.tree.Ranges.{next_node, FindsLeaf, at_leaf, below, IsOrdered}
 use Rattle.ell_core.proofs.lemmas.tree.Bounds.{Meets-down}
 use Rattle.ell_core.proofs.lemmas.tree.Courses.{OnCourse-down, OnCourse-range}
 use Rattle.ell_block.specs.Blocks.{InBlockOf}
-use Rattle.ell_trie.specs.Tries.{In, Opening, IsTrie}
-use Rattle.ell_trie.specs.Courses.{IsInOrder, OnTrieCourse, ordinary, passes, missed, strange, CoursesTell, CoursesGoOn, MissesAreTrue}
+use Rattle.ell_trie.specs.Tries.{Opening, IsTrie}
+use Rattle.ell_trie.specs.Courses.{OnTrieCourse, ordinary, passes, missed, strange, CoursesTell, CoursesGoOn, MissesAreTrue}
 use Rattle.ell_trie.proofs.lemmas.Middles.{half_there, inside_half}
 use Rattle.ell_trie.proofs.lemmas.Paths.{key_below, spans_born}
 

@@ -1,13 +1,13 @@
-use Rattle.std.proofs.Common.{◌≡◌, ◌≢◌, ℕ, ◌%◌, ◌<◌, ◌≤◌, ◌⊎◌, Bool, true, false, not, nat_le, refl, sym, ap, ◌∙◌, subst, inl, inr, arith}
+use Rattle.std.proofs.Common.{◌≡◌, ℕ, ◌<◌, Bool, true, false, nat_le, sym, ap, ◌∙◌, subst, inl, inr, arith}
 use Rattle.std.proofs.lemmas.Bool.{cases_Bool, false≢true}
 use Rattle.ell_word.specs.Node.{IsInternal}
-use Rattle.ell_core.specs.tree.Ranges.{Spans, IsOrdered, OnCourse}
+use Rattle.ell_core.specs.tree.Ranges.{Spans, IsOrdered}
 use Rattle.ell_core.proofs.lemmas.tree.Removes.{Removes, Spans-remove, IsOrdered-remove, Meets-removed, Meets-kept, gone}
 use Rattle.ell_core.proofs.lemmas.tree.Courses.{OnCourse-remove}
 use Rattle.ell_trie.specs.Halves.{InHalfOf, InsideOf}
-use Rattle.ell_trie.specs.Tries.{In, Opening, IsTrie}
+use Rattle.ell_trie.specs.Tries.{Opening, IsTrie}
 use Rattle.ell_trie.specs.Courses.{OnTrieCourse, ordinary, passes, missed, strange}
-use Rattle.ell_trie.specs.Cuts.{CutsOut, CutKeeps, CutsKeep}
+use Rattle.ell_trie.specs.Cuts.{CutsOut, CutsKeep}
 use Rattle.ell_trie.proofs.lemmas.Middles.{half_there, inside_half, inside_inside}
 use Rattle.ell_trie.proofs.lemmas.Paths.{spans_born}
 
@@ -103,8 +103,10 @@ cuts_keep born holds o key child after top g s p t l w trie ordered cut in_tree 
     record {
       trie = trie_cut trie cut (spans_born trie in_tree.spans);
       ordered = (ordered.0, IsOrdered-remove key child after top g s p t l w shape ordered.1);
-      others = λ j ne x. (Meets-removed key child after top g s p t l w shape ordered.1 j ne,
-          Meets-kept key child after top g s p t l w shape ordered.1 in_tree.low in_tree.high in_tree.spans j ne);
+      others = λ j ne x. (
+        Meets-removed key child after top g s p t l w shape ordered.1 j ne,
+        Meets-kept key child after top g s p t l w shape ordered.1 in_tree.low in_tree.high in_tree.spans j ne,
+      );
       absent = gone key child after top g s p t l w shape ordered.1 in_tree.low in_tree.high in_tree.spans;
       course = λ k x c. course_cut o key child after top g s p t l w shape ordered.1 in_tree.low in_tree.high in_tree.spans k c;
     }

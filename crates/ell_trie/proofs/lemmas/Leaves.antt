@@ -1,9 +1,9 @@
-use Rattle.std.proofs.Common.{◌≡◌, ℕ, ◌<◌, ◌^◌, ◌⊎◌, Bool, true, false, not, refl, sym, ap, ◌∙◌, subst, inl, inr}
+use Rattle.std.proofs.Common.{◌≡◌, ℕ, ◌<◌, ◌^◌, Bool, true, false, not, refl, sym, ap, ◌∙◌, subst, inl, inr}
 use Rattle.std.proofs.lemmas.Bool.{false≢true}
 use Rattle.ell_word.specs.Node.{IsInternal}
 use Rattle.ell_core.proofs.lemmas.tree.Removes.{same_or_not}
 use Rattle.ell_trie.specs.Halves.{InHalfOf, InsideOf}
-use Rattle.ell_trie.specs.Tries.{In, Opening, IsTrie}
+use Rattle.ell_trie.specs.Tries.{Opening, IsTrie}
 use Rattle.ell_trie.specs.Leaves.{LeafLink, LeafInsert, BornLeaves, LeafLinksStay, LeafInsertsStay}
 use Rattle.ell_trie.proofs.lemmas.Middles.{side_half, branch_halves, branch_inside}
 

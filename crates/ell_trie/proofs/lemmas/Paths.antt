@@ -1,10 +1,10 @@
-use Rattle.std.proofs.Common.{◌≡◌, ℕ, ◌+◌, ◌-◌, ◌^◌, ◌%◌, ◌==◌, ◌<◌, ◌≤◌, Bool, true, false, not, List, [], ◌∷◌, length, inl, inr, refl, sym, ap, ◌∙◌, subst, arith}
+use Rattle.std.proofs.Common.{◌≡◌, ℕ, ◌+◌, ◌-◌, ◌%◌, ◌==◌, ◌<◌, ◌≤◌, Bool, true, false, List, [], ◌∷◌, length, inl, inr, sym, ap, ◌∙◌, subst, arith}
 use Rattle.std.proofs.lemmas.Bool.{cases_eq, cases_Bool, false≢true, eq-eqb, ne_eqb}
 use Rattle.ell_word.specs.Node.{IsInternal}
 use Rattle.ell_core.specs.tree.Ranges.{Spans, root, goes, IsOrdered}
 use Rattle.ell_block.specs.Blocks.{InBlockOf}
 use Rattle.ell_trie.specs.Halves.{InHalfOf, InsideOf}
-use Rattle.ell_trie.specs.Tries.{In, Opening, IsTrie, InnerPath, PathsAreShort, TriesAreShallow}
+use Rattle.ell_trie.specs.Tries.{Opening, IsTrie, InnerPath, PathsAreShort, TriesAreShallow}
 use Rattle.ell_trie.proofs.lemmas.Middles.{bit_of, bit_is, bit_below, middle_there, half_middle, half_there, inside_falls, inside_inside, inside_half}
 
 -- z is x or below it

@@ -1,11 +1,10 @@
-use Rattle.std.proofs.Common.{◌≡◌, ℕ, ◌<◌, ◌≤◌, ◌⊎◌, ◌↔◌, Bool, true, inl, inr, refl, sym, ap, ◌∙◌, subst, nat_le, arith}
+use Rattle.std.proofs.Common.{◌≡◌, ℕ, ◌↔◌, Bool, true, inl, inr, refl, sym, ◌∙◌, subst, nat_le, arith}
 use Rattle.ell_word.specs.Node.{IsInternal}
-use Rattle.ell_core.specs.tree.Ranges.{next_node, Spans, root, FindsLeaf, at_leaf, below, OnCourse, here}
-use Rattle.ell_core.proofs.lemmas.tree.Bounds.{below_of}
-use Rattle.ell_trie.specs.Tries.{In, Opening, IsTrie}
+use Rattle.ell_core.specs.tree.Ranges.{next_node, root, FindsLeaf, at_leaf, below, here}
+use Rattle.ell_trie.specs.Tries.{In}
 use Rattle.ell_trie.specs.Courses.{OnTrieCourse, ordinary}
 use Rattle.ell_trie.specs.Truths.{StaysTrue}
-use Rattle.ell_trie.specs.Readers.{TreeState, Fixed, IsGood, TreeStep, edge, cut, none, ComesTo, begins, changes, goes_on, WasInOne, LooksFindWhatWas}
+use Rattle.ell_trie.specs.Readers.{TreeState, Fixed, IsGood, TreeStep, edge, cut, none, ComesTo, begins, changes, goes_on, LooksFindWhatWas}
 use Rattle.ell_trie.proofs.lemmas.Courses.{course_down}
 use Rattle.ell_trie.proofs.lemmas.Cuts.{cuts_keep}
 use Rattle.ell_trie.proofs.lemmas.links.Courses.{course_after}
@@ -41,9 +40,10 @@ module _ (f : Fixed) (seen : TreeState → Bool) (holds : ℕ → Bool) (k : ℕ
       let link = its_link h.good.trie h.good.ordered.1 at in
       (course_after h.good.trie link k h.born h.course, link_true h.good.trie h.good.ordered.1 link k h.born h.course)
   changed s s' x h (cut g side p t l w at in_tree) =
-      let keeps = cuts_keep s.born holds f.opening f.key s.child s'.child f.top g side p t l w h.good.trie h.good.ordered at in_tree in
-      (keeps.course k x h.course,
-        cuts_stay_true s.born holds f.opening f.key s.child s'.child f.top g side p t l w h.good.trie h.good.ordered at in_tree k x h.born h.course)
+      let keeps = cuts_keep s.born holds f.opening f.key s.child s'.child f.top g side p t l w h.good.trie h.good.ordered at in_tree in (
+        keeps.course k x h.course,
+        cuts_stay_true s.born holds f.opening f.key s.child s'.child f.top g side p t l w h.good.trie h.good.ordered at in_tree k x h.born h.course,
+      )
   changed s s' x h (none e) = (
     subst (λ c. OnTrieCourse f.opening f.key c f.top k x) (sym e) h.course,
     inl (λ g. subst (λ c. FindsLeaf f.key c (In holds) k x) (sym e) g, λ g. subst (λ c. FindsLeaf f.key c (In holds) k x) e g),

@@ -1,14 +1,13 @@
-use Rattle.std.proofs.Common.{◌≡◌, ◌≢◌, ℕ, ◌%◌, ◌^◌, ◌==◌, if◌then◌else◌, ◌<◌, ◌≤◌, ◌⊎◌, Bool, true, false, not, nat_le, inl, inr, refl, sym, ap, ◌∙◌, subst, arith}
-use Rattle.std.proofs.lemmas.Bool.{cases_eq, false≢true, true≢false, eq-eqb, ne_eqb, eqb-true}
+use Rattle.std.proofs.Common.{◌≡◌, ℕ, ◌^◌, if◌then◌else◌, ◌<◌, ◌≤◌, ◌⊎◌, Bool, true, false, inl, inr, refl, sym, ap, subst, arith}
+use Rattle.std.proofs.lemmas.Bool.{cases_eq, false≢true, ne_eqb}
 use Rattle.std.proofs.lemmas.Bool.Decides.{nat_tests}
 use Rattle.ell_word.specs.Node.{IsInternal}
-use Rattle.ell_core.specs.tree.Ranges.{low_of, high_of, Spans, root, goes, IsOrdered, Relinked, OnCourse, here}
-use Rattle.ell_block.specs.Blocks.{Block, InBlockOf}
+use Rattle.ell_core.specs.tree.Ranges.{low_of, high_of, Spans, root, goes, here}
 use Rattle.ell_block.proofs.lemmas.Middles.{not_in_block}
 use Rattle.ell_trie.specs.Halves.{InHalfOf, InsideOf}
-use Rattle.ell_trie.specs.Tries.{In, Opening, IsTrie}
+use Rattle.ell_trie.specs.Tries.{In, IsTrie}
 use Rattle.ell_trie.specs.Courses.{IsInOrder, ordinary}
-use Rattle.ell_trie.specs.Links.{EdgeShape, EdgeInsert}
+use Rattle.ell_trie.specs.Links.{EdgeInsert}
 use Rattle.ell_trie.specs.Examples.{small_key, small_child, small_born, small_opening, small_after, greater_key}
 use Rattle.ell_trie.proofs.lemmas.Middles.{half_there}
 
@@ -113,11 +112,14 @@ rising _ _ _ u at_three i = absurd (let h : ◌≡◌ {A = ℕ} 1 0 = i in omega
 rising _ _ _ u at_six i = absurd (let h : ◌≡◌ {A = ℕ} 2 0 = i in omega arith)
 
 pub small_order : IsInOrder small_key small_child 64
-small_order = (λ x. x, record {
-  within = λ x low high r. within x low high (places r);
-  proper = λ x low high r i. proper x low high (places r) i;
-  rising = λ x low high u r i. rising x low high u (places r) i;
-})
+small_order = (
+  λ x. x,
+  record {
+    within = λ x low high r. within x low high (places r);
+    proper = λ x low high r i. proper x low high (places r) i;
+    rising = λ x low high u r i. rising x low high u (places r) i;
+  },
+)
 
 -- the link
 others : (x : ℕ) (u : Bool) → ((x ≡ 0) × (u ≡ false)) ⊎ (small_after x u ≡ small_child x u)

@@ -1,20 +1,19 @@
-use Rattle.std.proofs.Common.{◌≡◌, ◌≢◌, ℕ, ◌%◌, ◌<◌, ◌≤◌, ◌⊎◌, ◌↔◌, Bool, true, false, not, nat_le, inl, inr, refl, sym, ap, ◌∙◌, subst, arith}
+use Rattle.std.proofs.Common.{◌≡◌, ◌≢◌, ℕ, ◌<◌, ◌≤◌, Bool, false, nat_le, inl, inr, sym, ap, ◌∙◌, subst, arith}
 use Rattle.std.proofs.lemmas.Bool.{cases_eq}
 use Rattle.ell_word.specs.Node.{IsInternal}
 use Rattle.ell_core.specs.tree.Ranges.{next_node, Spans, IsCutOut, IsSpanned, FindsLeaf, at_leaf, below, IsOrdered, OnCourse, here, off, dead}
 use Rattle.ell_core.proofs.lemmas.tree.Removes.{Removes, same_or_not, stays, was_p, was_l, Spans-left, Meets-removed, Meets-kept, IsOrdered-remove}
 use Rattle.ell_core.proofs.lemmas.tree.Bounds.{Meets-up, Meets-down}
 use Rattle.ell_block.specs.Blocks.{InBlockOf}
-use Rattle.ell_trie.specs.Tries.{In, Opening, IsTrie}
+use Rattle.ell_trie.specs.Tries.{Opening, IsTrie}
 use Rattle.ell_trie.specs.Courses.{OnTrieCourse, ordinary, passes, missed, strange}
 use Rattle.ell_trie.specs.Links.{Links}
-use Rattle.ell_trie.specs.Cuts.{CutsOut}
 use Rattle.ell_trie.specs.Truths.{StaysTrue, LinksStayTrue, CutsStayTrue}
-use Rattle.ell_trie.proofs.lemmas.Paths.{Under, here, next, spans_born, rank_of}
+use Rattle.ell_trie.proofs.lemmas.Paths.{Under, here, next, spans_born}
 use Rattle.ell_trie.proofs.lemmas.Courses.{found_in_block}
 use Rattle.ell_trie.proofs.lemmas.Cuts.{removes, trie_cut}
 use Rattle.ell_trie.proofs.lemmas.links.Sides.{no_cycle, met_side, side_apart}
-use Rattle.ell_trie.proofs.lemmas.links.Ranges.{Stays, out, in_, spans_stay, low_there, high_there}
+use Rattle.ell_trie.proofs.lemmas.links.Ranges.{out, in_, spans_stay, low_there, high_there}
 use Rattle.ell_trie.proofs.lemmas.links.Finds.{met_after, met_before}
 use Rattle.ell_trie.proofs.lemmas.links.Tries.{trie_after}
 use Rattle.ell_trie.proofs.lemmas.links.Courses.{not_p}
@@ -139,8 +138,10 @@ module _ {Born : ℕ → Type 0} {o : Opening} {key : ℕ → ℕ} {child after 
 
     tree_cut : (j : ℕ) {z : ℕ} → OnCourse key child top j z → StaysTrue key child after Holds j z
     tree_cut j (here r first last) = elim (cases_eq j (key l)) [
-      | inr ne ↦ inl (Meets-removed key child after top g s p t l w shape ordered j ne,
-          Meets-kept key child after top g s p t l w shape ordered in_tree.low in_tree.high in_tree.spans j ne)
+      | inr ne ↦ inl (
+        Meets-removed key child after top g s p t l w shape ordered j ne,
+        Meets-kept key child after top g s p t l w shape ordered in_tree.low in_tree.high in_tree.spans j ne,
+      )
       | inl is ↦ reached_cut j r first last
     ]
     tree_cut j (off {x = z} {y = y} i h e rest) = next_cut j z y i h e (tree_cut j rest)

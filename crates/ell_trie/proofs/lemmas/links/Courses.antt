@@ -1,4 +1,4 @@
-use Rattle.std.proofs.Common.{◌≡◌, ◌≢◌, ℕ, ◌%◌, ◌<◌, ◌≤◌, ◌⊎◌, Bool, true, false, not, nat_le, inl, inr, refl, sym, ap, ◌∙◌, subst}
+use Rattle.std.proofs.Common.{◌≡◌, ℕ, ◌%◌, Bool, not, nat_le, inl, inr, sym, ◌∙◌, subst}
 use Rattle.std.proofs.lemmas.Bool.{cases_eq}
 use Rattle.ell_word.specs.Node.{IsInternal}
 use Rattle.ell_core.specs.tree.Ranges.{next_node, Spans, IsCutOut, OnCourse, here, off, dead}
@@ -9,7 +9,7 @@ use Rattle.ell_trie.specs.Links.{Links}
 use Rattle.ell_trie.proofs.lemmas.Middles.{half_side, inside_half}
 use Rattle.ell_trie.proofs.lemmas.Paths.{Under, under_plain}
 use Rattle.ell_trie.proofs.lemmas.links.Sides.{side_apart, born_x, other_inside, other_side}
-use Rattle.ell_trie.proofs.lemmas.links.Ranges.{Stays, out, in_, spans_stay, out_after, low_there, high_there}
+use Rattle.ell_trie.proofs.lemmas.links.Ranges.{out, in_, spans_stay, out_after, low_there, high_there}
 
 module _ {Born : ℕ → Type 0} {o : Opening} {key : ℕ → ℕ} {child after : ℕ → Bool → ℕ} {top p : ℕ} {s : Bool} {x q : ℕ} {t : Bool} {n k : ℕ}
     (trie : IsTrie Born o key child) (link : Links Born o key child after top p s x q t n k) where

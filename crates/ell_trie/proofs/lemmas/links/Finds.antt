@@ -1,11 +1,11 @@
-use Rattle.std.proofs.Common.{◌≡◌, ◌≢◌, ℕ, ◌%◌, ◌<◌, ◌≤◌, ◌⊎◌, ◌↔◌, Bool, true, false, not, nat_le, inl, inr, refl, sym, ap, ◌∙◌, subst}
+use Rattle.std.proofs.Common.{◌≡◌, ◌≢◌, ℕ, ◌%◌, Bool, not, nat_le, inl, inr, refl, sym, ap, ◌∙◌, subst}
 use Rattle.ell_word.specs.Node.{IsInternal}
-use Rattle.ell_core.specs.tree.Ranges.{next_node, Spans, FindsLeaf, at_leaf, below, IsOrdered}
+use Rattle.ell_core.specs.tree.Ranges.{next_node, FindsLeaf, at_leaf, below, IsOrdered}
 use Rattle.ell_core.proofs.lemmas.tree.Removes.{same_or_not}
 use Rattle.ell_core.proofs.lemmas.tree.Bounds.{leaf_key, Meets-up, Meets-down}
 use Rattle.ell_trie.specs.Tries.{Opening, IsTrie}
 use Rattle.ell_trie.specs.Links.{Links}
-use Rattle.ell_trie.proofs.lemmas.Paths.{Under, here, next}
+use Rattle.ell_trie.proofs.lemmas.Paths.{here}
 use Rattle.ell_trie.proofs.lemmas.links.Sides.{kept, to_new, from_old, met_side, key_side, side_apart}
 use Rattle.ell_trie.proofs.lemmas.links.Ranges.{x_spans, q_spans}
 

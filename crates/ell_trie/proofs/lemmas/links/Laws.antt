@@ -1,12 +1,10 @@
-use Rattle.std.proofs.Common.{◌≡◌, ◌≢◌, ℕ, ◌%◌, ◌<◌, ◌≤◌, ◌⊎◌, ◌↔◌, Bool, true, false, not, nat_le, inl, inr, refl, sym, ap, ◌∙◌, subst}
+use Rattle.std.proofs.Common.{◌≡◌, ℕ, Bool, false, sym, subst}
 use Rattle.ell_word.specs.Node.{IsInternal}
-use Rattle.ell_core.specs.tree.Ranges.{low_of, high_of, Spans, IsOrdered, IsSpanned}
+use Rattle.ell_core.specs.tree.Ranges.{IsOrdered}
 use Rattle.ell_core.proofs.lemmas.tree.Bounds.{side_within}
-use Rattle.ell_block.specs.Blocks.{InBlockOf}
-use Rattle.ell_trie.specs.Halves.{InHalfOf, InsideOf, IsBranchBeside}
-use Rattle.ell_trie.specs.Tries.{In, Opening, IsTrie}
-use Rattle.ell_trie.specs.Courses.{IsInOrder}
-use Rattle.ell_trie.specs.Links.{Links, EdgeInsert, LinkKeeps, LinksKeep, EdgeInsertsKeep}
+use Rattle.ell_trie.specs.Halves.{InsideOf}
+use Rattle.ell_trie.specs.Tries.{Opening, IsTrie}
+use Rattle.ell_trie.specs.Links.{Links, EdgeInsert, LinksKeep, EdgeInsertsKeep}
 use Rattle.ell_trie.proofs.lemmas.Middles.{side_half, inside_middle, branch_halves, branch_inside, apart_inside}
 use Rattle.ell_trie.proofs.lemmas.Paths.{is_branch, spans_born, in_order, rank_of}
 use Rattle.ell_trie.proofs.lemmas.Courses.{courses_tell}

@@ -1,16 +1,15 @@
-use Rattle.std.proofs.Common.{◌≡◌, ℕ, ◌<◌, ◌≤◌, ◌⊎◌, Bool, true, false, not, nat_le, inl, inr, refl, sym, ap, ◌∙◌, subst, arith}
+use Rattle.std.proofs.Common.{◌≡◌, ℕ, ◌<◌, ◌≤◌, Bool, true, false, not, nat_le, inl, inr, refl, ap, subst, arith}
 use Rattle.std.proofs.lemmas.Bool.Decides.{nat_tests}
 use Rattle.ell_word.specs.Node.{IsInternal}
 use Rattle.ell_core.specs.tree.Ranges.{low_of, high_of, Spans, IsOrdered}
 use Rattle.ell_core.proofs.lemmas.tree.OneRange.{unique}
-use Rattle.ell_block.specs.Blocks.{Block, middle_of, InHalf}
-use Rattle.ell_trie.specs.Halves.{InHalfOf, InsideOf}
+use Rattle.ell_trie.specs.Halves.{InsideOf}
 use Rattle.ell_trie.specs.Tries.{Opening, IsTrie}
 use Rattle.ell_trie.specs.Links.{Links}
 use Rattle.ell_trie.proofs.lemmas.Middles.{inside_above, halves_part}
-use Rattle.ell_trie.proofs.lemmas.Paths.{Under, here, next}
+use Rattle.ell_trie.proofs.lemmas.Paths.{Under, here}
 use Rattle.ell_trie.proofs.lemmas.links.Sides.{other_inside, other_half, other_side, key_side}
-use Rattle.ell_trie.proofs.lemmas.links.Ranges.{LowIs, HighIs, Linked, same, new_node, new_leaf, lower, spans_link, x_spans, low_there, high_there}
+use Rattle.ell_trie.proofs.lemmas.links.Ranges.{LowIs, Linked, same, new_node, new_leaf, lower, spans_link, x_spans, low_there, high_there}
 
 module _ {Born : ℕ → Type 0} {o : Opening} {key : ℕ → ℕ} {child after : ℕ → Bool → ℕ} {top p : ℕ} {s : Bool} {x q : ℕ} {t : Bool} {n k : ℕ}
     (trie : IsTrie Born o key child) (link : Links Born o key child after top p s x q t n k) {rank : ℕ → ℕ} (ordered : IsOrdered key child top rank) where

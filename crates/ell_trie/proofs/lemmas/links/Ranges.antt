@@ -1,12 +1,12 @@
-use Rattle.std.proofs.Common.{◌≡◌, ◌≢◌, ℕ, ◌%◌, ◌<◌, ◌≤◌, ◌⊎◌, Bool, true, false, not, nat_le, inl, inr, refl, sym, ap, ◌∙◌, subst, arith}
+use Rattle.std.proofs.Common.{◌≡◌, ℕ, ◌<◌, ◌≤◌, ◌⊎◌, Bool, true, false, not, nat_le, inl, inr, refl, sym, ap, ◌∙◌, subst, arith}
 use Rattle.std.proofs.lemmas.Bool.Decides.{nat_tests}
 use Rattle.ell_word.specs.Node.{IsInternal}
-use Rattle.ell_core.specs.tree.Ranges.{low_of, high_of, Spans, root, goes, IsCutOut, IsSpanned, Relinked}
+use Rattle.ell_core.specs.tree.Ranges.{low_of, high_of, Spans, root, goes, IsCutOut, IsSpanned}
 use Rattle.ell_core.proofs.lemmas.tree.Removes.{same_or_not}
 use Rattle.ell_trie.specs.Tries.{Opening, IsTrie}
 use Rattle.ell_trie.specs.Links.{Links}
 use Rattle.ell_trie.proofs.lemmas.Paths.{Under, here, next}
-use Rattle.ell_trie.proofs.lemmas.links.Sides.{no_cycle, apart, kept, to_new, from_old}
+use Rattle.ell_trie.proofs.lemmas.links.Sides.{no_cycle, kept, to_new, from_old}
 
 -- where the range of what is below the old node begins and ends on the other side: where it did, or at the new node's key
 abbrev pub LowIs : Bool → ℕ → ℕ → ℕ → Type 0

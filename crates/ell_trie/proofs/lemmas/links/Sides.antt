@@ -1,11 +1,11 @@
-use Rattle.std.proofs.Common.{◌≡◌, ◌≢◌, ℕ, ◌+◌, ◌%◌, ◌<◌, ◌≤◌, ◌⊎◌, ◌↔◌, Bool, true, false, not, nat_le, inl, inr, refl, sym, ap, ◌∙◌, subst, arith}
+use Rattle.std.proofs.Common.{◌≡◌, ◌≢◌, ℕ, Bool, true, false, not, nat_le, inl, inr, sym, ap, ◌∙◌, subst, arith}
 use Rattle.ell_word.specs.Node.{IsInternal}
-use Rattle.ell_core.specs.tree.Ranges.{next_node, Spans, FindsLeaf, at_leaf, below, Relinked}
+use Rattle.ell_core.specs.tree.Ranges.{FindsLeaf, at_leaf, below}
 use Rattle.ell_trie.specs.Halves.{InHalfOf, InsideOf}
 use Rattle.ell_trie.specs.Tries.{Opening, IsTrie}
 use Rattle.ell_trie.specs.Links.{Links}
-use Rattle.ell_trie.proofs.lemmas.Middles.{bit_of, half_side, inside_falls}
-use Rattle.ell_trie.proofs.lemmas.Paths.{Under, here, next, under_plain, under_inside, under_half, spans_born}
+use Rattle.ell_trie.proofs.lemmas.Middles.{half_side, inside_falls}
+use Rattle.ell_trie.proofs.lemmas.Paths.{Under, next, under_plain, under_inside, under_half, spans_born}
 
 -- a side is not the other one
 pub side_apart : (t : Bool) → not t ≢ t

@@ -1,4 +1,4 @@
-use Rattle.std.proofs.Common.{◌≡◌, ℕ, ◌^◌, ◌<◌, ◌⊎◌, Bool, true, false, not, inl, inr, refl, sym, ap, ◌∙◌, subst}
+use Rattle.std.proofs.Common.{◌≡◌, ℕ, ◌^◌, ◌<◌, Bool, true, false, not, inl, inr, refl, sym, ap, ◌∙◌, subst}
 use Rattle.std.proofs.lemmas.Bool.{false≢true}
 use Rattle.ell_word.specs.Node.{IsInternal}
 use Rattle.ell_core.proofs.lemmas.tree.Removes.{same_or_not}
@@ -44,7 +44,7 @@ module _ {Born : ℕ → Type 0} {o : Opening} {key : ℕ → ℕ} {child after 
     leaf = λ z u i b plain. child_cases z u (λ v. ¬ IsInternal v → InHalfOf (key z) u (key v)) i b
         (λ e f c. absurd (c link.shape.node)) (λ c. trie.leaf z u i c plain)
         (λ e f c. subst (λ v. InHalfOf (key v) u (key n)) (sym e) (subst (λ w. InHalfOf (key q) w (key n)) (sym f)
-            (subst (InHalfOf (key q) t) (sym link.shape.has) link.key_there)))
+        (subst (InHalfOf (key q) t) (sym link.shape.has) link.key_there)))
         (λ e f c. absurd (c link.shape.inner));
     inner = λ z u i b plain. child_cases z u (λ v. IsInternal v → InsideOf (key v) (key z) u) i b
         (λ e f c. subst (λ v. InsideOf (key q) (key v) u) (sym e) (subst (λ w. InsideOf (key q) (key p) w) (sym f) (link.fits (ap o.holds (sym e) ∙ plain))))
