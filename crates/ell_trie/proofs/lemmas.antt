@@ -6,6 +6,8 @@ pub mod Paths
 pub mod Courses
 -- Cuts.
 pub mod Cuts
+-- Swaps of leaves.
+pub mod Swaps
 -- Links at leaves.
 pub mod Leaves
 -- Links at edges.

@@ -8,6 +8,8 @@ pub mod Courses
 pub mod Links
 -- Links at leaves.
 pub mod Leaves
+-- Swaps of leaves, with what they keep.
+pub mod Swaps
 -- Cuts, with what they keep.
 pub mod Cuts
 -- What a walk finds before an event and after it.

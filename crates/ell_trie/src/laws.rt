@@ -4,6 +4,7 @@ ghost use Rattle.ell_trie.specs.Cuts.{CutsKeep};
 ghost use Rattle.ell_trie.specs.Leaves.{LeafLinksStay, LeafInsertsStay};
 ghost use Rattle.ell_trie.specs.Links.{LinksKeep, EdgeInsertsKeep};
 ghost use Rattle.ell_trie.specs.Readers.{LooksFindWhatWas};
+ghost use Rattle.ell_trie.specs.Swaps.{SwapsKeep};
 ghost use Rattle.ell_trie.specs.Tries.{PathsAreShort, TriesAreShallow};
 ghost use Rattle.ell_trie.specs.Truths.{LinksStayTrue, CutsStayTrue};
 
@@ -34,6 +35,12 @@ pub fn links_keep()
 pub fn cuts_keep()
     // A cut keeps the trie, its order, each other key and nodes on course, and it takes its leaf's key away.
     ensures { CutsKeep }
+{}
+
+/// Swaps keep a trie.
+pub fn swaps_keep()
+    // A swap of a leaf for another one of the same key keeps the trie, its order, each other key and nodes on course.
+    ensures { SwapsKeep }
 {}
 
 /// What a search may conclude at a node that is on course for its key.

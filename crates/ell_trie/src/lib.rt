@@ -9,5 +9,5 @@ mod laws;
 mod tests;
 
 pub use laws::{
-    courses_tell, cuts_keep, links_keep, looks_find_what_was, looks_stay_true, tries_are_shallow,
+    courses_tell, cuts_keep, links_keep, looks_find_what_was, looks_stay_true, swaps_keep, tries_are_shallow,
 };

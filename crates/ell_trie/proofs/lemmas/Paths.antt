@@ -29,11 +29,11 @@ module _ (o : Opening) (key : ℕ → ℕ) (x : ℕ) where
   rank_inner e i = ap (λ b. rank_by o.most b (x % 4 == 0) (o.depth x) (bit_of (key x))) e
       ∙ ap (λ b. rank_by o.most false b (o.depth x) (bit_of (key x))) (eq-eqb (x % 4) 0 i)
 
-  rank_leaf : o.holds x ≡ false → ¬ IsInternal x → rank_of o key x ≡ o.most + 65
+  pub rank_leaf : o.holds x ≡ false → ¬ IsInternal x → rank_of o key x ≡ o.most + 65
   rank_leaf e i = ap (λ b. rank_by o.most b (x % 4 == 0) (o.depth x) (bit_of (key x))) e
       ∙ ap (λ b. rank_by o.most false b (o.depth x) (bit_of (key x))) (ne_eqb (x % 4) 0 i)
 
-  rank_most : (o.holds x ≡ true → o.depth x ≤ o.most) → IsInternal x → rank_of o key x ≤ o.most + 64
+  pub rank_most : (o.holds x ≡ true → o.depth x ≤ o.most) → IsInternal x → rank_of o key x ≤ o.most + 64
   rank_most few i = elim (cases_Bool (o.holds x)) [
     | inl up ↦ (let a = rank_open up in let most = few up in omega arith)
     | inr e ↦ (let a = rank_inner e i in omega arith)

@@ -135,7 +135,6 @@ small_edge = record {
     relinks = record { there = refl; others = others };
     was = refl;
     from = refl;
-    inner = refl;
     node = refl;
     outer = λ e. let h : ◌≡◌ {A = ℕ} 2 0 = e in omega arith;
     beside = refl;
@@ -148,6 +147,7 @@ small_edge = record {
     fresh = λ e. false≢true e;
     fresh_leaf = λ e. false≢true e;
   };
+  inner = refl;
   there = record { low = 0; high = 64; spans = root refl refl refl };
   course = ordinary (here (root refl refl refl) (omega arith) (omega arith));
   inside = λ e. absurd (false≢true (sym e));

@@ -23,14 +23,16 @@ order_after trie link ordered = in_order (trie_after trie link) (within_after tr
 pub links_keep : LinksKeep
 links_keep born holds o key child after top p s x q t n k trie ordered link =
     let now = order_after trie link ordered.1 in record {
-      trie = trie_after trie link;
-      ordered = (rank_of o key, now);
-      others = λ j ne z. (met_after trie link j ne, met_before trie link j ne);
-      absent = absent_before trie link ordered.1;
-      present = present_after trie link now;
-      course = λ j z b c. course_after trie link j b c;
+      keeps = record {
+        trie = trie_after trie link;
+        ordered = (rank_of o key, now);
+        others = λ j ne z. (met_after trie link j ne, met_before trie link j ne);
+        absent = absent_before trie link ordered.1;
+        present = present_after trie link now;
+        course = λ j z b c. course_after trie link j b c;
+        out = out_after trie link;
+      };
       reached = reached_after trie link;
-      out = out_after trie link;
     }
 
 -- an edge insert is a link
@@ -45,7 +47,7 @@ module _ {Born : ℕ → Type 0} {o : Opening} {key : ℕ → ℕ} {child after 
 
   x_inside : o.holds p ≡ false → InsideOf (key x) (key p) s
   x_inside plain = subst (λ v. InsideOf (key v) (key p) s) at.shape.was
-      (trie.inner p s at.shape.from born_p plain (subst IsInternal (sym at.shape.was) at.shape.inner))
+      (trie.inner p s at.shape.from born_p plain (subst IsInternal (sym at.shape.was) at.inner))
 
   pub its_link : Links Born o key child after top p s x q t n k
   its_link =
@@ -60,7 +62,8 @@ module _ {Born : ℕ → Type 0} {o : Opening} {key : ℕ → ℕ} {child after 
         first = sided.0;
         last = sided.1;
         key_there = halves.0;
-        old_there = apart_inside (is_branch trie x at.shape.inner born_x at.shape.old_plain) at.lacks halves.0 halves.1;
+        old_there = λ i. apart_inside (is_branch trie x i born_x at.shape.old_plain) at.lacks halves.0 halves.1;
+        old_leaf_there = λ outer. absurd (outer at.inner);
         fits = λ plain. branch_inside t at.parts (inside_middle (x_inside plain)) (side_half (at.inside plain) at.toward);
       }
 

@@ -45,10 +45,10 @@ module _ {Born : ℕ → Type 0} {o : Opening} {key : ℕ → ℕ} {child after 
         (λ e f c. absurd (c link.shape.node)) (λ c. trie.leaf z u i c plain)
         (λ e f c. subst (λ v. InHalfOf (key v) u (key n)) (sym e) (subst (λ w. InHalfOf (key q) w (key n)) (sym f)
         (subst (InHalfOf (key q) t) (sym link.shape.has) link.key_there)))
-        (λ e f c. absurd (c link.shape.inner));
+        (λ e f c. subst (λ v. InHalfOf (key v) u (key x)) (sym e) (subst (λ w. InHalfOf (key q) w (key x)) (sym f) (link.old_leaf_there c)));
     inner = λ z u i b plain. child_cases z u (λ v. IsInternal v → InsideOf (key v) (key z) u) i b
         (λ e f c. subst (λ v. InsideOf (key q) (key v) u) (sym e) (subst (λ w. InsideOf (key q) (key p) w) (sym f) (link.fits (ap o.holds (sym e) ∙ plain))))
         (λ c. trie.inner z u i c plain)
         (λ e f c. absurd (link.shape.outer c))
-        (λ e f c. subst (λ v. InsideOf (key x) (key v) u) (sym e) (subst (λ w. InsideOf (key x) (key q) w) (sym f) link.old_there));
+        (λ e f c. subst (λ v. InsideOf (key x) (key v) u) (sym e) (subst (λ w. InsideOf (key x) (key q) w) (sym f) (link.old_there c)));
   }
