@@ -14,6 +14,8 @@ pub mod Leaves
 pub mod links
 -- What walks find stays true.
 pub mod Truths
+-- Leaf inserts.
+pub mod LeafInserts
 -- Readers.
 pub mod Readers
 -- A small trie.

@@ -4,7 +4,8 @@ use Rattle.ell_word.specs.Node.{IsInternal}
 use Rattle.ell_core.proofs.lemmas.tree.Removes.{same_or_not}
 use Rattle.ell_trie.specs.Halves.{InHalfOf, InsideOf}
 use Rattle.ell_trie.specs.Tries.{Opening, IsTrie}
-use Rattle.ell_trie.specs.Leaves.{LeafLink, LeafInsert, BornLeaves, LeafLinksStay, LeafInsertsStay}
+use Rattle.ell_trie.specs.Leaves.{LeafLink, LeafInsert, BornLeaves, LeafLinksStay}
+use Rattle.ell_trie.proofs.lemmas.Paths.{spans_born}
 use Rattle.ell_trie.proofs.lemmas.Middles.{side_half, branch_halves, branch_inside}
 
 module _ {Born : ℕ → Type 0} {o : Opening} {key : ℕ → ℕ} {child after : ℕ → Bool → ℕ} {p : ℕ} {s : Bool} {q : ℕ}
@@ -27,7 +28,7 @@ module _ {Born : ℕ → Type 0} {o : Opening} {key : ℕ → ℕ} {child after 
   small_after z i (inr (inl is)) plain = subst (λ v. key v < 2 ^ 64) (sym is) at.shape.small
   small_after z i (inr (inr new)) plain = absurd (at.shape.outer new.0 (subst IsInternal new.1 i))
 
-  trie_leaf : IsTrie (BornLeaves Born child q) o key after
+  pub trie_leaf : IsTrie (BornLeaves Born child q) o key after
   trie_leaf = record {
     start = inl trie.start;
     closed = λ z u i b. cases_after z u (BornLeaves Born child q) i b (λ e f. inr (inl refl)) (λ c. inl (trie.closed z u i c)) (λ e. inr (inr (u, refl)));
@@ -47,8 +48,8 @@ pub leaf_links_stay : LeafLinksStay
 leaf_links_stay born o key child after p s q trie at = trie_leaf trie at
 
 -- a leaf insert is such a link
-module _ {Born : ℕ → Type 0} {o : Opening} {key : ℕ → ℕ} {child after : ℕ → Bool → ℕ} {p : ℕ} {s : Bool} {l q : ℕ} {t : Bool} {k : ℕ}
-    (trie : IsTrie Born o key child) (at : LeafInsert Born o key child after p s l q t k) where
+module _ {Born : ℕ → Type 0} {o : Opening} {key : ℕ → ℕ} {child after : ℕ → Bool → ℕ} {top p : ℕ} {s : Bool} {l q : ℕ} {t : Bool} {k : ℕ}
+    (trie : IsTrie Born o key child) (at : LeafInsert Born o key child after top p s l q t k) where
   new_halves : (u : Bool) → InHalfOf (key q) u (key (child q u))
   new_halves u = elim (same_or_not u t) [
     | inl e ↦ subst (λ v. InHalfOf (key q) v (key (child q v))) (sym e) (subst (InHalfOf (key q) t) (sym at.beside) (branch_halves t at.parts).0)
@@ -56,14 +57,11 @@ module _ {Born : ℕ → Type 0} {o : Opening} {key : ℕ → ℕ} {child after 
   ]
 
   leaf_half : o.holds p ≡ false → InHalfOf (key p) s (key l)
-  leaf_half plain = subst (λ v. InHalfOf (key p) s (key v)) at.was (trie.leaf p s at.from at.born plain (λ i. at.leaf (subst IsInternal at.was i)))
+  leaf_half plain = subst (λ v. InHalfOf (key p) s (key v)) at.was (trie.leaf p s at.from (spans_born trie at.there.spans) plain (λ i. at.leaf (subst IsInternal at.was i)))
 
-  leaf_link : LeafLink o key child after p s q
+  pub leaf_link : LeafLink o key child after p s q
   leaf_link = record {
     shape = at.shape;
     halves = new_halves;
     fits = λ plain. branch_inside t at.parts (leaf_half plain) (side_half (at.inside plain) at.toward);
   }
-
-pub leaf_inserts_stay : LeafInsertsStay
-leaf_inserts_stay born o key child after p s l q t k trie at = trie_leaf trie (leaf_link trie at)

@@ -1,12 +1,12 @@
-use Rattle.std.proofs.Common.{◌≡◌, ◌≢◌, ℕ, ◌%◌, ◌<◌, ◌≤◌, ◌^◌, ◌⊎◌, ◌↔◌, Bool, true, false, not, nat_le, refl, sym, ap, ◌∙◌, subst, inl, inr, arith}
-use Rattle.std.proofs.lemmas.Bool.{cases_eq, false≢true}
+use Rattle.std.proofs.Common.{◌≡◌, ◌≢◌, ℕ, ◌<◌, ◌^◌, ◌↔◌, Bool, true, false, nat_le, refl, sym, ap, ◌∙◌, subst, inl, inr, arith}
+use Rattle.std.proofs.lemmas.Bool.{false≢true}
 use Rattle.ell_word.specs.Node.{IsInternal}
-use Rattle.ell_core.specs.tree.Ranges.{next_node, Spans, IsCutOut, IsSpanned, FindsLeaf, at_leaf, below, IsOrdered, OnCourse, here, off, dead}
-use Rattle.ell_core.proofs.lemmas.tree.Replaces.{Replaces, IsOrdered-replace, Spans-still, Meets-replaced, Meets-unreplaced, stays_out, OnCourse-replace}
+use Rattle.ell_core.specs.tree.Ranges.{Spans, IsCutOut, FindsLeaf, at_leaf, below, IsOrdered}
+use Rattle.ell_core.proofs.lemmas.tree.Replaces.{Replaces, IsOrdered-replace, Meets-replaced, Meets-unreplaced, stays_out, OnCourse-replace}
 use Rattle.ell_trie.specs.Halves.{InHalfOf, InsideOf}
-use Rattle.ell_trie.specs.Tries.{In, Opening, IsTrie}
+use Rattle.ell_trie.specs.Tries.{Opening, IsTrie}
 use Rattle.ell_trie.specs.Courses.{OnTrieCourse, ordinary, passes, missed, strange}
-use Rattle.ell_trie.specs.Swaps.{LeafSwap, BornLeaf, SwapKeeps, SwapsKeep}
+use Rattle.ell_trie.specs.Swaps.{LeafSwap, BornLeaf, SwapsKeep}
 use Rattle.ell_trie.proofs.lemmas.Paths.{rank_of, rank_leaf, rank_most, in_order, spans_born}
 
 module _ {Born : ℕ → Type 0} {o : Opening} {key : ℕ → ℕ} {child after : ℕ → Bool → ℕ} {top p : ℕ} {s : Bool} {l c : ℕ}

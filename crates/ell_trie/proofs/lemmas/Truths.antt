@@ -8,7 +8,10 @@ use Rattle.ell_block.specs.Blocks.{InBlockOf}
 use Rattle.ell_trie.specs.Tries.{Opening, IsTrie}
 use Rattle.ell_trie.specs.Courses.{OnTrieCourse, ordinary, passes, missed, strange}
 use Rattle.ell_trie.specs.Links.{Links}
-use Rattle.ell_trie.specs.Truths.{StaysTrue, LinksStayTrue, CutsStayTrue}
+use Rattle.ell_core.proofs.lemmas.tree.Replaces.{Spans-still}
+use Rattle.ell_trie.specs.Swaps.{LeafSwap}
+use Rattle.ell_trie.proofs.lemmas.Swaps.{shape, trie_swap, order_swap}
+use Rattle.ell_trie.specs.Truths.{StaysTrue, LinksStayTrue, SwapsStayTrue, CutsStayTrue}
 use Rattle.ell_trie.proofs.lemmas.Paths.{Under, here, next, spans_born}
 use Rattle.ell_trie.proofs.lemmas.Courses.{found_in_block}
 use Rattle.ell_trie.proofs.lemmas.Cuts.{removes, trie_cut}
@@ -156,3 +159,31 @@ module _ {Born : ℕ → Type 0} {o : Opening} {key : ℕ → ℕ} {child after 
 pub cuts_stay_true : CutsStayTrue
 cuts_stay_true born holds o key child after top g s p t l w trie ordered cut in_tree j z b course =
     cut_true trie ordered.1 (removes cut) in_tree (trie_cut trie cut (spans_born trie in_tree.spans)) j b course
+
+-- a swap leaves it true
+module _ {Born : ℕ → Type 0} {o : Opening} {key : ℕ → ℕ} {child after : ℕ → Bool → ℕ} {top p : ℕ} {s : Bool} {l c : ℕ}
+    (trie : IsTrie Born o key child) {rank : ℕ → ℕ} (ordered : IsOrdered key child top rank)
+    (swap : LeafSwap Born o key child after top p s l c) {Holds : ℕ → Type 0} where
+  next_swap : (j z y : ℕ) → IsInternal z → IsCutOut key child top z → y ≡ next_node key child j z → StaysTrue key child after Holds j y
+      → StaysTrue key child after Holds j z
+  next_swap j z y i h e found = elim (swap.relinks.others z (nat_le (key z) j)) [
+    | inl d ↦ absurd (h swap.there.low swap.there.high (subst (λ v. Spans key child top v swap.there.low swap.there.high) (sym d.0) swap.there.spans))
+    | inr d ↦ through key child after j z y i e (e ∙ sym d) found
+  ]
+
+  tree_swap : (j : ℕ) {z : ℕ} → OnCourse key child top j z → StaysTrue key child after Holds j z
+  tree_swap j {z} (here r first last) = elim (Spans-still key child after top p s l c (shape trie swap) r) [
+    | inl e ↦ leaf_true key child after j z (λ i. swap.leaf (subst IsInternal e i))
+    | inr r2 ↦ reached_true key child after (order_swap trie swap ordered) r2 first last
+  ]
+  tree_swap j (off {x = z} {y = y} i h e rest) = next_swap j z y i h e (tree_swap j rest)
+  tree_swap j (dead {x = z} i h) = leaf_true key child after j z i
+
+  swap_true : (j : ℕ) {z : ℕ} → Born z → OnTrieCourse o key child top j z → StaysTrue key child after Holds j z
+  swap_true j b (ordinary c) = tree_swap j c
+  swap_true j b (passes {x = z} {y = y} i h e rest) = next_swap j z y i h e (swap_true j (subst Born (sym e) (trie.closed z (nat_le (key z) j) i b)) rest)
+  swap_true j b (strange {x = z} i ne) = leaf_true key child after j z i
+  swap_true j b (missed {x = z} i plain lacks) = missed_true trie (trie_swap trie swap) j z b (inl b) i plain lacks
+
+pub swaps_stay_true : SwapsStayTrue
+swaps_stay_true born holds o key child after top p s l c trie ordered swap j z b course = swap_true trie ordered.1 swap j b course
