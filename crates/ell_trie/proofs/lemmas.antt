@@ -8,9 +8,9 @@ pub mod Courses
 pub mod Cuts
 -- Swaps of leaves.
 pub mod Swaps
--- Links at leaves.
+-- Links in the place of leaves.
 pub mod Leaves
--- Links at edges.
+-- Links above an old node.
 pub mod links
 -- What walks find stays true.
 pub mod Truths

@@ -2,7 +2,8 @@ use Rattle.std.specs.Prelude.{ℕ, ◌==◌, if◌then◌else◌, nat_le, Bool, 
 use Rattle.ell_trie.specs.Tries.{Opening}
 
 -- A small trie, with the keys 3 and 6: below the root, node 0, which alone is of the opening tree, are node 4, whose key is
--- the branch of the two, and a leaf of key 32. Nodes 8 and 12 with their leaves, of keys 12 and of keys 6 and 7, are not in it.
+-- the branch of the two, and a leaf of key 32. Node 8 with a leaf of key 12, and node 12 with leaves of keys 6 and 7, are
+-- not in it.
 abbrev pub small_key : ℕ → ℕ
 small_key x =
     if x == 4 then 4 else

@@ -7,8 +7,8 @@ use Rattle.ell_trie.specs.Tries.{In, Opening, IsTrie}
 use Rattle.ell_trie.specs.Courses.{IsInOrder, OnTrieCourse}
 use Rattle.ell_trie.specs.Links.{InsertKeeps}
 
--- The shape of a link at a leaf: the child of the parent on a side is now the new node, which has two leaves. None of the
--- three is of the opening tree.
+-- The shape of a link in the place of a leaf: the child of the parent on a side is now the new node, which has two leaves.
+-- None of the three is of the opening tree.
 pub record LeafShape (opening : Opening) (key : ℕ → ℕ) (child after : ℕ → Bool → ℕ) (parent : ℕ) (side : Bool) (new : ℕ)
     : Type 0 where
   pub relinks : Relinked child after parent side new
@@ -18,7 +18,8 @@ pub record LeafShape (opening : Opening) (key : ℕ → ℕ) (child after : ℕ 
   pub plain : opening.holds new ≡ false
   pub plain_leaves : (half : Bool) → opening.holds (child new half) ≡ false
 
--- A link at a leaf: the leaves have their keys in the halves of the new node's block, and that is in a half of the parent's.
+-- A link in the place of a leaf: the two leaves have their keys in the halves of the new node's block, which is in a half of
+-- the parent's block.
 pub record LeafLink (opening : Opening) (key : ℕ → ℕ) (child after : ℕ → Bool → ℕ) (parent : ℕ) (side : Bool) (new : ℕ)
     : Type 0 where
   pub shape : LeafShape opening key child after parent side new
@@ -48,7 +49,7 @@ pub record LeafInsert (Born : ℕ → Type 0) (opening : Opening) (key : ℕ →
 abbrev pub BornLeaves : (ℕ → Type 0) → (ℕ → Bool → ℕ) → ℕ → ℕ → Type 0
 BornLeaves Born child new x = Born x ⊎ ((x ≡ new) ⊎ ((half : Bool) × (x ≡ child new half)))
 
--- links at leaves leave a trie
+-- links in the place of leaves leave a trie
 abbrev pub LeafLinksStay : Type 0
 LeafLinksStay = (born : ℕ → Bool) (opening : Opening) (key : ℕ → ℕ) (child after : ℕ → Bool → ℕ)
     (parent : ℕ) (side : Bool) (new : ℕ) →

@@ -4,9 +4,9 @@ pub mod Halves
 pub mod Tries
 -- Nodes on course for a key in a trie.
 pub mod Courses
--- Links at edges, with what they keep.
+-- Links above an old node, as edge inserts are, with what they keep.
 pub mod Links
--- Links at leaves.
+-- Links in the place of leaves, as leaf inserts are.
 pub mod Leaves
 -- Swaps of leaves, with what they keep.
 pub mod Swaps

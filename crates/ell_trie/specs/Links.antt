@@ -79,7 +79,7 @@ pub record LinkKeeps (Born Holds : ℕ → Type 0) (opening : Opening) (key : �
   pub keeps : InsertKeeps Born (BornWith Born new leaf) Holds opening key child after top leaf added
   pub reached : (x : ℕ) → IsSpanned key child top x → IsSpanned key after top x
 
--- so do links
+-- links keep that
 abbrev pub LinksKeep : Type 0
 LinksKeep = (born holds : ℕ → Bool) (opening : Opening) (key : ℕ → ℕ) (child after : ℕ → Bool → ℕ)
     (top parent : ℕ) (side : Bool) (old new : ℕ) (half : Bool) (leaf added : ℕ) →
@@ -87,7 +87,7 @@ LinksKeep = (born holds : ℕ → Bool) (opening : Opening) (key : ℕ → ℕ) 
     Links (In born) opening key child after top parent side old new half leaf added →
     LinkKeeps (In born) (In holds) opening key child after top new leaf added
 
--- and edge inserts do
+-- and edge inserts keep it
 abbrev pub EdgeInsertsKeep : Type 0
 EdgeInsertsKeep = (born holds : ℕ → Bool) (opening : Opening) (key : ℕ → ℕ) (child after : ℕ → Bool → ℕ)
     (top parent : ℕ) (side : Bool) (old new : ℕ) (half : Bool) (leaf added : ℕ) →

@@ -32,8 +32,8 @@ pub data TreeStep (fixed : Fixed) (old new : TreeState) : Type 0 where
       LeafInsert (In old.born) fixed.opening fixed.key old.child new.child fixed.top parent side lower node half added →
       fixed.value (old.child node (not half)) ≡ fixed.value lower → TreeStep fixed old new
   edge_insert : (parent : ℕ) (side : Bool) (lower node : ℕ) (half : Bool) (fresh added : ℕ) →
-      EdgeInsert (In old.born) fixed.opening fixed.key old.child new.child fixed.top parent side lower node half fresh added →
-      TreeStep fixed old new
+      EdgeInsert (In old.born) fixed.opening fixed.key old.child new.child fixed.top parent side lower node half fresh added
+      → TreeStep fixed old new
   leaf_swap : (parent : ℕ) (side : Bool) (lower fresh : ℕ) →
       LeafSwap (In old.born) fixed.opening fixed.key old.child new.child fixed.top parent side lower fresh →
       TreeStep fixed old new
@@ -42,8 +42,8 @@ pub data TreeStep (fixed : Fixed) (old new : TreeState) : Type 0 where
       IsSpanned fixed.key old.child fixed.top grandparent → TreeStep fixed old new
   none : new.child ≡ old.child → TreeStep fixed old new
 
--- A reader, who only loads, stands at a node in a state. He begins at node 0; then the tree may change, with no node born no
--- longer, or he goes on by his key to the child that he loads. Each state that he sees is one of those.
+-- A reader, who only loads, stands at a node in a state. He begins at node 0; then the tree may change, and what was born
+-- stays so, or he goes on by his key to the child that he loads. Each of these states is in a set, that of the states seen.
 pub data ComesTo (fixed : Fixed) (seen : TreeState → Bool) (k : ℕ) : TreeState → ℕ → Type 0 where
   begins : {state : TreeState} {x : ℕ} → x ≡ 0 → k < fixed.top → IsGood fixed state → seen state ≡ true →
       ComesTo fixed seen k state x
@@ -52,12 +52,12 @@ pub data ComesTo (fixed : Fixed) (seen : TreeState → Bool) (k : ℕ) : TreeSta
   goes_on : {state : TreeState} {x y : ℕ} → ComesTo fixed seen k state x → IsInternal x →
       y ≡ next_node fixed.key state.child k x → ComesTo fixed seen k state y
 
--- a leaf has a value of which this is asked
+-- a leaf has a value as it is asked for
 abbrev pub Has : Fixed → (ℕ → Bool) → ℕ → Type 0
 Has fixed asked x = asked (fixed.value x) ≡ true
 
--- what a reader finds at a leaf is what the tree had of his key in one of the states that he saw: if he asks for a value, the
--- key with that value
+-- What a reader finds at a leaf is what the tree had of his key in one of the states seen: the key, with what he asks of its
+-- value, exactly if the tree had it so.
 pub record WasInOne (fixed : Fixed) (seen : TreeState → Bool) (asked : ℕ → Bool) (k leaf : ℕ) : Type 0 where
   pub state : TreeState
   pub among : seen state ≡ true

@@ -25,10 +25,10 @@ pub fn links_keep()
     // An edge insert is such a link, if it is made with the branch of the old node's key and the added one, under a parent
     // that is reached and on course for the added key.
     ensures edges { EdgeInsertsKeep }
-    // A link in the place of a leaf leaves a trie.
+    // A link in the place of a leaf, of a node with two leaves, leaves a trie.
     ensures leaves { LeafLinksStay }
-    // A leaf insert keeps what inserts keep, if it is made with the branch of the old leaf's key and the added one, under a
-    // parent that is reached and on course for the added key.
+    // A leaf insert keeps what links keep, but for the old leaf, if it is made with the branch of the old leaf's key and the
+    // added one, under a parent that is reached and on course for the added key.
     ensures leaf_inserts { LeafInsertsKeep }
 {}
 
@@ -56,8 +56,8 @@ pub fn courses_tell()
 
 /// What walks find stays true.
 pub fn looks_stay_true()
-    // From a node on course, the walk for a key finds after a link what it found before, or what the tree has of
-    // the key after the link.
+    // From a node on course, the walk for a key finds after a link what it found before, or what the tree has of the key
+    // after the link.
     ensures links { LinksStayTrue }
     // So it is at leaf inserts, at swaps and at cuts.
     ensures leaf_inserts { LeafInsertsStayTrue }

@@ -1,7 +1,8 @@
 //! A small trie, into which keys are inserted at a leaf and at an edge.
 ghost use Rattle.std.specs.Prelude.{true, false};
 ghost use Rattle.ell_trie.specs.Courses.{IsInOrder};
-ghost use Rattle.ell_trie.specs.Examples.{small_key, small_child, small_born, small_opening, with_seven, with_twelve, greater_key};
+ghost use Rattle.ell_trie.specs.Examples.{small_key, small_child, small_born, small_opening};
+ghost use Rattle.ell_trie.specs.Examples.{with_seven, with_twelve, greater_key};
 ghost use Rattle.ell_trie.specs.Leaves.{LeafInsert};
 ghost use Rattle.ell_trie.specs.Links.{EdgeInsert};
 ghost use Rattle.ell_trie.specs.Tries.{In, IsTrie};

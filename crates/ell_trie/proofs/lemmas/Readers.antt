@@ -40,12 +40,14 @@ module _ (f : Fixed) (seen : TreeState → Bool) (asked : ℕ → Bool) (k : ℕ
   changed s s' x h (leaf_insert p side l q t j at same) =
       let copied : asked (f.value (s.child q (not t))) ≡ asked (f.value l) = ap asked same in
       let both : Has f asked (s.child q (not t)) ↔ Has f asked l = (λ g. sym copied ∙ g, λ g. copied ∙ g) in
-      let keeps = leaf_inserts_keep s.born (λ z. asked (f.value z)) f.opening f.key s.child s'.child f.top p side l q t j h.good.trie h.good.ordered at both in
-      (keeps.course k x h.born h.course,
-        leaf_inserts_stay_true s.born (λ z. asked (f.value z)) f.opening f.key s.child s'.child f.top p side l q t j h.good.trie h.good.ordered at both k x h.born h.course)
-  changed s s' x h (leaf_swap p side l c at) =
-      (course_swap h.good.trie at h.good.ordered.1 k h.born h.course,
-        swaps_stay_true s.born (λ z. asked (f.value z)) f.opening f.key s.child s'.child f.top p side l c h.good.trie h.good.ordered at k x h.born h.course)
+      let keeps = leaf_inserts_keep s.born (λ z. asked (f.value z)) f.opening f.key s.child s'.child f.top p side l q t j h.good.trie h.good.ordered at both in (
+        keeps.course k x h.born h.course,
+        leaf_inserts_stay_true s.born (λ z. asked (f.value z)) f.opening f.key s.child s'.child f.top p side l q t j h.good.trie h.good.ordered at both k x h.born h.course,
+      )
+  changed s s' x h (leaf_swap p side l c at) = (
+    course_swap h.good.trie at h.good.ordered.1 k h.born h.course,
+    swaps_stay_true s.born (λ z. asked (f.value z)) f.opening f.key s.child s'.child f.top p side l c h.good.trie h.good.ordered at k x h.born h.course,
+  )
   changed s s' x h (edge_insert p side y q t n j at) =
       let link = its_link h.good.trie h.good.ordered.1 at in
       (course_after h.good.trie link k h.born h.course, link_true h.good.trie h.good.ordered.1 link k h.born h.course)
