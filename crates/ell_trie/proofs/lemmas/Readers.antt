@@ -1,6 +1,7 @@
 use Rattle.std.proofs.Common.{◌≡◌, ℕ, ◌↔◌, Bool, true, not, inl, inr, refl, sym, ap, ◌∙◌, subst, nat_le, arith}
 use Rattle.ell_word.specs.Node.{IsInternal}
-use Rattle.ell_core.specs.tree.Ranges.{next_node, root, FindsLeaf, at_leaf, below, here}
+use Rattle.ell_core.specs.tree.Ranges.{root, FindsLeaf, at_leaf, below, here}
+use Rattle.ell_core.proofs.lemmas.tree.Bounds.{below_of}
 use Rattle.ell_trie.specs.Courses.{OnTrieCourse, ordinary}
 use Rattle.ell_trie.specs.Truths.{StaysTrue}
 use Rattle.ell_trie.specs.Readers.{TreeState, Fixed, IsGood, TreeStep, leaf_insert, edge_insert, leaf_swap, cut, none, Has, ComesTo, begins, changes, goes_on, LooksFindWhatWas}
@@ -61,10 +62,6 @@ module _ (f : Fixed) (seen : TreeState → Bool) (asked : ℕ → Bool) (k : ℕ
     inl (λ g. subst (λ c. FindsLeaf f.key c (Has f asked) k x) (sym e) g, λ g. subst (λ c. FindsLeaf f.key c (Has f asked) k x) e g),
   )
 
-  step_down : (s : TreeState) (x y : ℕ) → IsInternal x → y ≡ next_node f.key s.child k x → Finds s x → Finds s y
-  step_down s x y inner e (at_leaf o _ _) = absurd (o inner)
-  step_down s x y inner e (below _ d g) = subst (Finds s) (d ∙ sym e) g
-
   stands : {s : TreeState} {x : ℕ} → ComesTo f seen k s x → Stands s x
   stands (begins {state = s} {x = x} e low good among) = record {
     good = good;
@@ -87,7 +84,7 @@ module _ (f : Fixed) (seen : TreeState → Bool) (asked : ℕ → Bool) (k : ℕ
         course = subst (Course s) (sym e) (course_down h.good.trie h.good.ordered.1 k x h.born inner h.course);
         state = h.state;
         among = h.among;
-        so = (λ g. h.so.0 (below inner e g), λ g. step_down s x y inner e (h.so.1 g));
+        so = (λ g. h.so.0 (below inner e g), λ g. below_of f.key s.child f.top h.good.ordered.1 inner e (h.so.1 g));
       }
 
   leaf_tells : (s : TreeState) (z : ℕ) → ¬ IsInternal z → Finds s z → (f.key z ≡ k) × Has f asked z
