@@ -1,0 +1,20 @@
+-- A half of the block of a branch, and a block in it, by numbers alone.
+pub mod Halves
+-- Tries: trees whose internal nodes have branches as their keys, with how short their paths are.
+pub mod Tries
+-- Nodes on course for a key in a trie.
+pub mod Courses
+-- Links above an old node, as edge inserts are, with what they keep.
+pub mod Links
+-- Links in the place of leaves, as leaf inserts are.
+pub mod Leaves
+-- Swaps of leaves, with what they keep.
+pub mod Swaps
+-- Cuts, with what they keep.
+pub mod Cuts
+-- What a walk finds before an event and after it.
+pub mod Truths
+-- Readers, who go on while the tree changes.
+pub mod Readers
+-- A small trie, and one with an inner key that is no branch.
+pub mod Examples
