@@ -1,8 +1,9 @@
 /* Ranges in C, and the next key above or below one. One thread first, which changes keys at random and after each change compares a random range,
-   upwards with little room and downwards, with a plain array. So does it with keys that came ascending or descending. Then two threads that go over
-   ranges beside three that insert, delete and exchange, each its own of the keys, which lie between those of the others. Each change is noted with
-   its begin and its end by one clock. Each key of a range is to be told as it was at a moment between the begin and the end of the range: as its last
-   change left it, if that had ended before and no other was made meanwhile, and else as one of the changes at work left it. Last the edges. */
+   upwards with little room and downwards, with a plain array. So does it with keys that came ascending or descending, and with start keys, where it
+   counts steps too. Then two threads that go over ranges beside three that insert, delete and exchange, each its own of the keys, which lie between
+   those of the others. Each change is noted with its begin and its end by one clock. Each key of a range is to be told as it was at a moment between
+   the begin and the end of the range: as its last change left it, if that had ended before and no other was made meanwhile, and else as one of the
+   changes at work left it. Last the edges. */
 #include "elltree.h"
 #include <pthread.h>
 #include <stdio.h>
@@ -318,7 +319,40 @@ static long edges(void) {
     return wrong + (elltree_free(&h) != ELLTREE_YES);
 }
 
-/* Keys that came upwards or downwards make a list of the tree: the whole range, and the keys next to each, are those of the list. */
+/* How many steps a handle has taken since there were so many. */
+static uint64_t steps_since(struct elltree_handle *h, uint64_t before) {
+    uint64_t steps = 0;
+    return elltree_steps(h, &steps) == ELLTREE_YES ? steps - before : UINT64_MAX;
+}
+
+/* Start keys are balanced: a search takes a step to begin, two for each of twelve or thirteen inner nodes, and two or three for the leaf, the key
+   behind another at most twice as many, and a range six a key. No start key takes a step. */
+static long balanced(void) {
+    enum { EVEN = 4096 };
+    static struct elltree_pair pairs[EVEN];
+    const uint64_t sought[] = {0, 1, 6000, 6001, 12284};
+    struct elltree_handle h = ELLTREE_EMPTY;
+    uint64_t at, key, value;
+    size_t count;
+    for (uint64_t i = 0; i < EVEN; i++)
+        pairs[i] = (struct elltree_pair){3 * i, i};
+    long wrong = elltree_open(&h, pairs, EVEN, 1) != ELLTREE_YES || steps_since(&h, 0) > 1;
+    for (int i = 0; i < 5; i++) {
+        uint64_t before = steps_since(&h, 0);
+        wrong += elltree_look(&h, sought[i], &value) != (sought[i] % 3 ? ELLTREE_NO : ELLTREE_YES) || steps_since(&h, before) > 30;
+        before = steps_since(&h, 0);
+        wrong += elltree_next_at_least(&h, sought[i] + 1, &key, &value) != ELLTREE_YES || key != (sought[i] / 3 + 1) * 3 ||
+                 steps_since(&h, before) > 60;
+    }
+    uint64_t before = steps_since(&h, 0);
+    wrong += elltree_next_at_least(&h, 0, &key, &value) != ELLTREE_YES || key != 0 || steps_since(&h, before) > 30;
+    before = steps_since(&h, 0);
+    wrong += elltree_range(&h, 0, UINT64_MAX, pairs, EVEN, &count, &at) != ELLTREE_YES || count != EVEN || steps_since(&h, before) > 6 * EVEN;
+    return wrong + (elltree_free(&h) != ELLTREE_YES);
+}
+
+/* Keys that came upwards or downwards make a list of the tree: the whole range, and the keys next to each, are those of the list. A look for the key
+   at the end of the list takes as many steps as a look may, and a range that begins anew at times takes less than a search for each key. */
 static long deep(int upwards) {
     enum { DEEP = 300 };
     static struct elltree_pair pairs[2 * DEEP];
@@ -328,6 +362,10 @@ static long deep(int upwards) {
     long wrong = elltree_open(&h, NULL, 0, DEEP) != ELLTREE_YES;
     for (uint64_t i = 0; i < DEEP; i++)
         wrong += elltree_insert(&h, 3 * (upwards ? i : DEEP - 1 - i), i, 1) != ELLTREE_YES;
+    uint64_t before = steps_since(&h, 0);
+    wrong += elltree_look(&h, upwards ? 3 * DEEP - 3 : 0, &value) != ELLTREE_YES || value != DEEP - 1 || steps_since(&h, before) != 2 * DEEP + 3;
+    before = steps_since(&h, 0);
+    wrong += elltree_range(&h, 0, UINT64_MAX, pairs, 2 * DEEP, &count, &at) != ELLTREE_YES || count != DEEP || steps_since(&h, before) > 20 * DEEP;
     for (size_t room = 1; room <= DEEP; room = 7 * room) {
         for (at = all = 0; at < UINT64_MAX; all += count)
             wrong += elltree_range(&h, at, UINT64_MAX, pairs + all, room, &count, &at) != ELLTREE_YES;
@@ -347,7 +385,7 @@ static long deep(int upwards) {
 }
 
 int main(void) {
-    long wrong = alone() + deep(0) + deep(1) + beside_threads() + edges();
+    long wrong = alone() + balanced() + deep(0) + deep(1) + beside_threads() + edges();
     printf("%ld wrong\n", wrong);
     return wrong != 0;
 }

@@ -1,6 +1,6 @@
 /* Each allocation of the library is refused in turn: elltree_open and elltree_another are answered by ELLTREE_NO_MEMORY, and all handles are as they
-   were; or, where they can do without, by ELLTREE_YES, and all are as they should be. No other call on a handle asks for memory. Linked with
-   --wrap=malloc and --wrap=realloc. */
+   were; or, where they can do without, by ELLTREE_YES, and all are as they should be. A bad number of cards is told before memory is asked for. No
+   other call on a handle asks for memory. Linked with --wrap=malloc and --wrap=realloc. */
 #include "elltree.h"
 #include <stdio.h>
 
@@ -90,9 +90,21 @@ static void frugal(void) {
     faults += asked != 0 || both_open() != 0;
 }
 
+/* A number of cards that is refused is told before any memory is asked for. */
+static void bad_cards(void) {
+    const uint64_t cards[] = {0, 1000001, 2000000};
+    refuse_at = 1, asked = 0;
+    for (int i = 0; i < 3; i++)
+        faults += elltree_open(&one, start, START, cards[i]) != ELLTREE_BAD_CARDS || elltree_open(&one, NULL, 0, cards[i]) != ELLTREE_BAD_CARDS;
+    faults += asked != 0;
+    refuse_at = -1;
+    faults += none_open() != 0;
+}
+
 int main(void) {
     for (uint64_t i = 0; i < START; i++)
         start[i].key = 2 * i, start[i].value = i;
+    bad_cards();
     refuse("open", open_one, none_open, one_open, free_one);
     refuse("another", another, one_open, both_open, free_two);
     frugal();

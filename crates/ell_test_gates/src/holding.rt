@@ -9,10 +9,9 @@ use std::sync::atomic::{AtomicBool, AtomicU64, Ordering};
 pub struct Holding {
     at: Kind,
     ends: u64,
-    // How often worker 0 has come to its step, 0 or 1, and how many operations of the others have ended, and ended with an answer.
+    // How often worker 0 has come to its step, 0 or 1, and how many operations of the others have ended.
     come: AtomicU64,
     ended: AtomicU64,
-    answered: AtomicU64,
     // Another worker saw worker 0 come in time, and worker 0 saw those operations end in time.
     saw_it_come: AtomicBool,
     saw_them_end: AtomicBool,
@@ -33,7 +32,6 @@ impl Holding {
             ends,
             come: AtomicU64::new(0),
             ended: AtomicU64::new(0),
-            answered: AtomicU64::new(0),
             saw_it_come: AtomicBool::new(false),
             saw_them_end: AtomicBool::new(false),
             overdue: AtomicBool::new(false),
@@ -44,11 +42,6 @@ impl Holding {
     /// hold ended by what it waited for, and none by its number of turns.
     pub fn has_held(&self) -> bool {
         is_raised(&self.saw_it_come) && is_raised(&self.saw_them_end) && !is_raised(&self.overdue)
-    }
-
-    /// How many operations of the others ended with an answer.
-    pub fn answered(&self) -> u64 {
-        self.answered.load(Ordering::SeqCst)
     }
 
     // Holds a worker until a count has come so far, and raises a flag if that was in time.
@@ -72,14 +65,10 @@ impl StepGate for Holding {
         }
     }
 
-    fn after(&self, worker: u32, answered: bool) {
-        if worker == 0 {
-            return;
+    fn after(&self, worker: u32, _answered: bool) {
+        if worker != 0 {
+            self.ended.fetch_add(1, Ordering::SeqCst);
         }
-        if answered {
-            self.answered.fetch_add(1, Ordering::SeqCst);
-        }
-        self.ended.fetch_add(1, Ordering::SeqCst);
     }
 }
 

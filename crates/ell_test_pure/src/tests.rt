@@ -1,10 +1,6 @@
-//! What no clause says, and what clauses come to, by examples that a person worked out.
+//! What no clause says, and what clauses come to, by examples that a person worked out. `tests/texts` has those that the built
+//! command shows.
 mod machine;
-mod operations;
 mod orders;
 mod parts;
-mod replaying;
-mod shared;
-mod tracing;
 mod words;
-mod writing;

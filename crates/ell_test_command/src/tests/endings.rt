@@ -1,7 +1,6 @@
 //! How the program ends, over streams in memory.
 use super::streams::Narrow;
 use ell_command::elltree;
-use std::io::Read;
 use std::process::Abort;
 use std::thread::Threads;
 
@@ -12,35 +11,17 @@ pub(super) type Ending<'a> = (u8, &'a str, &'a str);
 /// fails.
 pub(super) type Row<'a> = (&'static str, &'a str, Ending<'a>);
 
-/// What is told where help was cut or a flush failed.
-pub(super) const WRITE_FAILED: &str = "elltree: write failed\n";
+/// For how many bytes standard output has room, and whether it can be flushed.
+type Room = (usize, bool);
 
-/// For how many bytes the writers have room, and whether that for standard output can be flushed.
-#[derive(Clone, Copy)]
-pub(super) struct Writers {
-    pub(super) out_room: usize,
-    pub(super) err_room: usize,
-    pub(super) flushes: bool,
-}
+/// It takes all.
+pub(super) const WIDE: Room = (usize::MAX, true);
 
-/// Writers that take all.
-pub(super) const WIDE: Writers = Writers {
-    out_room: usize::MAX,
-    err_room: usize::MAX,
-    flushes: true,
-};
+/// It takes five bytes.
+pub(super) const FIVE_BYTES: Room = (5, true);
 
-/// Standard output takes five bytes.
-pub(super) const FIVE_BYTES: Writers = Writers {
-    out_room: 5,
-    ..WIDE
-};
-
-/// Standard output takes all, and cannot be flushed.
-pub(super) const UNFLUSHED: Writers = Writers {
-    flushes: false,
-    ..WIDE
-};
+/// It takes all, and cannot be flushed.
+pub(super) const UNFLUSHED: Room = (usize::MAX, false);
 
 /// How the program ended, and what its writers hold.
 #[derive(Drop)]
@@ -66,29 +47,30 @@ pub(super) fn words_of(rt: &(impl Abort + AllocGlobal), text: &'static str) -> V
     words.expect(rt, "memory")
 }
 
-/// Runs the program into such writers.
-pub(super) fn run_into<R: Threads + Sync + Abort + AllocGlobal, I: Read>(
+/// Runs the program on a text, where standard output has such room.
+pub(super) fn run_into<R: Threads + Sync + Abort + AllocGlobal>(
     rt: &R,
     words: &'static str,
-    input: &mut I,
-    writers: Writers,
+    text: &str,
+    room: Room,
 ) -> Ended {
-    let mut out = Narrow::new(rt.alloc(), writers.out_room, writers.flushes);
-    let mut err = Narrow::new(rt.alloc(), writers.err_room, true);
+    let mut out = Narrow::new(rt.alloc(), room.0, room.1);
+    let mut err = Narrow::new(rt.alloc(), usize::MAX, true);
     let words = words_of(rt, words);
-    let status = elltree(rt, rt.alloc(), &words, input, &mut out, &mut err);
+    let mut input = text.as_bytes();
+    let status = elltree(rt, rt.alloc(), &words, &mut input, &mut out, &mut err);
     Ended { status, out, err }
 }
 
-/// Whether the program ends so, into such writers.
+/// Whether the program ends so.
 pub(super) fn ends_into<R: Threads + Sync + Abort + AllocGlobal>(
     rt: &R,
     words: &'static str,
     text: &str,
-    writers: Writers,
+    room: Room,
     ending: Ending<'_>,
 ) -> bool {
-    run_into(rt, words, &mut text.as_bytes(), writers).is(ending)
+    run_into(rt, words, text, room).is(ending)
 }
 
 /// Asserts that the program ends so at each row.

@@ -1,12 +1,8 @@
 //! Reports of runs.
-use super::endings::{Row, UNFLUSHED, WIDE, assert_rows, ends_into, run_into, words_of};
+use super::endings::{Row, assert_rows, words_of};
 use ell_command::carry_out;
 use ell_run::{Exchange, Kind};
 use ell_test_gates::{Holding, two_threads_meet};
-
-const TEXT: &str = "insert 5\nfind 5\n";
-
-const ANSWER: &str = "yes\nyes\nkeys 1\n5\n";
 
 // With one card one insert alone is made on the tree. The other is late, and so is what is behind it in its worker's part: so,
 // however the workers' turns fall, the report tells how many workers there were, how the operations were parted among them, and
@@ -51,18 +47,6 @@ static LATE: [Row<'static>; 6] = [
 #[test]
 fn a_report_tells_what_was_late(rt: HostRuntime) {
     assert_rows(&rt, LATE.as_slice());
-}
-
-#[test]
-fn a_report_is_one_write(rt: HostRuntime) {
-    let ended = run_into(&rt, "run --report", &mut TEXT.as_bytes(), WIDE);
-    assert!(rt; ended.status == 0 && ended.err.has_in_one_write("late 0\n"));
-}
-
-#[test]
-fn a_report_comes_before_the_flush(rt: HostRuntime) {
-    let ending = (4, ANSWER, "late 0\nelltree: write failed\n");
-    assert!(rt; ends_into(&rt, "run --report", TEXT, UNFLUSHED, ending));
 }
 
 // Of two workers one has the inserts of 7 and 9, and meets at its first try what the other, which inserts 6, has begun. With one try

@@ -1,9 +1,5 @@
-//! Whole runs and replays, over streams that fail and streams that do not. `tests/texts` has many more texts.
-use super::endings::{
-    FIVE_BYTES, Row, UNFLUSHED, WIDE, WRITE_FAILED, assert_rows, ends_into, run_into,
-};
-use super::streams::Broken;
-use std::io::Read;
+//! Runs and replays, over writers that fail. `tests/texts` has many more texts.
+use super::endings::{FIVE_BYTES, UNFLUSHED, WIDE, ends_into, run_into};
 
 const VALUES: &str = "version 2\nstart 3 33\ninsert 7 70\nfind 7\ndelete 3\nfind 3\n";
 
@@ -12,21 +8,6 @@ const VALUES_ANSWER: &str = "yes\nyes 70\nyes\nno\nkeys 1\n7 70\n";
 const REPLAY: &str = "workers 1\ncards 1\nown 0 5\n0 begin find 5\n0 upd\n0 claim\n";
 
 const TRACE: &str = "moved\nmoved\nrefused NotNow\nkeys 0\n";
-
-static ANSWERS: [Row<'static>; 3] = [
-    ("run", VALUES, (0, VALUES_ANSWER, "")),
-    (
-        "run --workers 64 --parting range --cards 1 --tries 1",
-        VALUES,
-        (0, VALUES_ANSWER, ""),
-    ),
-    ("replay", REPLAY, (0, TRACE, "")),
-];
-
-#[test]
-fn runs_and_replays_give_answers(rt: HostRuntime) {
-    assert_rows(&rt, ANSWERS.as_slice());
-}
 
 // The words of a command, a text, and the line that standard error gets where standard output has room for five bytes.
 static LINES_TOLD: [(&str, &str, &str); 7] = [
@@ -50,31 +31,31 @@ static LINES_TOLD: [(&str, &str, &str); 7] = [
 #[test]
 fn a_line_on_standard_error_is_one_write(rt: HostRuntime) {
     for (row, (words, text, line)) in LINES_TOLD.iter().enumerate() {
-        let ended = run_into(&rt, words, &mut text.as_bytes(), FIVE_BYTES);
+        let ended = run_into(&rt, words, text, FIVE_BYTES);
         assert!(rt; ended.err.has_in_one_write(line), "row {row}");
     }
+    let ended = run_into(&rt, "run --report", VALUES, WIDE);
+    assert!(rt; ended.status == 0 && ended.err.has_in_one_write("late 0\n"));
 }
 
+// The words of a command, a text, its answer, and what stands on standard error at the end.
+static UNFLUSHED_ENDS: [(&str, &str, &str, &str); 3] = [
+    ("run", VALUES, VALUES_ANSWER, "elltree: write failed\n"),
+    (
+        "run --report",
+        VALUES,
+        VALUES_ANSWER,
+        "late 0\nelltree: write failed\n",
+    ),
+    ("replay", REPLAY, TRACE, "elltree: write failed\n"),
+];
+
 #[test]
-fn a_broken_stream_ends_a_run_and_a_replay(rt: HostRuntime) {
-    for words in ["run", "replay"] {
-        let ended = run_into(&rt, words, &mut b"# no".chain(Broken), WIDE);
-        assert!(rt; ended.is((4, "", "elltree: read failed\n")), "{words}");
+fn a_flush_that_fails_ends_the_run_and_the_replay_behind_all_else(rt: HostRuntime) {
+    for (words, text, answer, told) in &UNFLUSHED_ENDS {
+        assert!(rt;
+            ends_into(&rt, words, text, UNFLUSHED, (4, answer, told)),
+            "{words}"
+        );
     }
-    let ending = (4, "yes\ny", "elltree: write failed after 5 bytes\n");
-    assert!(rt; ends_into(&rt, "run", VALUES, FIVE_BYTES, ending));
-    let ending = (4, "moved", "elltree: write failed after 5 bytes\n");
-    assert!(rt; ends_into(&rt, "replay", REPLAY, FIVE_BYTES, ending));
-}
-
-#[test]
-fn a_flush_that_fails_ends_the_run(rt: HostRuntime) {
-    let ending = (4, VALUES_ANSWER, WRITE_FAILED);
-    assert!(rt; ends_into(&rt, "run", VALUES, UNFLUSHED, ending));
-}
-
-#[test]
-fn a_replay_flushes_last(rt: HostRuntime) {
-    let ending = (4, TRACE, WRITE_FAILED);
-    assert!(rt; ends_into(&rt, "replay", REPLAY, UNFLUSHED, ending));
 }

@@ -1,16 +1,6 @@
-//! A reader and a writer that fail.
+//! A writer that fails.
 use std::alloc::Global;
-use std::io::{Error, ErrorKind, Read, Result, Write};
-
-/// A reader that fails.
-#[derive(Drop)]
-pub(super) struct Broken;
-
-impl Read for Broken {
-    fn read(&mut self, _buf: &mut [u8]) -> Result<usize> {
-        Err(Error::from(ErrorKind::Other))
-    }
-}
+use std::io::{Error, ErrorKind, Result, Write};
 
 /// A writer that has room for some bytes, may refuse to be flushed, and counts the writes.
 #[derive(Drop)]

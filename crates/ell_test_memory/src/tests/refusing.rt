@@ -1,13 +1,10 @@
 //! An allocator that counts growths, and refuses those that it is told to.
 use std::alloc::{AllocError, Allocator, Global};
-use std::process::Abort;
 use std::sync::atomic::{AtomicBool, AtomicU64, Ordering};
 
 /// Which growths are refused. They are counted from 1.
 #[derive(Clone, Copy)]
 pub(crate) enum Refusal {
-    /// None.
-    None,
     /// The growth of this number alone.
     At(u64),
     /// That of this number, and all after it.
@@ -18,7 +15,6 @@ impl Refusal {
     // The first growth that is refused, and the last one.
     fn bounds(self) -> (u64, u64) {
         match self {
-            Refusal::None => (u64::MAX, 0),
             Refusal::At(number) => (number, number),
             Refusal::From(number) => (number, u64::MAX),
         }
@@ -119,25 +115,4 @@ unsafe impl<B: Allocator> Allocator for Refusing<B> {
     unsafe fn deallocate(&self, ptr: *mut u8, size: usize, align: usize) {
         self.inner.deallocate(ptr, size, align);
     }
-}
-
-// Asks for four growths: they are had as it is wanted, and are counted.
-fn ask_four(rt: &impl Abort, heap: &Heap, had: [bool; 4]) {
-    for is_had in had {
-        assert!(rt; Box::new(heap, 0_u8).is_ok() == is_had);
-    }
-    assert!(rt; heap.growths() == 4);
-}
-
-#[test]
-fn growths_are_counted_and_refused(rt: HostRuntime) {
-    let heap = Heap::new(rt.alloc());
-    heap.refuse(Refusal::None);
-    ask_four(&rt, &heap, [true; 4]);
-    heap.refuse(Refusal::At(2));
-    ask_four(&rt, &heap, [true, false, true, true]);
-    heap.refuse(Refusal::From(3));
-    ask_four(&rt, &heap, [true, true, false, false]);
-    heap.stop();
-    ask_four(&rt, &heap, [true; 4]);
 }

@@ -2,8 +2,6 @@
 mod deleting;
 mod given_worlds;
 mod inserting;
-mod refusing;
-mod replaying;
 mod scripts;
 mod starts;
 mod swapping;

@@ -1,9 +1,38 @@
-//! Small partings and gatherings, with the parts and replies that a person gave them.
-use super::shared::have_texts;
-use ell_ops::Op;
+//! Small lists of operations, partings and gatherings, with the parts, replies and pairs that a person gave them, and texts of faults.
 use ell_ops::Reply::{self, Found, No, Yes};
+use ell_ops::{NoMemory, Op, apply_all, apply_from};
 use ell_parts::{GatherFault, PartFault, Parts, gather};
 use std::alloc::{AllocError, Global};
+use std::fmt::Display;
+use std::process::Abort;
+
+// Whether a list of operations came to these replies, and to these keys with their values.
+fn is_done(
+    done: Result<(Vec<Reply>, Vec<(u64, u64)>), NoMemory>,
+    replies: &[Reply],
+    pairs: &[(u64, u64)],
+) -> bool {
+    match done {
+        Ok((said, left)) => said.as_slice() == replies && left.as_slice() == pairs,
+        Err(NoMemory) => false,
+    }
+}
+
+#[test]
+fn one_thread_answers(rt: HostRuntime) {
+    let ops = [Op::Insert(5, 50), Op::Find(5), Op::Delete(5), Op::Find(5)];
+    let done = apply_all(rt.alloc(), &ops);
+    assert!(rt; is_done(done, &[Yes, Found(50), Yes, No], &[]));
+    let ops = [
+        Op::Delete(3),
+        Op::Insert(4, 40),
+        Op::Find(9),
+        Op::Swap(9, 92, u64::MAX),
+    ];
+    let done = apply_from(rt.alloc(), &[(3, 31), (9, 92)], &ops);
+    let replies = [Yes, Yes, Found(92), Found(92)];
+    assert!(rt; is_done(done, &replies, &[(4, 40), (9, u64::MAX)]));
+}
 
 const FIVE: [Op; 5] = [
     Op::Insert(3, 1),
@@ -66,13 +95,6 @@ fn a_list_is_parted_in_three_ways(rt: HostRuntime) {
     let is_so = is_parted(Parts::striped(alloc, &FIVE, 2), &STRIPES) && is_parted(owned, &OWNED);
     assert!(rt; is_so && is_parted(Parts::ranged(alloc, &FIVE, 3), &RANGES));
     assert!(rt; is_parted(Parts::ranged(alloc, &[], 3), &EMPTY));
-}
-
-#[test]
-fn parts_have_a_length(rt: HostRuntime) {
-    let length = |parts: Parts<'_, Global>| (parts.len(), parts.is_empty());
-    assert!(rt; Parts::striped(rt.alloc(), &FIVE, 2).map(length) == Ok((5, false)));
-    assert!(rt; Parts::ranged(rt.alloc(), &[], 3).map(length) == Ok((0, true)));
 }
 
 const SPLIT: PartFault = PartFault::KeySplit {
@@ -160,8 +182,17 @@ fn replies_that_do_not_fit(rt: HostRuntime) {
     }
 }
 
+// Each value has its text.
+fn have_texts<T: Display>(rt: &(impl Abort + AllocGlobal), rows: &[(T, &str)]) {
+    for (value, text) in rows {
+        let said = value.to_string(rt.alloc());
+        assert!(rt; said.is_ok_and(|said| said.as_str() == *text), "{text}");
+    }
+}
+
 #[test]
-fn faults_of_partings_have_texts(rt: HostRuntime) {
+fn faults_have_texts(rt: HostRuntime) {
+    have_texts(&rt, &[(NoMemory, "out of memory")]);
     let (first, second) = (0, 2);
     have_texts(
         &rt,
@@ -179,10 +210,6 @@ fn faults_of_partings_have_texts(rt: HostRuntime) {
             (PartFault::NoMemory, "out of memory"),
         ],
     );
-}
-
-#[test]
-fn faults_of_gatherings_have_texts(rt: HostRuntime) {
     have_texts(
         &rt,
         &[

@@ -1,7 +1,7 @@
 //! The owner of a key, or of its neighbors, beside a worker that is held in the middle of a change.
-use super::calling::KeyCall::Ask;
+use super::calling::KeyCall::{Add, Ask, Put, Take, Update};
 use super::holding::{Meeting, Meetings, TO_DELETE, TO_INSERT, meet_all};
-use ell_ops::Op::{Delete, Find, Insert};
+use ell_ops::Op::{Delete, Find, Insert, Swap};
 use ell_ops::Reply::{Found, No, Yes};
 use ell_tree::{Exchange, Kind};
 
@@ -37,6 +37,34 @@ const OWNER_DELETES: Meeting = Meeting {
     ],
     end: &[(6, 61)],
     ..OWNER_ADDS
+};
+
+// So is one that takes its key, or gives it another value: it answers the value that was there.
+const OWNER_TAKES: Meeting = Meeting {
+    held: (Take(5), Found(50)),
+    ..OWNER_DELETES
+};
+
+const OWNER_PUTS: Meeting = Meeting {
+    held: (Put(5, 51), Found(50)),
+    end: &[(5, 51), (6, 61)],
+    ..OWNER_DELETES
+};
+
+const OWNER_SWAPS: Meeting = Meeting {
+    held: (Ask(Swap(5, 50, 51)), Found(50)),
+    ..OWNER_PUTS
+};
+
+const OWNER_SUMS: Meeting = Meeting {
+    held: (Add(5, 1), Found(50)),
+    ..OWNER_PUTS
+};
+
+const OWNER_UPDATES: Meeting = Meeting {
+    held: (Update(5), Found(50)),
+    end: &[(5, 151), (6, 61)],
+    ..OWNER_PUTS
 };
 
 // A shared key is being changed by a worker that is held, and the owner of the neighbors is answered as by a private
@@ -75,7 +103,7 @@ const BEHIND_A_DELETE: [Kind; 3] = [
     Kind::Exchange(Exchange::DUnflag),
 ];
 
-static NEIGHBORS: [Meetings<'static>; 8] = [
+static NEIGHBORS: [Meetings<'static>; 13] = [
     (&TO_INSERT, 8, OWNER_ADDS),
     (&TO_INSERT, 8, GUEST_ADDS),
     (&BEHIND_AN_INSERT, 8, OWNER_ADDS),
@@ -84,6 +112,11 @@ static NEIGHBORS: [Meetings<'static>; 8] = [
     (&TO_DELETE, 6, GUEST_DELETES),
     (&BEHIND_A_DELETE, 6, OWNER_DELETES),
     (&BEHIND_A_DELETE, 6, GUEST_DELETES),
+    (&BEHIND_A_DELETE, 6, OWNER_TAKES),
+    (&BEHIND_AN_INSERT, 6, OWNER_PUTS),
+    (&BEHIND_AN_INSERT, 6, OWNER_SWAPS),
+    (&BEHIND_AN_INSERT, 6, OWNER_SUMS),
+    (&BEHIND_AN_INSERT, 6, OWNER_UPDATES),
 ];
 
 #[test]

@@ -2,7 +2,6 @@
 ghost use Rattle.ell_test_shared.specs.Sharing.{IsMember};
 
 use super::calling::is_among;
-use ell_cards::SplitFault;
 use ell_ops::ascend;
 use ell_tree::{Pass, Tree};
 use std::alloc::Global;
@@ -48,10 +47,4 @@ pub fn joined(
             .all(|key| !(left.owns(*key) && right.owns(*key)))
     );
     tree.join(left, right).ok().expect(rt, "memory")
-}
-
-#[test]
-fn a_refused_split_has_a_text(rt: HostRuntime) {
-    let said = SplitFault::TooManyPasses.to_string(rt.alloc());
-    assert!(rt; said.expect(&rt, "memory").as_str() == "too many passes");
 }

@@ -104,33 +104,25 @@ const TO_TAKE_AWAY: [Kind; 7] = [
     Kind::Exchange(Exchange::DChild),
 ];
 
-// Has two calls take key 5 away at once from each kind of step, of which one answers as it does if it takes the key.
-fn take_away_at_each<R: Threads + Abort + AllocGlobal + Sync>(
-    rt: &R,
-    calls: (KeyCall, KeyCall),
-    wants: (Reply, Reply),
-) {
-    if !two_threads_meet(rt) {
+// Two calls that take key 5 away, and what each answers if it does.
+type Rivals = ((KeyCall, KeyCall), (Reply, Reply));
+
+const RIVALS: [Rivals; 3] = [
+    ((Ask(Delete(5)), Ask(Delete(5))), (Yes, Yes)),
+    ((Take(5), Take(5)), (Found(50), Found(50))),
+    ((Take(5), Ask(Delete(5))), (Found(50), Yes)),
+];
+
+#[test]
+fn of_two_takes_or_deletes_at_once_one_takes_the_key_away(rt: HostRuntime) {
+    if !two_threads_meet(&rt) {
         return;
     }
-    for at in &TO_TAKE_AWAY {
-        take_away(rt, *at, calls, [(wants.0, No), (No, wants.1)]);
+    for (calls, wants) in &RIVALS {
+        for at in &TO_TAKE_AWAY {
+            take_away(&rt, *at, *calls, [(wants.0, No), (No, wants.1)]);
+        }
     }
-}
-
-#[test]
-fn of_two_deletes_at_once_one_takes_the_key_away(rt: HostRuntime) {
-    take_away_at_each(&rt, (Ask(Delete(5)), Ask(Delete(5))), (Yes, Yes));
-}
-
-#[test]
-fn of_two_takes_at_once_one_gets_the_value(rt: HostRuntime) {
-    take_away_at_each(&rt, (Take(5), Take(5)), (Found(50), Found(50)));
-}
-
-#[test]
-fn of_a_take_and_a_delete_at_once_one_takes_the_key_away(rt: HostRuntime) {
-    take_away_at_each(&rt, (Take(5), Ask(Delete(5))), (Found(50), Yes));
 }
 
 // Whether both calls of a race were answered so.

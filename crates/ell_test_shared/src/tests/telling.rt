@@ -4,10 +4,8 @@ ghost use Rattle.ell_test_shared.specs.Sharing.{IsMember, IsSharer};
 ghost use Rattle.ell_tree.specs.Ledgers.{IsIdlePassOf};
 ghost use Rattle.ell_tree.specs.Meaning.{greatest_key};
 
-use super::calling::KeyCall::Ask as Call;
-use super::calling::answer;
-use ell_ops::{KEY_MAX, Op, Reply, all_fit, ascend};
-use ell_tree::{About, NoGate, Pair, Pass, START_MAX, StepGate, Tree};
+use ell_ops::{KEY_MAX, all_fit, ascend};
+use ell_tree::{About, Pair, Pass, START_MAX, StepGate, Tree};
 use std::alloc::Global;
 use std::process::Abort;
 
@@ -24,10 +22,6 @@ pub enum Ask {
     Scan(u64, u64, usize),
     About(u64),
     AtLeast(u64),
-    After(u64),
-    First,
-    AtMost(u64),
-    Before(u64),
     Last,
 }
 
@@ -65,33 +59,6 @@ pub fn opened_for(
     assert!(rt; ascend(owned) && all_fit(owned));
     let made = Tree::reserve_shared(rt.alloc(), start, owned, cards);
     made.expect(rt, "tree")
-}
-
-/// So many keys with their values, ascending or descending: the multiples of 3 from 0 on.
-pub fn list(rt: &(impl Abort + AllocGlobal), count: u64, upwards: bool) -> Vec<(u64, u64)> {
-    let mut pairs = Vec::new(rt.alloc());
-    for number in 0..count {
-        let place = if upwards { number } else { count - 1 - number };
-        let key = place.wrapping_mul(3);
-        pairs.push((key, place)).expect(rt, "memory");
-    }
-    pairs
-}
-
-/// Inserts keys, which are to be absent.
-pub fn insert_all(
-    rt: &impl Abort,
-    tree: &Tree<Global>,
-    pass: &mut Pass<Global>,
-    pairs: &[(u64, u64)],
-)
-    requires { IsSharer tree.now pass.old }
-    ensures { IsSharer tree.now pass.new }
-{
-    for (key, value) in pairs {
-        let call = Call(Op::Insert(*key, *value));
-        assert!(rt; answer(rt, tree, pass, &[], call, &NoGate) == Ok(Reply::Yes));
-    }
 }
 
 // What a scan tells.
@@ -141,30 +108,11 @@ fn sight_of(
     Sight { from, upto, pairs }
 }
 
-// That this is the least key from one on that is there, or that there is none.
-fn next_of(rt: &(impl Abort + AllocGlobal), from: u64, found: Option<(u64, u64)>) -> Sight {
-    let upto = match found {
-        Some(pair) => pair.0.saturating_add(1),
-        None => KEY_MAX + 1,
-    };
-    sight_of(rt, from, upto, found)
-}
-
-// That this is the greatest key below one that is there, or that there is none.
-fn last_of(rt: &(impl Abort + AllocGlobal), upto: u64, found: Option<(u64, u64)>) -> Sight {
-    let from = match found {
-        Some(pair) => pair.0,
-        None => 0,
-    };
-    sight_of(rt, from, upto, found)
-}
-
 // The key of a call, or 0.
 fn key_of(ask: Ask) -> u64 {
     match ask {
-        Ask::Scan(_, _, _) | Ask::First | Ask::Last => 0,
-        Ask::About(key) | Ask::AtLeast(key) | Ask::After(key) => key,
-        Ask::AtMost(key) | Ask::Before(key) => key,
+        Ask::Scan(_, _, _) | Ask::Last => 0,
+        Ask::About(key) | Ask::AtLeast(key) => key,
     }
 }
 
@@ -189,12 +137,22 @@ pub fn tell<G: StepGate>(
             assert!(rt; low <= key && key < high && high <= KEY_MAX + 1);
             sight_of(rt, low, high, found)
         }
-        Ask::AtLeast(_) => next_of(rt, key, tree.next_at_least(pass, key, gate)),
-        Ask::After(_) => next_of(rt, key + 1, tree.next_after(pass, key, gate)),
-        Ask::First => next_of(rt, 0, tree.first(pass, gate)),
-        Ask::AtMost(_) => last_of(rt, key + 1, tree.last_at_most(pass, key, gate)),
-        Ask::Before(_) => last_of(rt, key, tree.last_before(pass, key, gate)),
-        Ask::Last => last_of(rt, KEY_MAX + 1, tree.last(pass, gate)),
+        Ask::AtLeast(_) => {
+            let found = tree.next_at_least(pass, key, gate);
+            let upto = match found {
+                Some(pair) => pair.0.saturating_add(1),
+                None => KEY_MAX + 1,
+            };
+            sight_of(rt, key, upto, found)
+        }
+        Ask::Last => {
+            let found = tree.last(pass, gate);
+            let from = match found {
+                Some(pair) => pair.0,
+                None => 0,
+            };
+            sight_of(rt, from, KEY_MAX + 1, found)
+        }
     }
 }
 

@@ -1,4 +1,4 @@
-//! What runs and replays answer if a reader or a writer fails, or gives and takes little at a time.
+//! What runs and replays answer if a reader or a writer fails.
 mod calls;
 mod failing;
 mod sources;

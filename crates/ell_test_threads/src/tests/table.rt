@@ -4,7 +4,7 @@ ghost use Rattle.ell_cards.specs.Models.{IsFree};
 
 use ell_cards::{CardFault, CardTable, Closed, Pass};
 use ell_layout::Field;
-use ell_tree::NotDone;
+use ell_tree::{NotDone, SplitFault};
 use std::alloc::Global;
 use std::fmt::Display;
 use std::process::Abort;
@@ -70,16 +70,6 @@ fn a_table_begins_parts_and_ends(rt: HostRuntime) {
     }
 }
 
-#[test]
-fn a_table_without_start_keys_has_one_inner_node(rt: HostRuntime) {
-    let (table, mut pass) = CardTable::reserve(rt.alloc(), &KEYS, 2).expect(&rt, "table");
-    assert!(rt; table.next(&mut pass) == 1 && pass.has_whole_share());
-    assert!(rt; KEYS.iter().all(|key| pass.owns(*key)));
-    let closed = table.close(pass);
-    let root = [INF2, 1, 2, 3, INF1, INF2, 0, 0, 0, 0, 0, 0];
-    assert!(rt; has_words(&closed, 0, &root) && has_words(&closed, 1, &[0; 12]));
-}
-
 // Each value has its text.
 fn have_texts<T: Display>(rt: &(impl Abort + AllocGlobal), rows: &[(T, &str)]) {
     for (value, text) in rows {
@@ -90,18 +80,15 @@ fn have_texts<T: Display>(rt: &(impl Abort + AllocGlobal), rows: &[(T, &str)]) {
 
 #[test]
 fn faults_have_texts(rt: HostRuntime) {
-    let rows = [
+    let of_tables = [
         (CardFault::BadCards, "cards are not 1 to 1000000"),
         (CardFault::NoMemory, "out of memory"),
     ];
-    have_texts(&rt, &rows);
-}
-
-#[test]
-fn held_changes_have_texts(rt: HostRuntime) {
-    let rows = [
+    have_texts(&rt, &of_tables);
+    have_texts(&rt, &[(SplitFault::TooManyPasses, "too many passes")]);
+    let of_changes = [
         (NotDone::Busy, "something was in the way of each try"),
         (NotDone::Spent, "all cards are given out"),
     ];
-    have_texts(&rt, &rows);
+    have_texts(&rt, &of_changes);
 }

@@ -21,10 +21,6 @@ pub const YES: Shown = Shown::Step(Stepped::Answered(Reply::Yes));
 
 pub const NO: Shown = Shown::Step(Stepped::Answered(Reply::No));
 
-pub const NO_SUCH_WORKER: Shown = Shown::Refused(CoreFault::NoSuchWorker);
-
-pub const NOT_OWNED: Shown = Shown::Refused(CoreFault::NotOwned);
-
 pub const NOT_NOW: Shown = Shown::Refused(CoreFault::NotNow);
 
 pub const NO_CARDS: Shown = Shown::Refused(CoreFault::NoCards);

@@ -16,7 +16,6 @@ pub(super) enum Call {
 /// How such a call ends.
 #[derive(Clone, Copy, PartialEq, Eq)]
 pub(super) enum End {
-    Answered,
     Read,
     Write(u64),
     Other,
@@ -65,16 +64,14 @@ impl Call {
         };
         match self {
             Call::Run => match run_bytes(rt, alloc, reader, writer, settings, &NoGate) {
-                Ok(_) => End::Answered,
                 Err(RunFault::Read) => End::Read,
                 Err(RunFault::Write { written }) => End::Write(written),
-                Err(_) => End::Other,
+                Ok(_) | Err(_) => End::Other,
             },
             Call::Replay => match replay_bytes(alloc, reader, writer) {
-                Ok(_) => End::Answered,
                 Err(ScriptFault::Read) => End::Read,
                 Err(ScriptFault::Write { written }) => End::Write(written),
-                Err(_) => End::Other,
+                Ok(_) | Err(_) => End::Other,
             },
         }
     }

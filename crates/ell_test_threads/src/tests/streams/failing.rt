@@ -1,6 +1,6 @@
-//! Readers and writers that fail after each number of bytes, and ones that give or take one byte at a time.
+//! Readers and writers that fail after each number of bytes.
 use super::calls::{Call, End};
-use super::sources::{ByteByByte, Faltering, KINDS, Narrow, Slow};
+use super::sources::{Faltering, KINDS, Narrow};
 use std::alloc::Global;
 use std::io::ErrorKind;
 use std::thread::Threads;
@@ -60,17 +60,5 @@ fn a_write_that_fails_once_ends_the_call(rt: HostRuntime) {
                 "after {count}"
             );
         }
-    }
-}
-
-#[test]
-fn bytes_that_come_and_go_one_by_one_are_all_answered(rt: HostRuntime) {
-    for call in &CALLS {
-        let mut reader = ByteByByte { left: call.text() };
-        let mut out = Slow {
-            taken: Vec::new(rt.alloc()),
-        };
-        let end = call.make(&rt, rt.alloc(), &mut reader, &mut out);
-        assert!(rt; end == End::Answered && out.taken.as_slice() == call.answer());
     }
 }

@@ -1,4 +1,4 @@
-//! Readers and writers that fail, or that give and take little at a time.
+//! Readers and writers that fail.
 use std::alloc::Global;
 use std::io::{Error, ErrorKind, Read, Result, Write};
 
@@ -55,19 +55,6 @@ impl Read for Faltering<'_> {
     }
 }
 
-/// A reader that gives one byte a read.
-#[derive(Drop)]
-pub(super) struct ByteByByte<'a> {
-    pub(super) left: &'a [u8],
-}
-
-impl Read for ByteByByte<'_> {
-    fn read(&mut self, buf: &mut [u8]) -> Result<usize> {
-        let room = buf.len().min(1);
-        self.left.read(&mut buf[..room])
-    }
-}
-
 /// A writer that fails once: it takes some bytes, then fails, and after that takes all.
 #[derive(Drop)]
 pub(super) struct Narrow {
@@ -116,24 +103,6 @@ impl Write for Narrow {
 
     fn flush(&mut self) -> Result<()> {
         self.called_again = self.called_again || self.has_failed;
-        Ok(())
-    }
-}
-
-/// A writer that takes one byte a call.
-#[derive(Drop)]
-pub(super) struct Slow {
-    pub(super) taken: Vec<u8>,
-}
-
-impl Write for Slow {
-    fn write(&mut self, buf: &[u8]) -> Result<usize> {
-        let count = buf.len().min(1);
-        self.taken.extend_from_slice(&buf[..count])?;
-        Ok(count)
-    }
-
-    fn flush(&mut self) -> Result<()> {
         Ok(())
     }
 }

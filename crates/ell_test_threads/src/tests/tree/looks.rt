@@ -73,7 +73,7 @@ fn a_look_tells_any_key(rt: HostRuntime) {
     let words = 3 * 7 + 3 * 6;
     assert!(rt; gate.count(3, Look) == words && gate.tally(3).steps == words);
     let rows = [(Insert(7, 70), Ok(Yes)), (Delete(10), Ok(Yes))];
-    let owner = play(&rt, &tree, owner, 1, &NoGate, &rows);
+    let owner = play(&rt, &tree, owner, &NoGate, &rows);
     let sights = [(7, Some(70)), (10, None), (20, Some(200))];
     look_all(&rt, &tree, reader, &NoGate, &sights);
     look_all(&rt, &tree, owner, &NoGate, &sights);
@@ -93,7 +93,7 @@ fn see<R: Threads + Abort + AllocGlobal + Sync>(rt: &R, scene: Scene) {
     let (shared, told) = (&tree, &gate);
     join(
         rt,
-        move || play(rt, shared, owner, 1, told, rows),
+        move || play(rt, shared, owner, told, rows),
         move || look_all(rt, shared, reader, told, sights),
     );
     assert!(rt; gate.are_over());

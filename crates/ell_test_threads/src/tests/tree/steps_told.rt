@@ -59,7 +59,7 @@ fn a_gate_is_told_each_step_and_each_end(rt: HostRuntime) {
     pass.relabel(7);
     let (mut want, mut all) = (Tally::default(), [0; 3]);
     for (number, ((op, ended), kinds, exchanges)) in ROWS.iter().enumerate() {
-        let said = ask(&rt, &tree, &mut pass, *op, 1, &gate);
+        let said = ask(&rt, &tree, &mut pass, *op, &gate);
         let steps = exchanges
             .wrapping_add(kinds[0])
             .wrapping_add(kinds[1])
