@@ -24,3 +24,5 @@ pub mod Since
 pub mod Looks
 -- A reader, who may keep nodes and go on from them, finds how all keys of a stretch were in one state.
 pub mod Readers
+-- Flat trees are shallow.
+pub mod Flat

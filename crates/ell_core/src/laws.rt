@@ -15,7 +15,7 @@ pub use premises::{
 pub use refuted::{events_promise_no_more, runs_promise_no_more};
 pub use schedules::{
     answers_are_the_maps, claimed_cards_are_fixed, every_state_is_sound, facts_last,
-    looks_are_of_one_state, marked_nodes_are_frozen, pairs_change_at_wins,
+    flat_trees_are_shallow, looks_are_of_one_state, marked_nodes_are_frozen, pairs_change_at_wins,
     stretches_are_of_one_state, wins_are_in_order, words_rise,
 };
 pub use steps::{

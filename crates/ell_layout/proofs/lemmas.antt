@@ -12,7 +12,11 @@ pub mod Seen
 pub mod NewWords
 -- The branches of a balanced tree: the way down to each card, and how long it is.
 pub mod Branches
+-- How deep the cards of a balanced tree stand, and how deep at most.
+pub mod Depths
 -- The leaves at the start, and the fields of the root.
 pub mod Start
 -- The words at the start as they are written, card by card.
 pub mod Growing
+-- What fills a card at a leaf.
+pub mod Puts

@@ -22,6 +22,11 @@ unfoldable pub descend : ℕ → ℕ → Branch → Branch
 descend zero c b = b
 descend (suc n) c b = if b.card == c then b else descend n c (branch_to c b)
 
+-- how many steps lead from a branch down to card c's, of so many at most
+unfoldable pub steps_to : ℕ → ℕ → Branch → ℕ
+steps_to zero c b = 0
+steps_to (suc n) c b = if b.card == c then 0 else suc (steps_to n c (branch_to c b))
+
 -- the root, with this many leaves on its left and one on its right
 abbrev pub root_branch : ℕ → Branch
 root_branch leaves = record { card = 0; first = 0; left = leaves; right = 1 }
@@ -29,6 +34,19 @@ root_branch leaves = record { card = 0; first = 0; left = leaves; right = 1 }
 -- the branch of a card, where the root has this many leaves on its left
 abbrev pub branch_of : ℕ → ℕ → Branch
 branch_of leaves c = descend c c (root_branch leaves)
+
+-- how deep the node of a card stands in that tree: the root's depth is 0
+abbrev pub depth_of : ℕ → ℕ → ℕ
+depth_of leaves c = steps_to c c (root_branch leaves)
+
+-- how often this many leaves can be halved, rounded up, until one is left, of so many times at most
+unfoldable pub halvings_of : ℕ → ℕ → ℕ
+halvings_of zero leaves = 0
+halvings_of (suc n) leaves = if nat_lt 1 leaves then suc (halvings_of n (leaves - leaves / 2)) else 0
+
+-- a depth that no card's node exceeds
+abbrev pub greatest_depth : ℕ → ℕ
+greatest_depth leaves = halvings_of leaves leaves
 
 -- the child of a branch on each side: its own leaf if there is one leaf on that side, else the node of the branch below
 abbrev pub left_child : Branch → ℕ

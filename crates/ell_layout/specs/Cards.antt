@@ -1,4 +1,4 @@
-use Rattle.std.specs.Prelude.{ℕ, ◌+◌, ◌==◌, if◌then◌else◌, Bool, true, false, List, [], ◌∷◌, min, max, nat_le, nat_lt, slice_set}
+use Rattle.std.specs.Prelude.{ℕ, ◌+◌, ◌%◌, ◌==◌, ◌&&◌, if◌then◌else◌, Bool, true, false, List, [], ◌∷◌, min, max, nat_le, nat_lt, slice_set}
 use Rattle.ell_word.specs.declared.update.State.TheVariants as state
 use Rattle.ell_word.specs.Node.{internal, left_leaf, right_leaf}
 use Rattle.ell_word.specs.Word.{packed}
@@ -83,6 +83,28 @@ insert_filling c k value parent leaf leaf_key leaf_value =
     ∷ (LeftLeafKey, min k leaf_key) ∷ (RightLeafKey, max k leaf_key)
     ∷ (LeftValue, (if nat_lt k leaf_key then value else leaf_value))
     ∷ (RightValue, (if nat_lt k leaf_key then leaf_value else value)) ∷ []
+
+-- the children of the node of an insert's card: its own leaves, or above an internal node that node in place of the leaf
+-- with its key
+abbrev pub left_of_card : ℕ → ℕ → ℕ → ℕ → ℕ
+left_of_card c k below below_key = if below % 4 == 0 && nat_le below_key k then below else left_leaf c
+
+abbrev pub right_of_card : ℕ → ℕ → ℕ → ℕ → ℕ
+right_of_card c k below below_key = if below % 4 == 0 && nat_lt k below_key then below else right_leaf c
+
+-- the fields of an insert's card for key k above a node, where its own node gets this key; at a leaf, whose node gets the
+-- greater key in a tree that is not flat, they are those that stand above
+abbrev pub put_filling : ℕ → ℕ → ℕ → ℕ → ℕ → ℕ → ℕ → ℕ → List (Field × ℕ)
+put_filling c k value node_key parent below below_key below_value =
+    (P, parent) ∷ (L, below) ∷ (Key, node_key) ∷ (Left, left_of_card c k below below_key)
+    ∷ (Right, right_of_card c k below below_key) ∷ (Update, clean 0)
+    ∷ (LeftLeafKey, min k below_key) ∷ (RightLeafKey, max k below_key)
+    ∷ (LeftValue, (if nat_lt k below_key then value else below_value))
+    ∷ (RightValue, (if nat_lt k below_key then below_value else value)) ∷ []
+
+-- the value of a leaf; an internal node has none
+abbrev pub value_below : Words → ℕ → ℕ
+value_below w x = if x % 4 == 0 then 0 else w.value x
 
 -- the fields of a delete's card: what its search saw
 abbrev pub delete_filling : ℕ → ℕ → ℕ → ℕ → List (Field × ℕ)

@@ -17,8 +17,9 @@ place P = 9
 place L = 10
 place Was = 11
 
--- the address of a field of a card: behind the claim word and five unused words come groups of 64 cards, of 768 words:
--- the internal nodes of the cards, 4 words a card, then their leaves, then their records
+-- the address of a field of a card: behind the claim word, the word that says from where on the tree is flat, and four
+-- unused words come groups of 64 cards, of 768 words: the internal nodes of the cards, 4 words a card, then their leaves,
+-- then their records
 abbrev pub address : ℕ → Field → ℕ
 address c field = 6 + 4 * c + 512 * (c / 64) + 256 * (place field / 4) + place field % 4
 

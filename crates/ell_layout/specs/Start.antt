@@ -1,4 +1,4 @@
-use Rattle.std.specs.Prelude.{ℕ, ◌+◌, ◌==◌, if◌then◌else◌, zero, suc, nat_lt, List, [], ◌∷◌, ◌++◌, length, slice_index}
+use Rattle.std.specs.Prelude.{ℕ, ◌+◌, ◌==◌, if◌then◌else◌, Bool, true, false, zero, suc, nat_lt, List, [], ◌∷◌, ◌++◌, length, slice_index}
 use Rattle.std.specs.Map.{keys_of, values_of}
 use Rattle.ell_word.specs.Node.{infinity1, infinity2, right_leaf}
 use Rattle.ell_layout.specs.declared.field.Field.{Field}
@@ -53,6 +53,15 @@ start_field start (suc c) f = if nat_lt c (length start)
 -- the words at the start: the next card is the one after the opening tree's
 abbrev pub start_words : List (ℕ × ℕ) → Words
 start_words start = words_from (length start + 1) (start_field start)
+
+-- the words at the start of a flat tree: each card after those of the opening tree has a block
+abbrev pub flat_words : List (ℕ × ℕ) → Words
+flat_words start = record (start_words start) { flat_from = length start + 1 }
+
+-- the words at the start of a tree that is flat or not
+abbrev pub words_at_start : Bool → List (ℕ × ℕ) → Words
+words_at_start true start = flat_words start
+words_at_start false start = start_words start
 
 -- the words at the start where there are no start keys
 abbrev pub opening_words : Words

@@ -1,4 +1,4 @@
-use Rattle.std.specs.Prelude.{ℕ, ◌+◌, ◌%◌, ◌==◌, ◌||◌, if◌then◌else◌, Bool, true, false, zero, suc, List, slice_index}
+use Rattle.std.specs.Prelude.{ℕ, ◌+◌, ◌%◌, ◌==◌, ◌||◌, ◌&&◌, nat_lt, nat_le, if◌then◌else◌, Bool, true, false, zero, suc, List, slice_index}
 use Rattle.ell_word.specs.Node.{card, internal, left_leaf, right_leaf, IsInternal}
 use Rattle.ell_word.specs.Link.{linked, link_in}
 use Rattle.ell_layout.specs.Layout.{listed}
@@ -10,7 +10,8 @@ abbrev pub IsLeaf : ℕ → Type 0
 IsLeaf node = ¬ IsInternal node
 
 -- the claim word; what each card says of its search, and the tag that its child exchange expects; and of nodes the
--- keys, values, children (true: right) with their tags, which count the changes of each child word, and updates
+-- keys, values, children (true: right) with their tags, which count the changes of each child word, and updates; and
+-- of a flat tree the first card that is not of its opening tree, of any other tree 0
 pub record Words : Type 0 where
   pub next : ℕ
   pub gp : ℕ → ℕ
@@ -23,6 +24,12 @@ pub record Words : Type 0 where
   pub child : ℕ → Bool → ℕ
   pub tag : ℕ → Bool → ℕ
   pub update : ℕ → ℕ
+  pub flat_from : ℕ
+
+-- whether a node has a block, by the number from which a tree is flat: in a flat tree each node has one that is not of the
+-- opening tree, and in any other tree none
+unfoldable pub has_block : ℕ → ℕ → Bool
+has_block from x = nat_lt 0 from && nat_le from (card x)
 
 -- what a field of a card says: a child, and the leaf where a search ended, without their tags
 abbrev pub word : Words → ℕ → Field → ℕ
@@ -137,6 +144,7 @@ words_from next at = record {
   child = λ x right. if x % 4 == 0 then at (card x) (child_field right) else 0;
   tag = λ x right. 0;
   update = λ x. if x % 4 == 0 then at (card x) Update else 0;
+  flat_from = 0;
 }
 
 -- the same by the words that a table has at them: a child word, and that of the leaf where a search ended, are read as
@@ -149,6 +157,6 @@ table_words next at = record (words_from next at) {
   tag = λ x right. if x % 4 == 0 then (link_in (at (card x) (child_field right))).tag else 0;
 }
 
--- the words that a list of all words is
+-- the words that a list of all words is: word 0 is the claim word, and word 1 says from which card on the tree is flat
 unfoldable pub words_of : List ℕ → Words
-words_of words = table_words (slice_index words 0) (listed words)
+words_of words = record (table_words (slice_index words 0) (listed words)) { flat_from = slice_index words 1 }

@@ -1,5 +1,5 @@
 //! Laws of the words, and of the balanced tree over keys that are there at the start. Each is the contract of a function that does nothing.
-ghost use Rattle.ell_layout.specs.Balanced.{BranchesAreHalves, TreeIsShallow};
+ghost use Rattle.ell_layout.specs.Balanced.{BranchesAreHalves, TreeIsShallow, DepthsRise, DepthsAreFew, GreatestDepthIsSmall};
 ghost use Rattle.ell_layout.specs.Laws.{SameAfterSameWrite, WordsAreListed, AddressesAreInside, AddressesAreApart, FilledListsAreFilled, FilledCardsSay, TablesClaim, ListsAreWritten, WordsAreWritten, NodesAreOnCards};
 
 /// Each field of each card of a table has an address there, after that of the claim word, and no two share an address.
@@ -40,8 +40,15 @@ pub fn branches_are_halves()
     ensures { BranchesAreHalves }
 {}
 
-/// A balanced tree of at most 2 ^ n leaves has no card more than n steps below its root.
+/// A balanced tree of at most 2 ^ n leaves has no card more than n steps below its root. Each branch is one step deeper
+/// than the one above it, and none is deeper than the tree's greatest depth, which is at most n.
 pub fn balanced_trees_are_shallow()
     // In a balanced tree of at most 2^n leaves no card is more than n steps below the root.
-    ensures { TreeIsShallow }
+    ensures shallow { TreeIsShallow }
+    // A branch is one step deeper than the one above it.
+    ensures deeper { DepthsRise }
+    // No card is deeper than the greatest depth of the tree.
+    ensures few { DepthsAreFew }
+    // The greatest depth of a tree of at most 2^n leaves is at most n.
+    ensures small { GreatestDepthIsSmall }
 {}

@@ -1,9 +1,13 @@
+-- trees in order, whichever keys their internal nodes have
+pub mod order
 -- Blocks by their middles alone.
 pub mod Middles
 -- Paths in a trie, and the rank of its nodes.
 pub mod Paths
 -- Nodes on course, and what is found below a node.
 pub mod Courses
+-- Trees that agree on the nodes that were born.
+pub mod Frames
 -- Cuts.
 pub mod Cuts
 -- Swaps of leaves.

@@ -1,6 +1,6 @@
 use Rattle.std.specs.Prelude.{◌≡◌, ◌≢◌, ℕ, ◌^◌, nat_le, ◌<◌, ◌≤◌, ◌⊎◌, ◌↔◌, Bool, false, not}
 use Rattle.ell_word.specs.Node.{IsInternal}
-use Rattle.ell_core.specs.tree.Ranges.{low_of, high_of, Spans, IsCutOut, IsSpanned, FindsLeaf, Relinked}
+use Rattle.ell_trie.specs.Ranges.{low_of, high_of, Spans, IsCutOut, IsSpanned, FindsLeaf, Relinked}
 use Rattle.ell_block.specs.Blocks.{InBlockOf}
 use Rattle.ell_trie.specs.Halves.{InHalfOf, InsideOf, IsBranchBeside}
 use Rattle.ell_trie.specs.Tries.{In, Opening, IsTrie}

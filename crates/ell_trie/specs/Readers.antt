@@ -1,6 +1,6 @@
 use Rattle.std.specs.Prelude.{◌≡◌, ℕ, ◌<◌, ◌↔◌, Bool, true, not}
 use Rattle.ell_word.specs.Node.{IsInternal}
-use Rattle.ell_core.specs.tree.Ranges.{next_node, IsSpanned, FindsLeaf}
+use Rattle.ell_trie.specs.Ranges.{next_node, IsSpanned, FindsLeaf}
 use Rattle.ell_trie.specs.Tries.{In, Opening, IsTrie}
 use Rattle.ell_trie.specs.Courses.{IsInOrder}
 use Rattle.ell_trie.specs.Links.{EdgeInsert}

@@ -1,6 +1,6 @@
 use Rattle.std.specs.Prelude.{◌≡◌, ◌≢◌, ℕ, ◌⊎◌, ◌↔◌, Bool, false}
 use Rattle.ell_word.specs.Node.{IsInternal}
-use Rattle.ell_core.specs.tree.Ranges.{IsCutOut, IsSpanned, FindsLeaf, Relinked}
+use Rattle.ell_trie.specs.Ranges.{IsCutOut, IsSpanned, FindsLeaf, Relinked}
 use Rattle.ell_trie.specs.Tries.{In, Opening, IsTrie}
 use Rattle.ell_trie.specs.Courses.{IsInOrder, OnTrieCourse}
 

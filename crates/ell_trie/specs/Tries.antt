@@ -7,8 +7,8 @@ use Rattle.ell_trie.specs.Halves.{InHalfOf, InsideOf}
 abbrev pub In : (ℕ → Bool) → ℕ → Type 0
 In nodes x = nodes x ≡ true
 
--- The opening tree: which nodes are of it, the depth of each, and a depth that none of them is to exceed. Their keys need
--- not be branches.
+-- The opening tree: which nodes are of it, the depth of each internal one, and a depth that none of these is to exceed. Their
+-- keys need not be branches.
 pub record Opening : Type 0 where
   pub holds : ℕ → Bool
   pub depth : ℕ → ℕ
@@ -20,11 +20,12 @@ pub record IsTrie (Born : ℕ → Type 0) (opening : Opening) (key : ℕ → ℕ
   -- node 0 was born, and so were the children of each internal node that was born
   pub start : Born 0
   pub closed : (x : ℕ) (side : Bool) → IsInternal x → Born x → Born (child x side)
-  -- no node of the opening tree is below one that is not of it, and each has a greater depth than its parent, up to the most
+  -- no node of the opening tree is below one that is not of it, and each internal one has a greater depth than its parent, up
+  -- to the most
   pub plain : (x : ℕ) (side : Bool) → IsInternal x → Born x → opening.holds x ≡ false → opening.holds (child x side) ≡ false
   pub deeper : (x : ℕ) (side : Bool) → IsInternal x → Born x → opening.holds (child x side) ≡ true →
-      opening.depth x < opening.depth (child x side)
-  pub few : (x : ℕ) → opening.holds x ≡ true → opening.depth x ≤ opening.most
+      IsInternal (child x side) → opening.depth x < opening.depth (child x side)
+  pub few : (x : ℕ) → IsInternal x → opening.holds x ≡ true → opening.depth x ≤ opening.most
   -- the key of an internal node is below 2 ^ 64
   pub small : (x : ℕ) → IsInternal x → Born x → opening.holds x ≡ false → key x < 2 ^ 64
   -- a leaf has its key in the half of its parent's block, and an internal node has its block there

@@ -1,5 +1,5 @@
 use Rattle.std.specs.Prelude.{◌≡◌, ℕ, ◌⊎◌, ◌↔◌, Bool, true, not}
-use Rattle.ell_core.specs.tree.Ranges.{IsSpanned, FindsLeaf}
+use Rattle.ell_trie.specs.Ranges.{IsSpanned, FindsLeaf}
 use Rattle.ell_trie.specs.Tries.{In, Opening, IsTrie}
 use Rattle.ell_trie.specs.Courses.{IsInOrder, OnTrieCourse}
 use Rattle.ell_trie.specs.Links.{Links}

@@ -16,3 +16,5 @@ pub mod Workers
 pub mod NewWorld
 -- What an event learns that fails for want of memory.
 pub mod Wants
+-- Claims for puts, in a tree that is not flat.
+pub mod Puts

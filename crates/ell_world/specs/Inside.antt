@@ -53,9 +53,10 @@ worker_at workers i = worker_or_nobody (slice_get (map view_of workers) i)
 abbrev pub scene_in : {A : Type 0} → Memory A → Worker A → Scene
 scene_in memory worker = record { words = words_in memory; worker = worker_in worker }
 
--- an event can look at these words and this worker
+-- an event can look at these words, whose tree is not flat, and this worker
 pub record IsReady {A : Type 0} (memory : Memory A) (worker : Worker A) : Type 0 where
   pub sized : IsSized memory
+  pub plain : (words_in memory).flat_from ≡ 0
   pub fits : SceneFits memory.last_card (scene_in memory worker)
 
 -- a fact that the knowledge lacks

@@ -25,10 +25,11 @@ machine_of w = record {
   worker = λ i. worker_or_nobody (slice_get w.workers i);
 }
 
--- what is so of every world: also that the invariant of the machine holds of it
+-- what is so of every world: also that its tree is not flat, and that the invariant of the machine holds of it
 pub record WorldFits (w : WorldValue) : Type 0 where
   pub size : length w.words ≡ table_size w.last_card
   pub limit : w.last_card ≤ greatest_card
+  pub plain : (words_of w.words).flat_from ≡ 0
   pub lawful : HasInvariant (machine_of w)
 
 -- a step is refused as the event is, or for want of memory

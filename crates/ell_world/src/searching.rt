@@ -85,7 +85,8 @@ pub(crate) fn upd<A: Allocator + Copy>(
     Ok(Stepped::Moved)
 }
 
-/// Goes down to the child on its key's side from an internal node whose update word it has read.
+/// Goes down to the child on its key's side from an internal node whose update word it has read, where no card is in
+/// hand.
 pub(crate) fn down<A: Allocator + Copy>(
     memory: &Memory<A>,
     worker: &mut Worker<A>,
@@ -97,7 +98,7 @@ pub(crate) fn down<A: Allocator + Copy>(
     let (Some(op), Some(node), Some(word)) = (worker.operation, search.node, search.read) else {
         return Err(CoreFault::NotNow);
     };
-    if !is_internal(node) {
+    if !is_internal(node) || worker.card.is_some() {
         return Err(CoreFault::NotNow);
     }
     let child = memory.child_link(node, memory.is_right(node, op.key()));

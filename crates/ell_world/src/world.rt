@@ -70,6 +70,7 @@ impl<A: Allocator + Copy> World<A> {
               start = [];
               cards = cards;
               shared = λ _. false;
+              flat = false;
             })) }
         ensures cards { IfOk result (λ world. world.last_card ≡ cards) }
         // It succeeds only if no entry is faulty. A fault tells the first faulty entry, or that an allocation failed.
@@ -107,6 +108,7 @@ impl<A: Allocator + Copy> World<A> {
               start = start.now;
               cards = cards;
               shared = λ _. false;
+              flat = false;
             })) }
         ensures cards { IfOk result (λ world. world.last_card ≡ last_card start.now cards) }
         // It succeeds only if no entry is faulty. A fault tells the first faulty entry, or that an allocation failed.
@@ -156,8 +158,7 @@ impl<A: Allocator + Copy> World<A> {
         ensures { IfOk result (λ keys. ListsKeys (machine_of self.now).words keys.items) }
     {
         let pairs = self.pairs()?;
-        let keys = pairs.iter().map(|pair| pair.0).collect(self.alloc)?;
-        Ok(keys)
+        pair_keys(self.alloc, &pairs)
     }
 
     /// Returns the keys of the tree with their values, each key once, ascending.
@@ -188,6 +189,13 @@ impl<A: Allocator + Copy> World<A> {
     {
         self.memory.next()
     }
+}
+
+// The keys of these pairs, in their order.
+fn pair_keys<A: Allocator + Copy>(alloc: A, pairs: &[(u64, u64)]) -> Result<Vec<u64, A>, NoMemory>
+    ensures { IfOk result (λ keys. keys.items ≡ keys_of pairs.now) }
+{
+    Ok(pairs.iter().map(|pair| pair.0).collect(alloc)?)
 }
 
 // The workers with their keys, the start keys among them present, or the fault of the first faulty entry.

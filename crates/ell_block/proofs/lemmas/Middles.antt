@@ -75,7 +75,7 @@ some_block (suc n) number some below = elim (cases_order (number % 2) 0) [
 ]
 
 -- a number is below a power of two
-below_power : (number : ℕ) → number < 2 ^ number
+pub below_power : (number : ℕ) → number < 2 ^ number
 below_power zero = omega arith
 below_power (suc number) = let before = below_power number in let size = two-pow-succ number in omega arith
 

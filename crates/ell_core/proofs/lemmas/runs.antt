@@ -16,3 +16,5 @@ pub mod Wins
 pub mod Looks
 -- A reader finds how all keys of a stretch were in one state of the run.
 pub mod Stretches
+-- Flat trees are shallow.
+pub mod Flat

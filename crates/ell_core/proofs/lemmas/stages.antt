@@ -20,3 +20,5 @@ pub mod Sums
 pub mod Told
 -- Which cards wait for their flag.
 pub mod Waiting
+-- Cards that go above internal nodes of a flat tree, and cards that replace leaves.
+pub mod Edges

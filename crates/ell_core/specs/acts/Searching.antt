@@ -16,7 +16,8 @@ use Rattle.ell_layout.specs.declared.field.Field.{Field}
 use Rattle.ell_layout.specs.Words.{Words, put, IsLeaf}
 use Rattle.ell_core.specs.state.Facts.{Knowledge, learned_any, told_by}
 use Rattle.ell_core.specs.state.Machine.{Ledger, Worker, Scene, no_search}
-use Rattle.ell_layout.specs.Cards.{child_for, tag_for, insert_filling, delete_filling, claimed}
+use Rattle.ell_layout.specs.Cards.{child_for, tag_for, put_filling, value_below, delete_filling, claimed}
+use Rattle.ell_core.specs.tree.Flat.{IsInBlock, IsNodeKey}
 use Rattle.ell_core.specs.declared.view.Entry.{Entry}
 use Rattle.ell_core.specs.declared.view.Entry.TheVariants.{Present, Absent}
 use Rattle.ell_ops.specs.declared.reply.Reply.{Reply}
@@ -66,8 +67,8 @@ pub record Upd (s : Scene) (said : Stepped) (after : Scene) : Type 0 where
 abbrev pub gone_down : Search → Seen → ℕ → Search
 gone_down search seen child = record { node = Some child; read = None; parent = Some seen; grandparent = search.parent }
 
--- down: it stands at an internal node whose update word it has read; it reads the child word on its key's side, and goes
--- to the child
+-- down: it stands at an internal node whose update word it has read, and has no card in hand; it reads the child word on its
+-- key's side, and goes to the child
 pub record Down (s : Scene) (said : Stepped) (after : Scene) : Type 0 where
   pub op : Op
   pub seen : Seen
@@ -75,6 +76,7 @@ pub record Down (s : Scene) (said : Stepped) (after : Scene) : Type 0 where
   pub stands : s.worker.search.node ≡ Some seen.node
   pub internal : IsInternal seen.node
   pub read : s.worker.search.read ≡ Some seen.word
+  pub no_card : s.worker.card ≡ None
   pub tagged : seen.tag ≡ tag_for s.words (key_of op) seen.node
   pub says : said ≡ Moved
   pub gives : after ≡ record s {
@@ -87,6 +89,13 @@ pub record Down (s : Scene) (said : Stepped) (after : Scene) : Type 0 where
 pub record AtCleanLeaf (v : Worker) (leaf : ℕ) (parent : Seen) : Type 0 where
   pub stands : v.search.node ≡ Some leaf
   pub outer : IsLeaf leaf
+  pub behind : v.search.parent ≡ Some parent
+  pub calm : IsClean parent.word
+  pub no_card : v.card ≡ None
+
+-- a worker at a node, without a card, whose parent's update word it read clean
+pub record AtCleanNode (v : Worker) (node : ℕ) (parent : Seen) : Type 0 where
+  pub stands : v.search.node ≡ Some node
   pub behind : v.search.parent ≡ Some parent
   pub calm : IsClean parent.word
   pub no_card : v.card ≡ None
@@ -118,20 +127,29 @@ HasPlace key (Some was) leaf_key leaf_value = (leaf_key ≡ key) × (leaf_value 
 abbrev pub TakesPut : Put → ℕ → ℕ → Type 0
 TakesPut what leaf_key leaf_value = HasPlace what.key what.was leaf_key leaf_value
 
--- claim for an insert or a swap: at such a leaf, where there is place for what it puts; the card expects the parent's
--- child word
+-- a node gives place to what is put: a leaf, as above; and to an insert, of a flat tree, an internal node whose block lacks
+-- the key
+pub record GivesPlace (w : Words) (what : Put) (x : ℕ) : Type 0 where
+  pub leaf : IsLeaf x → TakesPut what (w.key x) (w.value x)
+  pub edge : IsInternal x → (what.was ≡ None) × (¬ IsInBlock w x what.key)
+
+-- claim for an insert or a swap: at such a node, where there is place for what it puts. In a flat tree an insert's key is in
+-- the parent's block, and the card's node gets a branch as its key. The card expects the parent's child word.
 pub record ClaimPut (s : Scene) (said : Stepped) (after : Scene) : Type 0 where
   pub op : Op
   pub what : Put
-  pub leaf : ℕ
+  pub below : ℕ
   pub parent : Seen
+  pub node_key : ℕ
   pub busy : s.worker.operation ≡ Some op
   pub puts : put_of op ≡ Some what
-  pub at : AtCleanLeaf s.worker leaf parent
-  pub takes : TakesPut what (s.words.key leaf) (s.words.value leaf)
+  pub at : AtCleanNode s.worker below parent
+  pub takes : GivesPlace s.words what below
+  pub fits : what.was ≡ None → IsInBlock s.words parent.node what.key
+  pub named : IsNodeKey s.words.flat_from what.key (s.words.key below) node_key
   pub says : said ≡ Moved
   pub gives : after ≡ claims s parent.tag
-      (insert_filling s.words.next what.key what.value parent.node leaf (s.words.key leaf) (s.words.value leaf))
+      (put_filling s.words.next what.key what.value node_key parent.node below (s.words.key below) (value_below s.words below))
 
 -- claim for a delete: at such a leaf of its key, with a grandparent whose update word it read clean, and whose child
 -- word the card expects

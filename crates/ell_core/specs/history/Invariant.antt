@@ -11,11 +11,14 @@ use Rattle.ell_core.specs.declared.view.Seen.{Seen}
 use Rattle.ell_layout.specs.Words.{Words, word, IsLeaf}
 use Rattle.ell_core.specs.state.Facts.{card_of_fact}
 use Rattle.ell_core.specs.state.Machine.{Worker, Machine, entry_of}
-use Rattle.ell_layout.specs.Cards.{iflag, dflag, marked, clean, is_right, child_for, tag_for, exchange_side, sibling, is_replace_card}
+use Rattle.ell_layout.specs.Cards.{iflag, dflag, marked, clean, is_right, child_for, tag_for, exchange_side, sibling, is_replace_card, left_of_card, right_of_card}
 use Rattle.ell_core.specs.acts.Searching.{IsClean}
 use Rattle.ell_core.specs.state.Handovers.{WorkerIsIdle}
 use Rattle.ell_core.specs.soundness.Sound.{WorkerOwns, MayChange, IsNotShared, IsOwned, IsInHand, StrangersAreNobody}
-use Rattle.ell_core.specs.tree.Ranges.{IsSpanned, IsCutOut, FindsLeaf, IsOrdered, OnCourse}
+use Rattle.ell_trie.specs.Ranges.{IsSpanned, IsCutOut, FindsLeaf, IsOrdered}
+use Rattle.ell_trie.specs.Tries.{IsTrie}
+use Rattle.ell_trie.specs.Courses.{OnTrieCourse}
+use Rattle.ell_core.specs.tree.Flat.{opening_from, IsInBlock, IsNodeKey}
 use Rattle.ell_core.specs.history.Stages.{Stages, Opening, is_claimed, is_start, is_insert, is_delete, is_born, insert_won, insert_open, insert_waits, is_changed, insert_over, delete_won, delete_open, delete_waits, is_markable, is_unmarkable, is_marked, is_cut, delete_past, allows, Born, effective_at}
 use Rattle.ell_core.specs.declared.view.Entry.TheVariants.{Present}
 use Rattle.ell_core.specs.tree.Rank.{rank}
@@ -42,7 +45,7 @@ LeadsToValue w k value x = FindsLeaf w.key w.child (λ leaf. w.value leaf ≡ va
 
 -- x is on course for key k
 abbrev pub IsOnCourse : Words → ℕ → ℕ → Type 0
-IsOnCourse w k x = OnCourse w.key w.child top k x
+IsOnCourse w k x = OnTrieCourse (opening_from w.flat_from) w.key w.child top k x
 
 -- an insert's key: that of its two leaf keys which the leaf in the tree has not
 abbrev pub insert_key : Words → ℕ → ℕ
@@ -82,23 +85,33 @@ pub record IsLeafBorn (stage : Stages) (x : ℕ) : Type 0 where
   pub outer : IsLeaf x
   pub born : Born stage x
 
--- a leaf of an insert's card is a copy of the old leaf: it has its key and its value
+-- a leaf of an insert's card is a copy of the old leaf: it has its key and its value. If the card goes above an internal
+-- node, it is not used, and has that node's key.
 pub record IsCopy (w : Words) (c leaf : ℕ) : Type 0 where
   pub key : w.key leaf ≡ w.key (w.l c)
-  pub value : w.value leaf ≡ w.value (w.l c)
+  pub value : IsLeaf (w.l c) → w.value leaf ≡ w.value (w.l c)
+
+-- the children of the node of an insert's card, as they were filled: its leaves, or above an internal node that node in
+-- place of one of them
+abbrev pub filled_child : Words → ℕ → Bool → ℕ
+filled_child w c false = left_of_card c (insert_key w c) (w.l c) (w.key (w.l c))
+filled_child w c true = right_of_card c (insert_key w c) (w.l c) (w.key (w.l c))
 
 -- an insert's card: where it goes, with no grandparent and no update word that was read; two leaves, a copy of the old
--- one and one of its own key, which may be the same key, and which lie on one side of the parent; and the tag that it
+-- one and one of its own key, which may be the same key, and which lie on one side of the parent; in a flat tree its key is
+-- in the parent's block, if it is a new one, and not in that of an internal node above which it goes; and the tag that it
 -- expects, which is below its own number and no greater than that of the parent's child word
 pub record InsertCard (w : Words) (stage : Stages) (c : ℕ) : Type 0 where
   pub gp : w.gp c ≡ 0
   pub was : w.was c ≡ 0
   pub parent : IsInnerBorn stage (w.p c)
-  pub leaf : IsLeafBorn stage (w.l c)
-  pub above : rank (w.p c) < rank (w.l c)
+  pub lower : Born stage (w.l c)
+  pub above : rank w (w.p c) < rank w (w.l c)
   pub before : w.l c < internal c
+  pub edge : IsInternal (w.l c) → ¬ IsInBlock w (w.l c) (insert_key w c)
+  pub fits : is_replace_card w c ≡ false → IsInBlock w (w.p c) (insert_key w c)
   pub ordered : w.key (left_leaf c) ≤ w.key (right_leaf c)
-  pub node_key : w.key (internal c) ≡ w.key (right_leaf c)
+  pub node_key : IsNodeKey w.flat_from (w.key (left_leaf c)) (w.key (right_leaf c)) (w.key (internal c))
   pub copy : IsCopy w c (left_leaf c) ⊎ IsCopy w c (right_leaf c)
   pub real : insert_key w c ≤ greatest_key
   pub side : is_right w (w.p c) (insert_key w c) ≡ is_right w (w.p c) (w.key (w.l c))
@@ -111,8 +124,8 @@ pub record DeleteCard (w : Words) (stage : Stages) (c : ℕ) : Type 0 where
   pub grandparent : IsInnerBorn stage (w.gp c)
   pub parent : IsInnerBorn stage (w.p c)
   pub leaf : IsLeafBorn stage (w.l c)
-  pub first : rank (w.gp c) < rank (w.p c)
-  pub above : rank (w.p c) < rank (w.l c)
+  pub first : rank w (w.gp c) < rank w (w.p c)
+  pub above : rank w (w.p c) < rank w (w.l c)
   pub before : w.l c < internal c
   pub real : delete_key w c ≤ greatest_key
   pub calm : IsClean (w.was c)
@@ -123,8 +136,7 @@ pub record DeleteCard (w : Words) (stage : Stages) (c : ℕ) : Type 0 where
 
 -- the nodes of a card that did not come into the tree: as they were filled
 pub record Unborn (w : Words) (c : ℕ) : Type 0 where
-  pub left : w.child (internal c) false ≡ left_leaf c
-  pub right : w.child (internal c) true ≡ right_leaf c
+  pub children : (right : Bool) → w.child (internal c) right ≡ filled_child w c right
   pub calm : w.update (internal c) ≡ clean 0
 
 -- a card that was not claimed: all its words are 0
@@ -186,7 +198,7 @@ pub record DeleteStage (w : Words) (stage : Stages) (c : ℕ) : Type 0 where
 -- own
 pub record ChildrenAreSound (w : Words) (stage : Stages) (x : ℕ) : Type 0 where
   pub born : (right : Bool) → Born stage (w.child x right)
-  pub rising : (right : Bool) → rank x < rank (w.child x right)
+  pub rising : (right : Bool) → rank w x < rank w (w.child x right)
   pub left_less : w.key (w.child x false) < w.key x
   pub right_more : w.key x ≤ w.key (w.child x true)
 
@@ -197,19 +209,22 @@ pub record UpdateIsSound (w : Words) (stage : Stages) (x : ℕ) : Type 0 where
   pub dflagged : (c : ℕ) → w.update x ≡ dflag c → (delete_open (stage c) ≡ true) × (w.gp c ≡ x)
   pub marked : (c : ℕ) → w.update x ≡ marked c → (is_marked (stage c) ≡ true) × (w.p c ≡ x)
 
--- the tree: in order, with the two greatest keys in their places; and every internal node that came into it is still
--- there, or marked
+-- the tree: in order, a trie if it is flat, with the two greatest keys in their places; and every internal node that came
+-- into it is still there, or marked
 pub record TreeIsSound (w : Words) (stage : Stages) : Type 0 where
-  pub ordered : IsOrdered w.key w.child top rank
+  pub ordered : IsOrdered w.key w.child top (rank w)
+  pub trie : 0 < w.flat_from → IsTrie (Born stage) (opening_from w.flat_from) w.key w.child
   pub root_key : w.key 0 ≡ infinity2
   pub root_right : w.child 0 true ≡ right_leaf 0
   pub right_key : w.key (right_leaf 0) ≡ infinity2
   pub last : LeadsTo w infinity1 0
   pub there : (x : ℕ) → IsInternal x → Born stage x → ((c : ℕ) → w.update x ≢ marked c) → IsIn w x
 
--- the words, with the stages of the cards; a child word has changed less often than cards were claimed
+-- the words, with the stages of the cards; a flat tree is flat from the first card on that is not of the opening tree; a
+-- child word has changed less often than cards were claimed
 pub record WordsAreSound (w : Words) (stage : Stages) : Type 0 where
   pub opening : stage 0 ≡ Opening
+  pub flat : 0 < w.flat_from → (c : ℕ) → (c < w.flat_from) ↔ (is_start (stage c) ≡ true)
   pub tags : (x : ℕ) (right : Bool) → w.tag x right < w.next
   pub cards : (c : ℕ) → CardIsSound w stage c
   pub inserts : (c : ℕ) → InsertStage w stage c
@@ -222,7 +237,7 @@ pub record WordsAreSound (w : Words) (stage : Stages) : Type 0 where
 -- was read before its child word; and if that word was clean and still stands, so does the child word
 pub record SeenIsSound (w : Words) (stage : Stages) (k : ℕ) (seen : Seen) (x : ℕ) : Type 0 where
   pub node : IsInnerBorn stage seen.node
-  pub less : rank seen.node < rank x
+  pub less : rank w seen.node < rank w x
   pub word : seen.word ≤ w.update seen.node
   pub side : is_right w seen.node (w.key x) ≡ is_right w seen.node k
   pub at_least : seen.tag ≤ tag_for w k seen.node

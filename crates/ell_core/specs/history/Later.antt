@@ -34,10 +34,11 @@ pub record SameNode (old new : Words) (x : ℕ) : Type 0 where
   pub child : (right : Bool) → new.child x right ≡ old.child x right
   pub tag : (right : Bool) → new.tag x right ≡ old.tag x right
 
--- the words of a later state: the claim word, the tags of children and the update words rose or stayed, no child became
--- 0, and a claimed card's is the same while its tag is; it goes where it went and its nodes have their keys and values,
+-- the words of a later state: the tree is flat as it was; the claim word, the tags of children and the update words rose or
+-- stayed, no child became 0, and a claimed card's is the same while its tag is; it goes where it went and its nodes have their keys and values,
 -- and a marked node is as it was
 pub record WordsLater (old new : Words) : Type 0 where
+  pub flat : new.flat_from ≡ old.flat_from
   pub next : old.next ≤ new.next
   pub tag : (x : ℕ) (right : Bool) → old.tag x right ≤ new.tag x right
   pub child : (x : ℕ) (right : Bool) → card x < old.next → new.tag x right ≡ old.tag x right

@@ -10,6 +10,7 @@ use Rattle.ell_layout.specs.Words.{Words}
 use Rattle.ell_core.specs.acts.Searching.{IsClean}
 use Rattle.ell_core.specs.state.Machine.{Worker, Machine, nobody}
 use Rattle.ell_core.specs.tree.Tree.{OnWalk, Finds, Reached, IsTreeKey, IsTreePair, IsLawful}
+use Rattle.ell_core.specs.tree.Flat.{IsInBlock}
 use Rattle.ell_core.specs.soundness.Holds.{Holds, effective}
 use Rattle.ell_core.specs.declared.view.Entry.TheVariants.{Present}
 
@@ -38,10 +39,11 @@ pub record LedgersAreSound (m : Machine) : Type 0 where
   pub present : (i key value : ℕ) → WorkerOwns (m.worker i) key
       → IsTreePair m.words key value ↔ (effective m.words (m.worker i) key ≡ Some (Present value))
 
--- where a worker stands, the walk for an own key finds what the ledger has, and what is reached of it is on the root's
+-- where a worker stands, the walk for an own key finds what the ledger has, and what is reached of it is on the root's; in a
+-- flat tree, if the key is in the block of what is reached
 pub record WalkIsSound (w : Words) (v : Worker) (key x : ℕ) : Type 0 where
   pub finds : WorkerOwns v key → (value : ℕ) → Finds w key value x ↔ (v.ledger key ≡ Some (Present value))
-  pub joins : (y : ℕ) → OnWalk w key x y → Reached w y → OnWalk w key 0 y
+  pub joins : (y : ℕ) → OnWalk w key x y → Reached w y → IsInBlock w y key → OnWalk w key 0 y
 
 abbrev pub WalksAreSound : Machine → Type 0
 WalksAreSound m = (i : ℕ) (op : Op) (x : ℕ) → (m.worker i).operation ≡ Some op → (m.worker i).search.node ≡ Some x

@@ -5,7 +5,7 @@ use Rattle.ell_core.specs.declared.event.CoreFault.{CoreFault}
 use Rattle.ell_core.specs.declared.event.CoreFault.TheVariants.{NoSuchWorker, OwnedTwice, NoMemory}
 use Rattle.ell_core.specs.state.Machine.{Ledger, Machine, idle, entry_of, Worker, nobody, ledger_of}
 use Rattle.ell_core.specs.declared.view.Entry.{Entry}
-use Rattle.ell_layout.specs.Start.{start_words}
+use Rattle.ell_layout.specs.Start.{words_at_start}
 
 -- whether an entry, a worker and a key, gives the key to the worker
 abbrev pub gives : ℕ → ℕ → ℕ × ℕ → Bool
@@ -21,13 +21,14 @@ abbrev pub opening_ledger : List (ℕ × ℕ) → List (ℕ × ℕ) → ℕ → 
 opening_ledger owned start i = λ key. if list_any (gives i key) owned then Some (start_entry start key) else None
 
 -- what a state opens with: so many workers, the keys that they own, by entries of a worker and a key, the start keys
--- with their values, so many cards beside those of the start keys' tree, and the shared keys
+-- with their values, so many cards beside those of the start keys' tree, the shared keys, and whether the tree is flat
 pub record Setup : Type 0 where
   pub count : ℕ
   pub owned : List (ℕ × ℕ)
   pub start : List (ℕ × ℕ)
   pub cards : ℕ
   pub shared : ℕ → Bool
+  pub flat : Bool
 
 -- the last card, where so many cards follow those of the start keys' tree
 abbrev pub last_card : List (ℕ × ℕ) → ℕ → ℕ
@@ -40,7 +41,7 @@ shares count shared i = λ key. shared key && nat_lt i count
 -- the opening state
 unfoldable pub opening : Setup → Machine
 opening setup = record {
-  words = start_words setup.start;
+  words = words_at_start setup.flat setup.start;
   count = setup.count;
   last_card = last_card setup.start setup.cards;
   worker = λ i. idle (opening_ledger setup.owned setup.start i) (shares setup.count setup.shared i) (λ _. false);
@@ -104,10 +105,10 @@ abbrev pub keys_at_start : List ℕ → List (ℕ × ℕ) → List (ℕ × Entry
 keys_at_start keys start = map (λ k. (k, start_entry start k)) keys
 
 -- the state at the start of one worker that owns these keys, of which the start keys are present, with so many cards to
--- claim
-abbrev pub opening_of_one : List ℕ → List (ℕ × ℕ) → ℕ → (ℕ → Bool) → Machine
-opening_of_one keys start cards shared = record {
-  words = start_words start;
+-- claim, in a tree that is flat or not
+abbrev pub opening_of_one : List ℕ → List (ℕ × ℕ) → ℕ → (ℕ → Bool) → Bool → Machine
+opening_of_one keys start cards shared flat = record {
+  words = words_at_start flat start;
   worker = first_alone (idle (ledger_of (keys_at_start keys start)) shared (λ _. false));
   count = 1;
   last_card = last_card start cards;

@@ -12,6 +12,7 @@ use Rattle.ell_core.specs.acts.Runs.{Shows, Run}
 use Rattle.ell_core.specs.tree.Tree.{OnWalk, IsTreeKey, IsTreePair}
 use Rattle.ell_core.specs.history.Stages.{Stages, Born}
 use Rattle.ell_core.specs.history.Invariant.{IsOnCourse, Invariant}
+use Rattle.ell_core.specs.tree.Flat.{IsInBlock}
 use Rattle.ell_core.specs.statements.RunLaws.{IsPassed}
 
 -- a reader for a key goes along a run from x to y, and only loads: through an event it stays where it is, and at any
@@ -30,13 +31,14 @@ pub record IsAmid (m : Machine) (events : List Event) (answers : List Shown) (m'
   pub before : Run m (take first events) (take first answers) state
   pub after : Run state (drop first events) (drop first answers) m'
 
--- a leaf is the end of the walk for a key in one state of a run; so by the leaf's key and value, as the run's end has
--- them, the tree had the key in that state, with that value, or it had it not
+-- a leaf is the end of the walk for a key in one state of a run, in a flat tree if it is a leaf of that key or of the opening
+-- tree; and by the leaf's key and value, as the run's end has them, the tree had the key in that state, with that value, or
+-- it had it not
 pub record IsOfOneState (key : ℕ) (m : Machine) (events : List Event) (answers : List Shown) (m' : Machine)
     (leaf : ℕ) : Type 0 where
   pub state : Machine
   pub amid : IsAmid m events answers m' state
-  pub on : OnWalk state.words key 0 leaf
+  pub on : IsInBlock m'.words leaf key → OnWalk state.words key 0 leaf
   pub present : m'.words.key leaf ≡ key → IsTreePair state.words key (m'.words.value leaf)
   pub absent : m'.words.key leaf ≢ key → ¬ IsTreeKey state.words key
   pub claimed : card leaf < m'.words.next
@@ -49,10 +51,10 @@ LooksAreOfOneState =
     → IsOfOneState key m events answers m' leaf
 
 -- after an event a node that was on course for a key still is, and its child on the key's side is as it was, or it is
--- on the walk for the key from node 0
+-- on the walk for the key from node 0, in a flat tree if the key is in its block
 abbrev pub CoursesGoOn : Type 0
 CoursesGoOn =
     (m : Machine) (stage : Stages) (e : Event) (said : Stepped) (m' : Machine) → Invariant m stage → Steps m e said m'
     → (key x : ℕ) → Born stage x → IsOnCourse m.words key x
     → IsOnCourse m'.words key x
-    × (IsInternal x → (child_for m'.words key x ≡ child_for m.words key x) ⊎ OnWalk m'.words key 0 x)
+    × (IsInternal x → IsInBlock m.words x key → (child_for m'.words key x ≡ child_for m.words key x) ⊎ OnWalk m'.words key 0 x)

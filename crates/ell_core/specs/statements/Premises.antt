@@ -20,10 +20,10 @@ use Rattle.ell_core.specs.state.Opening.{opening_of_one}
 
 -- any two real keys can open, of workers that are there, be they two or one, with no start keys
 abbrev pub TwoKeysCanOpen : Type 0
-TwoKeysCanOpen = (count i j first second cards : ℕ) → i < count → j < count → first ≢ second → first ≤ greatest_key
+TwoKeysCanOpen = (count i j first second cards : ℕ) (flat : Bool) → i < count → j < count → first ≢ second → first ≤ greatest_key
     → second ≤ greatest_key
     → CanOpen
-    (record { count = count; owned = (i, first) ∷ (j, second) ∷ []; start = []; cards = cards; shared = λ _. false })
+    (record { count = count; owned = (i, first) ∷ (j, second) ∷ []; start = []; cards = cards; shared = λ _. false; flat = flat })
 
 -- every opening is a state of a run
 abbrev pub OpeningsArePassed : Type 0
@@ -112,14 +112,14 @@ IdleWorkerOwnsAll =
     (m : Machine) (stage : Stages) → Invariant m stage → m.count ≡ 1 → WorkerIsIdle (m.worker 0) → OwnsAll m 0
 
 -- it is an opening, and has the invariant
-pub record OpensForOne (keys : List ℕ) (start : List (ℕ × ℕ)) (cards : ℕ) (shared : ℕ → Bool) : Type 0 where
-  pub opens : IsOpening (opening_of_one keys start cards shared)
-  pub lawful : HasInvariant (opening_of_one keys start cards shared)
+pub record OpensForOne (keys : List ℕ) (start : List (ℕ × ℕ)) (cards : ℕ) (shared : ℕ → Bool) (flat : Bool) : Type 0 where
+  pub opens : IsOpening (opening_of_one keys start cards shared flat)
+  pub lawful : HasInvariant (opening_of_one keys start cards shared flat)
 
 -- so it is with every ascending list of real keys, real keys that are shared, none among them, and every ascending list
 -- of start keys among these and those
 abbrev pub OneWorkerOpens : Type 0
-OneWorkerOpens = (keys : List ℕ) (start : List (ℕ × ℕ)) (cards : ℕ) (shared : ℕ → Bool) → IsStrictlyIncreasing keys
+OneWorkerOpens = (keys : List ℕ) (start : List (ℕ × ℕ)) (cards : ℕ) (shared : ℕ → Bool) (flat : Bool) → IsStrictlyIncreasing keys
     → All (λ k. k ≤ greatest_key) keys
     → IsStrictlyIncreasing (keys_of start) → All (λ k. (set_of keys k ≡ true) ⊎ (shared k ≡ true)) (keys_of start)
-    → ((k : ℕ) → shared k ≡ true → (k ≤ greatest_key) × (set_of keys k ≡ false)) → OpensForOne keys start cards shared
+    → ((k : ℕ) → shared k ≡ true → (k ≤ greatest_key) × (set_of keys k ≡ false)) → OpensForOne keys start cards shared flat

@@ -3,10 +3,12 @@ use Rattle.ell_ops.specs.Meaning.{greatest_key}
 use Rattle.ell_word.specs.Node.{IsInternal, card}
 use Rattle.ell_core.specs.declared.event.Event.{Event}
 use Rattle.ell_core.specs.declared.event.Shown.{Shown}
-use Rattle.ell_layout.specs.Words.{Words, IsLeaf}
+use Rattle.ell_block.specs.Blocks.{Block, middle_of, half_from, half_end}
+use Rattle.ell_layout.specs.Words.{Words, IsLeaf, has_block}
 use Rattle.ell_core.specs.state.Machine.{Machine}
 use Rattle.ell_core.specs.acts.Runs.{Run}
 use Rattle.ell_core.specs.tree.Tree.{OnWalk, IsTreeKey, IsTreePair}
+use Rattle.ell_core.specs.tree.Flat.{IsInBlock}
 use Rattle.ell_core.specs.statements.RunLaws.{IsPassed}
 use Rattle.ell_core.specs.statements.Looks.{IsAmid}
 
@@ -24,6 +26,19 @@ abbrev pub upto_of : Bool → ℕ → ℕ → ℕ
 upto_of true high key = high
 upto_of false high key = min high key
 
+-- the keys from `from` on and below `upto` are those of a stretch that are in a half of the block whose middle a number is
+pub record NarrowsToHalf (number : ℕ) (right : Bool) (low high from upto : ℕ) : Type 0 where
+  pub block : Block
+  pub middle : number ≡ middle_of block
+  pub first : from ≡ max low (half_from block right)
+  pub last : upto ≡ min high (half_end block right)
+
+-- they are those of a stretch that go to a child of a node, true is the right one: of a node that has a block those in that
+-- half of it
+pub record Narrows (w : Words) (x : ℕ) (right : Bool) (low high from upto : ℕ) : Type 0 where
+  pub plain : has_block w.flat_from x ≡ false → (from ≡ from_of right low (w.key x)) × (upto ≡ upto_of right high (w.key x))
+  pub flat : has_block w.flat_from x ≡ true → NarrowsToHalf (w.key x) right low high from upto
+
 -- in a run a reader, who only loads, has come to a node by all keys of a stretch: to node 0 by all real keys; and from
 -- a node to which he had come, now or earlier, to the child on a side, as it is when he loads it, by those of the keys
 -- that go to that side. He may keep a node, and go on from it later, whatever came between
@@ -36,7 +51,7 @@ pub data Comes (m : Machine) : List Event → List Shown → Machine → ℕ →
       → Comes m both all m' x low high
   goes : {events : List Event} {answers : List Shown} {m' : Machine} {x low high y from upto : ℕ} (right : Bool)
       → Comes m events answers m' x low high → IsInternal x → y ≡ m'.words.child x right
-      → from ≡ from_of right low (m'.words.key x) → upto ≡ upto_of right high (m'.words.key x)
+      → Narrows m'.words x right low high from upto
       → Comes m events answers m' y from upto
 
 -- a leaf is the end of the walks for all keys of a stretch in ONE state of a run; so by the leaf's key and value, as
@@ -52,6 +67,17 @@ pub record StretchIsOfOneState (m : Machine) (events : List Event) (answers : Li
   pub absent : (key : ℕ) → low ≤ key → key < high → m'.words.key leaf ≢ key → ¬ IsTreeKey state.words key
   pub real : high ≤ greatest_key + 1
   pub claimed : low < high → card leaf < m'.words.next
+
+-- of the keys of a stretch that the block of a node lacks the tree had none in one state of a run
+pub record EdgeIsOfOneState (m : Machine) (events : List Event) (answers : List Shown) (m' : Machine) (x low high : ℕ) : Type 0 where
+  pub state : Machine
+  pub amid : IsAmid m events answers m' state
+  pub absent : (key : ℕ) → low ≤ key → key < high → ¬ IsInBlock m'.words x key → ¬ IsTreeKey state.words key
+
+-- so it is with each internal node to which a reader has come
+abbrev pub EdgesAreOfOneState : Type 0
+EdgesAreOfOneState = (m : Machine) (events : List Event) (answers : List Shown) (m' : Machine) (x low high : ℕ)
+    → IsPassed m → Comes m events answers m' x low high → IsInternal x → EdgeIsOfOneState m events answers m' x low high
 
 -- so it is with each leaf to which a reader has come, whatever the events were, whoever owns the keys
 abbrev pub StretchesAreOfOneState : Type 0

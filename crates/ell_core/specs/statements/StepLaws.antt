@@ -63,19 +63,19 @@ pub record NamesItsCard (w : Words) (x : ℕ) : Type 0 where
 pub record IsReadable (w : Words) (stage : Stages) (x : ℕ) : Type 0 where
   pub inner : IsInternal x
   pub born : Born stage x
-  pub children : (right : Bool) → Born stage (w.child x right) × (rank x < rank (w.child x right))
+  pub children : (right : Bool) → Born stage (w.child x right) × (rank w x < rank w (w.child x right))
   pub names : NamesItsCard w x
 
 -- where an insert's card goes: two nodes that came into the tree, the leaf the deeper one
 pub record IsInserting (w : Words) (stage : Stages) (c : ℕ) : Type 0 where
-  pub above : rank (w.p c) < rank (w.l c)
+  pub above : rank w (w.p c) < rank w (w.l c)
   pub parent : IsReadable w stage (w.p c)
   pub leaf : Born stage (w.l c)
 
 -- where a delete's card goes: three nodes that came into the tree, ever deeper
 pub record IsDeepening (w : Words) (stage : Stages) (c : ℕ) : Type 0 where
-  pub first : rank (w.gp c) < rank (w.p c)
-  pub second : rank (w.p c) < rank (w.l c)
+  pub first : rank w (w.gp c) < rank w (w.p c)
+  pub second : rank w (w.p c) < rank w (w.l c)
   pub grandparent : IsReadable w stage (w.gp c)
   pub parent : IsReadable w stage (w.p c)
   pub leaf : Born stage (w.l c)
@@ -91,7 +91,7 @@ pub record GoesInTree (w : Words) (stage : Stages) (c : ℕ) : Type 0 where
 -- the claim word
 pub record HasSeen (w : Words) (stage : Stages) (seen : Seen) (x : ℕ) : Type 0 where
   pub node : IsReadable w stage seen.node
-  pub less : rank seen.node < rank x
+  pub less : rank w seen.node < rank w x
   pub names : (unpacked seen.word).card < w.next
   pub tag : seen.tag < w.next
 
@@ -129,7 +129,7 @@ pub record Reliance (m : Machine) (stage : Stages) (i : ℕ) : Type 0 where
       → (unpacked word).card < m.words.next
   pub down : (said : Stepped) (after : Scene) (x y : ℕ) → Down (scene m i) said after
       → (m.worker i).search.node ≡ Some x
-      → after.worker.search.node ≡ Some y → (rank x < rank y) × (card y ≤ m.last_card)
+      → after.worker.search.node ≡ Some y → (rank m.words x < rank m.words y) × (card y ≤ m.last_card)
   pub parent : (x : ℕ) (seen : Seen) → (m.worker i).search.node ≡ Some x → (m.worker i).search.parent ≡ Some seen
       → HasSeen m.words stage seen x
   pub grandparent : (x : ℕ) (seen above : Seen) → (m.worker i).search.node ≡ Some x

@@ -66,7 +66,7 @@ pub record LeftIsLawful (w : Words) : Type 0 where
 
 -- a lawful tree: ranks rise, one path leads to each node, keys are in order, root and right leaf have infinity2
 pub record IsLawful (w : Words) : Type 0 where
-  pub rises : (x : ℕ) (right : Bool) → Reached w x → IsInternal x → rank x < rank (w.child x right)
+  pub rises : (x : ℕ) (right : Bool) → Reached w x → IsInternal x → rank w x < rank w (w.child x right)
   pub one_path : (x : ℕ) (p q : List Bool) → Leads w 0 p x → Leads w 0 q x → p ≡ q
   pub left_less : (x y : ℕ) → Reached w x → IsInternal x → Below w (w.child x false) y → w.key y < w.key x
   pub right_more : (x y : ℕ) → Reached w x → IsInternal x → Below w (w.child x true) y → w.key x ≤ w.key y

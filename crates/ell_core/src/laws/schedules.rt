@@ -2,8 +2,9 @@
 //! and helpers that come back long after an operation has ended, are part of schedules too. Each law is the contract of
 //! a function that does nothing.
 ghost use Rattle.ell_core.specs.statements.RunLaws.{EveryStateHasInvariant, EveryStateIsSound, PairsChangeAtWins, AnswersAreTheMaps, WinsAreInOrder, MarkedNodesAreFrozen, WordsRise, KnowledgeIsNeverLost, ClaimedCardsAreFixed, StagesRise};
+ghost use Rattle.ell_core.specs.statements.Flat.{FlatTreesAreShallow};
 ghost use Rattle.ell_core.specs.statements.Looks.{LooksAreOfOneState};
-ghost use Rattle.ell_core.specs.statements.Readers.{StretchesAreOfOneState};
+ghost use Rattle.ell_core.specs.statements.Readers.{StretchesAreOfOneState, EdgesAreOfOneState};
 
 /// Every state of a run is sound, since the invariant holds for it.
 pub fn every_state_is_sound()
@@ -73,11 +74,20 @@ pub fn looks_are_of_one_state()
     ensures { LooksAreOfOneState }
 {}
 
+/// Paths in a flat tree are short, whichever keys came, and in whichever order.
+pub fn flat_trees_are_shallow()
+    // In every state of a run of a flat tree an internal node is at most 64 steps deeper than the opening tree.
+    ensures { FlatTreesAreShallow }
+{}
+
 /// A reader that only loads, and may keep nodes and go on from them later, finds at a leaf what held in one state of
-/// the run for all keys of a stretch: those that went the same way wherever the reader went down. Of these the tree had
-/// in that state the leaf's key, or none.
+/// the run for all keys of a stretch: those that went the same way wherever the reader went down, in a flat tree within the
+/// block of each node. Of these the tree had in that state the leaf's key, or none. Of the keys of a stretch that the block
+/// of a node lacks the tree had none in one state.
 pub fn stretches_are_of_one_state()
     // For all keys of its stretch at once, a look tells what the tree had in one state since the look began, even if it
     // goes on from a kept node: the leaf's key with its value, or none.
-    ensures { StretchesAreOfOneState }
+    ensures leaves { StretchesAreOfOneState }
+    // Of the keys of a stretch that the block of a node lacks, the tree had none in one state since the look began.
+    ensures edges { EdgesAreOfOneState }
 {}

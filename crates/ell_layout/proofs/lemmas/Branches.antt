@@ -13,11 +13,11 @@ pub record Holds (c : ℕ) (b : Branch) : Type 0 where
   pub some_right : 0 < b.right
 
 -- on the way to a card on the left
-to_left : (c : ℕ) (b : Branch) → c < b.card + b.left → branch_to c b ≡ left_branch b
+pub to_left : (c : ℕ) (b : Branch) → c < b.card + b.left → branch_to c b ≡ left_branch b
 to_left c b h = ap (λ t. if t then left_branch b else right_branch b) (lt-ltb c (b.card + b.left) h)
 
 -- and on the right
-to_right : (c : ℕ) (b : Branch) → b.card + b.left ≤ c → branch_to c b ≡ right_branch b
+pub to_right : (c : ℕ) (b : Branch) → b.card + b.left ≤ c → branch_to c b ≡ right_branch b
 to_right c b h = ap (λ t. if t then left_branch b else right_branch b) (le-ltb c (b.card + b.left) h)
 
 -- a card on the left is below the left branch
@@ -39,7 +39,7 @@ holds_right c b h past = let w = h.within in record {
 }
 
 -- what is so of the next branch on the way to a card, if it is so of the left one and of the right one where they come next
-by_side : (P : Branch → Type 0) (c : ℕ) (b : Branch) → (c < b.card + b.left → P (left_branch b)) → (b.card + b.left ≤ c → P (right_branch b))
+pub by_side : (P : Branch → Type 0) (c : ℕ) (b : Branch) → (c < b.card + b.left → P (left_branch b)) → (b.card + b.left ≤ c → P (right_branch b))
     → P (branch_to c b)
 by_side P c b left right = elim (cases_lt c (b.card + b.left)) [
   | inl less ↦ subst P (sym (to_left c b less)) (left less)
@@ -47,19 +47,19 @@ by_side P c b left right = elim (cases_lt c (b.card + b.left)) [
 ]
 
 -- the next branch on the way to a card has it below, and a greater card than the one before
-holds_next : (c : ℕ) (b : Branch) → Holds c b → b.card < c → Holds c (branch_to c b)
+pub holds_next : (c : ℕ) (b : Branch) → Holds c b → b.card < c → Holds c (branch_to c b)
 holds_next c b h apart = by_side (Holds c) c b (λ less. holds_left c b h apart less) (λ past. holds_right c b h past)
 
-next_more : (c : ℕ) (b : Branch) → Holds c b → b.card < (branch_to c b).card
+pub next_more : (c : ℕ) (b : Branch) → Holds c b → b.card < (branch_to c b).card
 next_more c b h = by_side (λ n. b.card < n.card) c b (λ less. omega arith) (λ past. let some = h.some_left in omega arith)
 
 -- one step down
-down : (n c : ℕ) (b : Branch) → b.card ≢ c → descend (suc n) c b ≡ descend n c (branch_to c b)
+pub down : (n c : ℕ) (b : Branch) → b.card ≢ c → descend (suc n) c b ≡ descend n c (branch_to c b)
 unfolding descend
 down n c b apart = ap (λ t. if t then b else descend n c (branch_to c b)) (ne_eqb b.card c apart)
 
 -- no step where the card is there
-there : (n c : ℕ) (b : Branch) → b.card ≡ c → descend n c b ≡ b
+pub there : (n c : ℕ) (b : Branch) → b.card ≡ c → descend n c b ≡ b
 unfolding descend
 there zero c b e = refl
 there (suc n) c b e = ap (λ t. if t then b else descend n c (branch_to c b)) (eq-eqb b.card c e)
@@ -95,7 +95,7 @@ same_end (suc n) (suc k) c b h enough also = elim (cases_eq b.card c) [
 ]
 
 -- the way to a card below the branch of card c goes by as the way to c does
-same_next : (c d : ℕ) (b : Branch) → Holds c b → b.card < c → Holds d (branch_to c b) → c ≤ d → branch_to d b ≡ branch_to c b
+pub same_next : (c d : ℕ) (b : Branch) → Holds c b → b.card < c → Holds d (branch_to c b) → c ≤ d → branch_to d b ≡ branch_to c b
 same_next c d b h apart below after = elim (cases_lt c (b.card + b.left)) [
   | inl less ↦
       let at : Holds d (left_branch b) = subst (Holds d) (to_left c b less) below in
@@ -118,7 +118,7 @@ holds_up c d b h below after = elim (cases_lt c (b.card + b.left)) [
 ]
 
 -- a card below the branch at the end is below the branch at the start
-holds_before : (n c d : ℕ) (b : Branch) → Holds c b → c ≤ b.card + n → Holds d (descend n c b) → c ≤ d → Holds d b
+pub holds_before : (n c d : ℕ) (b : Branch) → Holds c b → c ≤ b.card + n → Holds d (descend n c b) → c ≤ d → Holds d b
 holds_before zero c d b h enough below after =
     let up = h.above in let e : b.card ≡ c = omega arith in subst (Holds d) (there zero c b e) below
 holds_before (suc n) c d b h enough below after = elim (cases_eq b.card c) [
@@ -185,7 +185,7 @@ ends_within end (suc n) c b h ends = elim (cases_eq b.card c) [
 -- the branches where the root has so many leaves on its left, of which there are some
 module _ (leaves : ℕ) (some : 0 < leaves) where
   -- the root has every card below the number of leaves below it
-  root_holds : (c : ℕ) → c < leaves → Holds c (root_branch leaves)
+  pub root_holds : (c : ℕ) → c < leaves → Holds c (root_branch leaves)
   root_holds c below = record { above = omega arith; within = omega arith; some_left = some; some_right = omega arith }
 
   -- a card's branch is of that card, and has leaves on both sides

@@ -10,7 +10,7 @@ use Rattle.ell_layout.specs.Words.{Words, word, words_of, words_from, table_word
 use Rattle.ell_layout.specs.Cards.{clean, filled, table_filled, stored}
 use Rattle.ell_layout.proofs.lemmas.Writes.{zeros_are_read, equal_words, made_word, made_no_key, made_no_value, made_inner_value, made_leaf_child, made_leaf_update}
 use Rattle.ell_layout.proofs.lemmas.Stored.{filled_stored, filled_elsewhere}
-use Rattle.ell_layout.proofs.lemmas.NewWords.{filled_claim, filled_expects, filled_untagged, filled_no_key, filled_no_value, filled_inner_value, filled_leaf_child, filled_leaf_update}
+use Rattle.ell_layout.proofs.lemmas.NewWords.{filled_claim, filled_flat, filled_expects, filled_untagged, filled_no_key, filled_no_value, filled_inner_value, filled_leaf_child, filled_leaf_update}
 use Rattle.ell_layout.specs.declared.branch.Branch.{Branch}
 use Rattle.ell_layout.specs.Branches.{root_branch, branch_of, left_child, right_child}
 use Rattle.ell_layout.proofs.lemmas.Branches.{branch_card, branch_holds, cards_within}
@@ -91,6 +91,7 @@ filled_made : (next : ℕ) (at later : ℕ → Field → ℕ) (c : ℕ) (es : Li
     → ((d : ℕ) (field : Field) → d ≢ c → at d field ≡ later d field) → filled (words_from next at) c es ≡ words_from next later
 filled_made next at later c es here elsewhere = equal_words _ _ record {
   next = filled_claim (words_from next at) c es;
+  flat_from = filled_flat (words_from next at) c es;
   word = λ d field. by d field ∙ sym (made_word next later d field);
   expects = λ d. filled_expects (words_from next at) c es d;
   tag = filled_untagged (words_from next at) c es (λ x right. refl);
@@ -120,13 +121,16 @@ module _ (start : List (ℕ × ℕ)) (size : ℕ) (some : 0 < size) where
   begun_next = let fits : 0 < length (replicate {A = ℕ} size 0) = omega (arith, length-replicate {A = ℕ} size 0) in
       get_or-set_same (replicate size 0) 0 (length start + 1) 0 fits
 
+  begun_flat : get_or begun 1 0 ≡ 0
+  begun_flat = get_or-set_other (replicate size 0) 0 1 (length start + 1) 0 (omega arith) ∙ zero_everywhere size 1
+
   begun_word : (c : ℕ) (field : Field) → listed begun c field ≡ 0
   begun_word c field = get_or-set_other (replicate size 0) 0 (address c field) (length start + 1) 0 (omega arith)
       ∙ zero_everywhere size (address c field)
 
   begun_words : words_of begun ≡ words_from (length start + 1) (λ c field. 0)
   unfolding words_of
-  begun_words = (λ t. table_words (begun_next t) (λ c field. begun_word c field t)) ∙ zeros_are_read (length start + 1)
+  begun_words = (λ t. record (table_words (begun_next t) (λ c field. begun_word c field t)) { flat_from = begun_flat t }) ∙ zeros_are_read (length start + 1)
 
   -- with card 0 filled
   rooted : (c : ℕ) (field : Field) → c ≢ 0 → 0 ≡ grown start 1 c field

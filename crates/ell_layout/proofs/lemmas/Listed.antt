@@ -7,7 +7,7 @@ use Rattle.ell_layout.specs.Layout.{address, place, table_size, listed}
 use Rattle.ell_layout.specs.Words.{Words, word, table_word, table_written, table_words, words_of}
 use Rattle.ell_layout.specs.Cards.{filled_list, table_filled, table_claimed, says_by}
 use Rattle.ell_layout.specs.Laws.{SameAfterSameWrite, WordsAreListed, FilledListsAreFilled}
-use Rattle.ell_layout.proofs.lemmas.Writes.{SmallNodes, equal_tables, table_written_here, table_written_elsewhere, table_written_next, table_written_small, table_written_no_key, table_written_no_value, table_written_inner_value, table_written_leaf_child, table_written_leaf_tag, table_written_leaf_update, made_table_word, made_small, made_no_key, made_no_value, made_inner_value, made_table_leaf_child, made_table_leaf_tag, made_leaf_update, link_back}
+use Rattle.ell_layout.proofs.lemmas.Writes.{SmallNodes, equal_tables, table_written_here, table_written_elsewhere, table_written_next, table_written_flat, table_written_small, table_written_no_key, table_written_no_value, table_written_inner_value, table_written_leaf_child, table_written_leaf_tag, table_written_leaf_update, made_table_word, made_small, made_no_key, made_no_value, made_inner_value, made_table_leaf_child, made_table_leaf_tag, made_leaf_update, link_back}
 use Rattle.ell_word.specs.Link.{link_in}
 use Rattle.ell_word.specs.declared.link.Link.{Link}
 use Rattle.ell_word.specs.Node.{internal}
@@ -21,6 +21,11 @@ words_are_listed words c field = made_table_word (slice_index words 0) (listed w
 pub listed_next : (words : List ℕ) → (words_of words).next ≡ slice_index words 0
 unfolding words_of
 listed_next words = refl
+
+-- From where on the tree is flat in the words that a list is.
+pub listed_flat : (words : List ℕ) → (words_of words).flat_from ≡ slice_index words 1
+unfolding words_of
+listed_flat words = refl
 
 -- What is no node has no key in the words that a list is.
 pub listed_no_key : (words : List ℕ) (x : ℕ) → x % 4 ≡ 3 → (words_of words).key x ≡ 0
@@ -50,7 +55,7 @@ listed_leaf_tag words x right h = made_table_leaf_tag (slice_index words 0) (lis
 -- The nodes in the words that a list is fit beside tags.
 pub listed_small : (words : List ℕ) → SmallNodes (words_of words)
 unfolding words_of
-listed_small words = made_small (slice_index words 0) (listed words)
+listed_small words = let small = made_small (slice_index words 0) (listed words) in record { l = small.l; child = small.child }
 
 -- A leaf has no update word in the words that a list is.
 pub listed_leaf_update : (words : List ℕ) (x : ℕ) → x % 4 ≢ 0 → (words_of words).update x ≡ 0
@@ -177,6 +182,8 @@ words_after_write words d other value fits = equal_tables _ _ record {
   other_small = table_written_small (words_of words) d other value (listed_small words);
   next = listed_next (slice_set words (address d other) value)
       ∙ (get_or-set_other words (address d other) 0 value 0 (omega arith) ∙ (sym (listed_next words) ∙ sym (table_written_next (words_of words) d other value)));
+  flat_from = listed_flat (slice_set words (address d other) value)
+      ∙ (get_or-set_other words (address d other) 1 value 0 (omega arith) ∙ (sym (listed_flat words) ∙ sym (table_written_flat (words_of words) d other value)));
   word = λ c field. words_are_listed (slice_set words (address d other) value) c field
       ∙ same_after_same_write words (words_of words) c field d other value fits (sym (words_are_listed words c field));
   no_key = λ x h. listed_no_key (slice_set words (address d other) value) x h
@@ -240,7 +247,9 @@ pub words_after_claim : (words : List ℕ) (value : ℕ) → 0 < length words
     → words_of (slice_set words 0 value) ≡ record (words_of words) { next = value }
 unfolding words_of
 words_after_claim words value fits =
-    λ t. table_words (get_or-set_same words 0 value 0 fits t) (λ c field. get_or-set_other words 0 (address c field) value 0 (omega arith) t)
+    λ t. record (table_words (get_or-set_same words 0 value 0 fits t) (λ c field. get_or-set_other words 0 (address c field) value 0 (omega arith) t)) {
+      flat_from = get_or-set_other words 0 1 value 0 (omega arith) t;
+    }
 
 -- Where a card is the next one and filled, a write of the number after it to word 0 claims it.
 pub words_after_filling : (before after : List ℕ) (filling : List (Field × ℕ)) (c : ℕ) → c ≡ (words_of before).next

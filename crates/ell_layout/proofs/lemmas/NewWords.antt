@@ -4,12 +4,17 @@ use Rattle.ell_layout.specs.declared.field.Field.{Field}
 use Rattle.ell_layout.specs.declared.field.Field.TheVariants.{Gp, Left, Right}
 use Rattle.ell_layout.specs.Words.{Words, written}
 use Rattle.ell_layout.specs.Cards.{filled}
-use Rattle.ell_layout.proofs.lemmas.Writes.{side_cases, written_next, written_no_key, written_no_value, written_inner_value, written_leaf_child, written_leaf_update}
+use Rattle.ell_layout.proofs.lemmas.Writes.{side_cases, written_next, written_flat, written_no_key, written_no_value, written_inner_value, written_leaf_child, written_leaf_update}
 
 -- Fields that are written leave the claim word.
 pub filled_claim : (w : Words) (c : ℕ) (es : List (Field × ℕ)) → (filled w c es).next ≡ w.next
 filled_claim w c [] = refl
 filled_claim w c (e ∷ es) = filled_claim (written w c e.0 e.1) c es ∙ written_next w c e.0 e.1
+
+-- Fields that are written leave from where on the tree is flat.
+pub filled_flat : (w : Words) (c : ℕ) (es : List (Field × ℕ)) → (filled w c es).flat_from ≡ w.flat_from
+filled_flat w c [] = refl
+filled_flat w c (e ∷ es) = filled_flat (written w c e.0 e.1) c es ∙ written_flat w c e.0 e.1
 
 -- Fields that are written leave the keys that no node has.
 pub filled_no_key : (w : Words) (c : ℕ) (es : List (Field × ℕ)) (x : ℕ) → x % 4 ≡ 3 → (filled w c es).key x ≡ w.key x

@@ -131,6 +131,11 @@ written_next w c RightLeafKey v = refl
 written_next w c LeftValue v = refl
 written_next w c RightValue v = refl
 
+-- A write leaves from where on the tree is flat.
+pub written_flat : (w : Words) (c : ℕ) (field : Field) (v : ℕ) → (written w c field v).flat_from ≡ w.flat_from
+written_flat w c Gp v = refl
+written_flat w c _ v = refl
+
 -- One more field at the end is written last.
 filled_more : (w : Words) (c : ℕ) (es : List (Field × ℕ)) (e : Field × ℕ) → filled w c (es ++ e ∷ []) ≡ written (filled w c es) c e.0 e.1
 filled_more w c [] e = refl
@@ -294,6 +299,10 @@ table_written_elsewhere w c field d other v h =
 pub table_written_next : (w : Words) (c : ℕ) (field : Field) (v : ℕ) → (table_written w c field v).next ≡ w.next
 table_written_next w c field v = ap (λ k. k.next) (table_written_is w c field v) ∙ written_next w c field (node_in field v)
 
+-- A write of a table's word leaves from where on the tree is flat.
+pub table_written_flat : (w : Words) (c : ℕ) (field : Field) (v : ℕ) → (table_written w c field v).flat_from ≡ w.flat_from
+table_written_flat w c field v = ap (λ k. k.flat_from) (table_written_is w c field v) ∙ written_flat w c field (node_in field v)
+
 -- A write of a table's word leaves the keys that no node has.
 pub table_written_no_key : (w : Words) (c : ℕ) (field : Field) (v x : ℕ) → x % 4 ≡ 3 → (table_written w c field v).key x ≡ w.key x
 table_written_no_key w c field v x h = ap (λ k. k.key x) (table_written_is w c field v) ∙ written_no_key w c field (node_in field v) x h
@@ -364,9 +373,11 @@ table_written_small w c Right v h = record {
 }
 table_written_small w c _ v h = record { l = h.l; child = h.child }
 
--- What makes two machines' words equal: the claim word, each field of each card, the tags, and what stands in no field.
+-- What makes two machines' words equal: the claim word, the word that says from where on the tree is flat, each field of
+-- each card, the tags, and what stands in no field.
 pub record SameWords (a b : Words) : Type 0 where
   pub next : a.next ≡ b.next
+  pub flat_from : a.flat_from ≡ b.flat_from
   pub word : (c : ℕ) (field : Field) → word a c field ≡ word b c field
   pub expects : (c : ℕ) → a.expects c ≡ b.expects c
   pub tag : (x : ℕ) (right : Bool) → a.tag x right ≡ b.tag x right
@@ -425,14 +436,16 @@ module _ (a b : Words) (h : SameWords a b) where
     child = λ x right. same_child x right t;
     tag = λ x right. h.tag x right t;
     update = λ x. same_update x t;
+    flat_from = h.flat_from t;
   }
 
--- What makes two machines' words equal where nodes fit beside tags: the claim word, the word that a table has at each
--- field of each card, and what stands in no field.
+-- What makes two machines' words equal where nodes fit beside tags: the claim word, the word that says from where on the
+-- tree is flat, the word that a table has at each field of each card, and what stands in no field.
 pub record SameTables (a b : Words) : Type 0 where
   pub small : SmallNodes a
   pub other_small : SmallNodes b
   pub next : a.next ≡ b.next
+  pub flat_from : a.flat_from ≡ b.flat_from
   pub word : (c : ℕ) (field : Field) → table_word a c field ≡ table_word b c field
   pub no_key : (x : ℕ) → x % 4 ≡ 3 → a.key x ≡ b.key x
   pub no_value : (x : ℕ) → x % 4 ≡ 3 → a.value x ≡ b.value x
@@ -469,6 +482,7 @@ module _ (a b : Words) (h : SameTables a b) where
   pub equal_tables : a ≡ b
   equal_tables = equal_words a b record {
     next = h.next;
+    flat_from = h.flat_from;
     word = same_word;
     expects = λ c. (same_leaf c).1;
     tag = same_tag;

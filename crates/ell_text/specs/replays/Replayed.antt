@@ -13,10 +13,10 @@ use Rattle.ell_text.specs.Limits.{most_bytes}
 use Rattle.ell_text.specs.replays.Script.{ScriptValue, script}
 use Rattle.ell_text.specs.replays.Trace.{trace}
 
--- what a script opens with: it has no start keys
+-- what a script opens with: it has no start keys, and a tree that is not flat
 abbrev pub setup_of : ScriptValue → Setup
 setup_of value =
-    record { count = value.workers; owned = value.owned; start = []; cards = value.cards; shared = λ _. false }
+    record { count = value.workers; owned = value.owned; start = []; cards = value.cards; shared = λ _. false; flat = false }
 
 -- a run of the script's events from its opening state shows this list and ends in a state whose tree has these keys
 pub record IsReplay (value : ScriptValue) (shown : List Shown) (keys : List ℕ) : Type 0 where

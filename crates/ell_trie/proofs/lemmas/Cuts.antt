@@ -1,9 +1,9 @@
 use Rattle.std.proofs.Common.{◌≡◌, ℕ, ◌<◌, Bool, true, false, nat_le, sym, ap, ◌∙◌, subst, inl, inr, arith}
 use Rattle.std.proofs.lemmas.Bool.{cases_Bool, false≢true}
 use Rattle.ell_word.specs.Node.{IsInternal}
-use Rattle.ell_core.specs.tree.Ranges.{Spans, IsOrdered}
-use Rattle.ell_core.proofs.lemmas.tree.Removes.{Removes, Spans-remove, IsOrdered-remove, Meets-removed, Meets-kept, gone}
-use Rattle.ell_core.proofs.lemmas.tree.Courses.{OnCourse-remove}
+use Rattle.ell_trie.specs.Ranges.{Spans, IsOrdered}
+use Rattle.ell_trie.proofs.lemmas.order.Removes.{Removes, Spans-remove, IsOrdered-remove, Meets-removed, Meets-kept, gone}
+use Rattle.ell_trie.proofs.lemmas.order.Courses.{OnCourse-remove}
 use Rattle.ell_trie.specs.Halves.{InHalfOf, InsideOf}
 use Rattle.ell_trie.specs.Tries.{Opening, IsTrie}
 use Rattle.ell_trie.specs.Courses.{OnTrieCourse, ordinary, passes, missed, strange}
@@ -57,11 +57,11 @@ module _ {Born : ℕ → Type 0} {o : Opening} {key : ℕ → ℕ} {child after 
   inner_there plain i = inside_inside (subst (λ v. InsideOf (key v) (key p) t) cut.sibling_there
       (trie.inner p t cut.inner born_p (plain_p plain) (subst IsInternal (sym cut.sibling_there) i))) (p_inside plain)
 
-  w_deeper : o.holds w ≡ true → o.depth g < o.depth w
-  w_deeper held =
+  w_deeper : o.holds w ≡ true → IsInternal w → o.depth g < o.depth w
+  w_deeper held inner =
       let p_held : o.holds p ≡ true = elim (cases_Bool (o.holds p)) [ inl is ↦ is | inr plain ↦ absurd (false≢true (sym (plain_w plain) ∙ held)) ] in
-      let one = subst (λ v. o.depth g < o.depth v) cut.was (trie.deeper g s cut.node born_g (ap o.holds cut.was ∙ p_held)) in
-      let two = subst (λ v. o.depth p < o.depth v) cut.sibling_there (trie.deeper p t cut.inner born_p (ap o.holds cut.sibling_there ∙ held)) in
+      let one = subst (λ v. o.depth g < o.depth v) cut.was (trie.deeper g s cut.node born_g (ap o.holds cut.was ∙ p_held) (subst IsInternal (sym cut.was) cut.inner)) in
+      let two = subst (λ v. o.depth p < o.depth v) cut.sibling_there (trie.deeper p t cut.inner born_p (ap o.holds cut.sibling_there ∙ held) (subst IsInternal (sym cut.sibling_there) inner)) in
       omega arith
 
   pub trie_cut : IsTrie Born o key after
@@ -69,8 +69,8 @@ module _ {Born : ℕ → Type 0} {o : Opening} {key : ℕ → ℕ} {child after 
     start = trie.start;
     closed = λ z u i b. cut_cases z u Born (λ e f. born_w) (trie.closed z u i b);
     plain = λ z u i b plain. cut_cases z u (λ v. o.holds v ≡ false) (λ e f. plain_w (plain_p (ap o.holds (sym e) ∙ plain))) (trie.plain z u i b plain);
-    deeper = λ z u i b. cut_cases z u (λ v. o.holds v ≡ true → o.depth z < o.depth v)
-        (λ e f held. subst (λ v. o.depth v < o.depth w) (sym e) (w_deeper held)) (trie.deeper z u i b);
+    deeper = λ z u i b. cut_cases z u (λ v. o.holds v ≡ true → IsInternal v → o.depth z < o.depth v)
+        (λ e f held inner. subst (λ v. o.depth v < o.depth w) (sym e) (w_deeper held inner)) (trie.deeper z u i b);
     few = trie.few;
     small = trie.small;
     leaf = λ z u i b plain. cut_cases z u (λ v. ¬ IsInternal v → InHalfOf (key z) u (key v))
@@ -95,7 +95,7 @@ module _ (o : Opening) (key : ℕ → ℕ) (child after : ℕ → Bool → ℕ) 
     | inr d ↦ passes i (still_cut x h) (e ∙ sym d) (course_cut k n)
   ]
   course_cut k (missed i plain lacks) = missed i plain lacks
-  course_cut k (strange i ne) = strange i ne
+  course_cut k (strange i plain ne) = strange i plain ne
 
 pub cuts_keep : CutsKeep
 cuts_keep born holds o key child after top g s p t l w trie ordered cut in_tree =

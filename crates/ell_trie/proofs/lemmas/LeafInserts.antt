@@ -1,10 +1,11 @@
 use Rattle.std.proofs.Common.{◌≡◌, ◌≢◌, ℕ, ◌==◌, if◌then◌else◌, ◌⊎◌, ◌↔◌, Bool, true, false, not, nat_le, refl, sym, ap, ◌∙◌, subst, inl, inr}
 use Rattle.std.proofs.lemmas.Bool.{cases_eq, eq-eqb, ne_eqb}
 use Rattle.ell_word.specs.Node.{IsInternal}
-use Rattle.ell_core.specs.tree.Ranges.{Spans, IsOrdered, Relinked}
-use Rattle.ell_core.proofs.lemmas.tree.Bounds.{side_within}
-use Rattle.ell_core.proofs.lemmas.tree.Replaces.{Spans-still}
+use Rattle.ell_trie.specs.Ranges.{Spans, IsSpanned, IsOrdered, Relinked}
+use Rattle.ell_trie.proofs.lemmas.order.Bounds.{side_within}
+use Rattle.ell_trie.proofs.lemmas.order.Replaces.{Spans-still}
 use Rattle.ell_trie.specs.Halves.{InHalfOf}
+use Rattle.ell_trie.specs.Ranks.{rank_of}
 use Rattle.ell_trie.specs.Tries.{Opening, IsTrie}
 use Rattle.ell_trie.specs.Courses.{OnTrieCourse}
 use Rattle.ell_trie.specs.Links.{LinkShape, Links, InsertKeeps}
@@ -12,12 +13,12 @@ use Rattle.ell_trie.specs.Leaves.{LeafInsert, BornLeaves, LeafInsertsKeep}
 use Rattle.ell_trie.specs.Swaps.{LeafSwap, BornLeaf}
 use Rattle.ell_trie.specs.Truths.{StaysTrue, LeafInsertsStayTrue}
 use Rattle.ell_trie.proofs.lemmas.Middles.{half_side, branch_halves}
-use Rattle.ell_trie.proofs.lemmas.Paths.{spans_born, rank_of}
+use Rattle.ell_trie.proofs.lemmas.Paths.{spans_born}
 use Rattle.ell_trie.proofs.lemmas.Courses.{courses_tell}
 use Rattle.ell_trie.proofs.lemmas.Swaps.{shape, trie_swap, order_swap, course_swap, out_swap, found_copied, found_before}
 use Rattle.ell_trie.proofs.lemmas.Leaves.{trie_leaf, leaf_link}
 use Rattle.ell_trie.proofs.lemmas.links.Sides.{side_apart}
-use Rattle.ell_trie.proofs.lemmas.links.Ranges.{out_after}
+use Rattle.ell_trie.proofs.lemmas.links.Ranges.{reached_after, out_after}
 use Rattle.ell_trie.proofs.lemmas.links.Finds.{met_after, met_before, absent_before, present_after}
 use Rattle.ell_trie.proofs.lemmas.links.Courses.{course_after}
 use Rattle.ell_trie.proofs.lemmas.links.Laws.{order_after}
@@ -152,8 +153,15 @@ module _ {Born : ℕ → Type 0} {o : Opening} {key : ℕ → ℕ} {child after 
         fits = leaf.fits;
       }
 
+  -- an internal node that is reached stays so
+  pub inner_stays : (x : ℕ) → IsInternal x → IsSpanned key child top x → IsSpanned key after top x
+  inner_stays x inner there = elim (Spans-still key child between top p s l copy (shape trie its_swap) there.spans) [
+    | inl e ↦ absurd (at.leaf (subst IsInternal e inner))
+    | inr r ↦ reached_after trie_between its_link x (record { low = there.low; high = there.high; spans = r })
+  ]
+
   module _ {Holds : ℕ → Type 0} (same : Holds copy ↔ Holds l) where
-    insert_keeps : InsertKeeps Born (BornLeaves Born child q) Holds o key child after top (child q t) k
+    pub insert_keeps : InsertKeeps Born (BornLeaves Born child q) Holds o key child after top (child q t) k
     insert_keeps =
         let now = order_after trie_between its_link order_between in record {
           trie = trie_leaf trie (leaf_link trie at);

@@ -1,7 +1,7 @@
 use Rattle.std.proofs.Common.{◌≡◌, ℕ, ◌<◌, ◌^◌, Bool, true, false, not, refl, sym, ap, ◌∙◌, subst, inl, inr}
 use Rattle.std.proofs.lemmas.Bool.{false≢true}
 use Rattle.ell_word.specs.Node.{IsInternal}
-use Rattle.ell_core.proofs.lemmas.tree.Removes.{same_or_not}
+use Rattle.ell_trie.proofs.lemmas.order.Removes.{same_or_not}
 use Rattle.ell_trie.specs.Halves.{InHalfOf, InsideOf}
 use Rattle.ell_trie.specs.Tries.{Opening, IsTrie}
 use Rattle.ell_trie.specs.Leaves.{LeafLink, LeafInsert, BornLeaves, LeafLinksStay}
@@ -33,8 +33,8 @@ module _ {Born : ℕ → Type 0} {o : Opening} {key : ℕ → ℕ} {child after 
     start = inl trie.start;
     closed = λ z u i b. cases_after z u (BornLeaves Born child q) i b (λ e f. inr (inl refl)) (λ c. inl (trie.closed z u i c)) (λ e. inr (inr (u, refl)));
     plain = λ z u i b plain. cases_after z u (λ v. o.holds v ≡ false) i b (λ e f. at.shape.plain) (λ c. trie.plain z u i c plain) (λ e. at.shape.plain_leaves u);
-    deeper = λ z u i b. cases_after z u (λ v. o.holds v ≡ true → o.depth z < o.depth v) i b
-        (λ e f c. absurd (false≢true (sym at.shape.plain ∙ c))) (λ c. trie.deeper z u i c) (λ e c. absurd (false≢true (sym (at.shape.plain_leaves u) ∙ c)));
+    deeper = λ z u i b. cases_after z u (λ v. o.holds v ≡ true → IsInternal v → o.depth z < o.depth v) i b
+        (λ e f c inner. absurd (false≢true (sym at.shape.plain ∙ c))) (λ c. trie.deeper z u i c) (λ e c inner. absurd (false≢true (sym (at.shape.plain_leaves u) ∙ c)));
     few = trie.few;
     small = small_after;
     leaf = λ z u i b plain. cases_after z u (λ v. ¬ IsInternal v → InHalfOf (key z) u (key v)) i b

@@ -1,30 +1,32 @@
-use Rattle.std.proofs.Common.{◌≡◌, ℕ, zero, suc, ◌^◌, ◌<◌, ◌≤◌, ◌⊎◌, Bool, true, false, not, nat_le, inl, inr, refl, sym, ap, ◌∙◌, subst, arith}
-use Rattle.std.proofs.Math.Nat.{pow-le-pow_right}
+use Rattle.std.proofs.Common.{◌≡◌, ℕ, ◌+◌, ◌*◌, ◌/◌, ◌%◌, if◌then◌else◌, zero, suc, ◌^◌, ◌<◌, ◌≤◌, ◌⊎◌, Bool, true, false, not, nat_le, inl, inr, refl, sym, ap, ◌∙◌, subst, arith}
+use Rattle.std.proofs.Math.Nat.{pow-le-pow_right, two-pow-succ}
 use Rattle.std.proofs.lemmas.Nat.{pow_pos}
-use Rattle.std.proofs.lemmas.Bool.{cases_lt}
+use Rattle.std.proofs.lemmas.Bool.{cases_lt, eq-eqb, ne_eqb}
 use Rattle.std.proofs.lemmas.Bool.Decides.{nat_tests}
 use Rattle.ell_block.specs.Blocks.{Block, from_of, middle_of, end_of, half_from, half_end, InBlock, InHalf, Inside, InBlockOf}
 use Rattle.ell_block.proofs.lemmas.Nesting.{bits_fall, blocks_nest, branches_nest, middle_inside, half_inside}
-use Rattle.ell_block.proofs.lemmas.Middles.{one_block, one_block_each}
+use Rattle.ell_block.proofs.lemmas.Middles.{below_power, one_block}
+use Rattle.ell_trie.specs.Ranks.{halvings, bit_of}
 use Rattle.ell_trie.specs.Halves.{InHalfOf, InsideOf, IsBranchBeside}
 
--- a number that is the middle of a block is not 0
-middle_more : (block : Block) → 0 < middle_of block
-middle_more block = let some = pow_pos block.bit in omega arith
-
--- a successor is not 0
-suc_more : (n : ℕ) → 0 < suc n
-suc_more n = omega arith
+-- a number that is the middle of a block of this bit can be halved so often
+halvings_are : (most bit place number : ℕ) → number ≡ (2 * place + 1) * 2 ^ bit → bit < most → halvings most number ≡ bit
+unfolding halvings
+halvings_are zero bit place number is less = absurd (omega arith)
+halvings_are (suc most) zero place number is less =
+    ap (λ b. if b then suc (halvings most (number / 2)) else 0) (ne_eqb (number % 2) 0 (omega arith))
+halvings_are (suc most) (suc bit) place number is less =
+    let twice : (2 * place + 1) * 2 ^ suc bit ≡ 2 * ((2 * place + 1) * 2 ^ bit) = ap (λ n. (2 * place + 1) * n) (two-pow-succ bit) ∙ omega arith in
+    let half : number / 2 ≡ (2 * place + 1) * 2 ^ bit = omega arith in
+    ap (λ b. if b then suc (halvings most (number / 2)) else 0) (eq-eqb (number % 2) 0 (omega arith))
+    ∙ ap suc (halvings_are most bit place (number / 2) half (omega arith))
 
 -- the bit of the block whose middle a number is
-pub bit_of : ℕ → ℕ
-bit_of zero = 0
-bit_of (suc n) = (one_block_each (suc n) (suc_more n)).0.bit
-
 pub bit_is : (number : ℕ) (block : Block) → number ≡ middle_of block → bit_of number ≡ block.bit
 unfolding bit_of
-bit_is zero block middle = absurd (let more = middle_more block in omega arith)
-bit_is (suc n) block middle = sym (ap (λ b. b.bit) ((one_block_each (suc n) (suc_more n)).2 block middle))
+bit_is number block middle =
+    let few = below_power block.bit in
+    halvings_are number block.bit block.place number middle (omega arith)
 
 -- the bit of the block of a number below 2 ^ exponent is less than the exponent
 pub bit_below : (number exponent : ℕ) → InBlockOf number number → number < 2 ^ exponent → bit_of number < exponent

@@ -1,41 +1,39 @@
-use Rattle.std.proofs.Common.{◌≡◌, ℕ, ◌+◌, ◌-◌, ◌%◌, ◌==◌, ◌<◌, ◌≤◌, Bool, true, false, List, [], ◌∷◌, length, inl, inr, sym, ap, ◌∙◌, subst, arith}
+use Rattle.std.proofs.Common.{◌≡◌, ℕ, ◌+◌, ◌-◌, ◌%◌, ◌==◌, ◌<◌, ◌≤◌, if◌then◌else◌, Bool, true, false, List, [], ◌∷◌, length, inl, inr, sym, ap, ◌∙◌, subst, arith}
 use Rattle.std.proofs.lemmas.Bool.{cases_eq, cases_Bool, false≢true, eq-eqb, ne_eqb}
 use Rattle.ell_word.specs.Node.{IsInternal}
-use Rattle.ell_core.specs.tree.Ranges.{Spans, root, goes, IsOrdered}
+use Rattle.ell_trie.specs.Ranges.{Spans, root, goes, IsOrdered}
 use Rattle.ell_block.specs.Blocks.{InBlockOf}
 use Rattle.ell_trie.specs.Halves.{InHalfOf, InsideOf}
+use Rattle.ell_trie.specs.Ranks.{bit_of, rank_by, rank_of}
 use Rattle.ell_trie.specs.Tries.{Opening, IsTrie, InnerPath, PathsAreShort, TriesAreShallow}
-use Rattle.ell_trie.proofs.lemmas.Middles.{bit_of, bit_is, bit_below, middle_there, half_middle, half_there, inside_falls, inside_inside, inside_half}
+use Rattle.ell_trie.proofs.lemmas.Middles.{bit_is, bit_below, middle_there, half_middle, half_there, inside_falls, inside_inside, inside_half}
 
 -- z is x or below it
 pub data Under (child : ℕ → Bool → ℕ) (x : ℕ) : ℕ → Type 0 where
   here : {z : ℕ} → z ≡ x → Under child x z
   next : {z y : ℕ} (u : Bool) → Under child x z → IsInternal z → y ≡ child z u → Under child x y
 
--- the rank of a node: its depth in the opening tree; below that, the more the less its bit, and a leaf's
-abbrev rank_by : ℕ → Bool → Bool → ℕ → ℕ → ℕ
-rank_by most true inner depth bit = depth
-rank_by most false true depth bit = most + (64 - bit)
-rank_by most false false depth bit = most + 65
-
-abbrev pub rank_of : Opening → (ℕ → ℕ) → ℕ → ℕ
-rank_of o key x = rank_by o.most (o.holds x) (x % 4 == 0) (o.depth x) (bit_of (key x))
-
 module _ (o : Opening) (key : ℕ → ℕ) (x : ℕ) where
-  rank_open : o.holds x ≡ true → rank_of o key x ≡ o.depth x
-  rank_open e = ap (λ b. rank_by o.most b (x % 4 == 0) (o.depth x) (bit_of (key x))) e
+  pub rank_open : o.holds x ≡ true → IsInternal x → rank_of o key x ≡ o.depth x
+  unfolding rank_of
+  rank_open e i = ap (λ b. rank_by o.most (x % 4 == 0) b (o.depth x) (bit_of (key x))) e
+      ∙ ap (λ b. if b then o.depth x else o.most + 65) (eq-eqb (x % 4) 0 i)
 
   rank_inner : o.holds x ≡ false → IsInternal x → rank_of o key x ≡ o.most + (64 - bit_of (key x))
-  rank_inner e i = ap (λ b. rank_by o.most b (x % 4 == 0) (o.depth x) (bit_of (key x))) e
-      ∙ ap (λ b. rank_by o.most false b (o.depth x) (bit_of (key x))) (eq-eqb (x % 4) 0 i)
+  unfolding rank_of
+  rank_inner e i = ap (λ b. rank_by o.most (x % 4 == 0) b (o.depth x) (bit_of (key x))) e
+      ∙ ap (λ b. if b then o.most + (64 - bit_of (key x)) else o.most + 65) (eq-eqb (x % 4) 0 i)
 
-  pub rank_leaf : o.holds x ≡ false → ¬ IsInternal x → rank_of o key x ≡ o.most + 65
-  rank_leaf e i = ap (λ b. rank_by o.most b (x % 4 == 0) (o.depth x) (bit_of (key x))) e
-      ∙ ap (λ b. rank_by o.most false b (o.depth x) (bit_of (key x))) (ne_eqb (x % 4) 0 i)
+  pub rank_leaf : ¬ IsInternal x → rank_of o key x ≡ o.most + 65
+  unfolding rank_of
+  rank_leaf i = ap (λ b. rank_by o.most b (o.holds x) (o.depth x) (bit_of (key x))) (ne_eqb (x % 4) 0 i) ∙ elim (cases_Bool (o.holds x)) [
+    | inl e ↦ ap (λ b. rank_by o.most false b (o.depth x) (bit_of (key x))) e
+    | inr e ↦ ap (λ b. rank_by o.most false b (o.depth x) (bit_of (key x))) e
+  ]
 
-  pub rank_most : (o.holds x ≡ true → o.depth x ≤ o.most) → IsInternal x → rank_of o key x ≤ o.most + 64
+  pub rank_most : (IsInternal x → o.holds x ≡ true → o.depth x ≤ o.most) → IsInternal x → rank_of o key x ≤ o.most + 64
   rank_most few i = elim (cases_Bool (o.holds x)) [
-    | inl up ↦ (let a = rank_open up in let most = few up in omega arith)
+    | inl up ↦ (let a = rank_open up i in let most = few i up in omega arith)
     | inr e ↦ (let a = rank_inner e i in omega arith)
   ]
 
@@ -71,9 +69,10 @@ module _ {Born : ℕ → Type 0} {o : Opening} {key : ℕ → ℕ} {child : ℕ 
       omega arith
 
   -- ranks rise
-  rises_open : (x : ℕ) (t : Bool) → IsInternal x → Born x → o.holds (child x t) ≡ true → rank_of o key x < rank_of o key (child x t)
-  rises_open x t i born held = elim (cases_Bool (o.holds x)) [
-    | inl up ↦ (let a = rank_open o key x up in let b = rank_open o key (child x t) held in let less = trie.deeper x t i born held in omega arith)
+  rises_open : (x : ℕ) (t : Bool) → IsInternal x → Born x → o.holds (child x t) ≡ true → IsInternal (child x t)
+      → rank_of o key x < rank_of o key (child x t)
+  rises_open x t i born held j = elim (cases_Bool (o.holds x)) [
+    | inl up ↦ (let a = rank_open o key x up i in let b = rank_open o key (child x t) held j in let less = trie.deeper x t i born held j in omega arith)
     | inr plain ↦ absurd (false≢true (sym (trie.plain x t i born plain) ∙ held))
   ]
 
@@ -83,19 +82,19 @@ module _ {Born : ℕ → Type 0} {o : Opening} {key : ℕ → ℕ} {child : ℕ 
       let b = rank_inner o key (child x t) plain j in
       let low = bit_low (child x t) j (trie.closed x t i born) plain in
       elim (cases_Bool (o.holds x)) [
-        | inl up ↦ (let a = rank_open o key x up in let most = trie.few x up in omega arith)
+        | inl up ↦ (let a = rank_open o key x up i in let most = trie.few x i up in omega arith)
         | inr e ↦ (let a = rank_inner o key x e i in let less = inside_falls (trie.inner x t i born e j) in let mine = bit_low x i born e in omega arith)
       ]
 
-  rises_leaf : (x : ℕ) (t : Bool) → IsInternal x → o.holds (child x t) ≡ false → ¬ IsInternal (child x t) → rank_of o key x < rank_of o key (child x t)
-  rises_leaf x t i plain j = let b = rank_leaf o key (child x t) plain j in let most = rank_most o key x (trie.few x) i in omega arith
+  rises_leaf : (x : ℕ) (t : Bool) → IsInternal x → ¬ IsInternal (child x t) → rank_of o key x < rank_of o key (child x t)
+  rises_leaf x t i j = let b = rank_leaf o key (child x t) j in let most = rank_most o key x (trie.few x) i in omega arith
 
   pub rank_rises : (x : ℕ) (t : Bool) → IsInternal x → Born x → rank_of o key x < rank_of o key (child x t)
-  rank_rises x t i born = elim (cases_Bool (o.holds (child x t))) [
-    | inl held ↦ rises_open x t i born held
-    | inr plain ↦ elim (cases_eq (child x t % 4) 0) [
-      | inl j ↦ rises_inner x t i born plain j
-      | inr j ↦ rises_leaf x t i plain j
+  rank_rises x t i born = elim (cases_eq (child x t % 4) 0) [
+    | inr j ↦ rises_leaf x t i j
+    | inl j ↦ elim (cases_Bool (o.holds (child x t))) [
+      | inl held ↦ rises_open x t i born held j
+      | inr plain ↦ rises_inner x t i born plain j
     ]
   ]
 
@@ -141,6 +140,20 @@ module _ {Born : ℕ → Type 0} {o : Opening} {key : ℕ → ℕ} {child : ℕ 
       let at_z = under_inside born plain inside below i in
       subst (λ n. InHalfOf outer half (key n)) (sym e) (inside_half at_z (key_below z u i b.0 b.1))
 
+-- a trie is one also where other leaves count as born
+pub same_born : {Born BornAfter : ℕ → Type 0} {o : Opening} {key : ℕ → ℕ} {child : ℕ → Bool → ℕ}
+    → ((x : ℕ) → IsInternal x → BornAfter x → Born x) → ((x : ℕ) → Born x → BornAfter x) → IsTrie Born o key child → IsTrie BornAfter o key child
+same_born before later trie = record {
+  start = later 0 trie.start;
+  closed = λ x t i b. later _ (trie.closed x t i (before x i b));
+  plain = λ x t i b. trie.plain x t i (before x i b);
+  deeper = λ x t i b. trie.deeper x t i (before x i b);
+  few = trie.few;
+  small = λ x i b. trie.small x i (before x i b);
+  leaf = λ x t i b. trie.leaf x t i (before x i b);
+  inner = λ x t i b. trie.inner x t i (before x i b);
+}
+
 pub paths_are_short : PathsAreShort
 paths_are_short born o key child trie path x y upper lower is_born plain i j leads is_upper is_lower =
     let falls = path_falls trie path x y is_born plain i j leads in
@@ -148,6 +161,10 @@ paths_are_short born o key child trie path x y upper lower is_born plain i j lea
     omega arith
 
 -- from node 0 ranks rise to that of an internal node at most
-pub tries_are_shallow : TriesAreShallow
-tries_are_shallow born o key child trie path y j leads =
+pub inner_path_short : {Born : ℕ → Type 0} {o : Opening} {key : ℕ → ℕ} {child : ℕ → Bool → ℕ} → IsTrie Born o key child
+    → (path : List Bool) (y : ℕ) → IsInternal y → InnerPath child 0 path y → length path ≤ o.most + 64
+inner_path_short {o = o} {key = key} trie path y j leads =
     let all = path_rises trie path 0 y trie.start leads in let most = rank_most o key y (trie.few y) j in omega arith
+
+pub tries_are_shallow : TriesAreShallow
+tries_are_shallow born o key child trie path y j leads = inner_path_short trie path y j leads

@@ -1,7 +1,7 @@
 use Rattle.std.proofs.Common.{◌≡◌, ℕ, ◌↔◌, Bool, true, not, inl, inr, refl, sym, ap, ◌∙◌, subst, nat_le, arith}
 use Rattle.ell_word.specs.Node.{IsInternal}
-use Rattle.ell_core.specs.tree.Ranges.{root, FindsLeaf, at_leaf, below, here}
-use Rattle.ell_core.proofs.lemmas.tree.Bounds.{below_of}
+use Rattle.ell_trie.specs.Ranges.{root, FindsLeaf, at_leaf, below, here}
+use Rattle.ell_trie.proofs.lemmas.order.Bounds.{below_of}
 use Rattle.ell_trie.specs.Courses.{OnTrieCourse, ordinary}
 use Rattle.ell_trie.specs.Truths.{StaysTrue}
 use Rattle.ell_trie.specs.Readers.{TreeState, Fixed, IsGood, TreeStep, leaf_insert, edge_insert, leaf_swap, cut, none, Has, ComesTo, begins, changes, goes_on, LooksFindWhatWas}

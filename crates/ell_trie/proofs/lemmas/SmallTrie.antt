@@ -2,7 +2,7 @@ use Rattle.std.proofs.Common.{◌≡◌, ℕ, ◌^◌, if◌then◌else◌, ◌<
 use Rattle.std.proofs.lemmas.Bool.{cases_eq, false≢true, ne_eqb}
 use Rattle.std.proofs.lemmas.Bool.Decides.{nat_tests}
 use Rattle.ell_word.specs.Node.{IsInternal}
-use Rattle.ell_core.specs.tree.Ranges.{low_of, high_of, Spans, root, goes, here}
+use Rattle.ell_trie.specs.Ranges.{low_of, high_of, Spans, root, goes, here}
 use Rattle.ell_block.proofs.lemmas.Middles.{not_in_block}
 use Rattle.ell_trie.specs.Halves.{InHalfOf, InsideOf}
 use Rattle.ell_trie.specs.Tries.{In, IsTrie}
@@ -34,9 +34,9 @@ plain : (x : ℕ) (u : Bool) → IsInternal x → In small_born x → small_open
 plain x true i b = by_nodes (λ v. small_opening.holds v ≡ false → small_opening.holds (small_child v true) ≡ false) (λ e. refl) (λ e. refl) x i b
 plain x false i b = by_nodes (λ v. small_opening.holds v ≡ false → small_opening.holds (small_child v false) ≡ false) (λ e. refl) (λ e. refl) x i b
 
-deeper : (x : ℕ) (u : Bool) → IsInternal x → In small_born x → small_opening.holds (small_child x u) ≡ true → 0 < 0
-deeper x true i b = by_nodes (λ v. small_opening.holds (small_child v true) ≡ true → 0 < 0) (λ e. absurd (false≢true e)) (λ e. absurd (false≢true e)) x i b
-deeper x false i b = by_nodes (λ v. small_opening.holds (small_child v false) ≡ true → 0 < 0) (λ e. absurd (false≢true e)) (λ e. absurd (false≢true e)) x i b
+deeper : (x : ℕ) (u : Bool) → IsInternal x → In small_born x → small_opening.holds (small_child x u) ≡ true → IsInternal (small_child x u) → 0 < 0
+deeper x true i b = by_nodes (λ v. small_opening.holds (small_child v true) ≡ true → IsInternal (small_child v true) → 0 < 0) (λ e. absurd (false≢true e)) (λ e. absurd (false≢true e)) x i b
+deeper x false i b = by_nodes (λ v. small_opening.holds (small_child v false) ≡ true → IsInternal (small_child v false) → 0 < 0) (λ e. absurd (false≢true e)) (λ e. absurd (false≢true e)) x i b
 
 leaf : (x : ℕ) (u : Bool) → IsInternal x → In small_born x → small_opening.holds x ≡ false → ¬ IsInternal (small_child x u)
     → InHalfOf (small_key x) u (small_key (small_child x u))
@@ -58,7 +58,7 @@ small_trie = record {
   closed = closed;
   plain = plain;
   deeper = deeper;
-  few = λ x e. omega arith;
+  few = λ x i e. omega arith;
   small = λ x i b. by_nodes (λ v. small_opening.holds v ≡ false → small_key v < 2 ^ 64) (λ e. omega arith) (λ e. omega arith) x i b;
   leaf = leaf;
   inner = inner;

@@ -1,13 +1,14 @@
 use Rattle.std.proofs.Common.{◌≡◌, ◌≢◌, ℕ, ◌<◌, ◌^◌, ◌↔◌, Bool, true, false, nat_le, refl, sym, ap, ◌∙◌, subst, inl, inr, arith}
 use Rattle.std.proofs.lemmas.Bool.{false≢true}
 use Rattle.ell_word.specs.Node.{IsInternal}
-use Rattle.ell_core.specs.tree.Ranges.{Spans, IsCutOut, FindsLeaf, at_leaf, below, IsOrdered}
-use Rattle.ell_core.proofs.lemmas.tree.Replaces.{Replaces, IsOrdered-replace, Meets-replaced, Meets-unreplaced, stays_out, OnCourse-replace}
+use Rattle.ell_trie.specs.Ranges.{Spans, IsCutOut, FindsLeaf, at_leaf, below, IsOrdered}
+use Rattle.ell_trie.proofs.lemmas.order.Replaces.{Replaces, IsOrdered-replace, Meets-replaced, Meets-unreplaced, stays_out, OnCourse-replace}
 use Rattle.ell_trie.specs.Halves.{InHalfOf, InsideOf}
+use Rattle.ell_trie.specs.Ranks.{rank_of}
 use Rattle.ell_trie.specs.Tries.{Opening, IsTrie}
 use Rattle.ell_trie.specs.Courses.{OnTrieCourse, ordinary, passes, missed, strange}
 use Rattle.ell_trie.specs.Swaps.{LeafSwap, BornLeaf, SwapsKeep}
-use Rattle.ell_trie.proofs.lemmas.Paths.{rank_of, rank_leaf, rank_most, in_order, spans_born}
+use Rattle.ell_trie.proofs.lemmas.Paths.{rank_leaf, rank_most, in_order, spans_born}
 
 module _ {Born : ℕ → Type 0} {o : Opening} {key : ℕ → ℕ} {child after : ℕ → Bool → ℕ} {top p : ℕ} {s : Bool} {l c : ℕ}
     (trie : IsTrie Born o key child) (swap : LeafSwap Born o key child after top p s l c) where
@@ -24,7 +25,7 @@ module _ {Born : ℕ → Type 0} {o : Opening} {key : ℕ → ℕ} {child after 
     was = swap.was;
     leaf = swap.leaf;
     node = swap.outer;
-    rises = (let leaf = rank_leaf o key c swap.plain swap.outer in let most = rank_most o key p (trie.few p) swap.from in omega arith);
+    rises = (let leaf = rank_leaf o key c swap.outer in let most = rank_most o key p (trie.few p) swap.from in omega arith);
     same = swap.same;
   }
 
@@ -52,8 +53,8 @@ module _ {Born : ℕ → Type 0} {o : Opening} {key : ℕ → ℕ} {child after 
     start = inl trie.start;
     closed = λ z u i b. swap_cases z u (BornLeaf Born c) i b (λ e f. inr refl) (λ d. inl (trie.closed z u i d));
     plain = λ z u i b plain. swap_cases z u (λ v. o.holds v ≡ false) i b (λ e f. swap.plain) (λ d. trie.plain z u i d plain);
-    deeper = λ z u i b. swap_cases z u (λ v. o.holds v ≡ true → o.depth z < o.depth v) i b
-        (λ e f held. absurd (false≢true (sym swap.plain ∙ held))) (λ d. trie.deeper z u i d);
+    deeper = λ z u i b. swap_cases z u (λ v. o.holds v ≡ true → IsInternal v → o.depth z < o.depth v) i b
+        (λ e f held inner. absurd (false≢true (sym swap.plain ∙ held))) (λ d. trie.deeper z u i d);
     few = trie.few;
     small = small_swap;
     leaf = λ z u i b plain. swap_cases z u (λ v. ¬ IsInternal v → InHalfOf (key z) u (key v)) i b
@@ -83,7 +84,7 @@ module _ {Born : ℕ → Type 0} {o : Opening} {key : ℕ → ℕ} {child after 
       | inr d ↦ passes i (out_swap x b h) (e ∙ sym d) (course_swap k (subst Born (sym e) (trie.closed x (nat_le (key x) k) i b)) n)
     ]
     course_swap k b (missed i plain lacks) = missed i plain lacks
-    course_swap k b (strange i ne) = strange i ne
+    course_swap k b (strange i plain ne) = strange i plain ne
 
   -- where what is asked holds of both leaves or of none, the same is found
   module _ {Holds : ℕ → Type 0} (copy : Holds c ↔ Holds l) where

@@ -1,14 +1,14 @@
 use Rattle.std.proofs.Common.{◌≡◌, ◌≢◌, ℕ, ◌<◌, ◌≤◌, Bool, false, nat_le, inl, inr, sym, ap, ◌∙◌, subst, arith}
 use Rattle.std.proofs.lemmas.Bool.{cases_eq}
 use Rattle.ell_word.specs.Node.{IsInternal}
-use Rattle.ell_core.specs.tree.Ranges.{next_node, Spans, IsCutOut, IsSpanned, FindsLeaf, at_leaf, below, IsOrdered, OnCourse, here, off, dead}
-use Rattle.ell_core.proofs.lemmas.tree.Removes.{Removes, same_or_not, stays, was_p, was_l, Spans-left, Meets-removed, Meets-kept, IsOrdered-remove}
-use Rattle.ell_core.proofs.lemmas.tree.Bounds.{Meets-up, Meets-down}
+use Rattle.ell_trie.specs.Ranges.{next_node, Spans, IsCutOut, IsSpanned, FindsLeaf, at_leaf, below, IsOrdered, OnCourse, here, off, dead}
+use Rattle.ell_trie.proofs.lemmas.order.Removes.{Removes, same_or_not, stays, was_p, was_l, Spans-left, Meets-removed, Meets-kept, IsOrdered-remove}
+use Rattle.ell_trie.proofs.lemmas.order.Bounds.{Meets-up, Meets-down}
 use Rattle.ell_block.specs.Blocks.{InBlockOf}
 use Rattle.ell_trie.specs.Tries.{Opening, IsTrie}
 use Rattle.ell_trie.specs.Courses.{OnTrieCourse, ordinary, passes, missed, strange}
 use Rattle.ell_trie.specs.Links.{Links}
-use Rattle.ell_core.proofs.lemmas.tree.Replaces.{Spans-still}
+use Rattle.ell_trie.proofs.lemmas.order.Replaces.{Spans-still}
 use Rattle.ell_trie.specs.Swaps.{LeafSwap}
 use Rattle.ell_trie.proofs.lemmas.Swaps.{shape, trie_swap, order_swap}
 use Rattle.ell_trie.specs.Truths.{StaysTrue, LinksStayTrue, SwapsStayTrue, CutsStayTrue}
@@ -98,7 +98,7 @@ module _ {Born : ℕ → Type 0} {o : Opening} {key : ℕ → ℕ} {child after 
   pub link_true : (j : ℕ) {z : ℕ} → Born z → OnTrieCourse o key child top j z → StaysTrue key child after Holds j z
   link_true j b (ordinary c) = tree_link j c
   link_true j b (passes {x = z} {y = y} i h e rest) = next_link j z y i h e (link_true j (subst Born (sym e) (trie.closed z (nat_le (key z) j) i b)) rest)
-  link_true j b (strange {x = z} i ne) = leaf_true key child after j z i
+  link_true j b (strange {x = z} i plain ne) = leaf_true key child after j z i
   link_true j b (missed {x = z} i plain lacks) = missed_true trie (trie_after trie link) j z b (inl b) i plain lacks
 
 pub links_stay_true : LinksStayTrue
@@ -153,7 +153,7 @@ module _ {Born : ℕ → Type 0} {o : Opening} {key : ℕ → ℕ} {child after 
     pub cut_true : IsTrie Born o key after → (j : ℕ) {z : ℕ} → Born z → OnTrieCourse o key child top j z → StaysTrue key child after Holds j z
     cut_true now j b (ordinary c) = tree_cut j c
     cut_true now j b (passes {x = z} {y = y} i h e rest) = next_cut j z y i h e (cut_true now j (subst Born (sym e) (trie.closed z (nat_le (key z) j) i b)) rest)
-    cut_true now j b (strange {x = z} i ne) = leaf_true key child after j z i
+    cut_true now j b (strange {x = z} i plain ne) = leaf_true key child after j z i
     cut_true now j b (missed {x = z} i plain lacks) = missed_true trie now j z b b i plain lacks
 
 pub cuts_stay_true : CutsStayTrue
@@ -182,7 +182,7 @@ module _ {Born : ℕ → Type 0} {o : Opening} {key : ℕ → ℕ} {child after 
   swap_true : (j : ℕ) {z : ℕ} → Born z → OnTrieCourse o key child top j z → StaysTrue key child after Holds j z
   swap_true j b (ordinary c) = tree_swap j c
   swap_true j b (passes {x = z} {y = y} i h e rest) = next_swap j z y i h e (swap_true j (subst Born (sym e) (trie.closed z (nat_le (key z) j) i b)) rest)
-  swap_true j b (strange {x = z} i ne) = leaf_true key child after j z i
+  swap_true j b (strange {x = z} i plain ne) = leaf_true key child after j z i
   swap_true j b (missed {x = z} i plain lacks) = missed_true trie (trie_swap trie swap) j z b (inl b) i plain lacks
 
 pub swaps_stay_true : SwapsStayTrue

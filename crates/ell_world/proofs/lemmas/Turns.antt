@@ -11,7 +11,7 @@ use Rattle.ell_core.specs.declared.event.CoreFault.{CoreFault}
 use Rattle.ell_core.specs.declared.event.CoreFault.TheVariants.{NoSuchWorker, NotOwned, NotNow, NoCards, OwnedTwice, NoMemory}
 use Rattle.ell_world.specs.declared.memory.Memory.{Memory}
 use Rattle.ell_world.specs.declared.worker.Worker.{Worker}
-use Rattle.ell_layout.specs.Words.{put}
+use Rattle.ell_layout.specs.Words.{Words, put}
 use Rattle.ell_core.specs.state.Machine as machine
 use Rattle.ell_core.specs.state.Machine.{Machine, Scene, scene, with_scene}
 use Rattle.ell_core.specs.acts.Events.{Happens, Steps, TurnRefused}
@@ -20,7 +20,7 @@ use Rattle.ell_world.specs.Fits.{SceneFits}
 use Rattle.ell_world.specs.Inside.{words_in, worker_in, worker_at, view_of, scene_in, SameSize, IsReady, Answered, RefusedAt}
 use Rattle.ell_world.specs.World.{WorldValue, machine_of, WorldFits, StepRefused}
 use Rattle.ell_world.proofs.lemmas.Ready.{scene_fits}
-use Rattle.ell_core.proofs.lemmas.keeping.AllEvents.{steps_lawful}
+use Rattle.ell_core.proofs.lemmas.keeping.AllEvents.{steps_follow, steps_lawful}
 
 -- the value of a world with these words and workers
 abbrev pub world_at : {A : Type 0} → Memory A → List (Worker A) → WorldValue
@@ -142,10 +142,21 @@ module _ {A : Type 0} (memory memory' : Memory A) (workers : List (Worker A)) (e
   pub ready : WorldFits (world_at memory workers) → IsReady memory v
   ready fits = record {
     sized = record { size = fits.size; limit = fits.limit };
+    plain = fits.plain;
     fits = subst (λ cards. SceneFits cards (scene_in memory v)) (cards_are memory workers)
         (subst (SceneFits (machine_of (world_at memory workers)).last_card) (sym (scene_there memory workers e.worker v there))
         (scene_fits (machine_of (world_at memory workers)) fits.lawful.stages e.worker fits.lawful.invariant));
   }
+
+  -- an answered turn leaves from where on the tree is flat
+  flat_kept : (said : Stepped) → WorldFits (world_at memory workers) → Answered e.act memory v memory' v' said
+      → (words_in memory').flat_from ≡ (words_in memory).flat_from
+  flat_kept said fits h =
+      let old = machine_of (world_at memory workers) in
+      let new = machine_of (world_at memory' (set workers e.worker v')) in
+      ap (λ (w : Words). w.flat_from) (words_are memory' (set workers e.worker v'))
+      ∙ ((steps_follow old fits.lawful.stages e said new fits.lawful.invariant (step_done said h)).words.flat
+      ∙ ap (λ (w : Words). w.flat_from) (sym (words_are memory workers)))
 
   -- after an answered turn the world fits
   fits_done : (said : Stepped) → WorldFits (world_at memory workers) → Answered e.act memory v memory' v' said
@@ -154,6 +165,7 @@ module _ {A : Type 0} (memory memory' : Memory A) (workers : List (Worker A)) (e
       let more = same.cards in let size = same.size in let was = fits.size in let limit = fits.limit in record {
         size = size ∙ (was ∙ ap table_size (sym more));
         limit = omega arith;
+        plain = flat_kept said fits h ∙ fits.plain;
         lawful = steps_lawful (machine_of (world_at memory workers)) e said (machine_of (world_at memory' (set workers e.worker v'))) fits.lawful (step_done said h);
       }
 

@@ -1,5 +1,6 @@
-use Rattle.std.proofs.Common.{◌*◌, ◌≤◌, length}
+use Rattle.std.proofs.Common.{◌≤◌, length}
 use Rattle.std.specs.Prelude.{vec_capacity}
+use Rattle.ell_core.proofs.lemmas.tree.Nodes.{fuel_for}
 use Rattle.ell_core.proofs.lemmas.tree.Walk.{Walked, pending}
 use Rattle.ell_core.proofs.keys.pairs_of_tree.Given as goal
 
@@ -13,4 +14,5 @@ invariant-loop-node g l = record {
 
 -- the nodes to come
 abbrev pub decreases-loop-node : goal.decreases-loop-node
-decreases-loop-node g l = length (pending (g.T.TreeWords.words l.fn.tree) (4 * vec_capacity l.fn.waiting) l.waiting.items)
+decreases-loop-node g l =
+    let w = g.T.TreeWords.words l.fn.tree in length (pending w (fuel_for w (vec_capacity l.fn.waiting)) l.waiting.items)

@@ -10,13 +10,13 @@ use Rattle.ell_core.specs.declared.fact.Fact.TheVariants as fact
 use Rattle.ell_layout.specs.Words.{Words, put, IsLeaf}
 use Rattle.ell_core.specs.state.Machine.{Ledger, Worker, Machine, Scene, scene}
 use Rattle.ell_core.specs.acts.Searching.{value_at, leaf_answer, card_answer, settled, ledger_after, HasAnswer, Answer}
-use Rattle.ell_core.specs.tree.Ranges.{at_leaf}
+use Rattle.ell_trie.specs.Ranges.{at_leaf}
 use Rattle.ell_core.specs.history.Stages.{Stages}
 use Rattle.ell_core.specs.history.Invariant.{StandIsSound, Flagged, Invariant}
 use Rattle.ell_core.specs.statements.Effects.{value_in, contents_in}
 use Rattle.ell_core.proofs.lemmas.outcomes.Decide.{same_value, some_not_none}
 use Rattle.ell_core.proofs.lemmas.keeping.search.Answer.{gives_if, gives_one, gives_else}
-use Rattle.ell_core.proofs.lemmas.tree.Bounds.{leaf_key}
+use Rattle.ell_trie.proofs.lemmas.order.Bounds.{leaf_key}
 use Rattle.ell_core.specs.declared.view.Entry.{Entry}
 use Rattle.ell_core.specs.declared.view.Entry.TheVariants.{Present, Absent}
 use Rattle.ell_ops.specs.declared.reply.Reply.{Reply}

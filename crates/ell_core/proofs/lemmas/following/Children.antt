@@ -8,7 +8,7 @@ use Rattle.ell_core.specs.declared.event.Event.{Event}
 use Rattle.ell_core.specs.declared.event.Stepped.{Stepped}
 use Rattle.ell_layout.specs.Words.{Words, with_update, relinked}
 use Rattle.ell_core.specs.state.Machine.{Machine, Scene, scene}
-use Rattle.ell_layout.specs.Cards.{exchange_side, claimed, insert_filling, delete_filling}
+use Rattle.ell_layout.specs.Cards.{exchange_side, claimed, put_filling, value_below, delete_filling}
 use Rattle.ell_core.specs.acts.Exchanges.{won_or_lost, exchanged_update, exchanged_child, finds_link}
 use Rattle.ell_core.specs.acts.Events.{Row, Steps}
 use Rattle.ell_core.specs.acts.Wins.{wins_by}
@@ -40,7 +40,7 @@ claim_child : (w : Words) (tag : ℕ) (filling : _) (x : ℕ) (right : Bool) →
 claim_child w tag filling x right low = (claimed_claims w tag filling).others.child x right (λ e. omega arith)
 
 -- what an act that exchanges no child leaves of the children of nodes of claimed cards
-row_children : (a : Act) (s : Scene) (said : Stepped) (after : Scene) → Row a s said after → ((d : ℕ) → sum_by child_changes (wins_by a s.worker.card said d) ≡ 0)
+pub row_children : (a : Act) (s : Scene) (said : Stepped) (after : Scene) → Row a s said after → ((d : ℕ) → sum_by child_changes (wins_by a s.worker.card said d) ≡ 0)
     → (x : ℕ) (right : Bool) → card x < s.words.next → after.words.child x right ≡ s.words.child x right
 row_children (act.Begin op) s said after row none x right low = ap (λ (z : Scene). z.words.child x right) row.gives
 row_children act.Upd s said after row none x right low = ap (λ (z : Scene). z.words.child x right) row.gives
@@ -49,7 +49,7 @@ row_children act.Again s said after row none x right low = ap (λ (z : Scene). z
 row_children act.Leave s said after row none x right low = ap (λ (z : Scene). z.words.child x right) row.gives
 row_children act.Answer s said after row none x right low = ap (λ (z : Scene). z.words.child x right) row.gives
 row_children act.Claim s said after (inl row) none x right low = ap (λ (z : Scene). z.words.child x right) row.gives
-    ∙ claim_child s.words row.parent.tag (insert_filling s.words.next row.what.key row.what.value row.parent.node row.leaf (s.words.key row.leaf) (s.words.value row.leaf)) x right low
+    ∙ claim_child s.words row.parent.tag (put_filling s.words.next row.what.key row.what.value row.node_key row.parent.node row.below (s.words.key row.below) (value_below s.words row.below)) x right low
 row_children act.Claim s said after (inr row) none x right low = ap (λ (z : Scene). z.words.child x right) row.gives
     ∙ claim_child s.words row.grandparent.tag (delete_filling row.grandparent.node row.parent.node row.leaf row.parent.word) x right low
 row_children act.IFlag s said after row none x right low = ap (λ (z : Scene). z.words.child x right) row.gives ∙ update_child s.words _ _ _ x right

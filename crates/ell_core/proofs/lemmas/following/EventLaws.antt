@@ -9,7 +9,7 @@ use Rattle.ell_layout.specs.Words.{Words}
 use Rattle.ell_core.specs.state.Machine.{Machine, Scene, scene, with_scene}
 use Rattle.ell_core.specs.declared.fact.Fact.TheVariants.{Marked}
 use Rattle.ell_layout.specs.declared.field.Field.{Field}
-use Rattle.ell_layout.specs.Cards.{card_key, card_value, is_replace_card, claimed, insert_filling, delete_filling}
+use Rattle.ell_layout.specs.Cards.{card_key, card_value, is_replace_card, claimed, put_filling, value_below, delete_filling}
 use Rattle.ell_core.specs.acts.Searching.{claims}
 use Rattle.ell_core.specs.acts.Exchanges.{won_or_lost, IChild}
 use Rattle.ell_core.specs.acts.Events.{Row, Happens, Steps}
@@ -54,7 +54,7 @@ claimed_keys m stage i said becomes tag filling invariant is after =
 claim_keys : (m : Machine) (stage : Stages) (i : ℕ) (said : Stepped) (becomes : Scene) → Invariant m stage
     → Row act.Claim (scene m i) said becomes → Follows m stage act.Claim i said (with_scene m i becomes) → SamePairs m.words becomes.words
 claim_keys m stage i said becomes invariant (inl row) after =
-    claimed_keys m stage i said becomes row.parent.tag (insert_filling m.words.next row.what.key row.what.value row.parent.node row.leaf (m.words.key row.leaf) (m.words.value row.leaf)) invariant row.gives after
+    claimed_keys m stage i said becomes row.parent.tag (put_filling m.words.next row.what.key row.what.value row.node_key row.parent.node row.below (m.words.key row.below) (value_below m.words row.below)) invariant row.gives after
 claim_keys m stage i said becomes invariant (inr row) after =
     claimed_keys m stage i said becomes row.grandparent.tag (delete_filling row.grandparent.node row.parent.node row.leaf row.parent.word) invariant row.gives after
 

@@ -7,11 +7,13 @@ use Rattle.ell_core.specs.declared.fact.Fact.TheVariants.{Marked}
 use Rattle.ell_layout.specs.declared.field.Field.{Field}
 use Rattle.ell_layout.specs.Words.{Words}
 use Rattle.ell_core.specs.state.Machine.{Machine, Scene, scene}
-use Rattle.ell_layout.specs.Cards.{is_right, child_for, claimed, insert_filling, delete_filling}
+use Rattle.ell_layout.specs.Cards.{is_right, child_for, claimed, put_filling, value_below, delete_filling}
 use Rattle.ell_core.specs.acts.Searching.{claims}
 use Rattle.ell_core.specs.acts.Events.{Row}
 use Rattle.ell_core.specs.tree.Tree.{OnWalk, here, next}
-use Rattle.ell_core.specs.tree.Ranges.{OnCourse}
+use Rattle.ell_trie.specs.Courses.{OnTrieCourse}
+use Rattle.ell_core.specs.tree.Flat.{opening_from, IsInBlock}
+use Rattle.ell_core.proofs.lemmas.stages.LaterKeys.{block_later}
 use Rattle.ell_core.specs.history.Stages.{Stages, Born, IClaimed}
 use Rattle.ell_core.specs.history.Invariant.{top, IsOnCourse, WordsAreSound, Invariant}
 use Rattle.ell_core.specs.history.Later.{WordsLater, Follows}
@@ -35,7 +37,7 @@ OnWalk-down w key inner (next outer on) = next outer (OnWalk-down w key inner on
 -- where links are the same, courses are
 links_course : (old new : Words) → SameLinks old new → (key x : ℕ) → IsOnCourse old key x → IsOnCourse new key x
 links_course old new same key x on =
-    subst (λ (t : Type 0). t) (λ t. OnCourse (sym same.key t) (sym same.child t) top key x) on
+    subst (λ (t : Type 0). t) (λ t. OnTrieCourse (opening_from (sym same.flat t)) (sym same.key t) (sym same.child t) top key x) on
 
 module _ (m : Machine) (stage : Stages) (i : ℕ) (said : Stepped) (becomes : Scene) (invariant : Invariant m stage) where
   -- a claim keeps courses
@@ -54,7 +56,7 @@ module _ (m : Machine) (stage : Stages) (i : ℕ) (said : Stepped) (becomes : Sc
   pub course_by : (a : Act) → Row a (scene m i) said becomes
       → (key x : ℕ) → Born stage x → IsOnCourse m.words key x → IsOnCourse becomes.words key x
   course_by act.Claim (inl row) key x born on =
-      course_claim row.parent.tag (insert_filling m.words.next row.what.key row.what.value row.parent.node row.leaf (m.words.key row.leaf) (m.words.value row.leaf)) row.gives key x born on
+      course_claim row.parent.tag (put_filling m.words.next row.what.key row.what.value row.node_key row.parent.node row.below (m.words.key row.below) (value_below m.words row.below)) row.gives key x born on
   course_by act.Claim (inr row) key x born on =
       course_claim row.grandparent.tag (delete_filling row.grandparent.node row.parent.node row.leaf row.parent.word) row.gives key x born on
   course_by (act.IChild c) row key x born on = elim (waits_or_made m stage i invariant c row.may) [
@@ -84,14 +86,15 @@ module _ (m : Machine) (stage : Stages) (i : ℕ) (said : Stepped) (becomes : Sc
 
 -- the child on the key's side is as it was, or the node is on the walk
 child_or_walk : (old new : Words) (stage : Stages) → WordsAreSound old stage → WordsLater old new → (after : Stages) → WordsAreSound new after
-    → (key x : ℕ) → Born stage x → IsOnCourse new key x → Moved old new x (is_right old x key)
+    → (key x : ℕ) → Born stage x → Born after x → IsInBlock old x key → IsOnCourse new key x → Moved old new x (is_right old x key)
     → (child_for new key x ≡ child_for old key x) ⊎ OnWalk new key 0 x
-child_or_walk old new stage sound words after sound' key x born on moved = elim moved [
+child_or_walk old new stage sound words after sound' key x born born' there on moved = elim moved [
   | inl same ↦
       let side : is_right new x key ≡ is_right old x key =
       ap (λ n. nat_le n key) (words.key x ((sound.cards (card x)).claimed.0 (born-claimed (stage (card x)) (x % 4) born))) in
       inl (ap (new.child x) side ∙ same)
-  | inr there ↦ inr (joins_walk new sound'.tree.ordered key on (here refl) there)
+  | inr reached ↦ inr (joins_walk new sound'.tree.ordered (λ z right inner b. (sound'.children z inner b).born right) sound'.tree.trie key born' on (here refl) reached
+      (block_later old new stage sound words x x key key refl refl born there))
 ]
 
 -- courses go on, whatever the event is
@@ -102,7 +105,7 @@ courses_go_on m stage e said m' invariant h key x born on =
     let on' = subst (λ (t : Machine). IsOnCourse t.words key x) (sym h.gives)
     (course_by m stage e.worker said h.becomes invariant e.act h.happens.row key x born on) in (
       on',
-      λ inner. child_or_walk m.words m'.words stage invariant.words follows.words follows.stages follows.invariant.words key x born on'
+      λ inner there. child_or_walk m.words m'.words stage invariant.words follows.words follows.stages follows.invariant.words key x born (follows.later.born x born) there on'
           (subst (λ (t : Machine). Moved m.words t.words x (is_right m.words x key)) (sym h.gives)
           (moved_by m stage e.worker said h.becomes invariant e.act h.happens.row happened x (is_right m.words x key) inner born)),
     )

@@ -12,11 +12,11 @@ use Rattle.ell_layout.specs.Words.{IsLeaf}
 use Rattle.ell_core.specs.state.Handovers.{WorkerIsIdle}
 use Rattle.ell_core.specs.tree.Tree.{Reached}
 use Rattle.ell_core.specs.soundness.Sound.{WorkerOwns, MayChange, IsInHand}
-use Rattle.ell_core.specs.tree.Ranges.{at_leaf}
+use Rattle.ell_trie.specs.Ranges.{at_leaf}
 use Rattle.ell_core.specs.history.Stages.{Stages}
 use Rattle.ell_core.specs.history.Invariant.{Invariant}
 use Rattle.ell_core.proofs.lemmas.following.Sound.{flag_sound}
-use Rattle.ell_core.proofs.lemmas.tree.Bounds.{leaf_key, leaf_holds}
+use Rattle.ell_trie.proofs.lemmas.order.Bounds.{leaf_key, leaf_holds}
 use Rattle.ell_core.specs.declared.view.Entry.TheVariants.{Present}
 
 -- the invariant holds of the state

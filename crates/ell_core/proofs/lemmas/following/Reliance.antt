@@ -61,7 +61,7 @@ module _ (w : Words) (stage : Stages) (sound : WordsAreSound w stage) where
   inserting c inserts = let said = (sound.cards c).insert inserts in record {
     above = said.above;
     parent = may_read (w.p c) said.parent.inner said.parent.born;
-    leaf = said.leaf.born;
+    leaf = said.lower;
   }
 
   -- where a delete's card goes
@@ -125,7 +125,7 @@ in_table m stage invariant x born = ((invariant.words.cards (card x)).claimed).0
 
 -- a down leads from a node to one of the table of greater rank
 goes_down : (m : Machine) (stage : Stages) (i : ℕ) (said : Stepped) (after : Scene) (x y : ℕ) → Invariant m stage → Down (scene m i) said after
-    → (m.worker i).search.node ≡ Some x → after.worker.search.node ≡ Some y → (rank x < rank y) × (card y ≤ m.last_card)
+    → (m.worker i).search.node ≡ Some x → after.worker.search.node ≡ Some y → (rank m.words x < rank m.words y) × (card y ≤ m.last_card)
 goes_down m stage i said after x y invariant row at to =
     let w = m.words in
     let right = is_right w row.seen.node (key_of row.op) in
@@ -137,8 +137,8 @@ goes_down m stage i said after x y invariant row at to =
     let below = in_table m stage invariant (w.child row.seen.node right) (children.born right) in
     let room = invariant.limit in
     let same = ap card child in
-    let above = ap rank from in
-    let under = ap rank child in
+    let above = ap (rank m.words) from in
+    let under = ap (rank m.words) child in
     (omega arith, omega arith)
 
 -- a node that a search has seen
@@ -178,7 +178,7 @@ goes_in_tree w stage sound kinds c below = elim (cases_Bool (is_start (stage c))
   ]
 ]
 
--- a worker with a card in hand that is not flagged stands at the card's leaf
+-- a worker with a card in hand that is not flagged stands where the card goes
 below_parent : (w : Words) (stage : Stages) (v : Worker) (op : Op) (c : ℕ) → Unflagged w stage v op c → StandsBelow v
 below_parent w stage v (Find k) c h = absurd h
 below_parent w stage v (Insert k value) c h = record { node = w.l c; stands = h.stands; parent = h.parent; behind = h.behind }

@@ -68,7 +68,8 @@ module _ (m : Machine) (stage : Stages) (sound : Invariant m stage) where
         finds = λ owns value. (let same = finds_iff m.words (key_of op) value x in
             let leads = it.leads owns value in
             (λ h. leads.0 (same.0 h), λ h. same.1 (leads.1 h)));
-        joins = λ y on reached. joins_walk m.words sound.words.tree.ordered (key_of op) it.course on reached;
+        joins = λ y on reached there. joins_walk m.words sound.words.tree.ordered (λ z right inner born. (sound.words.children z inner born).born right)
+            sound.words.tree.trie (key_of op) it.born it.course on reached there;
       }
 
   facts_sound : FactsAreSound m

@@ -8,7 +8,7 @@ use Rattle.ell_core.specs.state.Machine.{Scene}
 use Rattle.ell_core.specs.acts.Exchanges.{exchanged_update}
 use Rattle.ell_core.specs.acts.Events.{Row}
 use Rattle.ell_core.specs.tree.Tree.{IsTreePair}
-use Rattle.ell_core.specs.tree.Ranges.{FindsLeaf}
+use Rattle.ell_trie.specs.Ranges.{FindsLeaf}
 use Rattle.ell_core.specs.history.Stages.{Stages}
 use Rattle.ell_core.specs.history.Invariant.{TreeIsSound, LeadsTo, LeadsToValue}
 use Rattle.ell_core.specs.statements.Effects.{AddsPair, ReplacesPair, TakesPair, SamePairs}
@@ -73,6 +73,7 @@ pairs_less old new stage stages key value tree tree' real there h = record {
 
 -- words with the same keys and values of nodes and the same children
 pub record SameLinks (old new : Words) : Type 0 where
+  pub flat : new.flat_from ≡ old.flat_from
   pub key : new.key ≡ old.key
   pub value : new.value ≡ old.value
   pub child : new.child ≡ old.child
@@ -91,8 +92,8 @@ update_links : (w : Words) (x expected new : ℕ) → SameLinks w (exchanged_upd
 update_links w x expected new = by_test (w.update x == expected)
   where
     by_test : (won : Bool) → SameLinks w (if won then with_update w x new else w)
-    by_test true = record { key = refl; value = refl; child = refl }
-    by_test false = record { key = refl; value = refl; child = refl }
+    by_test true = record { flat = refl; key = refl; value = refl; child = refl }
+    by_test false = record { flat = refl; key = refl; value = refl; child = refl }
 
 -- an act that neither claims a card nor exchanges a child
 abbrev pub KeepsLinks : Act → Type 0
@@ -107,9 +108,9 @@ links_by s after this is h = subst (λ (t : Scene). SameLinks s.words t.words) (
 
 -- such an act keeps keys and children
 pub row_links : (a : Act) → KeepsLinks a → (s : Scene) (said : Stepped) (after : Scene) → Row a s said after → SameLinks s.words after.words
-row_links (act.Begin op) h s said after r = links_by s after _ r.gives (record { key = refl; value = refl; child = refl })
-row_links act.Upd h s said after r = links_by s after _ r.gives (record { key = refl; value = refl; child = refl })
-row_links act.Down h s said after r = links_by s after _ r.gives (record { key = refl; value = refl; child = refl })
+row_links (act.Begin op) h s said after r = links_by s after _ r.gives (record { flat = refl; key = refl; value = refl; child = refl })
+row_links act.Upd h s said after r = links_by s after _ r.gives (record { flat = refl; key = refl; value = refl; child = refl })
+row_links act.Down h s said after r = links_by s after _ r.gives (record { flat = refl; key = refl; value = refl; child = refl })
 row_links act.Claim h s said after r = absurd h
 row_links act.IFlag h s said after r = links_by s after _ r.gives (update_links s.words _ _ _)
 row_links act.DFlag h s said after r = links_by s after _ r.gives (update_links s.words _ _ _)
@@ -119,6 +120,6 @@ row_links (act.Mark c) h s said after r = links_by s after _ r.gives (update_lin
 row_links (act.DChild c) h s said after r = absurd h
 row_links (act.DUnflag c) h s said after r = links_by s after _ r.does.gives (update_links s.words _ _ _)
 row_links (act.Backtrack c) h s said after r = links_by s after _ r.does.gives (update_links s.words _ _ _)
-row_links act.Again h s said after r = links_by s after _ r.gives (record { key = refl; value = refl; child = refl })
-row_links act.Leave h s said after r = links_by s after _ r.gives (record { key = refl; value = refl; child = refl })
-row_links act.Answer h s said after r = links_by s after _ r.gives (record { key = refl; value = refl; child = refl })
+row_links act.Again h s said after r = links_by s after _ r.gives (record { flat = refl; key = refl; value = refl; child = refl })
+row_links act.Leave h s said after r = links_by s after _ r.gives (record { flat = refl; key = refl; value = refl; child = refl })
+row_links act.Answer h s said after r = links_by s after _ r.gives (record { flat = refl; key = refl; value = refl; child = refl })

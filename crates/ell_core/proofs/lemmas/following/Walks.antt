@@ -7,7 +7,7 @@ use Rattle.ell_core.specs.declared.event.Stepped.{Stepped}
 use Rattle.ell_core.specs.declared.fact.Fact.TheVariants.{Cut}
 use Rattle.ell_layout.specs.Words.{Words, relinked}
 use Rattle.ell_core.specs.state.Machine.{Machine, Scene, scene, with_scene}
-use Rattle.ell_layout.specs.Cards.{marked, is_right, child_for, exchange_side, claimed, insert_filling, delete_filling}
+use Rattle.ell_layout.specs.Cards.{marked, is_right, child_for, exchange_side, claimed, put_filling, value_below, delete_filling}
 use Rattle.ell_layout.specs.declared.field.Field.{Field}
 use Rattle.ell_core.specs.acts.Searching.{claims}
 use Rattle.ell_core.specs.acts.Exchanges.{exchanged_child, finds_link}
@@ -42,7 +42,7 @@ Moved old new x right = (new.child x right ≡ old.child x right) ⊎ Reached ne
 module _ (old new : Words) (stage : Stages) (sound : WordsAreSound old stage) (words : WordsLater old new)
     (moved : (x : ℕ) (right : Bool) → IsInternal x → Born stage x → Moved old new x right) where
   -- what is on a walk was on it before, or is in the tree
-  walk_back : (key : ℕ) {x y : ℕ} → Born stage x → OnWalk new key x y → OnWalk old key x y ⊎ Reached new y
+  pub walk_back : (key : ℕ) {x y : ℕ} → Born stage x → OnWalk new key x y → OnWalk old key x y ⊎ Reached new y
   walk_back key born (here e) = inl (here e)
   walk_back key {y = y} born (next {x = x} inner on) = elim (moved x (is_right new x key) inner born) [
     | inl same ↦
@@ -99,7 +99,7 @@ module _ (m : Machine) (stage : Stages) (i : ℕ) (said : Stepped) (becomes : Sc
   pub moved_by : (a : Act) → Row a (scene m i) said becomes → Follows m stage a i said (with_scene m i becomes)
       → (x : ℕ) (right : Bool) → IsInternal x → Born stage x → Moved m.words becomes.words x right
   moved_by act.Claim (inl row) follows x right inner born =
-      moved_claim row.parent.tag (insert_filling m.words.next row.what.key row.what.value row.parent.node row.leaf (m.words.key row.leaf) (m.words.value row.leaf)) row.gives x right born
+      moved_claim row.parent.tag (put_filling m.words.next row.what.key row.what.value row.node_key row.parent.node row.below (m.words.key row.below) (value_below m.words row.below)) row.gives x right born
   moved_by act.Claim (inr row) follows x right inner born =
       moved_claim row.grandparent.tag (delete_filling row.grandparent.node row.parent.node row.leaf row.parent.word) row.gives x right born
   moved_by (act.IChild c) row follows x right inner born =

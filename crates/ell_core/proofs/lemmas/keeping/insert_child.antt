@@ -7,8 +7,12 @@ pub mod Cards
 pub mod IChild
 -- A card that replaces a leaf: its right leaf takes the place of a leaf of its key.
 pub mod Leaf
--- A card that adds a key: an internal node with two leaves takes the place of a leaf.
+-- The nodes of a card that adds a key: their keys, their values, and what stands below its internal node.
+pub mod Nodes
+-- A card that adds a key to a tree that is not flat: an internal node with two leaves takes the place of a leaf.
 pub mod Tree
+-- A card that adds a key to a flat tree, in the place of a leaf or above an internal node.
+pub mod Flat
 -- The child exchange of an insert that is won: the nodes and the tree afterwards, and with them all words.
 pub mod Words
 -- The child exchange of an insert that is won: who has the card in hand, and the workers afterwards.

@@ -42,7 +42,7 @@ module _ (count i j first second : ℕ) where
 
 -- so they can open
 pub two_keys_open : TwoKeysCanOpen
-two_keys_open count i j first second cards i_there j_there apart first_real second_real = record {
+two_keys_open count i j first second cards flat i_there j_there apart first_real second_real = record {
   faultless = λ at. (no_stranger count i j first second at i_there j_there, no_repeat count i j first second at apart);
   real = both_real count i j first second first_real second_real;
   ascending = λ k below. absurd (omega arith);

@@ -13,24 +13,44 @@ use Rattle.ell_ops.specs.Meaning.{greatest_key}
 use Rattle.ell_word.specs.Node.{IsInternal, IsNode, card, internal}
 use Rattle.ell_layout.specs.Words.{Words}
 use Rattle.ell_layout.specs.Cards.{iflag, dflag, marked, clean}
-use Rattle.ell_core.specs.state.Machine.{idle, entry_of}
-use Rattle.ell_core.specs.history.Stages.{Stage, Stages, Unclaimed, Opening, is_claimed, is_start, is_insert, is_delete, is_node_born, insert_open, delete_open, insert_won, delete_won}
+use Rattle.ell_core.specs.state.Machine.{Machine, idle, entry_of}
+use Rattle.ell_core.specs.history.Stages.{Stage, Stages, Unclaimed, Opening, Born, is_claimed, is_start, is_insert, is_delete, is_node_born, insert_open, delete_open, insert_won, delete_won}
 use Rattle.ell_core.specs.history.Invariant.{GoesNowhere, Invariant, top, LeadsTo, LeadsToValue, IsIn, CardIsSound, ChildrenAreSound, UpdateIsSound, TreeIsSound, WordsAreSound, WorkerIsSound, WorkersAreSound}
-use Rattle.ell_core.specs.tree.Ranges.{IsOrdered}
+use Rattle.ell_trie.specs.Ranges.{IsOrdered}
 use Rattle.ell_core.proofs.lemmas.keeping.going_on.Stages.{no_insert, no_delete}
 use Rattle.ell_core.proofs.lemmas.opening.Owners.{ledger_there, opening_one_owner, opening_stranger, opening_real, opening_given}
 use Rattle.ell_core.proofs.lemmas.outcomes.Decide.{some_not_none}
 use Rattle.ell_core.specs.statements.RunLaws.{MayBeThere}
-use Rattle.ell_core.specs.state.Opening.{Setup, gives, Faultless, opening_ledger, opening, is_given, start_entry, shares}
-use Rattle.ell_layout.specs.Start.{start_leaf, start_value, start_words}
-use Rattle.ell_core.proofs.lemmas.opening.StartTree.{tree_ordered, card_reached, child_more, child_on, child_node, left_less, right_least, finds_leaf, finds_leaves_only}
+use Rattle.ell_core.specs.state.Opening.{Setup, last_card, gives, Faultless, opening_ledger, opening, is_given, start_entry, shares}
+use Rattle.ell_layout.specs.Start.{start_leaf, start_value, start_words, words_at_start}
+use Rattle.ell_core.proofs.lemmas.opening.StartTree.{tree_ordered, card_reached, child_more, child_deeper, child_on, child_node, left_less, right_least, finds_leaf, finds_leaves_only}
 use Rattle.ell_layout.proofs.lemmas.Start.{keys_length, leaf_last, leaf_root, root_fields}
-use Rattle.ell_core.proofs.lemmas.opening.StartWords.{has_value, leaf_key, leaves_rise, leaves_end, has_branches, clean_update, goes_none, later_blank}
+use Rattle.ell_core.proofs.lemmas.opening.StartWords.{start_from, has_value, leaf_key, leaves_rise, leaves_end, has_branches, clean_update, goes_none, later_blank}
 use Rattle.ell_layout.specs.declared.field.Field.TheVariants.{Key, RightLeafKey}
 use Rattle.ell_core.specs.declared.view.Entry.TheVariants.{Present}
 use Rattle.ell_core.proofs.lemmas.opening.KeyLists.{holds_present}
-use Rattle.ell_core.proofs.lemmas.tree.Ranks.{rank_rises}
+use Rattle.ell_layout.specs.Branches.{depth_of}
+use Rattle.ell_trie.specs.Tries.{IsTrie}
+use Rattle.ell_trie.proofs.lemmas.Paths as paths
+use Rattle.ell_core.specs.tree.Flat.{opening_from}
 use Rattle.ell_core.specs.tree.Rank.{rank}
+use Rattle.ell_core.proofs.lemmas.tree.Blocks.{block_by, none_before}
+use Rattle.ell_core.proofs.lemmas.tree.Ranks.{rank_plain, rank_flat, depths_few}
+
+-- the card from which a tree is flat whose opening tree has so many: the first one after those, and 0 if it is not flat
+abbrev pub flat_start : Bool → ℕ → ℕ
+flat_start true end = end
+flat_start false end = 0
+
+-- if that is not 0, it is that one
+pub flat_is : (flat : Bool) (end : ℕ) → 0 < flat_start flat end → flat_start flat end ≡ end
+flat_is true end some = refl
+flat_is false end some = absurd (omega arith)
+
+-- the words at the start are those of a tree that is flat from there on
+pub start_words_are : (flat : Bool) (start : List (ℕ × ℕ)) → words_at_start flat start ≡ start_from start (flat_start flat (length start + 1))
+start_words_are true start = refl
+start_words_are false start = refl
 
 -- the stages at the start: the cards below this number have the opening tree, and no other card is claimed
 abbrev pub start_stages : ℕ → Stages
@@ -86,6 +106,13 @@ unclaimed_past end c is = elim (start_cases end c) [
   | inr h ↦ h.0
 ]
 
+-- a card of the stage of the opening tree's is one of these
+start_below : (end c : ℕ) → is_start (start_stages end c) ≡ true → c < end
+start_below end c is = elim (start_cases end c) [
+  | inl h ↦ h.0
+  | inr h ↦ absurd (false≢true (sym (ap is_start h.1) ∙ is))
+]
+
 -- a key that an entry names is some worker's
 pub record IsGiven (owned start : List (ℕ × ℕ)) (key : ℕ) : Type 0 where
   pub worker : ℕ
@@ -110,11 +137,32 @@ module _ (start : List (ℕ × ℕ)) (ascending : IsStrictlyIncreasing (keys_of 
   some : 0 < length start + 1
   some = omega arith
 
-  -- the tree of the start keys
-  ordered : IsOrdered w.key w.child top rank
+  -- the tree of the start keys is in order, by any ranks that rise from its nodes to their children
+  ordered : (ranks : ℕ → ℕ) → ((right : Bool) (c : ℕ) → c < length start + 1 → ranks (internal c) < ranks (w.child (internal c) right))
+      → IsOrdered w.key w.child top ranks
   ordered = tree_ordered (length start + 1) some (start_leaf start) w.key w.child (has_value start) top (leaves_rise start ascending real) (leaves_end start ascending real)
       (has_branches start)
 
+  -- children have greater numbers, and are deeper
+  more : (right : Bool) (c : ℕ) → c < length start + 1 → internal c < w.child (internal c) right
+  more = child_more (length start + 1) some (start_leaf start) w.key w.child (has_value start) top (leaves_rise start ascending real) (leaves_end start ascending real)
+      (has_branches start)
+
+  deeper : (right : Bool) (c : ℕ) → c < length start + 1 → IsInternal (w.child (internal c) right)
+      → depth_of (length start + 1) c < depth_of (length start + 1) (card (w.child (internal c) right))
+  deeper = child_deeper (length start + 1) some (start_leaf start) w.key w.child (has_value start) top (leaves_rise start ascending real) (leaves_end start ascending real)
+      (has_branches start)
+
+  -- their keys are on their sides
+  less : (c : ℕ) → c < length start + 1 → w.key (w.child (internal c) false) < w.key (internal c)
+  less = left_less (length start + 1) some (start_leaf start) w.key w.child (has_value start) top (leaves_rise start ascending real) (leaves_end start ascending real)
+      (has_branches start)
+
+  least : (c : ℕ) → c < length start + 1 → w.key (internal c) ≤ w.key (w.child (internal c) true)
+  least = right_least (length start + 1) some (start_leaf start) w.key w.child (has_value start) top (leaves_rise start ascending real) (leaves_end start ascending real)
+      (has_branches start)
+
+  -- all nodes are reached, and on the cards of the tree
   reached : (c : ℕ) → c < length start + 1 → IsIn w (internal c)
   reached = card_reached (length start + 1) some (start_leaf start) w.key w.child (has_value start) top (leaves_rise start ascending real) (leaves_end start ascending real)
       (has_branches start)
@@ -159,66 +207,125 @@ module _ (start : List (ℕ × ℕ)) (ascending : IsStrictlyIncreasing (keys_of 
       subst (λ n. LeadsToValue w n value 0) (leaf_key start place.at below ∙ place.key_is)
       (subst (λ v. LeadsToValue w (start_leaf start place.at) v 0) place.value_is (finds place.at (omega arith)))
 
-  -- each card is sound
-  card_sound : (c : ℕ) → CardIsSound w (start_stages (length start + 1)) c
-  card_sound c = record {
-    claimed = (claimed_below (length start + 1) c, λ below. ap is_claimed (stage_there (length start + 1) c below));
-    insert = λ h. absurd (false≢true (sym (no_insert_yet (length start + 1) c) ∙ h));
-    delete = λ h. absurd (false≢true (sym (no_delete_yet (length start + 1) c) ∙ h));
-    unborn = λ h. absurd (false≢true (sym (no_insert_yet (length start + 1) c) ∙ h));
-    blank = λ h. later_blank start c (let past = unclaimed_past (length start + 1) c h in omega arith);
-  }
+  -- the children of a node of the tree came into it
+  children_born : (c : ℕ) (right : Bool) → c < length start + 1 → Born (start_stages (length start + 1)) (w.child (internal c) right)
+  children_born c right below = below_born (length start + 1) (card (w.child (internal c) right)) (w.child (internal c) right % 4)
+      (let node = is_node c right below in omega (arith, node)) (on_card c right below)
 
-  -- the internal nodes that came into the tree
+  -- an internal node that came into it is that of one of its cards
   node_of : (x : ℕ) → IsInternal x → x ≡ internal (card x)
   node_of x inner = omega arith
 
-  children_sound : (c : ℕ) → c < length start + 1 → ChildrenAreSound w (start_stages (length start + 1)) (internal c)
-  children_sound c below = record {
-    born = λ right. below_born (length start + 1) (card (w.child (internal c) right)) (w.child (internal c) right % 4)
-        (let node = is_node c right below in omega (arith, node)) (on_card c right below);
-    rising = λ right. rank_rises (internal c) (w.child (internal c) right)
-        (child_more (length start + 1) some (start_leaf start) w.key w.child (has_value start) top (leaves_rise start ascending real) (leaves_end start ascending real)
-        (has_branches start) right c below);
-    left_less = left_less (length start + 1) some (start_leaf start) w.key w.child (has_value start) top (leaves_rise start ascending real) (leaves_end start ascending real)
-        (has_branches start) c below;
-    right_more = right_least (length start + 1) some (start_leaf start) w.key w.child (has_value start) top (leaves_rise start ascending real) (leaves_end start ascending real)
-        (has_branches start) c below;
-  }
+  node_there : (x : ℕ) → Born (start_stages (length start + 1)) x → card x < length start + 1
+  node_there x born = born_below (length start + 1) (card x) (x % 4) born
 
-  update_sound : (c : ℕ) → c < length start + 1 → UpdateIsSound w (start_stages (length start + 1)) (internal c)
-  update_sound c below = let calm : w.update (internal c) ≡ clean 0 = clean_update start c below in record {
-    named = omega arith;
-    iflagged = λ d h. let h : w.update (internal c) ≡ iflag d = h in absurd (omega arith);
-    dflagged = λ d h. let h : w.update (internal c) ≡ dflag d = h in absurd (omega arith);
-    marked = λ d h. let h : w.update (internal c) ≡ marked d = h in absurd (omega arith);
-  }
+  node_less : (c : ℕ) → c < length start + 1 → card (internal c) < length start + 1
+  node_less c below = omega arith
 
-  tree_sound : TreeIsSound w (start_stages (length start + 1))
-  tree_sound = record {
-    ordered = ordered;
-    root_key = root_fields start Key;
-    root_right = refl;
-    right_key = root_fields start RightLeafKey;
-    last = subst (λ n. LeadsTo w n 0) (leaf_last start)
-        (leads_any w (start_leaf start (length start)) (start_value start (length start)) 0 (finds (length start) (omega arith)));
-    there = λ x inner born calm. subst (IsIn w) (sym (node_of x inner)) (reached (card x) (born_below (length start + 1) (card x) (x % 4) born));
-  }
+  -- the words of a tree that is not flat, or is flat from the first card on that is not of the opening tree
+  module _ (from : ℕ) (flat : 0 < from → from ≡ length start + 1) where
+    -- the nodes of the opening tree have no blocks
+    not_out : (x : ℕ) → 0 < from → Born (start_stages (length start + 1)) x → ¬ ((opening_from from).holds x ≡ false)
+    not_out x is_flat born out =
+        let is = flat is_flat in
+        let below = node_there x born in
+        false≢true (sym (none_before from x (omega arith)) ∙ block_by from x out)
 
-  -- the words at the start are sound
-  pub start_sound : WordsAreSound w (start_stages (length start + 1))
-  start_sound = record {
-    opening = stage_there (length start + 1) 0 some;
-    tags = λ x right. omega arith;
-    cards = card_sound;
-    inserts = λ c. no_insert w (start_stages (length start + 1)) c (each_stage (λ s. insert_won s ≡ false) (length start + 1) c refl refl);
-    deletes = λ c. no_delete w (start_stages (length start + 1)) c (each_stage (λ s. delete_won s ≡ false) (length start + 1) c refl refl);
-    children = λ x inner born. subst (ChildrenAreSound w (start_stages (length start + 1))) (sym (node_of x inner))
-        (children_sound (card x) (born_below (length start + 1) (card x) (x % 4) born));
-    updates = λ x inner born. subst (UpdateIsSound w (start_stages (length start + 1))) (sym (node_of x inner))
-        (update_sound (card x) (born_below (length start + 1) (card x) (x % 4) born));
-    tree = tree_sound;
-  }
+    -- a flat tree is a trie
+    trie : 0 < from → IsTrie (Born (start_stages (length start + 1))) (opening_from from) w.key w.child
+    trie is_flat = record {
+      start = below_born (length start + 1) 0 0 (omega arith) some;
+      closed = λ x side inner born. subst (λ n. Born (start_stages (length start + 1)) (w.child n side)) (sym (node_of x inner))
+          (children_born (card x) side (node_there x born));
+      plain = λ x side inner born out. absurd (not_out x is_flat born out);
+      deeper = λ x side inner born held below. subst (λ n. depth_of n (card x) < depth_of n (card (w.child x side))) (sym (flat is_flat))
+          (subst (λ n. depth_of (length start + 1) (card x) < depth_of (length start + 1) (card (w.child n side))) (sym (node_of x inner))
+          (deeper side (card x) (node_there x born) (subst (λ n. IsInternal (w.child n side)) (node_of x inner) below)));
+      few = λ x inner held. depths_few from x is_flat inner held;
+      small = λ x inner born out. absurd (not_out x is_flat born out);
+      leaf = λ x side inner born out. absurd (not_out x is_flat born out);
+      inner = λ x side inner born out. absurd (not_out x is_flat born out);
+    }
+
+    -- children have greater ranks
+    rising : (right : Bool) (c : ℕ) → c < length start + 1
+        → rank (start_from start from) (internal c) < rank (start_from start from) (w.child (internal c) right)
+    rising right c below = elim (cases_lt 0 from) [
+      | inr none ↦
+          let first = rank_plain (start_from start from) (omega arith) (internal c) in
+          let second = rank_plain (start_from start from) (omega arith) (w.child (internal c) right) in
+          let up = more right c below in
+          omega arith
+      | inl is_flat ↦
+          let first = rank_flat (start_from start from) is_flat (internal c) in
+          let second = rank_flat (start_from start from) is_flat (w.child (internal c) right) in
+          let up = paths.rank_rises (trie is_flat) (internal c) right (omega arith)
+          (below_born (length start + 1) (card (internal c)) (internal c % 4) (omega arith) (node_less c below)) in
+          omega arith
+    ]
+
+    -- each card is sound
+    card_sound : (c : ℕ) → CardIsSound (start_from start from) (start_stages (length start + 1)) c
+    card_sound c = record {
+      claimed = (claimed_below (length start + 1) c, λ below. ap is_claimed (stage_there (length start + 1) c below));
+      insert = λ h. absurd (false≢true (sym (no_insert_yet (length start + 1) c) ∙ h));
+      delete = λ h. absurd (false≢true (sym (no_delete_yet (length start + 1) c) ∙ h));
+      unborn = λ h. absurd (false≢true (sym (no_insert_yet (length start + 1) c) ∙ h));
+      blank = λ h. later_blank start from c (let past = unclaimed_past (length start + 1) c h in omega arith);
+    }
+
+    -- so are the internal nodes that came into the tree, and the tree
+    children_sound : (c : ℕ) → c < length start + 1 → ChildrenAreSound (start_from start from) (start_stages (length start + 1)) (internal c)
+    children_sound c below = record {
+      born = λ right. children_born c right below;
+      rising = λ right. rising right c below;
+      left_less = less c below;
+      right_more = least c below;
+    }
+
+    update_sound : (c : ℕ) → c < length start + 1 → UpdateIsSound (start_from start from) (start_stages (length start + 1)) (internal c)
+    update_sound c below = let calm : w.update (internal c) ≡ clean 0 = clean_update start c below in record {
+      named = omega arith;
+      iflagged = λ d h. let h : w.update (internal c) ≡ iflag d = h in absurd (omega arith);
+      dflagged = λ d h. let h : w.update (internal c) ≡ dflag d = h in absurd (omega arith);
+      marked = λ d h. let h : w.update (internal c) ≡ marked d = h in absurd (omega arith);
+    }
+
+    tree_sound : TreeIsSound (start_from start from) (start_stages (length start + 1))
+    tree_sound = record {
+      ordered = ordered (rank (start_from start from)) rising;
+      trie = trie;
+      root_key = root_fields start Key;
+      root_right = refl;
+      right_key = root_fields start RightLeafKey;
+      last = subst (λ n. LeadsTo w n 0) (leaf_last start)
+          (leads_any w (start_leaf start (length start)) (start_value start (length start)) 0 (finds (length start) (omega arith)));
+      there = λ x inner born calm. subst (IsIn w) (sym (node_of x inner)) (reached (card x) (node_there x born));
+    }
+
+    -- the words at the start are sound
+    pub from_sound : WordsAreSound (start_from start from) (start_stages (length start + 1))
+    from_sound = record {
+      opening = stage_there (length start + 1) 0 some;
+      flat = λ is_flat c. (
+        λ below. ap is_start (stage_there (length start + 1) c (let is = flat is_flat in omega arith)),
+        λ is. let below = start_below (length start + 1) c is in let e = flat is_flat in omega arith,
+      );
+      tags = λ x right. omega arith;
+      cards = card_sound;
+      inserts = λ c. no_insert (start_from start from) (start_stages (length start + 1)) c (each_stage (λ s. insert_won s ≡ false) (length start + 1) c refl refl);
+      deletes = λ c. no_delete (start_from start from) (start_stages (length start + 1)) c (each_stage (λ s. delete_won s ≡ false) (length start + 1) c refl refl);
+      children = λ x inner born. subst (ChildrenAreSound (start_from start from) (start_stages (length start + 1))) (sym (node_of x inner))
+          (children_sound (card x) (node_there x born));
+      updates = λ x inner born. subst (UpdateIsSound (start_from start from) (start_stages (length start + 1))) (sym (node_of x inner))
+          (update_sound (card x) (node_there x born));
+      tree = tree_sound;
+    }
+
+  -- so they are whether the tree is flat or not
+  pub start_sound : (flat : Bool) → WordsAreSound (words_at_start flat start) (start_stages (length start + 1))
+  start_sound flat = subst (λ words. WordsAreSound words (start_stages (length start + 1))) (sym (start_words_are flat start))
+      (from_sound (flat_start flat (length start + 1)) (flat_is flat (length start + 1)))
 
 -- the first of two that are true
 first_of : (a b : Bool) → (a && b) ≡ true → a ≡ true
@@ -238,8 +345,17 @@ module _ (setup : Setup) (ascending : IsStrictlyIncreasing (keys_of setup.start)
     (faultless : Faultless setup.count setup.owned) (owned_real : All (λ entry. entry.1 ≤ greatest_key) setup.owned)
     (given : All (MayBeThere setup) (keys_of setup.start))
     (not_owned : (k : ℕ) → setup.shared k ≡ true → (k ≤ greatest_key) × (is_given setup.owned k ≡ false)) where
-  worker_sound : (i : ℕ) → WorkerIsSound (start_words setup.start) (start_stages (length setup.start + 1)) (idle (opening_ledger setup.owned setup.start i) (shares setup.count setup.shared i) (λ _. false))
-  worker_sound i = record {
+  -- the state with the words of a tree that is flat from a card on
+  abbrev start_state : ℕ → Machine
+  start_state from = record {
+    words = start_from setup.start from;
+    count = setup.count;
+    last_card = last_card setup.start setup.cards;
+    worker = λ i. idle (opening_ledger setup.owned setup.start i) (shares setup.count setup.shared i) (λ _. false);
+  }
+
+  worker_sound : (w : Words) (i : ℕ) → WorkerIsSound w (start_stages (length setup.start + 1)) (idle (opening_ledger setup.owned setup.start i) (shares setup.count setup.shared i) (λ _. false))
+  worker_sound w i = record {
     facts = λ fact h. absurd (false≢true h);
     real = λ k may. elim may [ inl owns ↦ opening_real setup.owned setup.start i k owned_real owns | inr shared ↦ (not_owned k (first_of (setup.shared k) (nat_lt i setup.count) shared)).0 ];
     free = λ h. refl;
@@ -260,10 +376,9 @@ module _ (setup : Setup) (ascending : IsStrictlyIncreasing (keys_of setup.start)
         | inr shared ↦ absurd (false≢true (sym (not_shared shared.0) ∙ shared.1))
       ]
 
-  workers_sound : WorkersAreSound (opening setup) (start_stages (length setup.start + 1))
-  unfolding opening
-  workers_sound = record {
-    each = worker_sound;
+  workers_sound : (from : ℕ) → WorkersAreSound (start_state from) (start_stages (length setup.start + 1))
+  workers_sound from = record {
+    each = worker_sound (start_from setup.start from);
     one_owner = λ i j k a b. opening_one_owner setup.count setup.owned setup.start faultless i j k a b;
     present = λ i k value owns. (
       λ found. ledger_there setup.owned setup.start i k owns
@@ -284,12 +399,9 @@ module _ (setup : Setup) (ascending : IsStrictlyIncreasing (keys_of setup.start)
   }
 
   -- the cards of the opening tree go nowhere
-  start_nowhere : (c : ℕ) → is_start (start_stages (length setup.start + 1) c) ≡ true → GoesNowhere (start_words setup.start) c
-  start_nowhere c is =
-      let below : c < length setup.start + 1 = elim (start_cases (length setup.start + 1) c) [
-        | inl h ↦ h.0
-        | inr h ↦ absurd (false≢true (sym (ap is_start h.1) ∙ is))
-      ] in
+  start_nowhere : (from c : ℕ) → is_start (start_stages (length setup.start + 1) c) ≡ true → GoesNowhere (start_from setup.start from) c
+  start_nowhere from c is =
+      let below = start_below (length setup.start + 1) c is in
       let none = goes_none setup.start c below in
       record { below = below; gp = none.0; parent = none.1; leaf = none.2; was = none.3; expects = refl }
 
@@ -298,12 +410,18 @@ module _ (setup : Setup) (ascending : IsStrictlyIncreasing (keys_of setup.start)
       → (is_insert (start_stages (length setup.start + 1) c) ≡ true) ⊎ (is_delete (start_stages (length setup.start + 1) c) ≡ true)
   start_only c below is = absurd (false≢true (sym is ∙ ap is_start (stage_there (length setup.start + 1) c below)))
 
-  -- the opening state has the invariant
+  -- the state has the invariant, if the tree is not flat, or flat from the first card on that is not of the opening tree
+  state_invariant : (from : ℕ) → (0 < from → from ≡ length setup.start + 1) → Invariant (start_state from) (start_stages (length setup.start + 1))
+  state_invariant from flat = record {
+    words = from_sound setup.start ascending real from flat;
+    workers = workers_sound from;
+    limit = omega arith;
+    kinds = record { start = start_nowhere from; some = omega arith; kinds = start_only };
+  }
+
+  -- so the opening state has it
   pub opening_invariant : Invariant (opening setup) (start_stages (length setup.start + 1))
   unfolding opening
-  opening_invariant = record {
-    words = start_sound setup.start ascending real;
-    workers = workers_sound;
-    limit = omega arith;
-    kinds = record { start = start_nowhere; some = omega arith; kinds = start_only };
-  }
+  opening_invariant = subst (λ words. Invariant (record (start_state 0) { words = words }) (start_stages (length setup.start + 1)))
+      (sym (start_words_are setup.flat setup.start))
+      (state_invariant (flat_start setup.flat (length setup.start + 1)) (flat_is setup.flat (length setup.start + 1)))

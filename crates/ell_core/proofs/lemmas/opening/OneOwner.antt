@@ -10,7 +10,7 @@ use Rattle.ell_ops.specs.Meaning.{greatest_key}
 use Rattle.std.specs.Map.{keys_of}
 use Rattle.ell_core.specs.state.Machine.{idle, ledger_of}
 use Rattle.ell_core.specs.state.Opening.{Setup, opening, last_card, is_given, opening_ledger, shares, gives, IsStranger, IsRepeat, start_entry}
-use Rattle.ell_layout.specs.Start.{start_words}
+use Rattle.ell_layout.specs.Start.{words_at_start}
 use Rattle.ell_core.specs.history.Invariant.{Invariant}
 use Rattle.ell_core.specs.statements.RunLaws.{CanOpen}
 use Rattle.ell_core.specs.statements.Premises.{OneWorkerOpens}
@@ -103,13 +103,13 @@ no_repeat keys rising at s =
     let same : q.key ≡ p.key = sym (ap (λ (x : ℕ × ℕ). x.1) q.is) ∙ (s.same ∙ ap (λ (x : ℕ × ℕ). x.1) p.is) in
     omega arith
 
-module _ (keys : List ℕ) (start : List (ℕ × ℕ)) (cards : ℕ) (shared : ℕ → Bool) (rising : IsStrictlyIncreasing keys)
+module _ (keys : List ℕ) (start : List (ℕ × ℕ)) (cards : ℕ) (shared : ℕ → Bool) (flat : Bool) (rising : IsStrictlyIncreasing keys)
     (real : All (λ k. k ≤ greatest_key) keys) (ascending : IsStrictlyIncreasing (keys_of start))
     (among : All (λ k. (set_of keys k ≡ true) ⊎ (shared k ≡ true)) (keys_of start))
     (apart : (k : ℕ) → shared k ≡ true → (k ≤ greatest_key) × (set_of keys k ≡ false)) where
   -- the entries can open
   abbrev setup : Setup
-  setup = record { count = 1; owned = entries keys; start = start; cards = cards; shared = shared }
+  setup = record { count = 1; owned = entries keys; start = start; cards = cards; shared = shared; flat = flat }
 
   can_open : CanOpen setup
   can_open = record {
@@ -129,26 +129,26 @@ module _ (keys : List ℕ) (start : List (ℕ × ℕ)) (cards : ℕ) (shared : �
   workers_are (suc i) = λ t. idle (λ k. sym (other_ledger start keys i k) t) (λ k. sym (one_shares shared i k) t) (λ _. false)
 
   -- so the state is the opening
-  state_is : opening_of_one keys start cards shared ≡ opening setup
+  state_is : opening_of_one keys start cards shared flat ≡ opening setup
   unfolding opening
-  state_is = λ t. record { words = start_words start; worker = λ i. workers_are i t; count = 1; last_card = last_card start cards }
+  state_is = λ t. record { words = words_at_start flat start; worker = λ i. workers_are i t; count = 1; last_card = last_card start cards }
 
 -- it has the invariant with the stages at the start
-pub one_worker_has : (keys : List ℕ) (start : List (ℕ × ℕ)) (cards : ℕ) (shared : ℕ → Bool) → IsStrictlyIncreasing keys → All (λ k. k ≤ greatest_key) keys
+pub one_worker_has : (keys : List ℕ) (start : List (ℕ × ℕ)) (cards : ℕ) (shared : ℕ → Bool) (flat : Bool) → IsStrictlyIncreasing keys → All (λ k. k ≤ greatest_key) keys
     → IsStrictlyIncreasing (keys_of start) → All (λ k. (set_of keys k ≡ true) ⊎ (shared k ≡ true)) (keys_of start)
     → ((k : ℕ) → shared k ≡ true → (k ≤ greatest_key) × (set_of keys k ≡ false))
-    → Invariant (opening_of_one keys start cards shared) (start_stages (length start + 1))
-one_worker_has keys start cards shared rising real ascending among apart =
-    subst (λ m. Invariant m (start_stages (length start + 1))) (sym (state_is keys start cards shared rising real ascending among apart))
-    (opening_has (setup keys start cards shared rising real ascending among apart) (can_open keys start cards shared rising real ascending among apart))
+    → Invariant (opening_of_one keys start cards shared flat) (start_stages (length start + 1))
+one_worker_has keys start cards shared flat rising real ascending among apart =
+    subst (λ m. Invariant m (start_stages (length start + 1))) (sym (state_is keys start cards shared flat rising real ascending among apart))
+    (opening_has (setup keys start cards shared flat rising real ascending among apart) (can_open keys start cards shared flat rising real ascending among apart))
 
 -- one worker that owns all keys can open
 pub one_worker_opens : OneWorkerOpens
-one_worker_opens keys start cards shared rising real ascending among apart = record {
+one_worker_opens keys start cards shared flat rising real ascending among apart = record {
   opens = record {
-    setup = setup keys start cards shared rising real ascending among apart;
-    can = can_open keys start cards shared rising real ascending among apart;
-    opens = state_is keys start cards shared rising real ascending among apart;
+    setup = setup keys start cards shared flat rising real ascending among apart;
+    can = can_open keys start cards shared flat rising real ascending among apart;
+    opens = state_is keys start cards shared flat rising real ascending among apart;
   };
-  lawful = record { stages = start_stages (length start + 1); invariant = one_worker_has keys start cards shared rising real ascending among apart };
+  lawful = record { stages = start_stages (length start + 1); invariant = one_worker_has keys start cards shared flat rising real ascending among apart };
 }

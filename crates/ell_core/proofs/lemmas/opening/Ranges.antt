@@ -2,9 +2,9 @@ use Rattle.std.proofs.Common.{◌≡◌, ℕ, ◌%◌, ◌<◌, ◌≤◌, ◌�
 use Rattle.ell_ops.specs.Meaning.{greatest_key}
 use Rattle.ell_word.specs.Node.{IsInternal, infinity1, infinity2}
 use Rattle.ell_layout.specs.Start.{opening_words}
-use Rattle.ell_core.specs.tree.Ranges.{low_of, high_of, next_node, Spans, root, goes, at_leaf, below, IsOrdered}
+use Rattle.ell_trie.specs.Ranges.{low_of, high_of, next_node, Spans, root, goes, at_leaf, below, IsOrdered}
 use Rattle.ell_core.specs.history.Invariant.{top, IsIn, LeadsTo}
-use Rattle.ell_core.proofs.lemmas.tree.Ranks.{rank_rises}
+use Rattle.ell_core.proofs.lemmas.tree.Ranks.{rank_plain}
 use Rattle.ell_core.specs.tree.Rank.{rank}
 
 -- a node of the opening tree, with its keys: the root, or one of its leaves
@@ -52,12 +52,20 @@ rising_place x low high false (inl h) inner = (let e = ap (λ n. opening_words.c
 rising_place x low high right (inr (inl h)) inner = absurd (omega arith)
 rising_place x low high right (inr (inr h)) inner = absurd (omega arith)
 
+-- so they have greater ranks
+rank_rising : (x low high : ℕ) (right : Bool) → Place x low high → IsInternal x → rank opening_words x < rank opening_words (opening_words.child x right)
+rank_rising x low high right place inner =
+    let up = rising_place x low high right place inner in
+    let first = rank_plain opening_words refl x in
+    let second = rank_plain opening_words refl (opening_words.child x right) in
+    omega arith
+
 -- the opening tree is in order
-pub opening_ordered : IsOrdered opening_words.key opening_words.child top rank
+pub opening_ordered : IsOrdered opening_words.key opening_words.child top (rank opening_words)
 opening_ordered = record {
   within = λ x low high spans. within_place x low high (places spans);
   proper = λ x low high spans inner. proper_place x low high (places spans) inner;
-  rising = λ x low high right spans inner. rank_rises x (opening_words.child x right) (rising_place x low high right (places spans) inner);
+  rising = λ x low high right spans inner. rank_rising x low high right (places spans) inner;
 }
 
 -- its root is in it

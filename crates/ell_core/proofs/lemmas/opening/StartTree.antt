@@ -2,11 +2,10 @@ use Rattle.std.proofs.Common.{◌≡◌, ℕ, zero, suc, ◌+◌, ◌<◌, ◌�
 use Rattle.std.proofs.lemmas.Bool.{cases_lt, cases_eq, eq-eqb, ne_eqb, le-leb, lt-leb}
 use Rattle.ell_word.specs.Node.{IsInternal, IsNode, card, internal, left_leaf, right_leaf}
 use Rattle.ell_layout.specs.declared.branch.Branch.{Branch}
-use Rattle.ell_layout.specs.Branches.{left_branch, right_branch, descend, branch_of, left_child, right_child}
-use Rattle.ell_core.specs.tree.Ranges.{low_of, high_of, Spans, root, goes, FindsLeaf, at_leaf, below, IsOrdered, IsSpanned}
+use Rattle.ell_layout.specs.Branches.{left_branch, right_branch, descend, branch_of, depth_of, left_child, right_child}
+use Rattle.ell_trie.specs.Ranges.{low_of, high_of, Spans, root, goes, FindsLeaf, at_leaf, below, IsOrdered, IsSpanned}
 use Rattle.ell_layout.proofs.lemmas.Branches.{branch_card, branch_holds, branch_left, branch_right, branch_within, cards_within, above}
-use Rattle.ell_core.proofs.lemmas.tree.Ranks.{rank_rises}
-use Rattle.ell_core.specs.tree.Rank.{rank}
+use Rattle.ell_layout.proofs.lemmas.Depths.{depths_rise}
 
 -- a card has the node of a branch: its key is that of the first leaf on its right; and of each leaf holds what is to
 pub record HasBranch (leaf key : ℕ → ℕ) (child : ℕ → Bool → ℕ) (holds : ℕ → ℕ → Type 0) (c : ℕ) (b : Branch) : Type 0 where
@@ -218,17 +217,57 @@ module _ (leaves : ℕ) (some : 0 < leaves) (leaf key : ℕ → ℕ) (child : �
   child_more true c inside = right_more c inside
   child_more false c inside = left_more c inside
 
-  place_rising : (x low high : ℕ) (right : Bool) → IsInternal x → Place x low high → x < child x right
-  place_rising x low high right inner (inl at) =
-      let up = child_more right at.number at.inside in let same = ap (λ n. child n right) at.is in let is = at.is in omega arith
-  place_rising x low high right inner (inr at) = absurd (at.outer inner)
+  -- children that are internal nodes are deeper
+  left_deeper : (c : ℕ) → c < leaves → IsInternal (child (internal c) false) → depth_of leaves c < depth_of leaves (card (child (internal c) false))
+  left_deeper c inside inner =
+      let b = branch_of leaves c in
+      let is : b.card ≡ c = branch_card leaves some c inside in
+      let some_left = (branch_holds leaves some c inside).some_left in
+      let w = (has c inside).left in
+      elim (cases_eq b.left 1) [
+        | inl one ↦ (let e : left_child b ≡ left_leaf b.card = ap (λ t. if t then left_leaf b.card else internal (b.card + 1)) (eq-eqb b.left 1 one) in absurd (omega arith))
+        | inr more ↦
+            let e : left_child b ≡ internal (b.card + 1) = ap (λ t. if t then left_leaf b.card else internal (b.card + 1)) (ne_eqb b.left 1 more) in
+            let on : card (child (internal c) false) ≡ c + 1 = omega arith in
+            let same = ap (depth_of leaves) on in
+            let one_more = (depths_rise leaves c inside).left (omega arith) in
+            omega arith
+      ]
 
-  -- the tree is in order
-  pub tree_ordered : IsOrdered key child top rank
-  tree_ordered = record {
+  right_deeper : (c : ℕ) → c < leaves → IsInternal (child (internal c) true) → depth_of leaves c < depth_of leaves (card (child (internal c) true))
+  right_deeper c inside inner =
+      let b = branch_of leaves c in
+      let is : b.card ≡ c = branch_card leaves some c inside in
+      let some_right = (branch_holds leaves some c inside).some_right in
+      let w = (has c inside).right in
+      elim (cases_eq b.right 1) [
+        | inl one ↦ (let e : right_child b ≡ right_leaf b.card = ap (λ t. if t then right_leaf b.card else internal (b.card + b.left)) (eq-eqb b.right 1 one) in absurd (omega arith))
+        | inr more ↦
+            let e : right_child b ≡ internal (b.card + b.left) = ap (λ t. if t then right_leaf b.card else internal (b.card + b.left)) (ne_eqb b.right 1 more) in
+            let on : card (child (internal c) true) ≡ c + b.left = omega arith in
+            let same = ap (depth_of leaves) on in
+            let one_more = (depths_rise leaves c inside).right (omega arith) in
+            omega arith
+      ]
+
+  pub child_deeper : (right : Bool) (c : ℕ) → c < leaves → IsInternal (child (internal c) right)
+      → depth_of leaves c < depth_of leaves (card (child (internal c) right))
+  child_deeper true c inside inner = right_deeper c inside inner
+  child_deeper false c inside inner = left_deeper c inside inner
+
+  -- so children have greater ranks, if the ranks of the cards' nodes rise
+  place_rising : (rank : ℕ → ℕ) → ((right : Bool) (c : ℕ) → c < leaves → rank (internal c) < rank (child (internal c) right))
+      → (x low high : ℕ) (right : Bool) → IsInternal x → Place x low high → rank x < rank (child x right)
+  place_rising rank rises x low high right inner (inl at) = subst (λ n. rank n < rank (child n right)) (sym at.is) (rises right at.number at.inside)
+  place_rising rank rises x low high right inner (inr at) = absurd (at.outer inner)
+
+  -- and the tree is in order
+  pub tree_ordered : (rank : ℕ → ℕ) → ((right : Bool) (c : ℕ) → c < leaves → rank (internal c) < rank (child (internal c) right))
+      → IsOrdered key child top rank
+  tree_ordered rank rises = record {
     within = λ x low high spans. place_within x low high (places spans);
     proper = λ x low high spans inner. place_proper x low high inner (places spans);
-    rising = λ x low high right spans inner. rank_rises x (child x right) (place_rising x low high right inner (places spans));
+    rising = λ x low high right spans inner. place_rising rank rises x low high right inner (places spans);
   }
 
   -- each card's internal node is reached
@@ -388,9 +427,9 @@ module _ (leaves : ℕ) (some : 0 < leaves) (leaf key : ℕ → ℕ) (child : �
   pub left_less : (c : ℕ) → c < leaves → key (child (internal c) false) < key (internal c)
   left_less c inside =
       let at = card_reached c inside in
-      (tree_ordered.within (child (internal c) false) at.low (key (internal c)) (goes false at.spans (omega arith) refl refl refl)).1
+      (place_within (child (internal c) false) at.low (key (internal c)) (places (goes false at.spans (omega arith) refl refl refl))).1
 
   pub right_least : (c : ℕ) → c < leaves → key (internal c) ≤ key (child (internal c) true)
   right_least c inside =
       let at = card_reached c inside in
-      (tree_ordered.within (child (internal c) true) (key (internal c)) at.high (goes true at.spans (omega arith) refl refl refl)).0
+      (place_within (child (internal c) true) (key (internal c)) at.high (places (goes true at.spans (omega arith) refl refl refl))).0

@@ -9,7 +9,7 @@ use Rattle.ell_ops.specs.Meaning.{greatest_key}
 use Rattle.ell_word.specs.Node.{internal, infinity1, infinity2}
 use Rattle.ell_layout.specs.declared.field.Field.{Field}
 use Rattle.ell_layout.specs.declared.field.Field.TheVariants.{Gp, P, L, Was, Key, Left, Right, Update, LeftLeafKey, RightLeafKey, LeftValue, RightValue}
-use Rattle.ell_layout.specs.Words.{word}
+use Rattle.ell_layout.specs.Words.{Words, word}
 use Rattle.ell_layout.specs.Cards.{clean}
 use Rattle.ell_core.specs.history.Invariant.{top, Blank}
 use Rattle.ell_layout.proofs.lemmas.Writes.{made_word}
@@ -21,6 +21,25 @@ use Rattle.ell_core.proofs.lemmas.opening.StartTree.{HasBranch}
 -- the leaf at a place has its value
 abbrev pub has_value : List (ℕ × ℕ) → ℕ → ℕ → Type 0
 has_value start i x = (start_words start).value x ≡ start_value start i
+
+-- the words at the start of a tree that is flat from this card on
+abbrev pub start_from : List (ℕ × ℕ) → ℕ → Words
+start_from start from = record (start_words start) { flat_from = from }
+
+-- the fields of the cards say the same there
+word_from : (start : List (ℕ × ℕ)) (from c : ℕ) (field : Field) → word (start_from start from) c field ≡ word (start_words start) c field
+word_from start from c Gp = refl
+word_from start from c P = refl
+word_from start from c L = refl
+word_from start from c Was = refl
+word_from start from c Key = refl
+word_from start from c Left = refl
+word_from start from c Right = refl
+word_from start from c Update = refl
+word_from start from c LeftLeafKey = refl
+word_from start from c RightLeafKey = refl
+word_from start from c LeftValue = refl
+word_from start from c RightValue = refl
 
 module _ (start : List (ℕ × ℕ)) where
   -- the keys of the leaves: the start keys, then the two above all keys
@@ -140,5 +159,5 @@ module _ (start : List (ℕ × ℕ)) where
   goes_none (suc c) below = let less : c < length start = omega arith in (branch_word c Gp less, branch_word c P less, branch_word c L less, branch_word c Was less)
 
   -- the cards after them are blank
-  pub later_blank : (c : ℕ) → length start < c → Blank (start_words start) c
-  later_blank c past = record { words = λ field. later_word c field past; expects = refl; tags = λ right. refl }
+  pub later_blank : (from c : ℕ) → length start < c → Blank (start_from start from) c
+  later_blank from c past = record { words = λ field. word_from start from c field ∙ later_word c field past; expects = refl; tags = λ right. refl }

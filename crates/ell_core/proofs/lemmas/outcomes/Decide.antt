@@ -1,4 +1,4 @@
-use Rattle.std.proofs.Common.{◌≡◌, ℕ, ◌%◌, Option, Some, None, refl, ap, ◌∙◌, inl, inr, ◌⊎◌}
+use Rattle.std.proofs.Common.{◌≡◌, ℕ, ◌%◌, Option, Some, None, refl, ap, ◌∙◌, subst, inl, inr, ◌⊎◌}
 use Rattle.std.proofs.lemmas.Bool.{cases_eq}
 use Rattle.ell_ops.specs.declared.op.Op.{Op}
 use Rattle.ell_ops.specs.declared.op.Op.TheVariants.{Find, Insert, Delete, Swap}
@@ -34,6 +34,10 @@ Settled R = HasOne R ⊎ HasNone R
 -- an equation in a first and one in a second argument
 pub ap2 : {A B C : Type 0} (f : A → B → C) {a b : A} {c d : B} → a ≡ b → c ≡ d → f a c ≡ f b d
 ap2 f {b = b} {c = c} e g = ap (λ x. f x c) e ∙ ap (f b) g
+
+-- a statement of two things holds of two that are the same
+pub subst2 : {A B : Type 0} (P : A → B → Type 0) {a b : A} {c d : B} → a ≡ b → c ≡ d → P a c → P b d
+subst2 P {b = b} {c = c} e g h = subst (P b) g (subst (λ x. P x c) e h)
 
 -- two relations that do not both have an answer are settled together
 pub settles_either : {R Q : Stepped → Scene → Type 0} → Settled R → Settled Q → ((said other : Stepped) (after later : Scene) → R said after → ¬ Q other later)

@@ -3,16 +3,20 @@ use Rattle.std.proofs.lemmas.Bool.{cases_eq, cases_Bool, false≢true}
 use Rattle.ell_ops.specs.declared.op.Op.{Op}
 use Rattle.ell_ops.specs.declared.op.Op.TheVariants.{Delete}
 use Rattle.ell_ops.specs.Meaning.{key_of}
+use Rattle.ell_core.specs.declared.event.Stepped.{Stepped}
 use Rattle.ell_core.specs.declared.event.Stepped.TheVariants.{Moved, Answered}
 use Rattle.ell_core.specs.declared.fact.Fact.TheVariants.{Backed}
 use Rattle.ell_core.specs.declared.put.Put.{Put}
 use Rattle.ell_core.specs.declared.view.Seen.{Seen}
-use Rattle.ell_layout.specs.Cards.{child_for, insert_filling, delete_filling, tag_for}
+use Rattle.ell_layout.specs.Cards.{child_for, put_filling, value_below, delete_filling, tag_for}
 use Rattle.ell_core.specs.state.Facts.{learned_any, told_by}
 use Rattle.ell_core.specs.state.Machine.{Worker, Scene}
-use Rattle.ell_core.specs.acts.Searching.{put_of, TakesPut, IsClean, Begin, Upd, Down, AtCleanLeaf, ClaimPut, ClaimDelete, MayStop, Again, Leave, value_at, leaf_answer, card_answer, AnswersAtLeaf, AnswersByCard, HasAnswer, Answer, begun, ended, with_read, gone_down, claims, ledger_after}
-use Rattle.ell_layout.specs.Words.{IsLeaf}
-use Rattle.ell_core.proofs.lemmas.outcomes.Decide.{Decided, Settled, ap2, settles_either, cases_option, cases_put, decides_takes, cases_delete, decides_clean, decides_internal, same_value, some_not_none, same_seen}
+use Rattle.ell_core.specs.acts.Searching.{put_of, GivesPlace, IsClean, Begin, Upd, Down, AtCleanLeaf, AtCleanNode, ClaimPut, ClaimDelete, MayStop, Again, Leave, value_at, leaf_answer, card_answer, AnswersAtLeaf, AnswersByCard, HasAnswer, Answer, begun, ended, with_read, gone_down, claims, ledger_after}
+use Rattle.ell_layout.specs.Words.{Words, IsLeaf}
+use Rattle.ell_core.specs.tree.Flat.{IsInBlock, IsNodeKey}
+use Rattle.ell_core.proofs.lemmas.outcomes.Decide.{Decided, HasOne, Settled, ap2, subst2, settles_either, cases_option, cases_put, decides_takes, cases_delete, decides_clean, decides_internal, same_value, some_not_none, same_seen}
+use Rattle.ell_core.proofs.lemmas.tree.Blocks.{in_block-or_not}
+use Rattle.ell_core.proofs.lemmas.tree.NodeKeys.{some_node_key, one_node_key}
 use Rattle.ell_ops.specs.declared.reply.Reply.{Reply}
 
 -- begin has one outcome or none
@@ -65,12 +69,12 @@ down_from s op seen = record s {
 }
 
 -- down from a node that is read has one outcome or none
-settles_down_at : (s : Scene) (op : Op) (node word : ℕ) → s.worker.operation ≡ Some op → s.worker.search.node ≡ Some node → s.worker.search.read ≡ Some word → Settled (Down s)
-settles_down_at s op node word busy stands read = elim (decides_internal node) [
+settles_down_at : (s : Scene) (op : Op) (node word : ℕ) → s.worker.operation ≡ Some op → s.worker.search.node ≡ Some node → s.worker.search.read ≡ Some word → s.worker.card ≡ None → Settled (Down s)
+settles_down_at s op node word busy stands read no_card = elim (decides_internal node) [
   | inl i ↦ inl (record {
     said = Moved;
     after = down_from s op seen;
-    row = record { op = op; seen = seen; busy = busy; stands = stands; internal = i; read = read; tagged = refl; says = refl; gives = refl };
+    row = record { op = op; seen = seen; busy = busy; stands = stands; internal = i; read = read; no_card = no_card; tagged = refl; says = refl; gives = refl };
     only = λ other later r. (
       r.says,
       (let same_op = same_value r.busy busy in let same_node = same_value r.stands stands in
@@ -92,10 +96,50 @@ settles_down s = elim (cases_option s.worker.operation) [
     | inr e ↦ inr (λ said after r. some_not_none r.stands e)
     | inl n ↦ elim (cases_option s.worker.search.read) [
       | inr e ↦ inr (λ said after r. some_not_none r.read e)
-      | inl u ↦ settles_down_at s o.0 n.0 u.0 o.1 n.1 u.1
+      | inl u ↦ elim (cases_option s.worker.card) [
+        | inl c ↦ inr (λ said after r. some_not_none c.1 r.no_card)
+        | inr e ↦ settles_down_at s o.0 n.0 u.0 o.1 n.1 u.1 e
+      ]
     ]
   ]
 ]
+
+-- a worker at a clean node is there in one way
+record CleanNode (v : Worker) : Type 0 where
+  node : ℕ
+  parent : Seen
+  at : AtCleanNode v node parent
+  only : (x : ℕ) (y : Seen) → AtCleanNode v x y → (x ≡ node) × (y ≡ parent)
+
+-- a worker without a card, at a node that came from another, is at a clean node or not
+clean_node_at : (v : Worker) (node : ℕ) (parent : Seen) → v.search.node ≡ Some node → v.search.parent ≡ Some parent → v.card ≡ None
+    → CleanNode v ⊎ ((x : ℕ) (y : Seen) → ¬ AtCleanNode v x y)
+clean_node_at v node parent stands behind no_card = elim (decides_clean parent.word) [
+  | inr n ↦ inr (λ x y a. n (subst (λ (z : Seen). IsClean z.word) (same_value a.behind behind) a.calm))
+  | inl calm ↦ inl (record {
+    node = node;
+    parent = parent;
+    at = record { stands = stands; behind = behind; calm = calm; no_card = no_card };
+    only = λ x y a. (same_value a.stands stands, same_value a.behind behind);
+  })
+]
+
+-- a worker is at a clean node, in one way, or is not
+clean_node : (v : Worker) → CleanNode v ⊎ ((x : ℕ) (y : Seen) → ¬ AtCleanNode v x y)
+clean_node v = elim (cases_option v.search.node) [
+  | inr e ↦ inr (λ x y a. some_not_none a.stands e)
+  | inl n ↦ elim (cases_option v.search.parent) [
+    | inr e ↦ inr (λ x y a. some_not_none a.behind e)
+    | inl p ↦ elim (cases_option v.card) [
+      | inl c ↦ inr (λ x y a. some_not_none c.1 a.no_card)
+      | inr e ↦ clean_node_at v n.0 p.0 n.1 p.1 e
+    ]
+  ]
+]
+
+-- a worker at a clean leaf is at a clean node
+at_node : (v : Worker) (leaf : ℕ) (parent : Seen) → AtCleanLeaf v leaf parent → AtCleanNode v leaf parent
+at_node v leaf parent a = record { stands = a.stands; behind = a.behind; calm = a.calm; no_card = a.no_card }
 
 -- a worker at a clean leaf is there in one way
 record CleanLeaf (v : Worker) : Type 0 where
@@ -104,32 +148,18 @@ record CleanLeaf (v : Worker) : Type 0 where
   at : AtCleanLeaf v leaf parent
   only : (x : ℕ) (y : Seen) → AtCleanLeaf v x y → (x ≡ leaf) × (y ≡ parent)
 
--- a worker without a card, at a node that came from another, is at a clean leaf or not
-clean_leaf_at : (v : Worker) (leaf : ℕ) (parent : Seen) → v.search.node ≡ Some leaf → v.search.parent ≡ Some parent → v.card ≡ None
-    → CleanLeaf v ⊎ ((x : ℕ) (y : Seen) → ¬ AtCleanLeaf v x y)
-clean_leaf_at v leaf parent stands behind no_card = elim (decides_internal leaf) [
-  | inl i ↦ inr (λ x y a. a.outer (ap (λ z. z % 4) (same_value a.stands stands) ∙ i))
-  | inr outer ↦ elim (decides_clean parent.word) [
-    | inr n ↦ inr (λ x y a. n (subst (λ (z : Seen). IsClean z.word) (same_value a.behind behind) a.calm))
-    | inl calm ↦ inl (record {
-      leaf = leaf;
-      parent = parent;
-      at = record { stands = stands; outer = outer; behind = behind; calm = calm; no_card = no_card };
-      only = λ x y a. (same_value a.stands stands, same_value a.behind behind);
-    })
-  ]
-]
-
 -- a worker is at a clean leaf, in one way, or is not
 clean_leaf : (v : Worker) → CleanLeaf v ⊎ ((x : ℕ) (y : Seen) → ¬ AtCleanLeaf v x y)
-clean_leaf v = elim (cases_option v.search.node) [
-  | inr e ↦ inr (λ x y a. some_not_none a.stands e)
-  | inl n ↦ elim (cases_option v.search.parent) [
-    | inr e ↦ inr (λ x y a. some_not_none a.behind e)
-    | inl p ↦ elim (cases_option v.card) [
-      | inl c ↦ inr (λ x y a. some_not_none c.1 a.no_card)
-      | inr e ↦ clean_leaf_at v n.0 p.0 n.1 p.1 e
-    ]
+clean_leaf v = elim (clean_node v) [
+  | inr n ↦ inr (λ x y a. n x y (at_node v x y a))
+  | inl c ↦ elim (decides_internal c.node) [
+    | inl i ↦ inr (λ x y a. a.outer (ap (λ z. z % 4) (c.only x y (at_node v x y a)).0 ∙ i))
+    | inr outer ↦ inl (record {
+      leaf = c.node;
+      parent = c.parent;
+      at = record { stands = c.at.stands; outer = outer; behind = c.at.behind; calm = c.at.calm; no_card = c.at.no_card };
+      only = λ x y a. c.only x y (at_node v x y a);
+    })
   ]
 ]
 
@@ -138,32 +168,83 @@ same_delete : {o : Option Op} {x y : ℕ} → o ≡ Some (Delete x) → o ≡ So
 same_delete e f = cc
 
 -- the scene after a claim for an insert or a swap
-abbrev put_claimed : Scene → Put → ℕ → Seen → Scene
-put_claimed s what leaf parent =
-    claims s parent.tag (insert_filling s.words.next what.key what.value parent.node leaf (s.words.key leaf) (s.words.value leaf))
+abbrev put_claimed : Scene → Put → ℕ → ℕ → Seen → Scene
+put_claimed s what node_key below parent = claims s parent.tag
+    (put_filling s.words.next what.key what.value node_key parent.node below (s.words.key below) (value_below s.words below))
+
+-- it is one scene for one put, node key, node and parent
+same_claimed : (s : Scene) {what then : Put} {node_key other below x : ℕ} {parent y : Seen} → what ≡ then → node_key ≡ other → below ≡ x → parent ≡ y
+    → put_claimed s what node_key below parent ≡ put_claimed s then other x y
+same_claimed s e f g h = λ t. put_claimed s (e t) (f t) (g t) (h t)
 
 -- two claims of one operation put the same
 same_put : {o : Option Op} {op other : Op} {what then : Put} → o ≡ Some op → o ≡ Some other → put_of op ≡ Some what → put_of other ≡ Some then
     → what ≡ then
 same_put e f g h = same_value g (ap put_of (same_value e f) ∙ h)
 
--- a claim of an operation that puts something, at a leaf, has one outcome or none
-settles_put_at : (s : Scene) (op : Op) (what : Put) (a : CleanLeaf s.worker) → s.worker.operation ≡ Some op → put_of op ≡ Some what
+-- a node gives place to what is put, or not
+decides_gives : (w : Words) (what : Put) (x : ℕ) → Decided (GivesPlace w what x)
+decides_gives w what x = elim (decides_internal x) [
+  | inr outer ↦ elim (decides_takes what (w.key x) (w.value x)) [
+    | inl takes ↦ inl (record { leaf = λ _. takes; edge = λ i. absurd (outer i) })
+    | inr n ↦ inr (λ g. n (g.leaf outer))
+  ]
+  | inl i ↦ elim (cases_option what.was) [
+    | inl w ↦ inr (λ g. some_not_none w.1 (g.edge i).0)
+    | inr none ↦ elim (in_block-or_not w x what.key) [
+      | inl inside ↦ inr (λ g. (g.edge i).1 inside)
+      | inr lacks ↦ inl (record { leaf = λ outer. absurd (outer i); edge = λ _. (none, lacks) })
+    ]
+  ]
+]
+
+-- what an insert puts is in the block of a node, or not; a swap may be anywhere
+decides_fits : (w : Words) (what : Put) (x : ℕ) → Decided (what.was ≡ None → IsInBlock w x what.key)
+decides_fits w what x = elim (cases_option what.was) [
+  | inl w ↦ inl (λ none. absurd (some_not_none w.1 none))
+  | inr none ↦ elim (in_block-or_not w x what.key) [ inl inside ↦ inl (λ _. inside) | inr lacks ↦ inr (λ h. lacks (h none)) ]
+]
+
+-- a claim puts this, and is made at this node and its parent
+abbrev SaysPut : (s : Scene) → Put → CleanNode s.worker → Put → ℕ → Seen → Type 0
+SaysPut s what a then below parent = (then ≡ what) × (below ≡ a.node) × (parent ≡ a.parent)
+
+-- each claim of one operation puts one thing at one place
+says_put : (s : Scene) (op : Op) (what : Put) (a : CleanNode s.worker) → s.worker.operation ≡ Some op → put_of op ≡ Some what
+    → (said : Stepped) (after : Scene) (r : ClaimPut s said after) → SaysPut s what a r.what r.below r.parent
+says_put s op what a busy puts said after r =
+    let only = a.only r.below r.parent r.at in (same_put r.busy busy r.puts puts, only.0, only.1)
+
+-- a key of a node over two is one over two that are the same
+named_at : (w : Words) {k then x y node_key : ℕ} → k ≡ then → x ≡ y → IsNodeKey w.flat_from k (w.key x) node_key → IsNodeKey w.flat_from then (w.key y) node_key
+named_at w {node_key = node_key} e f = subst2 (λ k x. IsNodeKey w.flat_from k (w.key x) node_key) e f
+
+-- a claim of an operation that puts something, at a node that gives place below one that it fits, has one outcome
+settles_put_at : (s : Scene) (op : Op) (what : Put) (a : CleanNode s.worker) → s.worker.operation ≡ Some op → put_of op ≡ Some what
+    → GivesPlace s.words what a.node → (what.was ≡ None → IsInBlock s.words a.parent.node what.key) → HasOne (ClaimPut s)
+settles_put_at s op what a busy puts takes fits =
+    let some = some_node_key s.words.flat_from what.key (s.words.key a.node) in record {
+      said = Moved;
+      after = put_claimed s what some.0 a.node a.parent;
+      row = record { op = op; what = what; below = a.node; parent = a.parent; node_key = some.0; busy = busy; puts = puts; at = a.at; takes = takes; fits = fits; named = some.1; says = refl; gives = refl };
+      only = λ other later r. (
+          let same = says_put s op what a busy puts other later r in
+          let named = named_at s.words (ap (λ (t : Put). t.key) same.0) same.1 r.named in
+          let one = one_node_key s.words.flat_from what.key (s.words.key a.node) r.node_key some.0 named some.1 in
+          (r.says, r.gives ∙ same_claimed s same.0 one same.1 same.2));
+    }
+
+-- a claim of an operation that puts something, at a clean node, has one outcome or none
+settles_put : (s : Scene) (op : Op) (what : Put) (a : CleanNode s.worker) → s.worker.operation ≡ Some op → put_of op ≡ Some what
     → Settled (ClaimPut s)
-settles_put_at s op what a busy puts = elim (decides_takes what (s.words.key a.leaf) (s.words.value a.leaf)) [
-  | inr n ↦ inr (λ said after r. (
-      let only = (a.only r.leaf r.parent r.at).0 in
-      n (subst (λ t. TakesPut t (s.words.key a.leaf) (s.words.value a.leaf)) (same_put r.busy busy r.puts puts)
-      (subst (λ x. TakesPut r.what (s.words.key x) (s.words.value x)) only r.takes))))
-  | inl takes ↦ inl (record {
-    said = Moved;
-    after = put_claimed s what a.leaf a.parent;
-    row = record { op = op; what = what; leaf = a.leaf; parent = a.parent; busy = busy; puts = puts; at = a.at; takes = takes; says = refl; gives = refl };
-    only = λ other later r. (let only = a.only r.leaf r.parent r.at in (
-      r.says,
-      r.gives ∙ (ap (λ t. put_claimed s t r.leaf r.parent) (same_put r.busy busy r.puts puts) ∙ ap2 (put_claimed s what) only.0 only.1),
-    ));
-  })
+settles_put s op what a busy puts = elim (decides_gives s.words what a.node) [
+  | inr n ↦ inr (λ said after r. (let same = says_put s op what a busy puts said after r in
+      n (subst2 (GivesPlace s.words) same.0 same.1 r.takes)))
+  | inl takes ↦ elim (decides_fits s.words what a.parent.node) [
+    | inr n ↦ inr (λ said after r. (let same = says_put s op what a busy puts said after r in
+        n (subst2 (λ (t : Put) (y : Seen). t.was ≡ None → IsInBlock s.words y.node t.key) same.0 same.2 r.fits)))
+    | inl fits ↦ inl (settles_put_at s op what a busy puts takes fits)
+  ]
 ]
 
 -- a claim for an insert or a swap has one outcome or none
@@ -172,9 +253,9 @@ settles_claim_put s = elim (cases_option s.worker.operation) [
   | inr e ↦ inr (λ said after r. some_not_none r.busy e)
   | inl o ↦ elim (cases_put o.0) [
     | inr n ↦ inr (λ said after r. some_not_none r.puts (ap put_of (same_value r.busy o.1) ∙ n))
-    | inl t ↦ elim (clean_leaf s.worker) [
-      | inr n ↦ inr (λ said after r. n r.leaf r.parent r.at)
-      | inl a ↦ settles_put_at s o.0 t.0 a o.1 t.1
+    | inl t ↦ elim (clean_node s.worker) [
+      | inr n ↦ inr (λ said after r. n r.below r.parent r.at)
+      | inl a ↦ settles_put s o.0 t.0 a o.1 t.1
     ]
   ]
 ]

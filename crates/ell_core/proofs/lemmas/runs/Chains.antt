@@ -15,6 +15,7 @@ same_node a b c x h g = record { update = g.update ∙ h.update; child = λ righ
 -- words that are later than later ones are later
 pub words_later : (a b c : Words) → WordsLater a b → WordsLater b c → WordsLater a c
 words_later a b c h g = record {
+  flat = g.flat ∙ h.flat;
   next = (let x = h.next in let y = g.next in omega arith);
   tag = λ x right. (let l = h.tag x right in let r = g.tag x right in omega arith);
   child = λ x right below same.

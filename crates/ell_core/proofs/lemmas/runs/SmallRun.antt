@@ -20,6 +20,7 @@ use Rattle.ell_core.specs.acts.Exchanges.{knowing}
 use Rattle.ell_core.specs.acts.Events.{Row, LacksKey, LacksCard, Steps}
 use Rattle.ell_core.specs.statements.RunLaws.{CanOpen, IsPassed, Follow}
 use Rattle.ell_core.proofs.lemmas.opening.CanOpen.{two_keys_open}
+use Rattle.ell_core.proofs.lemmas.tree.Blocks.{no_block-plain}
 use Rattle.ell_core.proofs.lemmas.runs.Passed.{openings_passed, passed_on, follows_itself, followed_on}
 use Rattle.ell_core.specs.declared.view.Entry.TheVariants.{Absent}
 use Rattle.ell_ops.specs.declared.reply.Reply.TheVariants.{Yes}
@@ -30,7 +31,7 @@ owned = (0, 5) ∷ (0, 7) ∷ []
 
 -- the opening of two workers, with no start keys
 abbrev pub setup : Setup
-setup = record { count = 2; owned = owned; start = []; cards = 4; shared = λ _. false }
+setup = record { count = 2; owned = owned; start = []; cards = 4; shared = λ _. false; flat = false }
 
 abbrev pub opened : Machine
 opened = record { words = opening_words; count = 2; last_card = 4; worker = λ i. idle (opening_ledger owned [] i) (λ _. false) (λ _. false) }
@@ -141,7 +142,7 @@ reads = step begun_state act.Upd Moved read_scene two (λ h. h)
 
 pub goes_down : Steps read_state (by act.Down) Moved down_state
 goes_down = step read_state act.Down Moved down_scene two (λ h. h)
-    (record { op = Insert 5 50; seen = seen_root; busy = refl; stands = refl; internal = refl; read = refl; tagged = refl; says = refl; gives = refl }) (λ h. h)
+    (record { op = Insert 5 50; seen = seen_root; busy = refl; stands = refl; internal = refl; read = refl; no_card = refl; tagged = refl; says = refl; gives = refl }) (λ h. h)
 
 one_leaf : IsLeaf 1
 one_leaf e = omega arith
@@ -151,12 +152,18 @@ claims_card = step down_state act.Claim Moved claimed_scene two (λ h. h)
     (inl (record {
       op = Insert 5 50;
       what = record { key = 5; value = 50; was = None };
-      leaf = 1;
+      below = 1;
       parent = seen_root;
+      node_key = infinity1;
       busy = refl;
       puts = refl;
-      at = record { stands = refl; outer = one_leaf; behind = refl; calm = refl; no_card = refl };
-      takes = λ e. let h : infinity1 ≡ 5 = e in omega arith;
+      at = record { stands = refl; behind = refl; calm = refl; no_card = refl };
+      takes = record {
+        leaf = λ outer e. let h : infinity1 ≡ 5 = e in omega arith;
+        edge = λ inner. absurd (one_leaf inner);
+      };
+      fits = λ none. no_block-plain opening_words 0 5 refl;
+      named = record { greater = λ plain. refl; branch = λ flat apart. absurd (omega arith) };
       says = refl;
       gives = refl;
     }))
@@ -187,7 +194,7 @@ answers = step over_state act.Answer (Answered Yes) answered_scene two (λ h. h)
 
 -- the entries can open
 pub can_open : CanOpen setup
-can_open = two_keys_open 2 0 0 5 7 4 two two (λ e. omega arith) (omega arith) (omega arith)
+can_open = two_keys_open 2 0 0 5 7 4 false two two (λ e. omega arith) (omega arith) (omega arith)
 
 -- the states of the run are passed
 pub opened_passed : IsPassed opened

@@ -1,7 +1,7 @@
-use Rattle.std.proofs.Common.{◌≡◌, ℕ, ◌+◌, ◌⊎◌, inl, inr, true, sym, ◌∙◌, subst, arith}
+use Rattle.std.proofs.Common.{◌≡◌, ℕ, ◌+◌, ◌<◌, ◌⊎◌, ◌↔◌, inl, inr, true, sym, ◌∙◌, subst, arith}
 use Rattle.std.proofs.lemmas.Bool.{cases_lt}
 use Rattle.ell_layout.specs.Words.{Words}
-use Rattle.ell_core.specs.history.Stages.{Stages, is_insert, is_delete}
+use Rattle.ell_core.specs.history.Stages.{Stages, is_start, is_insert, is_delete}
 use Rattle.ell_core.specs.history.Invariant.{GoesNowhere, KindsAreSound}
 use Rattle.ell_core.specs.history.Later.{WordsLater, StagesLater}
 
@@ -24,6 +24,11 @@ nowhere_later old new c words h = let info = words.info c h.below in record {
   was = info.was ∙ h.was;
   expects = info.expects ∙ h.expects;
 }
+
+-- which cards are of the opening tree is as it was, where the tree is flat from the first other one on
+pub starts_later : (from : ℕ) (old new : Stages) → ((c : ℕ) → is_start (new c) ≡ is_start (old c))
+    → ((c : ℕ) → (c < from) ↔ (is_start (old c) ≡ true)) → (c : ℕ) → (c < from) ↔ (is_start (new c) ≡ true)
+starts_later from old new same was c = (λ less. same c ∙ (was c).0 less, λ is. (was c).1 (sym (same c) ∙ is))
 
 -- the cards' kinds are kept by words and stages that are later, where the claim word stayed or claimed a card of a kind
 pub kinds_later : (old new : Words) (stage stages : Stages) → WordsLater old new → StagesLater stage stages

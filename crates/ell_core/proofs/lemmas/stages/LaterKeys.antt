@@ -1,10 +1,14 @@
-use Rattle.std.proofs.Common.{◌≡◌, ℕ, ◌%◌, ◌<◌, nat_le, true, Option, Some, None, refl, sym, ap, ◌∙◌, arith, ◌==◌, if◌then◌else◌}
+use Rattle.std.proofs.Common.{◌≡◌, ℕ, ◌%◌, ◌<◌, nat_le, Bool, true, false, subst, Option, Some, None, refl, sym, ap, ◌∙◌, arith, ◌==◌, if◌then◌else◌}
 use Rattle.ell_word.specs.Node.{card, internal, left_leaf, right_leaf, IsNode}
 use Rattle.ell_layout.specs.Words.{Words}
-use Rattle.ell_layout.specs.Cards.{is_right}
+use Rattle.ell_layout.specs.Cards.{is_right, left_of_card, right_of_card}
+use Rattle.ell_core.specs.tree.Flat.{IsInBlock}
+use Rattle.ell_core.specs.tree.Rank.{rank}
 use Rattle.ell_core.specs.history.Stages.{Stages, Opening, is_insert, is_delete, is_node_born, Born}
-use Rattle.ell_core.specs.history.Invariant.{insert_key, insert_value, delete_key, insert_side, delete_side, leaf_side, InsertCard, DeleteCard, IsPutting, WordsAreSound}
+use Rattle.ell_core.specs.history.Invariant.{insert_key, insert_value, delete_key, insert_side, delete_side, leaf_side, filled_child, InsertCard, DeleteCard, IsPutting, WordsAreSound}
 use Rattle.ell_core.specs.history.Later.{WordsLater, SameInfo}
+use Rattle.ell_core.proofs.lemmas.tree.Blocks.{in_block-same}
+use Rattle.ell_core.proofs.lemmas.tree.Ranks.{rank_same}
 use Rattle.ell_core.proofs.lemmas.words.Sides.{key_of_three}
 use Rattle.ell_core.proofs.lemmas.stages.Order.{all-born, born-claimed, insert-claimed, delete-claimed}
 
@@ -35,6 +39,19 @@ module _ (old new : Words) (stage : Stages) (sound : WordsAreSound old stage) (w
   pub side_later : (x y k l : ℕ) → y ≡ x → l ≡ k → Born stage x → is_right new y l ≡ is_right old x k
   side_later x y k l e f born = λ t. nat_le (key_later x y e born t) (f t)
 
+  -- so is its rank
+  pub rank_later : (x y : ℕ) → y ≡ x → Born stage x → rank new y ≡ rank old x
+  rank_later x y e born = rank_same old new x y e words.flat (key_later x y e born)
+
+  -- a key is in its block as it was
+  pub block_later : (x y k l : ℕ) → y ≡ x → l ≡ k → Born stage x → IsInBlock old x k → IsInBlock new y l
+  block_later x y k l e f born there =
+      subst (IsInBlock new y) (sym f) (subst (λ n. IsInBlock new n k) (sym e) (in_block-same old new x k words.flat (key_later x x refl born) there))
+
+  pub block_before : (x y k l : ℕ) → y ≡ x → l ≡ k → Born stage x → IsInBlock new y l → IsInBlock old x k
+  block_before x y k l e f born there =
+      in_block-same new old x k (sym words.flat) (sym (key_later x x refl born)) (subst (λ n. IsInBlock new n k) e (subst (IsInBlock new y) f there))
+
   module _ (c : ℕ) (inserts : is_insert (stage c) ≡ true) where
     insert_below : c < old.next
     insert_below = (sound.cards c).claimed.0 (insert-claimed (stage c) inserts)
@@ -59,10 +76,10 @@ module _ (old new : Words) (stage : Stages) (sound : WordsAreSound old stage) (w
     insert_parent_key = key_later (old.p c) (new.p c) insert_info.p insert_said.parent.born
 
     pub insert_leaf_key : new.key (new.l c) ≡ old.key (old.l c)
-    insert_leaf_key = key_later (old.l c) (new.l c) insert_info.l insert_said.leaf.born
+    insert_leaf_key = key_later (old.l c) (new.l c) insert_info.l insert_said.lower
 
     pub insert_leaf_value : new.value (new.l c) ≡ old.value (old.l c)
-    insert_leaf_value = value_later (old.l c) (new.l c) insert_info.l insert_said.leaf.born
+    insert_leaf_value = value_later (old.l c) (new.l c) insert_info.l insert_said.lower
 
     -- so its own key is as it was, with its value, and its side of the parent
     pub insert_key_later : insert_key new c ≡ insert_key old c
@@ -77,6 +94,11 @@ module _ (old new : Words) (stage : Stages) (sound : WordsAreSound old stage) (w
         let left_value = insert_node_value (left_leaf c) (omega arith) in
         let right_value = insert_node_value (right_leaf c) (omega arith) in
         λ t. if left t == insert_leaf_key t then right_value t else left_value t
+
+    -- the children of its node are to be those that were
+    pub filled_child_later : (right : Bool) → filled_child new c right ≡ filled_child old c right
+    filled_child_later false = λ t. left_of_card c (insert_key_later t) (insert_info.l t) (insert_leaf_key t)
+    filled_child_later true = λ t. right_of_card c (insert_key_later t) (insert_info.l t) (insert_leaf_key t)
 
     -- it adds its key still, or replaces a leaf of its key and of that value
     pub putting_later : (was : Option ℕ) → IsPutting old c was → IsPutting new c was

@@ -1,4 +1,4 @@
-use Rattle.std.proofs.Common.{◌≡◌, ◌≢◌, ℕ, zero, suc, ◌+◌, ◌*◌, ◌-◌, ◌%◌, ◌<◌, ◌≤◌, ◌==◌, if◌then◌else◌, ⊎_elim, true, false, List, [], ◌∷◌, ◌++◌, Contains, AllPairs, length, length-append, arith, refl, ap, sym, subst, ◌∙◌}
+use Rattle.std.proofs.Common.{◌≡◌, ◌≢◌, ℕ, zero, suc, ◌+◌, ◌-◌, ◌%◌, ◌≤◌, ◌==◌, if◌then◌else◌, ⊎_elim, true, false, List, [], ◌∷◌, ◌++◌, Contains, AllPairs, length, length-append, arith, refl, ap, sym, subst, ◌∙◌}
 use Rattle.std.proofs.lemmas.Bool.{cond-true, cond-false, eq-eqb, ne_eqb}
 use Rattle.std.proofs.lemmas.Bool.Decides.{Decides-eqb}
 use Rattle.std.proofs.lemmas.List.Kept.{AllPairs-from_increasing}
@@ -9,14 +9,12 @@ use Rattle.std.specs.Cmp.{nat_eq_equiv}
 use Rattle.std.specs.Map.{keys_of}
 use Rattle.ell_word.specs.Node.{IsInternal, internal, card}
 use Rattle.ell_layout.specs.Words.{Words, IsLeaf}
-use Rattle.ell_core.specs.tree.Tree.{Reached, IsLawful, ListsKeys}
+use Rattle.ell_core.specs.tree.Tree.{IsLawful, ListsKeys}
 use Rattle.ell_core.specs.tree.Room.{HasRoom, HoldsKeys}
 use Rattle.ell_core.proofs.lemmas.tree.Pairs.{Contains-none, Contains-first, Contains-later, Contains-cons_cases, Contains-from_list_any, AllPairs-none, AllPairs-cons, length-le_from_apart}
 use Rattle.ell_core.proofs.lemmas.tree.Paths.{internal_or_leaf, Below-refl}
-use Rattle.ell_core.proofs.lemmas.tree.Nodes.{nodes_below, nodes_below-none, nodes_below-leaf, nodes_below-inner, nodes_below-only, nodes_below-apart}
+use Rattle.ell_core.proofs.lemmas.tree.Nodes.{nodes_below, nodes_below-none, nodes_below-leaf, nodes_below-inner, nodes_below-only, nodes_below-apart, fuel_for, ranks_inside}
 use Rattle.ell_core.proofs.lemmas.tree.RealPairs.{inner, real, infinite, kind_of, real_pairs, real_pairs-none, real_pairs-inner, real_pairs-real, real_pairs-infinite, real_pairs-append, ListsTreePairs-all, ListsKeys-of_pairs}
-use Rattle.ell_core.proofs.lemmas.tree.Ranks.{rank_most}
-use Rattle.ell_core.specs.tree.Rank.{rank}
 
 -- the cards of the internal nodes among nodes
 unfoldable inner_cards : List ℕ → List ℕ
@@ -118,16 +116,16 @@ no_longer w keys others first second =
 -- as many places as are enough for the nodes that wait are enough for the keys
 pub HoldsKeys-from_room : (w : Words) (places : ℕ) → IsLawful w → HasRoom w places → HoldsKeys w places
 HoldsKeys-from_room w places lawful room keys listed =
-    let inside : (x : ℕ) → Reached w x → rank x < 4 * places =
-    λ x reached. let h = room x reached in let most = rank_most x (places - 2) (omega arith) in omega arith in
-    let nodes = nodes_below w (4 * places) 0 in
+    let inside = ranks_inside w places room in
+    let fuel = fuel_for w places in
+    let nodes = nodes_below w fuel 0 in
     let pairs = real_pairs w nodes in
-    let all = no_longer w keys (keys_of pairs) listed (ListsKeys-of_pairs w pairs (ListsTreePairs-all w (4 * places) lawful inside)) in
+    let all = no_longer w keys (keys_of pairs) listed (ListsKeys-of_pairs w pairs (ListsTreePairs-all w fuel lawful inside)) in
     let same = length-keys_of pairs in
-    let few = few_keys w (4 * places) 0 in
+    let few = few_keys w fuel 0 in
     let cards : length (inner_cards nodes) ≤ places - 1 =
     length-le_from_apart (inner_cards nodes) (places - 1)
-    (inner_cards-apart nodes (nodes_below-apart w (4 * places) lawful inside (4 * places) 0 (Below-refl w 0)))
-    (λ c h. let most = room (internal c) (nodes_below-only w (4 * places) 0 (internal c) (inner_cards-only nodes c h)) in omega arith) in
+    (inner_cards-apart nodes (nodes_below-apart w fuel lawful inside fuel 0 (Below-refl w 0)))
+    (λ c h. let most = room (internal c) (nodes_below-only w fuel 0 (internal c) (inner_cards-only nodes c h)) in omega arith) in
     let some = room 0 (Below-refl w 0) in
     omega arith

@@ -5,7 +5,7 @@ use Rattle.ell_word.specs.Node.{IsInternal, infinity1, infinity2}
 use Rattle.ell_layout.specs.Words.{Words, IsLeaf}
 use Rattle.ell_layout.specs.Cards.{child_for}
 use Rattle.ell_core.specs.tree.Tree.{OnWalk, here, next, Leads, Below, Reached, HasGrandparent, LeftIsLawful, IsLawful}
-use Rattle.ell_core.specs.tree.Ranges.{low_of, high_of, Spans, root, goes, IsOrdered}
+use Rattle.ell_trie.specs.Ranges.{low_of, high_of, Spans, root, goes, IsOrdered}
 use Rattle.ell_core.specs.history.Stages.{Stages}
 use Rattle.ell_core.specs.history.Invariant.{top, TreeIsSound}
 use Rattle.ell_core.proofs.lemmas.tree.Paths.{Leads-from_leaf, Below-leaf, Reached-below, Reached-child}
@@ -13,10 +13,10 @@ use Rattle.ell_core.proofs.lemmas.tree.Reached.{leads_some, OnWalk-below, Meets-
 use Rattle.ell_core.specs.tree.Rank.{rank}
 
 -- an ordered tree
-module _ (w : Words) (ordered : IsOrdered w.key w.child top rank) where
+module _ (w : Words) (ordered : IsOrdered w.key w.child top (rank w)) where
   -- ranks rise along a path
-  path_rises : (x low high : ℕ) (p : List Bool) (y : ℕ) → Spans w.key w.child top x low high → Leads w x p y → rank x ≤ rank y
-  path_rises x low high [] y spans leads = let same = ap rank leads in omega arith
+  path_rises : (x low high : ℕ) (p : List Bool) (y : ℕ) → Spans w.key w.child top x low high → Leads w x p y → rank w x ≤ rank w y
+  path_rises x low high [] y spans leads = let same = ap (rank w) leads in omega arith
   path_rises x low high (right ∷ p) y spans leads =
       let up = ordered.rising x low high right spans leads.0 in
       let rest = path_rises (w.child x right) (low_of right low (w.key x)) (high_of right high (w.key x)) p y
@@ -51,13 +51,13 @@ module _ (w : Words) (ordered : IsOrdered w.key w.child top rank) where
       let up = ordered.rising x low high right spans second.0 in
       let rest = path_rises (w.child x right) (low_of right low (w.key x)) (high_of right high (w.key x)) q y
       (goes right spans second.0 refl refl refl) second.1 in
-      let same = ap rank first in
+      let same = ap (rank w) first in
       absurd (omega arith)
   one_path_from x low high (right ∷ p) [] y spans first second =
       let up = ordered.rising x low high right spans first.0 in
       let rest = path_rises (w.child x right) (low_of right low (w.key x)) (high_of right high (w.key x)) p y
       (goes right spans first.0 refl refl refl) first.1 in
-      let same = ap rank second in
+      let same = ap (rank w) second in
       absurd (omega arith)
   one_path_from x low high (false ∷ p) (true ∷ q) y spans first second =
       absurd (apart x low high p q y y spans first.0 first.1 second.1 refl)

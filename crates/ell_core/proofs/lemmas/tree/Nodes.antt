@@ -1,13 +1,14 @@
-use Rattle.std.proofs.Common.{◌≡◌, ◌≢◌, ℕ, zero, suc, ◌+◌, ◌%◌, ◌<◌, ◌≤◌, ◌==◌, if◌then◌else◌, ⊎_elim, Bool, true, false, List, [], ◌∷◌, ◌++◌, Contains, AllPairs, arith, refl, ap, ap₂, sym, subst, ◌∙◌}
+use Rattle.std.proofs.Common.{◌≡◌, ◌≢◌, ℕ, zero, suc, ◌+◌, ◌-◌, ◌%◌, ◌<◌, ◌≤◌, ◌==◌, if◌then◌else◌, ⊎_elim, Bool, true, false, List, [], ◌∷◌, ◌++◌, Contains, AllPairs, arith, refl, ap, ap₂, sym, subst, ◌∙◌}
 use Rattle.std.proofs.lemmas.Bool.{cond-true, cond-false, eq-eqb, ne_eqb}
 use Rattle.std.proofs.lemmas.List.Elements.{Contains-append_left, Contains-append_right, Contains-append_cases}
 use Rattle.ell_word.specs.Node.{IsInternal}
 use Rattle.ell_layout.specs.Words.{Words, IsLeaf}
 use Rattle.ell_core.specs.tree.Tree.{Below, Reached, IsLawful}
+use Rattle.ell_core.specs.tree.Room.{HasRoom}
 use Rattle.ell_core.proofs.lemmas.tree.Pairs.{Contains-none, Contains-first, Contains-later, Contains-cons_cases, AllPairs-none, AllPairs-append, AllPairs-cons, AllPairs-single}
 use Rattle.ell_core.proofs.lemmas.tree.Paths.{internal_or_leaf, Below-refl, Below-from_child, Below-cases, Below-leaf, Reached-child, Below-child-lt, sides_apart}
 use Rattle.ell_core.specs.tree.Rank.{rank}
-use Rattle.ell_core.proofs.lemmas.tree.Ranks.{ranked_apart}
+use Rattle.ell_core.proofs.lemmas.tree.Ranks.{ranked_apart, rank_bound, rank_most}
 
 -- the nodes below a node, left before right, down to as many levels as the fuel says
 unfoldable pub nodes_below : Words → ℕ → ℕ → List ℕ
@@ -57,9 +58,9 @@ Contains-either lists false y h = Contains-append_left (lists false) (lists true
 Contains-either lists true y h = Contains-append_right (lists false) (lists true) y h
 
 -- a lawful tree whose reached nodes have ranks less than n
-module _ (w : Words) (n : ℕ) (lawful : IsLawful w) (inside : (x : ℕ) → Reached w x → rank x < n) where
+module _ (w : Words) (n : ℕ) (lawful : IsLawful w) (inside : (x : ℕ) → Reached w x → rank w x < n) where
   -- the nodes below children of x, with fuel enough, are the nodes below x after x itself: with one fuel more the list is the same
-  pub nodes_below-more : (fuel x : ℕ) → Reached w x → n ≤ fuel + rank x → nodes_below w fuel x ≡ nodes_below w (suc fuel) x
+  pub nodes_below-more : (fuel x : ℕ) → Reached w x → n ≤ fuel + rank w x → nodes_below w fuel x ≡ nodes_below w (suc fuel) x
   nodes_below-more zero x reached enough = let within = inside x reached in absurd (omega arith)
   nodes_below-more (suc fuel) x reached enough = ⊎_elim
       (λ inner.
@@ -74,7 +75,7 @@ module _ (w : Words) (n : ℕ) (lawful : IsLawful w) (inside : (x : ℕ) → Rea
       (internal_or_leaf x)
 
   -- with fuel enough each node below x is in the list
-  pub nodes_below-all : (fuel x y : ℕ) → Reached w x → n ≤ fuel + rank x → Below w x y → Contains (nodes_below w fuel x) y
+  pub nodes_below-all : (fuel x y : ℕ) → Reached w x → n ≤ fuel + rank w x → Below w x y → Contains (nodes_below w fuel x) y
   nodes_below-all zero x y reached enough below = let within = inside x reached in absurd (omega arith)
   nodes_below-all (suc fuel) x y reached enough below = ⊎_elim
       (λ inner.
@@ -103,8 +104,8 @@ module _ (w : Words) (n : ℕ) (lawful : IsLawful w) (inside : (x : ℕ) → Rea
       subst (AllPairs (λ y z. y ≢ z)) (sym (nodes_below-inner w fuel x inner))
       (AllPairs-cons (λ y z. y ≢ z) x (lefts ++ rights)
       (λ y h. ⊎_elim
-      (λ on_left. let up = Below-child-lt w lawful x y false reached inner (nodes_below-only w fuel (w.child x false) y on_left) in ranked_apart x y up)
-      (λ on_right. let up = Below-child-lt w lawful x y true reached inner (nodes_below-only w fuel (w.child x true) y on_right) in ranked_apart x y up)
+      (λ on_left. let up = Below-child-lt w lawful x y false reached inner (nodes_below-only w fuel (w.child x false) y on_left) in ranked_apart w x y up)
+      (λ on_right. let up = Below-child-lt w lawful x y true reached inner (nodes_below-only w fuel (w.child x true) y on_right) in ranked_apart w x y up)
       (Contains-append_cases lefts rights y h))
       (AllPairs-append (λ y z. y ≢ z) lefts rights
       (nodes_below-apart fuel (w.child x false) (Reached-child w x false reached inner))
@@ -114,3 +115,11 @@ module _ (w : Words) (n : ℕ) (lawful : IsLawful w) (inside : (x : ℕ) → Rea
       (nodes_below-only w fuel (w.child x true) y (subst (Contains rights) (sym same) on_right))))))
       (λ outer. subst (AllPairs (λ y z. y ≢ z)) (sym (nodes_below-leaf w fuel x outer)) (AllPairs-single (λ y z. y ≢ z) x))
       (internal_or_leaf x)
+
+-- fuel enough for a tree that so many places have room for
+abbrev pub fuel_for : Words → ℕ → ℕ
+fuel_for w places = rank_bound w (places - 2)
+
+-- the rank of each of its reached nodes is less
+pub ranks_inside : (w : Words) (places : ℕ) → HasRoom w places → (x : ℕ) → Reached w x → rank w x < fuel_for w places
+ranks_inside w places room x reached = let h = room x reached in rank_most w x (places - 2) (omega arith)

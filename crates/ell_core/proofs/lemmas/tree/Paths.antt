@@ -77,18 +77,18 @@ pub Reached-child : (w : Words) (x : ℕ) (right : Bool) → Reached w x → IsI
 Reached-child w x right reached inner = Reached-below w x (w.child x right) reached (Below-child w x right inner)
 
 -- in a lawful tree no node below a reached one has a lesser rank
-pub Below-le : (w : Words) → IsLawful w → (x y : ℕ) → Reached w x → Below w x y → rank x ≤ rank y
+pub Below-le : (w : Words) → IsLawful w → (x y : ℕ) → Reached w x → Below w x y → rank w x ≤ rank w y
 Below-le w lawful x y reached below = by_path x below.path reached below.leads
   where
-    by_path : (x : ℕ) (p : List Bool) → Reached w x → Leads w x p y → rank x ≤ rank y
-    by_path x [] reached leads = let same = ap rank leads in omega arith
+    by_path : (x : ℕ) (p : List Bool) → Reached w x → Leads w x p y → rank w x ≤ rank w y
+    by_path x [] reached leads = let same = ap (rank w) leads in omega arith
     by_path x (right ∷ p) reached leads =
         let up = lawful.rises x right reached leads.0 in
         let rest = by_path (w.child x right) p (Reached-child w x right reached leads.0) leads.1 in
         omega arith
 
 -- in a lawful tree no node is below its child
-pub Below-child-lt : (w : Words) → IsLawful w → (x y : ℕ) (right : Bool) → Reached w x → IsInternal x → Below w (w.child x right) y → rank x < rank y
+pub Below-child-lt : (w : Words) → IsLawful w → (x y : ℕ) (right : Bool) → Reached w x → IsInternal x → Below w (w.child x right) y → rank w x < rank w y
 Below-child-lt w lawful x y right reached inner below =
     let up = lawful.rises x right reached inner in
     let rest = Below-le w lawful (w.child x right) y (Reached-child w x right reached inner) below in

@@ -1,13 +1,18 @@
-use Rattle.std.proofs.Common.{◌≡◌, ℕ, ◌<◌, ◌≤◌, ◌↔◌, Bool, List, [], ◌∷◌, nat_le, refl, sym, ◌∙◌, subst, arith}
+use Rattle.std.proofs.Common.{◌≡◌, ℕ, ◌<◌, ◌≤◌, ◌↔◌, Bool, true, List, [], ◌∷◌, nat_le, refl, sym, ◌∙◌, subst, arith}
 use Rattle.ell_ops.specs.Meaning.{greatest_key}
-use Rattle.ell_layout.specs.Words.{Words, IsLeaf}
+use Rattle.ell_word.specs.Node.{IsInternal}
+use Rattle.ell_layout.specs.Words.{Words, IsLeaf, has_block}
 use Rattle.ell_core.specs.tree.Tree.{OnWalk, here, next, Finds, Leads, Below, Reached, IsTreeKey, IsTreePair}
-use Rattle.ell_core.specs.tree.Ranges.{low_of, high_of, Spans, root, goes, at_leaf, below, IsOrdered}
-use Rattle.ell_core.specs.tree.Ranges as ranges
+use Rattle.ell_trie.specs.Ranges.{low_of, high_of, Spans, root, goes, at_leaf, below, IsOrdered, OnCourse}
+use Rattle.ell_trie.specs.Ranges as ranges
 use Rattle.ell_core.specs.history.Invariant.{top, IsIn, IsOut, LeadsTo, LeadsToValue, IsOnCourse}
-use Rattle.ell_core.proofs.lemmas.tree.Bounds.{leaf_holds, Meets-map, child_within, side_of, leaf_is_met}
+use Rattle.ell_trie.proofs.lemmas.order.Bounds.{leaf_holds, Meets-map, child_within, side_of, leaf_is_met}
 use Rattle.ell_core.proofs.lemmas.tree.Paths.{Below-refl, Below-from_child, Reached-child}
+use Rattle.ell_trie.specs.Tries.{IsTrie}
+use Rattle.ell_trie.specs.Courses.{ordinary, passes, missed, strange}
+use Rattle.ell_core.specs.tree.Flat.{opening_from, IsInBlock}
 use Rattle.ell_core.specs.tree.Rank.{rank}
+use Rattle.ell_core.proofs.lemmas.tree.Blocks.{flat_by, block_by, has_below, lacks_below}
 
 -- a node that has a range is reached
 pub Spans-reached : (w : Words) {x low high : ℕ} → Spans w.key w.child top x low high → Reached w x
@@ -69,7 +74,7 @@ pub record SpansIn (w : Words) (y low high : ℕ) : Type 0 where
   pub to : last ≤ high
 
 -- an ordered tree
-module _ (w : Words) (ordered : IsOrdered w.key w.child top rank) where
+module _ (w : Words) (ordered : IsOrdered w.key w.child top (rank w)) where
   -- what is below a node has its range in the node's
   pub spans_below : (x low high : ℕ) (p : List Bool) (y : ℕ) → Spans w.key w.child top x low high
       → Leads w x p y → SpansIn w y low high
@@ -140,15 +145,36 @@ module _ (w : Words) (ordered : IsOrdered w.key w.child top rank) where
   tree_key_leads k held = leads_any w k held.0 0 (tree_pair_leads k held.0 held.1)
 
   -- from a node on course for a key, what is reached of the walk for it lies on the walk from node 0
-  pub joins_walk : (k : ℕ) {x y : ℕ} → IsOnCourse w k x → OnWalk w k x y → Reached w y → OnWalk w k 0 y
-  joins_walk k (ranges.here spans from to) on reached = OnWalk-up k spans from to on
-  joins_walk k {y = y} (ranges.off inner out e rest) (here f) reached =
+  ordinary_joins : (k : ℕ) {x y : ℕ} → OnCourse w.key w.child top k x → OnWalk w k x y → Reached w y → OnWalk w k 0 y
+  ordinary_joins k (ranges.here spans from to) on reached = OnWalk-up k spans from to on
+  ordinary_joins k {y = y} (ranges.off inner out e rest) (here f) reached =
       absurd (not_out y reached (subst (IsOut w) (sym f) out))
-  joins_walk k {y = y} (ranges.off inner out e rest) (next _ on) reached =
-      joins_walk k rest (subst (λ n. OnWalk w k n y) (sym e) on) reached
-  joins_walk k {y = y} (ranges.dead outer out) (here f) reached =
+  ordinary_joins k {y = y} (ranges.off inner out e rest) (next _ on) reached =
+      ordinary_joins k rest (subst (λ n. OnWalk w k n y) (sym e) on) reached
+  ordinary_joins k {y = y} (ranges.dead outer out) (here f) reached =
       absurd (not_out y reached (subst (IsOut w) (sym f) out))
-  joins_walk k (ranges.dead outer out) (next inner on) reached = absurd (outer inner)
+  ordinary_joins k (ranges.dead outer out) (next inner on) reached = absurd (outer inner)
+
+  -- in a flat tree, if the key is in the block of what is reached
+  module _ {Born : ℕ → Type 0} (closed : (x : ℕ) (right : Bool) → IsInternal x → Born x → Born (w.child x right))
+      (trie : 0 < w.flat_from → IsTrie Born (opening_from w.flat_from) w.key w.child) where
+    lacks_walk : (k : ℕ) {x y : ℕ} → Born x → has_block w.flat_from x ≡ true → ¬ IsInBlock w x k → OnWalk w k x y → ¬ IsInBlock w y k
+    lacks_walk k born has lacks (here e) there = lacks (subst (λ n. IsInBlock w n k) e there)
+    lacks_walk k born has lacks (next {x = x} inner on) there =
+        let it = trie (flat_by w.flat_from x has) in
+        let right = nat_le (w.key x) k in
+        lacks_walk k (closed x right inner born) (has_below w it x right inner born has) (lacks_below w it x right k inner born has lacks) on there
+
+    pub joins_walk : (k : ℕ) {x y : ℕ} → Born x → IsOnCourse w k x → OnWalk w k x y → Reached w y → IsInBlock w y k → OnWalk w k 0 y
+    joins_walk k born (ordinary course) on reached there = ordinary_joins k course on reached
+    joins_walk k {y = y} born (passes inner out e rest) (here f) reached there =
+        absurd (not_out y reached (subst (IsOut w) (sym f) out))
+    joins_walk k {y = y} born (passes {x = x} inner out e rest) (next _ on) reached there =
+        joins_walk k (subst Born (sym e) (closed x (nat_le (w.key x) k) inner born)) rest (subst (λ n. OnWalk w k n y) (sym e) on) reached there
+    joins_walk k born (missed {x = x} inner plain lacks) on reached there =
+        absurd (lacks_walk k born (block_by w.flat_from x plain) (λ h. lacks (h.inner inner (block_by w.flat_from x plain))) on there)
+    joins_walk k born (strange {x = x} outer plain other) on reached there =
+        absurd (lacks_walk k born (block_by w.flat_from x plain) (λ h. other (h.leaf outer (block_by w.flat_from x plain))) on there)
 
 -- a real key that leads to a leaf is a key of the tree, with the leaf's value
 pub leads_tree_pair : (w : Words) (k value : ℕ) → k ≤ greatest_key → LeadsToValue w k value 0 → IsTreePair w k value

@@ -161,7 +161,7 @@ real_pairs-ascend w lawful (suc fuel) x reached = elim (kind_of w x) [
 ]
 
 -- the pairs of all nodes of a lawful tree whose reached nodes have ranks less than n are the keys of the tree with their values
-pub ListsTreePairs-all : (w : Words) (n : ℕ) → IsLawful w → ((x : ℕ) → Reached w x → rank x < n) → ListsTreePairs w (real_pairs w (nodes_below w n 0))
+pub ListsTreePairs-all : (w : Words) (n : ℕ) → IsLawful w → ((x : ℕ) → Reached w x → rank w x < n) → ListsTreePairs w (real_pairs w (nodes_below w n 0))
 ListsTreePairs-all w n lawful inside = record {
   ascending = IsStrictlyIncreasing-keys_of (real_pairs w (nodes_below w n 0)) (real_pairs-ascend w lawful n 0 (Below-refl w 0));
   each = λ key value. (

@@ -12,6 +12,7 @@ use Rattle.ell_layout.specs.declared.field.Field.{Field}
 -- words that did not change are later
 pub words_same : (w : Words) → WordsLater w w
 words_same w = record {
+  flat = refl;
   next = omega arith;
   tag = λ x right. omega arith;
   child = λ x right below same. refl;
@@ -33,6 +34,7 @@ update_rises w x value h y = elim (cases_eq y x) [
 -- the words are later with a greater update word in place of one that is no mark
 pub words_update : (w : Words) (x value : ℕ) → w.update x ≤ value → ((c : ℕ) → w.update x ≢ marked c) → WordsLater w (with_update w x value)
 words_update w x value rises calm = record {
+  flat = refl;
   next = omega arith;
   tag = λ y right. omega arith;
   child = λ y right below same. refl;
@@ -149,6 +151,7 @@ child_says w x value side c n = record {
 pub words_child : (w : Words) (x value : ℕ) (side : Bool) → value ≢ 0 → ((c : ℕ) → w.update x ≢ marked c)
     → WordsLater w (relinked w x side value)
 words_child w x value side real calm = record {
+  flat = refl;
   next = omega arith;
   tag = tag_rises w x value side;
   child = λ y right below same. same_tag-child w x value side y right same;

@@ -1,8 +1,8 @@
 use Rattle.std.proofs.Common.{◌≡◌, ℕ, ◌%◌, Bool, not, nat_le, inl, inr, sym, ◌∙◌, subst}
 use Rattle.std.proofs.lemmas.Bool.{cases_eq}
 use Rattle.ell_word.specs.Node.{IsInternal}
-use Rattle.ell_core.specs.tree.Ranges.{next_node, Spans, IsCutOut, OnCourse, here, off, dead}
-use Rattle.ell_core.proofs.lemmas.tree.Removes.{same_or_not}
+use Rattle.ell_trie.specs.Ranges.{next_node, Spans, IsCutOut, OnCourse, here, off, dead}
+use Rattle.ell_trie.proofs.lemmas.order.Removes.{same_or_not}
 use Rattle.ell_trie.specs.Tries.{Opening, IsTrie}
 use Rattle.ell_trie.specs.Courses.{OnTrieCourse, ordinary, passes, missed, strange}
 use Rattle.ell_trie.specs.Links.{Links}
@@ -18,7 +18,7 @@ module _ {Born : ℕ → Type 0} {o : Opening} {key : ℕ → ℕ} {child after 
   missed_under j {z} v lost = elim (cases_eq (z % 4) 0) [
     | inl i ↦ missed i (under_plain trie (born_x trie link) link.shape.old_plain v).1
         (λ m. side_apart t (sym (half_side (inside_half (other_inside trie link v i) m)) ∙ lost))
-    | inr i ↦ strange i (λ e. side_apart t (sym (subst (λ j. nat_le (key q) j ≡ not t) e (other_side trie link v)) ∙ lost))
+    | inr i ↦ strange i (under_plain trie (born_x trie link) link.shape.old_plain v).1 (λ e. side_apart t (sym (subst (λ j. nat_le (key q) j ≡ not t) e (other_side trie link v)) ∙ lost))
   ]
 
   -- a node that the parent's change does not concern, as the parent is reached
@@ -47,4 +47,4 @@ module _ {Born : ℕ → Type 0} {o : Opening} {key : ℕ → ℕ} {child after 
   course_after j b (ordinary c) = tree_course j b c
   course_after j b (passes {x = z} i h e rest) = passes i (out_after trie link z b h) (e ∙ sym (not_p z j h)) (course_after j (born_next j b i e) rest)
   course_after j b (missed i plain lacks) = missed i plain lacks
-  course_after j b (strange i ne) = strange i ne
+  course_after j b (strange i plain ne) = strange i plain ne

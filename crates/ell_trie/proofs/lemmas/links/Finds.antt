@@ -1,8 +1,8 @@
 use Rattle.std.proofs.Common.{◌≡◌, ◌≢◌, ℕ, ◌%◌, Bool, not, nat_le, inl, inr, refl, sym, ap, ◌∙◌, subst}
 use Rattle.ell_word.specs.Node.{IsInternal}
-use Rattle.ell_core.specs.tree.Ranges.{next_node, FindsLeaf, at_leaf, below, IsOrdered}
-use Rattle.ell_core.proofs.lemmas.tree.Removes.{same_or_not}
-use Rattle.ell_core.proofs.lemmas.tree.Bounds.{leaf_key, Meets-up, Meets-down}
+use Rattle.ell_trie.specs.Ranges.{next_node, FindsLeaf, at_leaf, below, IsOrdered}
+use Rattle.ell_trie.proofs.lemmas.order.Removes.{same_or_not}
+use Rattle.ell_trie.proofs.lemmas.order.Bounds.{leaf_key, Meets-up, Meets-down}
 use Rattle.ell_trie.specs.Tries.{Opening, IsTrie}
 use Rattle.ell_trie.specs.Links.{Links}
 use Rattle.ell_trie.proofs.lemmas.Paths.{here}

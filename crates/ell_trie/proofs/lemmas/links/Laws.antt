@@ -1,12 +1,13 @@
 use Rattle.std.proofs.Common.{◌≡◌, ℕ, Bool, false, sym, subst}
 use Rattle.ell_word.specs.Node.{IsInternal}
-use Rattle.ell_core.specs.tree.Ranges.{IsOrdered}
-use Rattle.ell_core.proofs.lemmas.tree.Bounds.{side_within}
+use Rattle.ell_trie.specs.Ranges.{IsOrdered}
+use Rattle.ell_trie.proofs.lemmas.order.Bounds.{side_within}
 use Rattle.ell_trie.specs.Halves.{InsideOf}
+use Rattle.ell_trie.specs.Ranks.{rank_of}
 use Rattle.ell_trie.specs.Tries.{Opening, IsTrie}
-use Rattle.ell_trie.specs.Links.{Links, EdgeInsert, LinksKeep, EdgeInsertsKeep}
+use Rattle.ell_trie.specs.Links.{Links, EdgeInsert, BornWith, InsertKeeps, LinksKeep, EdgeInsertsKeep}
 use Rattle.ell_trie.proofs.lemmas.Middles.{side_half, inside_middle, branch_halves, branch_inside, apart_inside}
-use Rattle.ell_trie.proofs.lemmas.Paths.{is_branch, spans_born, in_order, rank_of}
+use Rattle.ell_trie.proofs.lemmas.Paths.{is_branch, spans_born, in_order}
 use Rattle.ell_trie.proofs.lemmas.Courses.{courses_tell}
 use Rattle.ell_trie.proofs.lemmas.links.Ranges.{reached_after, out_after}
 use Rattle.ell_trie.proofs.lemmas.links.Order.{within_after, proper_after}
@@ -20,20 +21,24 @@ pub order_after : {Born : ℕ → Type 0} {o : Opening} {key : ℕ → ℕ} {chi
     → IsOrdered key after top (rank_of o key)
 order_after trie link ordered = in_order (trie_after trie link) (within_after trie link ordered) (proper_after trie link ordered)
 
+-- a link keeps what inserts keep
+pub link_keeps : {Born Holds : ℕ → Type 0} {o : Opening} {key : ℕ → ℕ} {child after : ℕ → Bool → ℕ} {top p : ℕ} {s : Bool} {x q : ℕ} {t : Bool} {n k : ℕ}
+    (trie : IsTrie Born o key child) {rank : ℕ → ℕ} (ordered : IsOrdered key child top rank) (link : Links Born o key child after top p s x q t n k)
+    → InsertKeeps Born (BornWith Born q n) Holds o key child after top n k
+link_keeps {o = o} {key = key} trie ordered link =
+    let now = order_after trie link ordered in record {
+      trie = trie_after trie link;
+      ordered = (rank_of o key, now);
+      others = λ j ne z. (met_after trie link j ne, met_before trie link j ne);
+      absent = absent_before trie link ordered;
+      present = present_after trie link now;
+      course = λ j z b c. course_after trie link j b c;
+      out = out_after trie link;
+    }
+
 pub links_keep : LinksKeep
 links_keep born holds o key child after top p s x q t n k trie ordered link =
-    let now = order_after trie link ordered.1 in record {
-      keeps = record {
-        trie = trie_after trie link;
-        ordered = (rank_of o key, now);
-        others = λ j ne z. (met_after trie link j ne, met_before trie link j ne);
-        absent = absent_before trie link ordered.1;
-        present = present_after trie link now;
-        course = λ j z b c. course_after trie link j b c;
-        out = out_after trie link;
-      };
-      reached = reached_after trie link;
-    }
+    record { keeps = link_keeps trie ordered.1 link; reached = reached_after trie link }
 
 -- an edge insert is a link
 module _ {Born : ℕ → Type 0} {o : Opening} {key : ℕ → ℕ} {child after : ℕ → Bool → ℕ} {top p : ℕ} {s : Bool} {x q : ℕ} {t : Bool} {n k : ℕ}

@@ -1,8 +1,8 @@
 use Rattle.std.proofs.Common.{◌≡◌, ℕ, ◌<◌, ◌≤◌, ◌⊎◌, Bool, true, false, not, nat_le, inl, inr, refl, sym, ap, ◌∙◌, subst, arith}
 use Rattle.std.proofs.lemmas.Bool.Decides.{nat_tests}
 use Rattle.ell_word.specs.Node.{IsInternal}
-use Rattle.ell_core.specs.tree.Ranges.{low_of, high_of, Spans, root, goes, IsCutOut, IsSpanned}
-use Rattle.ell_core.proofs.lemmas.tree.Removes.{same_or_not}
+use Rattle.ell_trie.specs.Ranges.{low_of, high_of, Spans, root, goes, IsCutOut, IsSpanned}
+use Rattle.ell_trie.proofs.lemmas.order.Removes.{same_or_not}
 use Rattle.ell_trie.specs.Tries.{Opening, IsTrie}
 use Rattle.ell_trie.specs.Links.{Links}
 use Rattle.ell_trie.proofs.lemmas.Paths.{Under, here, next}

@@ -1,7 +1,7 @@
 use Rattle.std.proofs.Common.{◌≡◌, ◌≢◌, ℕ, ◌%◌, Bool, true, false, not, nat_le, inl, inr, sym, ap, ◌∙◌, subst, arith}
 use Rattle.std.proofs.lemmas.Bool.{cases_eq}
 use Rattle.ell_word.specs.Node.{IsInternal}
-use Rattle.ell_core.specs.tree.Ranges.{FindsLeaf, at_leaf, below}
+use Rattle.ell_trie.specs.Ranges.{FindsLeaf, at_leaf, below}
 use Rattle.ell_trie.specs.Halves.{InHalfOf, InsideOf}
 use Rattle.ell_trie.specs.Tries.{Opening, IsTrie}
 use Rattle.ell_trie.specs.Links.{Links}

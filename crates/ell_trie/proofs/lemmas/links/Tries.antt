@@ -1,7 +1,7 @@
 use Rattle.std.proofs.Common.{◌≡◌, ℕ, ◌^◌, ◌<◌, Bool, true, false, not, inl, inr, refl, sym, ap, ◌∙◌, subst}
 use Rattle.std.proofs.lemmas.Bool.{false≢true}
 use Rattle.ell_word.specs.Node.{IsInternal}
-use Rattle.ell_core.proofs.lemmas.tree.Removes.{same_or_not}
+use Rattle.ell_trie.proofs.lemmas.order.Removes.{same_or_not}
 use Rattle.ell_trie.specs.Halves.{InHalfOf, InsideOf}
 use Rattle.ell_trie.specs.Tries.{Opening, IsTrie}
 use Rattle.ell_trie.specs.Links.{Links, BornWith}
@@ -36,9 +36,9 @@ module _ {Born : ℕ → Type 0} {o : Opening} {key : ℕ → ℕ} {child after 
     closed = λ z u i b. child_cases z u (BornWith Born q n) i b (λ e f. inr (inl refl)) (λ c. inl (trie.closed z u i c)) (λ e f. inr (inr refl)) (λ e f. inl (born_x trie link));
     plain = λ z u i b plain. child_cases z u (λ v. o.holds v ≡ false) i b
         (λ e f. link.shape.new_plain) (λ c. trie.plain z u i c plain) (λ e f. link.shape.leaf_plain) (λ e f. link.shape.old_plain);
-    deeper = λ z u i b. child_cases z u (λ v. o.holds v ≡ true → o.depth z < o.depth v) i b
-        (λ e f l. absurd (false≢true (sym link.shape.new_plain ∙ l))) (λ c. trie.deeper z u i c)
-        (λ e f l. absurd (false≢true (sym link.shape.leaf_plain ∙ l))) (λ e f l. absurd (false≢true (sym link.shape.old_plain ∙ l)));
+    deeper = λ z u i b. child_cases z u (λ v. o.holds v ≡ true → IsInternal v → o.depth z < o.depth v) i b
+        (λ e f l inner. absurd (false≢true (sym link.shape.new_plain ∙ l))) (λ c. trie.deeper z u i c)
+        (λ e f l inner. absurd (false≢true (sym link.shape.leaf_plain ∙ l))) (λ e f l inner. absurd (false≢true (sym link.shape.old_plain ∙ l)));
     few = trie.few;
     small = small_after;
     leaf = λ z u i b plain. child_cases z u (λ v. ¬ IsInternal v → InHalfOf (key z) u (key v)) i b

@@ -4,7 +4,8 @@ use Rattle.ell_layout.specs.Cards.{table_claimed, insert_filling}
 use Rattle.ell_word.specs.Link.{tag_unit}
 use Rattle.ell_word.specs.Node.{greatest_card}
 use Rattle.ell_layout.proofs.lemmas.Claims.{tables_claim}
-use Rattle.ell_world.specs.Inside.{words_in, worker_in}
+use Rattle.ell_world.specs.Inside.{words_in, worker_in, scene_in}
+use Rattle.ell_world.proofs.lemmas.Puts.{claims_at_leaf}
 use Rattle.ell_world.proofs.searching.claim_for_put.Goals as goal
 
 pub returns-then-card-memory : goal.returns-then-card-memory
@@ -16,18 +17,8 @@ returns-then-card-memory g c =
         record {
           said = Moved;
           after = _;
-          row = inl (record {
-            op = c.args.op;
-            what = c.args.what;
-            leaf = c.args.at.leaf;
-            parent = c.args.at.parent;
-            busy = c.requires.busy;
-            puts = c.requires.puts;
-            at = c.requires.at;
-            takes = search rules;
-            says = refl;
-            gives = refl;
-          });
+          row = inl (claims_at_leaf (scene_in c.args.memory.now c.args.worker.now) c.requires.ready.plain c.args.op c.args.what
+              c.args.at.leaf c.args.at.parent _ c.requires.busy c.requires.puts c.requires.at (search rules) refl);
         },
         full,
       );
@@ -51,21 +42,11 @@ returns g c =
     record {
       done = record {
         owned = λ h. h;
-        row = inl (record {
-          op = c.args.op;
-          what = c.args.what;
-          leaf = c.args.at.leaf;
-          parent = c.args.at.parent;
-          busy = c.requires.busy;
-          puts = c.requires.puts;
-          at = c.requires.at;
-          takes = search rules;
-          says = refl;
-          gives = λ t. record {
-            words = words t;
-            worker = record (worker_in c.args.worker.now) { card = Some (c.next-card.ensures t); flagged = false };
-          };
-        });
+        row = inl (claims_at_leaf (scene_in c.args.memory.now c.args.worker.now) c.requires.ready.plain c.args.op what at.leaf
+            at.parent _ c.requires.busy c.requires.puts c.requires.at (search rules) (λ t. record {
+              words = words t;
+              worker = record (worker_in c.args.worker.now) { card = Some (c.next-card.ensures t); flagged = false };
+            }));
         room = λ full. (let past : c.args.memory.now.last_card < w.next = full in omega arith);
       };
       refused = search rules;

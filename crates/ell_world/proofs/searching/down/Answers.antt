@@ -1,4 +1,4 @@
-use Rattle.std.proofs.Common.{rules, ◌≡◌, ℕ, Some, refl, ap, ◌∙◌}
+use Rattle.std.proofs.Common.{rules, ◌≡◌, ℕ, Some, None, refl, ap, ◌∙◌}
 use Rattle.ell_ops.specs.declared.op.Op.{Op}
 use Rattle.ell_ops.specs.Meaning.{key_of}
 use Rattle.ell_word.specs.Node.{IsInternal}
@@ -14,10 +14,10 @@ use Rattle.ell_world.specs.Inside.{words_in, scene_in}
 use Rattle.ell_world.proofs.searching.down.Goals as goal
 
 goes : (cards : ℕ) (s : Scene) (op : Op) (seen : Seen) (child : ℕ) → s.worker.operation ≡ Some op
-    → s.worker.search.node ≡ Some seen.node → IsInternal seen.node → s.worker.search.read ≡ Some seen.word
+    → s.worker.search.node ≡ Some seen.node → IsInternal seen.node → s.worker.search.read ≡ Some seen.word → s.worker.card ≡ None
     → seen.tag ≡ tag_for s.words (key_of op) seen.node → child ≡ child_for s.words (key_of op) seen.node
     → Happens cards act.Down s Moved (record s { worker = record (s.worker) { search = gone_down s.worker.search seen child } })
-goes cards s op seen child busy stands internal read tagged is = record {
+goes cards s op seen child busy stands internal read no_card tagged is = record {
   owned = λ h. h;
   room = λ h. h;
   row = record {
@@ -27,6 +27,7 @@ goes cards s op seen child busy stands internal read tagged is = record {
     stands = stands;
     internal = internal;
     read = read;
+    no_card = no_card;
     tagged = tagged;
     says = refl;
     gives = ap (λ (n : ℕ). record s { worker = record (s.worker) { search = gone_down s.worker.search seen n } }) is;
@@ -41,7 +42,7 @@ returns g c =
     record {
       done = goes c.args.memory.now.last_card (scene_in c.args.memory.now c.args.worker.now) c.in-Some-Some-Some.op
           (record { node = node; word = c.in-Some-Some-Some.word; tag = c.child_link-child.result.tag }) c.child_link-child.result.node
-          c.in-Some-Some-Some.is-0 c.in-Some-Some-Some.is-1 (search rules) c.in-Some-Some-Some.is-2
+          c.in-Some-Some-Some.is-0 c.in-Some-Some-Some.is-1 (search rules) c.in-Some-Some-Some.is-2 (search rules)
           (ap (λ (link : Link). link.tag) c.child_link-child.ensures ∙ ap (words.tag node) side)
           (ap (λ (link : Link). link.node) c.child_link-child.ensures ∙ ap (words.child node) side);
       refused = search rules;

@@ -16,7 +16,7 @@ use Rattle.ell_core.proofs.lemmas.following.facts.Claimed.{is_delete-by_child, n
 use Rattle.ell_core.proofs.lemmas.stages.LaterKeys.{born_below, top_tag_later}
 use Rattle.ell_core.proofs.lemmas.stages.Order.{marked_cases}
 use Rattle.ell_core.proofs.lemmas.stages.Waiting.{start-born}
-use Rattle.ell_core.proofs.lemmas.tree.Ranks.{rank_least}
+use Rattle.ell_core.proofs.lemmas.tree.Ranks.{rank_root}
 use Rattle.ell_core.specs.tree.Rank.{rank}
 
 -- a card that counts as an insert's has a left child
@@ -41,8 +41,8 @@ counts_as_delete w stage c sound kinds below h = elim (cases_Bool (is_start (sta
   | inl e ↦ absurd (let at : card (internal c) ≡ c = omega arith in
       let born = ap (λ n. is_node_born (stage n) (internal c % 4)) at ∙ start-born (stage c) (internal c % 4) (omega arith) e in
       let up = (sound.children (internal c) (omega arith) born).rising false in
-      let none = ap rank (eqb-true (w.child (internal c) false) 0 h) in
-      let least = rank_least (internal c) in
+      let none = ap (rank w) (eqb-true (w.child (internal c) false) 0 h) in
+      let least = rank_root w in
       omega arith)
   | inr n ↦ elim (kinds.kinds c below n) [
     | inl insert ↦ absurd (((sound.cards c).insert insert).left_child (eqb-true (w.child (internal c) false) 0 h))
@@ -128,7 +128,7 @@ module _ (old new : Words) (stage stages : Stages) (before : WordsAreSound old s
       let least = said.at_least in
       let tag : card_tag old c (old.p c) ≡ old.tag (old.p c) (insert_side old c) =
       ap (old.tag (old.p c)) (ap (is_right old (old.p c)) (card_key-insert old c h.0.0) ∙ insert_key-side old stage c said) in
-      made_change c below (born_below old stage before (old.p c) said.parent.born) (born_below old stage before (old.l c) said.leaf.born) h (omega arith)
+      made_change c below (born_below old stage before (old.p c) said.parent.born) (born_below old stage before (old.l c) said.lower) h (omega arith)
 
   ichange_later : (c : ℕ) → c < old.next → IChangeHolds old c → IChangeHolds new c
   ichange_later c below h = (

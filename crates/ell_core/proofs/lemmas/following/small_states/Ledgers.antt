@@ -12,6 +12,7 @@ use Rattle.ell_core.specs.soundness.SmallTrees.{five}
 use Rattle.ell_core.specs.statements.Effects.{value_in}
 use Rattle.ell_core.specs.soundness.Unsound.{BreaksLedgers, key_owned_twice, key_without_owner, key_missing_in_ledger, key_kept_in_ledger, key_with_other_value, BreaksSearches, key_found_too_early, key_not_found, search_astray, BreaksStrangers, key_of_stranger, busy_stranger, knowing_stranger}
 use Rattle.ell_core.proofs.lemmas.opening.Ranges.{opening_ordered, opening_empty}
+use Rattle.ell_core.proofs.lemmas.tree.Blocks.{no_block-plain}
 use Rattle.ell_core.proofs.lemmas.tree.Reached.{tree_key_leads}
 use Rattle.ell_core.specs.declared.view.Entry.TheVariants.{Present, Absent}
 
@@ -107,7 +108,7 @@ not_on_walk (next inner rest) = after_left rest
 -- a search that stands where the walk for its key does not come by
 pub astray_broken : BreaksSearches search_astray
 astray_broken = breaks_searches search_astray (λ sound.
-    not_on_walk ((sound 0 (Find 5) 2 refl refl).joins 2 (here refl) (record { path = true ∷ []; leads = (refl, refl) })))
+    not_on_walk ((sound 0 (Find 5) 2 refl refl).joins 2 (here refl) (record { path = true ∷ []; leads = (refl, refl) }) (no_block-plain opening_words 2 5 refl)))
 
 -- a state with somebody past the last worker is unsound
 breaks_strangers : (m : Machine) → ¬ StrangersAreNobody m → BreaksStrangers m

@@ -6,7 +6,8 @@ use Rattle.ell_core.specs.tree.Tree.{Leads, Reached, IsLawful}
 use Rattle.ell_word.specs.Node.{infinity1, infinity2}
 use Rattle.ell_core.specs.soundness.UnsoundTrees.{BreaksTree, child_of_less_number, leaf_linked_twice, node_with_lesser_key, node_with_key_too_great, root_of_lesser_infinity, root_with_other_leaf, leaf_past_infinity, lesser_infinity_lost, lesser_infinity_of_no_leaf, infinity_on_the_left, leaf_below_the_root}
 use Rattle.ell_core.proofs.lemmas.tree.Paths.{Below-refl, Below-child, Leads-from_leaf}
-use Rattle.ell_core.proofs.lemmas.tree.Ranks.{number_rises}
+use Rattle.ell_core.specs.tree.Rank.{rank}
+use Rattle.ell_core.proofs.lemmas.tree.Ranks.{rank_plain}
 
 -- a state whose tree is not lawful is not sound
 breaks : (m : Machine) → ¬ IsLawful m.words → BreaksTree m
@@ -19,7 +20,11 @@ four_reached w e = record { path = false ∷ []; leads = (refl, e) }
 -- 4 < 1
 pub rises_broken : BreaksTree child_of_less_number
 rises_broken = breaks child_of_less_number (λ lawful.
-    let h : 4 < 1 = number_rises 4 1 (lawful.rises 4 true (four_reached child_of_less_number.words refl) refl) in omega arith)
+    let w = child_of_less_number.words in
+    let h : rank w 4 < rank w 1 = lawful.rises 4 true (four_reached w refl) refl in
+    let four = rank_plain w refl 4 in
+    let one = rank_plain w refl 1 in
+    omega arith)
 
 -- two paths to leaf 6
 pub path_broken : BreaksTree leaf_linked_twice

@@ -9,7 +9,7 @@ use Rattle.ell_core.specs.declared.event.Stepped.TheVariants.{Moved}
 use Rattle.ell_layout.specs.declared.field.Field.{Field}
 use Rattle.ell_layout.specs.Words.{Words, put}
 use Rattle.ell_core.specs.state.Machine.{Worker, Machine, Scene, scene, with_scene}
-use Rattle.ell_layout.specs.Cards.{claimed, insert_filling, delete_filling}
+use Rattle.ell_layout.specs.Cards.{claimed, put_filling, value_below, delete_filling}
 use Rattle.ell_core.specs.acts.Searching.{claims, ClaimPut, ClaimDelete}
 use Rattle.ell_core.specs.history.Stages.{Stage, Stages, Unclaimed, IClaimed, DClaimed, insert_open, delete_open, made_by_stage, is_insert, is_delete, is_claimed}
 use Rattle.ell_core.specs.history.Invariant.{CardIsSound, Unflagged, WorkerIsSound, Invariant, Flagged, StandIsSound}
@@ -172,15 +172,18 @@ claim_insert : (m : Machine) (stage : Stages) (i : ℕ) (said : Stepped) (become
 claim_insert m stage i said becomes there sound room e =
     let own = sound.workers.each i in
     let key = put_key e.op e.what e.puts in
-    let stand = subst (λ k. StandIsSound m.words stage (m.worker i) k e.leaf) key (own.stands e.op e.leaf e.busy e.at.stands) in
-    let seen : InsertSeen m.words stage (m.worker i) e.what.key e.leaf e.parent = record {
+    let stand = subst (λ k. StandIsSound m.words stage (m.worker i) k e.below) key (own.stands e.op e.below e.busy e.at.stands) in
+    let seen : InsertSeen m.words stage (m.worker i) e.what e.below e.node_key e.parent = record {
       words = sound.words;
       stand = stand;
-      outer = e.at.outer;
       seen = (stand.parent e.parent e.at.behind).0;
       real = subst (λ k. k ≤ greatest_key) key (own.real (key_of e.op) (own.owned e.op e.busy));
+      takes = e.takes;
+      fits = e.fits;
+      named = e.named;
     } in
-    let filling = insert_filling m.words.next e.what.key e.what.value e.parent.node e.leaf (m.words.key e.leaf) (m.words.value e.leaf) in
+    let filling = put_filling m.words.next e.what.key e.what.value e.node_key e.parent.node e.below (m.words.key e.below)
+    (value_below m.words e.below) in
     let claimer = (claims (scene m i) e.parent.tag filling).worker in
     let claims_card : ClaimsCard m stage i e.parent.tag filling IClaimed e.op = record {
       there = there;
@@ -189,10 +192,9 @@ claim_insert m stage i said becomes there sound room e =
       fresh = inl refl;
       busy = e.busy;
       no_card = e.at.no_card;
-      own = insert_claimed m.words stage (m.worker i) e.what.key e.what.value e.leaf e.parent seen;
+      own = insert_claimed m.words stage (m.worker i) e.what e.below e.node_key e.parent seen;
       hand = hand_putting (claimed m.words e.parent.tag filling) (put stage m.words.next IClaimed) claimer e.what m.words.next e.op e.puts
-          (insert_in_hand m.words stage (m.worker i) e.what.key e.what.value e.leaf e.parent seen claimer e.at.stands e.at.behind e.at.calm
-          e.what.was e.takes);
+          (insert_in_hand m.words stage (m.worker i) e.what e.below e.node_key e.parent seen claimer e.at.stands e.at.behind e.at.calm);
     } in
     subst (λ s. Follows m stage act.Claim i said (with_scene m i s)) (sym e.gives)
     (subst (λ s. Follows m stage act.Claim i s (with_scene m i (claims (scene m i) e.parent.tag filling))) (sym e.says)

@@ -7,11 +7,12 @@ use Rattle.ell_layout.specs.Words.{Words, put, IsLeaf}
 use Rattle.ell_core.specs.state.Machine.{Worker}
 use Rattle.ell_layout.specs.Cards.{claimed, delete_filling, is_right}
 use Rattle.ell_core.specs.acts.Searching.{IsClean}
-use Rattle.ell_core.specs.history.Stages.{Stages, DClaimed, is_claimed, is_insert, is_delete, delete_won}
+use Rattle.ell_core.specs.history.Stages.{Stages, DClaimed, is_claimed, is_insert, is_delete, delete_won, Born}
 use Rattle.ell_core.specs.history.Invariant.{delete_key, IsInnerBorn, IsLeafBorn, DeleteCard, CardIsSound, WordsAreSound, SeenIsSound, StandIsSound, DeleteInHand}
 use Rattle.ell_layout.proofs.lemmas.Writes.{put_same}
 use Rattle.ell_core.proofs.lemmas.keeping.claim.Filling.{claimed_claims, claimed_delete, IsFilledDelete}
-use Rattle.ell_core.proofs.lemmas.keeping.claim.Frames.{earlier_word, earlier_node, Claiming, blank, born_kept, key_kept}
+use Rattle.ell_core.proofs.lemmas.keeping.claim.Frames.{earlier_word, earlier_node, Claiming, blank, born_kept, key_kept, claim_words}
+use Rattle.ell_core.proofs.lemmas.stages.LaterKeys.{rank_later}
 use Rattle.ell_core.specs.tree.Rank.{rank}
 
 -- a worker stands at a leaf of its key below a parent and a grandparent that it saw
@@ -51,6 +52,10 @@ module _ (w : Words) (stage : Stages) (v : Worker) (k leaf : ℕ) (parent grandp
   own_key : delete_key after w.next ≡ k
   own_key = ap after.key filled.l_is ∙ (key_kept w after stage DClaimed claiming leaf h.stand.born ∙ h.present)
 
+  -- the ranks of the nodes where it cuts are what they were
+  rank_is : (x y : ℕ) → y ≡ x → Born stage x → rank after y ≡ rank w x
+  rank_is = rank_later w after stage h.words (claim_words w after stage DClaimed claiming)
+
   delete_card : DeleteCard after stages w.next
   delete_card = record {
     grandparent = subst (IsInnerBorn stages) (sym filled.gp_is) (record {
@@ -65,8 +70,10 @@ module _ (w : Words) (stage : Stages) (v : Worker) (k leaf : ℕ) (parent grandp
       outer = h.outer;
       born = born_kept w after stage DClaimed claiming leaf h.stand.born;
     });
-    first = let a = h.above.less in let g = ap rank filled.gp_is in let p = ap rank filled.p_is in omega arith;
-    above = let a = h.seen.less in let p = ap rank filled.p_is in let l = ap rank filled.l_is in omega arith;
+    first = let a = h.above.less in let g = rank_is grandparent.node (after.gp w.next) filled.gp_is h.above.node.born in
+        let p = rank_is parent.node (after.p w.next) filled.p_is h.seen.node.born in omega arith;
+    above = let a = h.seen.less in let p = rank_is parent.node (after.p w.next) filled.p_is h.seen.node.born in
+        let l = rank_is leaf (after.l w.next) filled.l_is h.stand.born in omega arith;
     before = let a = earlier_node w stage h.words leaf h.stand.born in let l = filled.l_is in omega arith;
     real = subst (λ n. n ≤ greatest_key) (sym own_key) h.real;
     calm = subst IsClean (sym filled.was_is) h.calm;

@@ -3,9 +3,10 @@ use Rattle.ell_word.specs.Node.{card, internal, left_leaf, right_leaf}
 use Rattle.ell_layout.specs.declared.field.Field.{Field}
 use Rattle.ell_layout.specs.declared.field.Field.TheVariants.{Gp, P, L, Was, Key, Left, Right, Update, LeftLeafKey, RightLeafKey, LeftValue, RightValue}
 use Rattle.ell_layout.specs.Words.{Words, put, put_side, written, word}
-use Rattle.ell_layout.specs.Cards.{filled, claimed, clean, insert_filling, delete_filling}
+use Rattle.ell_layout.specs.Cards.{filled, claimed, clean, left_of_card, right_of_card, put_filling, delete_filling}
 use Rattle.ell_core.specs.history.Later.{SaysTheSame}
 use Rattle.ell_layout.proofs.lemmas.Writes.{put_same, put_other}
+use Rattle.ell_layout.proofs.lemmas.NewWords.{filled_flat}
 
 -- words that differ at most at the words of card c
 pub record SameElsewhere (old new : Words) (c : ℕ) : Type 0 where
@@ -149,8 +150,9 @@ others_say old new c h d n = record {
 }
 
 -- the words after a claim of card c: it was the next one and is not any more, what is not on it is as it was, and tags of
--- its node that were 0 are 0
+-- its node that were 0 are 0; the tree is flat as it was
 pub record Claims (old new : Words) (c : ℕ) : Type 0 where
+  pub flat : new.flat_from ≡ old.flat_from
   pub before : old.next ≡ c
   pub after : new.next ≡ c + 1
   pub others : SameElsewhere old new c
@@ -159,6 +161,7 @@ pub record Claims (old new : Words) (c : ℕ) : Type 0 where
 -- a claim claims the next card
 pub claimed_claims : (w : Words) (tag : ℕ) (filling : List (Field × ℕ)) → Claims w (claimed w tag filling) w.next
 claimed_claims w tag filling = let h = filled_others w w.next filling in record {
+  flat = filled_flat w w.next filling;
   before = refl;
   after = refl;
   others = record {
@@ -176,18 +179,18 @@ claimed_claims w tag filling = let h = filled_others w w.next filling in record 
   tags = filled_tags w w.next filling;
 }
 
--- what a card's words are after it was filled for an insert of key k with its value at a leaf, where it expects a tag
-pub record IsFilledInsert (w : Words) (c tag k value parent leaf leaf_key leaf_value : ℕ) : Type 0 where
+-- what a card's words are after it was filled to put key k with its value above a node, where it expects a tag
+pub record IsFilledPut (w : Words) (c tag k value node_key parent below below_key below_value : ℕ) : Type 0 where
   pub expects : w.expects c ≡ tag
   pub p : w.p c ≡ parent
-  pub l : w.l c ≡ leaf
-  pub key : w.key (internal c) ≡ max k leaf_key
-  pub left_key : w.key (left_leaf c) ≡ min k leaf_key
-  pub right_key : w.key (right_leaf c) ≡ max k leaf_key
-  pub left_value : w.value (left_leaf c) ≡ (if nat_lt k leaf_key then value else leaf_value)
-  pub right_value : w.value (right_leaf c) ≡ (if nat_lt k leaf_key then leaf_value else value)
-  pub left : w.child (internal c) false ≡ left_leaf c
-  pub right : w.child (internal c) true ≡ right_leaf c
+  pub l : w.l c ≡ below
+  pub key : w.key (internal c) ≡ node_key
+  pub left_key : w.key (left_leaf c) ≡ min k below_key
+  pub right_key : w.key (right_leaf c) ≡ max k below_key
+  pub left_value : w.value (left_leaf c) ≡ (if nat_lt k below_key then value else below_value)
+  pub right_value : w.value (right_leaf c) ≡ (if nat_lt k below_key then below_value else value)
+  pub left : w.child (internal c) false ≡ left_of_card c k below below_key
+  pub right : w.child (internal c) true ≡ right_of_card c k below below_key
   pub update : w.update (internal c) ≡ clean 0
 
 -- keys put at the three nodes of a card
@@ -222,19 +225,21 @@ two_children child x a b new e =
     let last = ap (λ f. f x) e ∙ put_same one x (put_side (one x) true b) in
     (ap (λ f. f false) last ∙ ap (λ f. f false) (put_same child x (put_side (child x) false a)), ap (λ f. f true) last)
 
--- a claim for an insert fills the next card for it
-pub claimed_insert : (w : Words) (tag k value parent leaf leaf_key leaf_value : ℕ)
-    → IsFilledInsert (claimed w tag (insert_filling w.next k value parent leaf leaf_key leaf_value)) w.next tag k value parent leaf leaf_key leaf_value
-claimed_insert w tag k value parent leaf leaf_key leaf_value =
-    let filling = insert_filling w.next k value parent leaf leaf_key leaf_value in
-    let keys = three_keys w.key w.next (max k leaf_key) (min k leaf_key) (max k leaf_key) (claimed w tag filling).key refl in
-    let values = two_values w.value w.next (if nat_lt k leaf_key then value else leaf_value) (if nat_lt k leaf_key then leaf_value else value)
+-- a claim to put a key fills the next card for it
+pub claimed_put : (w : Words) (tag k value node_key parent below below_key below_value : ℕ)
+    → IsFilledPut (claimed w tag (put_filling w.next k value node_key parent below below_key below_value)) w.next
+    tag k value node_key parent below below_key below_value
+claimed_put w tag k value node_key parent below below_key below_value =
+    let filling = put_filling w.next k value node_key parent below below_key below_value in
+    let keys = three_keys w.key w.next node_key (min k below_key) (max k below_key) (claimed w tag filling).key refl in
+    let values = two_values w.value w.next (if nat_lt k below_key then value else below_value) (if nat_lt k below_key then below_value else value)
     (claimed w tag filling).value refl in
-    let children = two_children w.child (internal w.next) (left_leaf w.next) (right_leaf w.next) (claimed w tag filling).child refl in
+    let children = two_children w.child (internal w.next) (left_of_card w.next k below below_key) (right_of_card w.next k below below_key)
+    (claimed w tag filling).child refl in
     record {
       expects = put_same w.expects w.next tag;
       p = put_same w.p w.next parent;
-      l = put_same w.l w.next leaf;
+      l = put_same w.l w.next below;
       key = keys.0;
       left_key = keys.1;
       right_key = keys.2;

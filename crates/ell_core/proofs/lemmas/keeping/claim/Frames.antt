@@ -10,7 +10,10 @@ use Rattle.ell_core.specs.history.Invariant.{top, IsIn, IsOut, LeadsToValue, IsO
 use Rattle.ell_core.specs.history.Later.{SameNode, WordsLater, StagesLater, wins_of}
 use Rattle.ell_layout.proofs.lemmas.Writes.{put_other, put_cases}
 use Rattle.ell_core.proofs.lemmas.stages.Order.{unclaimed_stage}
-use Rattle.ell_core.proofs.lemmas.tree.Frames.{Spans-same, Spans-back, Meets-same, Meets-back, OnCourse-same}
+use Rattle.ell_trie.specs.Courses.{OnTrieCourse}
+use Rattle.ell_trie.proofs.lemmas.order.Frames.{Spans-same, Spans-back, Meets-same, Meets-back}
+use Rattle.ell_trie.proofs.lemmas.Frames.{OnTrieCourse-same}
+use Rattle.ell_core.specs.tree.Flat.{opening_from}
 use Rattle.ell_core.proofs.lemmas.keeping.going_on.Cards.{GoesOn}
 use Rattle.ell_core.proofs.lemmas.keeping.claim.Filling.{Claims}
 use Rattle.ell_core.proofs.lemmas.stages.LaterKeys.{born_below, root_born}
@@ -140,8 +143,8 @@ module _ (w after : Words) (stage : Stages) (new : Stage) (h : Claiming w after 
 
   -- what is on course stays so
   pub course_kept : (k x : ℕ) → Born stage x → IsOnCourse w k x → IsOnCourse after k x
-  course_kept k x born g = OnCourse-same
-      (Born stage) w.key after.key w.child after.child top start closed key_kept child_kept k born g
+  course_kept k x born g = subst (λ n. OnTrieCourse (opening_from n) after.key after.child top k x) (sym h.claims.flat)
+      (OnTrieCourse-same (Born stage) (opening_from w.flat_from) w.key after.key w.child after.child key_kept child_kept top start closed k born g)
 
   -- the stages are later ones
   pub claim_stages : StagesLater stage (put stage w.next new)
@@ -194,6 +197,7 @@ module _ (w after : Words) (stage : Stages) (new : Stage) (h : Claiming w after 
   -- the words are later ones
   pub claim_words : WordsLater w after
   claim_words = record {
+    flat = h.claims.flat;
     next = let g = h.claims.after in omega arith;
     tag = λ x right. (let same = tags_stay x right in omega arith);
     child = λ x right below same. h.claims.others.child x right (λ e. omega arith);

@@ -128,8 +128,8 @@ pub record LosesPair (old new : Words) (key value : ℕ) : Type 0 where
   pub each : (k v : ℕ) → LeadsToValue new k v 0 ↔ (LeadsToValue old k v 0 × (k ≢ key))
 
 -- the child exchange of a marked delete takes its key with its value from the tree
-cut-loses_pair : (w : Words) (c : ℕ) → CutTree w c → LosesPair w (cut_words w c) (delete_key w c) (delete_value w c)
-cut-loses_pair w c tree = record {
+cut-loses_pair : (w : Words) (stage : Stages) (c : ℕ) → CutTree w stage c → LosesPair w (cut_words w c) (delete_key w c) (delete_value w c)
+cut-loses_pair w stage c tree = record {
   had = tree.there;
   each = λ k v. (λ l. ((tree.leads k v 0 (other k v l)).0 l, other k v l), λ h. (tree.leads k v 0 h.1).1 h.0);
 }
@@ -146,7 +146,7 @@ dchild-loses_pair c m stage i becomes sound happens =
           let at = cuts_at m.words stage sound.words c now in
           let won = dchild-won c (scene m i) stage Won becomes at happens.row in
           subst (λ (b : Scene). LosesPair m.words b.words (delete_key m.words c) (delete_value m.words c)) (sym won.1)
-          (cut-loses_pair m.words c (cut_tree m.words stage sound.words c at))
+          (cut-loses_pair m.words stage c (cut_tree m.words stage sound.words c at))
       | inr cut ↦
           let lost = (dchild-lost c (scene m i) stage Won becomes sound.words cut happens.row).0 in
           absurd (won_not_lost lost)

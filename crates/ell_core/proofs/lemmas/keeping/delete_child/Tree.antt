@@ -5,13 +5,15 @@ use Rattle.ell_ops.specs.Meaning.{greatest_key}
 use Rattle.ell_word.specs.Node.{IsInternal}
 use Rattle.ell_layout.specs.Words.{Words, relinked}
 use Rattle.ell_layout.specs.Cards.{dflag, marked, exchange_side, sibling}
-use Rattle.ell_core.specs.tree.Ranges.{IsOrdered, goes}
-use Rattle.ell_core.specs.history.Stages.{Stages, DMarked, is_delete, is_marked, delete_open, delete_waits}
+use Rattle.ell_trie.specs.Ranges.{IsOrdered, goes}
+use Rattle.ell_core.specs.history.Stages.{Stages, DMarked, is_delete, is_marked, delete_open, delete_waits, Born}
 use Rattle.ell_core.specs.history.Invariant.{top, IsIn, IsOut, LeadsTo, LeadsToValue, IsOnCourse, delete_key, delete_value, delete_side, leaf_side, IsInnerBorn, IsLeafBorn, WordsAreSound}
 use Rattle.ell_core.proofs.lemmas.words.Later.{child_there, child_elsewhere}
-use Rattle.ell_core.proofs.lemmas.tree.Bounds.{leaf_is_met}
-use Rattle.ell_core.proofs.lemmas.tree.Removes.{Removes, stays, was_p, was_l, Spans-left, Spans-remove, IsOrdered-remove, Meets-removed, Meets-kept, gone, met_before}
-use Rattle.ell_core.proofs.lemmas.tree.Courses.{OnCourse-remove}
+use Rattle.ell_trie.proofs.lemmas.order.Bounds.{leaf_is_met}
+use Rattle.ell_trie.proofs.lemmas.order.Removes.{Removes, stays, was_p, was_l, Spans-left, Spans-remove, IsOrdered-remove, Meets-removed, Meets-kept, gone, met_before}
+use Rattle.ell_trie.specs.Tries.{IsTrie}
+use Rattle.ell_trie.proofs.lemmas.Cuts.{trie_cut, course_cut}
+use Rattle.ell_core.specs.tree.Flat.{opening_from}
 use Rattle.ell_core.specs.tree.Rank.{rank}
 
 -- the words after the delete of card c has cut: its sibling stands at the grandparent in the parent's place
@@ -32,8 +34,8 @@ pub record CutsAt (w : Words) (stage : Stages) (c : ℕ) : Type 0 where
   pub leaf_there : w.child (w.p c) (leaf_side w c) ≡ w.l c
   pub sibling_there : w.child (w.p c) (not (leaf_side w c)) ≡ sibling w c
   pub side : exchange_side w (w.gp c) (sibling w c) ≡ delete_side w c
-  pub first : rank (w.gp c) < rank (w.p c)
-  pub above : rank (w.p c) < rank (sibling w c)
+  pub first : rank w (w.gp c) < rank w (w.p c)
+  pub above : rank w (w.p c) < rank w (sibling w c)
   pub real : delete_key w c ≤ greatest_key
 
 -- the child that is not the leaf is the one on the other side
@@ -69,14 +71,15 @@ cuts_at w stage sound c at =
       sibling_there = other;
       side = mark.side;
       first = card.first;
-      above = subst (λ n. rank (w.p c) < rank n) other (children.rising (not (leaf_side w c)));
+      above = subst (λ n. rank w (w.p c) < rank w n) other (children.rising (not (leaf_side w c)));
       real = card.real;
     }
 
 -- what the exchange of the grandparent's child does to the tree: it stays in order, all that was in it but parent and leaf
 -- stays, the parent goes, courses stay, and the delete's key is gone alone
-pub record CutTree (w : Words) (c : ℕ) : Type 0 where
-  pub ordered : IsOrdered w.key (cut_words w c).child top rank
+pub record CutTree (w : Words) (stage : Stages) (c : ℕ) : Type 0 where
+  pub ordered : IsOrdered w.key (cut_words w c).child top (rank w)
+  pub trie : 0 < w.flat_from → IsTrie (Born stage) (opening_from w.flat_from) w.key (cut_words w c).child
   pub stays : (x : ℕ) → IsInternal x → x ≢ w.p c → IsIn w x → IsIn (cut_words w c) x
   pub out : IsOut (cut_words w c) (w.p c)
   pub still_out : (x : ℕ) → IsOut w x → IsOut (cut_words w c) x
@@ -85,7 +88,8 @@ pub record CutTree (w : Words) (c : ℕ) : Type 0 where
   pub gone : ¬ LeadsTo (cut_words w c) (delete_key w c) 0
   pub there : LeadsToValue w (delete_key w c) (delete_value w c) 0
 
-module _ (w : Words) (stage : Stages) (c : ℕ) (at : CutsAt w stage c) (ordered : IsOrdered w.key w.child top rank) where
+module _ (w : Words) (stage : Stages) (c : ℕ) (at : CutsAt w stage c) (ordered : IsOrdered w.key w.child top (rank w))
+    (trie : 0 < w.flat_from → IsTrie (Born stage) (opening_from w.flat_from) w.key w.child) where
   -- the children after the exchange
   abbrev after : ℕ → Bool → ℕ
   after = (cut_words w c).child
@@ -110,7 +114,7 @@ module _ (w : Words) (stage : Stages) (c : ℕ) (at : CutsAt w stage c) (ordered
   }
 
   -- the tree stays in order
-  ordered_after : IsOrdered w.key after top rank
+  ordered_after : IsOrdered w.key after top (rank w)
   ordered_after =
       IsOrdered-remove w.key w.child after top (w.gp c) (delete_side w c) (w.p c) other (w.l c) (sibling w c)
       cuts_out ordered
@@ -118,7 +122,7 @@ module _ (w : Words) (stage : Stages) (c : ℕ) (at : CutsAt w stage c) (ordered
   -- the leaf is the parent's child still
   leaf_after : after (w.p c) (leaf_side w c) ≡ w.l c
   leaf_after = elim (child_elsewhere w (w.gp c) (sibling w c) (delete_side w c) (w.p c) (leaf_side w c)) [
-    | inl e ↦ absurd (let a = ap rank e.0 in let b = at.first in omega arith)
+    | inl e ↦ absurd (let a = ap (rank w) e.0 in let b = at.first in omega arith)
     | inr e ↦ e ∙ at.leaf_there
   ]
 
@@ -159,8 +163,20 @@ module _ (w : Words) (stage : Stages) (c : ℕ) (at : CutsAt w stage c) (ordered
     -- what was on course stays so
     course_after : (k x : ℕ) → IsOnCourse w k x → IsOnCourse (cut_words w c) k x
     course_after k x h =
-        OnCourse-remove w.key w.child top ordered after (w.gp c) (delete_side w c) (w.p c) other (w.l c) (sibling w c)
-        cuts_out alive.low alive.high alive.spans k h
+        course_cut (opening_from w.flat_from) w.key w.child after top (w.gp c) (delete_side w c) (w.p c) other (w.l c) (sibling w c)
+        cuts_out ordered alive.low alive.high alive.spans k h
+
+    -- a flat tree is a trie still
+    trie_after : 0 < w.flat_from → IsTrie (Born stage) (opening_from w.flat_from) w.key after
+    trie_after some = trie_cut (trie some) (record {
+      relinks = cuts_out.relinks;
+      was = cuts_out.parent;
+      node = cuts_out.node;
+      inner = cuts_out.inner;
+      outer = cuts_out.leaf;
+      leaf_there = cuts_out.leaf_there;
+      sibling_there = cuts_out.other;
+    }) at.grandparent.born
 
     -- every other key leads where it led
     leads_after : (k value x : ℕ) → k ≢ delete_key w c → LeadsToValue (cut_words w c) k value x ↔ LeadsToValue w k value x
@@ -172,9 +188,10 @@ module _ (w : Words) (stage : Stages) (c : ℕ) (at : CutsAt w stage c) (ordered
     )
 
     -- so the exchange does what it owes
-    cut_tree_of : CutTree w c
+    cut_tree_of : CutTree w stage c
     cut_tree_of = record {
       ordered = ordered_after;
+      trie = trie_after;
       stays = stays_after;
       out = out_of_tree;
       still_out = out_after;
@@ -185,6 +202,6 @@ module _ (w : Words) (stage : Stages) (c : ℕ) (at : CutsAt w stage c) (ordered
     }
 
 -- the child exchange of a marked card does to the tree what it owes
-pub cut_tree : (w : Words) (stage : Stages) → WordsAreSound w stage → (c : ℕ) → CutsAt w stage c → CutTree w c
-cut_tree w stage sound c at = cut_tree_of w stage c at sound.tree.ordered
+pub cut_tree : (w : Words) (stage : Stages) → WordsAreSound w stage → (c : ℕ) → CutsAt w stage c → CutTree w stage c
+cut_tree w stage sound c at = cut_tree_of w stage c at sound.tree.ordered sound.tree.trie
     (sound.tree.there (w.gp c) at.grandparent.inner at.grandparent.born (λ d e. let flag = at.flag in omega arith))

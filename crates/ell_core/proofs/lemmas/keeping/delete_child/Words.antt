@@ -15,8 +15,10 @@ use Rattle.ell_core.proofs.lemmas.keeping.delete_child.Tree.{cut_words, CutsAt, 
 use Rattle.ell_core.proofs.lemmas.keeping.going_on.Cards.{GoesOn, card_on}
 use Rattle.ell_core.proofs.lemmas.keeping.going_on.Stages.{marked_on, no_insert, delete_stage_same, insert_stage_on, delete_stage_on}
 use Rattle.ell_core.proofs.lemmas.words.CleanWords.{clean_remainder}
-use Rattle.ell_core.proofs.lemmas.tree.Ranks.{number_rises}
+use Rattle.ell_core.proofs.lemmas.tree.Ranks.{rank_root}
 use Rattle.ell_core.specs.tree.Rank.{rank}
+use Rattle.ell_core.proofs.lemmas.stages.Kinds.{starts_later}
+use Rattle.ell_trie.proofs.lemmas.Paths.{same_born}
 
 -- the children after
 module _ (w : Words) (stage : Stages) (c : ℕ) (at : CutsAt w stage c) where
@@ -27,11 +29,11 @@ module _ (w : Words) (stage : Stages) (c : ℕ) (at : CutsAt w stage c) where
   -- the words are later
   pub cut_words_later : WordsLater w (cut_words w c)
   cut_words_later = words_child w (w.gp c) (sibling w c) (delete_side w c)
-      (λ none. let above = number_rises (w.p c) (sibling w c) at.above in omega arith) (λ d e. let flag = at.flag in omega arith)
+      (λ none. let above = at.above in let same = ap (rank w) none in let least = rank_root w in omega arith) (λ d e. let flag = at.flag in omega arith)
 
 -- the words after
 module _ (w : Words) (stage : Stages) (sound : WordsAreSound w stage) (c : ℕ) (now : stage c ≡ DMarked)
-    (at : CutsAt w stage c) (tree : CutTree w c) where
+    (at : CutsAt w stage c) (tree : CutTree w stage c) where
   -- the words and the stages after
   abbrev after : Words
   after = cut_words w c
@@ -137,15 +139,15 @@ module _ (w : Words) (stage : Stages) (sound : WordsAreSound w stage) (c : ℕ) 
       (leb-true (w.key (w.gp c)) (w.key (sibling w c)) (at.side ∙ sym side))
 
   -- its rank is greater
-  put_below : (x : ℕ) → x ≡ w.gp c → rank x < rank (sibling w c)
-  put_below x e = let from = ap rank e in let first = at.first in let above = at.above in omega arith
+  put_below : (x : ℕ) → x ≡ w.gp c → rank w x < rank w (sibling w c)
+  put_below x e = let from = ap (rank w) e in let first = at.first in let above = at.above in omega arith
 
   -- the children of each node are sound
   children_after : (x : ℕ) → IsInternal x → Born new x → ChildrenAreSound after new x
   children_after x inner born = let h = sound.children x inner (before (λ s. is_node_born s (x % 4)) refl (card x) born) in record {
     born = λ right. child_cases x right (Born new)
         (λ e f. later.born (sibling w c) sibling_born) (later.born (w.child x right) (h.born right));
-    rising = λ right. child_cases x right (λ n. rank x < rank n) (λ e side. put_below x e) (h.rising right);
+    rising = λ right. child_cases x right (λ n. rank w x < rank w n) (λ e side. put_below x e) (h.rising right);
     left_less = child_cases x false (λ n. w.key n < w.key x) (put_left x) h.left_less;
     right_more = child_cases x true (λ n. w.key x ≤ w.key n) (put_right x) h.right_more;
   }
@@ -174,6 +176,7 @@ module _ (w : Words) (stage : Stages) (sound : WordsAreSound w stage) (c : ℕ) 
   tree_after : TreeIsSound after new
   tree_after = record {
     ordered = tree.ordered;
+    trie = λ some. same_born (λ x inner born. before (λ s. is_node_born s (x % 4)) refl (card x) born) later.born (tree.trie some);
     root_key = sound.tree.root_key;
     root_right = root_right_after;
     right_key = sound.tree.right_key;
@@ -190,6 +193,7 @@ module _ (w : Words) (stage : Stages) (sound : WordsAreSound w stage) (c : ℕ) 
   pub cut_words_sound : WordsAreSound after new
   cut_words_sound = record {
     opening = put_other stage c DCut 0 (λ e. no_opening (sym sound.opening ∙ (ap stage e ∙ now))) ∙ sound.opening;
+    flat = λ some. starts_later w.flat_from stage new later.start (sound.flat some);
     tags = (
         let expected = at.expected in
         let tag = at.tagged in

@@ -24,7 +24,7 @@ marked_own w stage c now v (Delete k) h = (sym h.1, refl)
 
 -- the workers are sound after the exchange, which settles the card's key as absent
 pub cut_workers_sound : (m : Machine) (stage : Stages) → Invariant m stage → (c : ℕ) (now : stage c ≡ DMarked)
-    (at : CutsAt m.words stage c) → CutTree m.words c → WorkersAreSound (record m { words = cut_words m.words c }) (cut_stages stage c)
+    (at : CutsAt m.words stage c) → CutTree m.words stage c → WorkersAreSound (record m { words = cut_words m.words c }) (cut_stages stage c)
 cut_workers_sound m stage sound c now at tree =
     settled_workers m stage (cut_words m.words c) c DCut (delete_key m.words c) Absent sound.workers (record {
       goes = cut_goes_on m.words stage sound.words c now at tree;

@@ -1,17 +1,17 @@
-use Rattle.std.proofs.Common.{◌≡◌, ℕ, ◌%◌, ◌<◌, ◌≤◌, ◌↔◌, nat_le, Bool, true, false, inl, inr, refl, sym, ◌∙◌, subst, arith, ap}
+use Rattle.std.proofs.Common.{◌≡◌, ℕ, ◌%◌, ◌<◌, ◌≤◌, ◌==◌, ◌↔◌, nat_le, Bool, true, false, inl, inr, refl, sym, ◌∙◌, subst, arith}
 use Rattle.std.proofs.lemmas.Bool.{false≢true}
 use Rattle.ell_ops.specs.Meaning.{greatest_key}
-use Rattle.ell_word.specs.Node.{card, internal, left_leaf, right_leaf}
+use Rattle.ell_word.specs.Node.{IsInternal, card, internal, left_leaf, right_leaf}
 use Rattle.ell_layout.specs.declared.field.Field.TheVariants.{Left, Right, Update}
-use Rattle.ell_layout.specs.Words.{Words}
+use Rattle.ell_layout.specs.Words.{Words, IsLeaf}
 use Rattle.ell_core.specs.acts.Searching.{IsClean}
 use Rattle.ell_core.specs.history.Stages.{Stages, is_claimed, is_insert, is_delete, is_born, Born}
-use Rattle.ell_core.specs.history.Invariant.{IsOut, IsOnCourse, insert_side, IsInnerBorn, IsLeafBorn, InsertCard, DeleteCard, CardIsSound, WordsAreSound}
+use Rattle.ell_core.specs.history.Invariant.{IsOut, IsOnCourse, insert_key, insert_side, filled_child, IsInnerBorn, IsLeafBorn, InsertCard, DeleteCard, Unborn, CardIsSound, WordsAreSound}
 use Rattle.ell_core.specs.history.Later.{SaysTheSame, WordsLater, StagesLater}
 use Rattle.ell_core.proofs.lemmas.stages.Order.{unclaimed-unborn, delete-unborn, inner-born, all-born}
-use Rattle.ell_core.proofs.lemmas.stages.LaterKeys.{insert_info, insert_node_key, insert_parent_key, insert_leaf_key, insert_node_value, insert_leaf_value, insert_key_later, delete_info, delete_key_later, insert_tag_later}
-use Rattle.ell_core.specs.tree.Rank.{rank}
+use Rattle.ell_core.proofs.lemmas.stages.LaterKeys.{insert_info, insert_node_key, insert_parent_key, insert_leaf_key, insert_node_value, insert_leaf_value, insert_key_later, delete_info, delete_key_later, insert_tag_later, rank_later, block_later, block_before, filled_child_later}
 use Rattle.ell_core.proofs.lemmas.words.Later.{SameLink}
+use Rattle.ell_core.proofs.lemmas.words.Sides.{node_key-same}
 
 -- a node has an update word that it had, and the child words that it had
 pub record IsCalm (old new : Words) (x word : ℕ) : Type 0 where
@@ -82,14 +82,20 @@ module _ (old new : Words) (stage stages : Stages) (h : GoesOn old new stage sta
           gp = same.gp ∙ said.gp;
           was = same.was ∙ said.was;
           parent = inner_on (old.p c) (new.p c) same.p said.parent;
-          leaf = leaf_on (old.l c) (new.l c) same.l said.leaf;
-          above = let a = said.above in let p = ap rank same.p in let l = ap rank same.l in omega arith;
+          lower = subst (Born stages) (sym same.l) (h.later.born (old.l c) said.lower);
+          above = let a = said.above in
+              let p = rank_later old new stage h.sound h.words (old.p c) (new.p c) same.p said.parent.born in
+              let l = rank_later old new stage h.sound h.words (old.l c) (new.l c) same.l said.lower in omega arith;
           before = let a = said.before in let l = same.l in omega arith;
+          edge = λ inner there. said.edge (subst IsInternal same.l inner)
+              (block_before old new stage h.sound h.words (old.l c) (new.l c) (insert_key old c) (insert_key new c) same.l own_key said.lower there);
+          fits = λ two. block_later old new stage h.sound h.words (old.p c) (new.p c) (insert_key old c) (insert_key new c) same.p own_key said.parent.born
+              (said.fits ((λ t. sym left_key t == sym right_key t) ∙ two));
           ordered = let a = said.ordered in omega arith;
-          node_key = node_key ∙ (said.node_key ∙ sym right_key);
+          node_key = node_key-same h.words.flat left_key right_key node_key said.node_key;
           copy = elim said.copy [
-            | inl e ↦ inl (record { key = left_key ∙ (e.key ∙ sym leaf_key); value = left_value ∙ (e.value ∙ sym leaf_value) })
-            | inr e ↦ inr (record { key = right_key ∙ (e.key ∙ sym leaf_key); value = right_value ∙ (e.value ∙ sym leaf_value) })
+            | inl e ↦ inl (record { key = left_key ∙ (e.key ∙ sym leaf_key); value = λ outer. left_value ∙ (e.value (subst IsLeaf same.l outer) ∙ sym leaf_value) })
+            | inr e ↦ inr (record { key = right_key ∙ (e.key ∙ sym leaf_key); value = λ outer. right_value ∙ (e.value (subst IsLeaf same.l outer) ∙ sym leaf_value) })
           ];
           real = subst (λ k. k ≤ greatest_key) (sym own_key) said.real;
           side = (λ t. nat_le (parent_key t) (own_key t)) ∙ (said.side ∙ (λ t. nat_le (sym parent_key t) (sym leaf_key t)));
@@ -98,6 +104,11 @@ module _ (old new : Words) (stage stages : Stages) (h : GoesOn old new stage sta
           at_least = let a = said.at_least in let e = same.expects in let up = h.words.tag (old.p c) (insert_side old c) in
               let tag = insert_tag_later old new stage h.sound h.words c inserts in omega arith;
         }
+
+    -- the children of its node are those to be
+    children_on : SaysTheSame old new c → Unborn old c → (right : Bool) → new.child (internal c) right ≡ filled_child new c right
+    children_on same nodes false = same.words Left ∙ (nodes.children false ∙ sym (filled_child_later old new stage h.sound h.words c inserts false))
+    children_on same nodes true = same.words Right ∙ (nodes.children true ∙ sym (filled_child_later old new stage h.sound h.words c inserts true))
 
   module _ (c : ℕ) (deletes : is_delete (stage c) ≡ true) where
     delete_said : DeleteCard old stage c
@@ -113,8 +124,12 @@ module _ (old new : Words) (stage stages : Stages) (h : GoesOn old new stage sta
           grandparent = inner_on (old.gp c) (new.gp c) same.gp said.grandparent;
           parent = inner_on (old.p c) (new.p c) same.p said.parent;
           leaf = leaf_on (old.l c) (new.l c) same.l said.leaf;
-          first = let a = said.first in let g = ap rank same.gp in let p = ap rank same.p in omega arith;
-          above = let a = said.above in let p = ap rank same.p in let l = ap rank same.l in omega arith;
+          first = let a = said.first in
+              let g = rank_later old new stage h.sound h.words (old.gp c) (new.gp c) same.gp said.grandparent.born in
+              let p = rank_later old new stage h.sound h.words (old.p c) (new.p c) same.p said.parent.born in omega arith;
+          above = let a = said.above in
+              let p = rank_later old new stage h.sound h.words (old.p c) (new.p c) same.p said.parent.born in
+              let l = rank_later old new stage h.sound h.words (old.l c) (new.l c) same.l said.leaf.born in omega arith;
           before = let a = said.before in let l = same.l in omega arith;
           real = subst (λ k. k ≤ greatest_key) (sym (delete_key_later old new stage h.sound h.words c deletes)) said.real;
           calm = subst IsClean (sym same.was) said.calm;
@@ -131,8 +146,7 @@ module _ (old new : Words) (stage stages : Stages) (h : GoesOn old new stage sta
     insert = λ e. insert_card_on c (s.insert e);
     delete = λ e. (let same = s.words (delete-unborn (stage c) (s.delete e)) in delete_card_on c (s.delete e) (same.words Left) (same.words Right));
     unborn = λ e g. (let out = unborn_before c g in let nodes = was.unborn (s.insert e) out in record {
-      left = (s.words out).words Left ∙ nodes.left;
-      right = (s.words out).words Right ∙ nodes.right;
+      children = children_on c (s.insert e) (s.words out) nodes;
       calm = (s.words out).words Update ∙ nodes.calm;
     });
     blank = λ e. (let free = sym s.claimed ∙ e in let same = s.words (unclaimed-unborn (stage c) free) in record {

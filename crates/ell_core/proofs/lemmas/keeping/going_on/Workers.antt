@@ -9,7 +9,7 @@ use Rattle.ell_layout.specs.Cards.{is_right, child_for, tag_for}
 use Rattle.ell_core.specs.soundness.Sound.{WorkerOwns}
 use Rattle.ell_core.specs.history.Stages.{Stages, Born}
 use Rattle.ell_core.specs.history.Invariant.{LeadsToValue, SeenIsSound, StandIsSound, Unflagged, WorkerIsSound}
-use Rattle.ell_core.proofs.lemmas.stages.LaterKeys.{insert_info, insert_key_later, insert_value_later, putting_later, delete_info, delete_key_later, key_later, side_later}
+use Rattle.ell_core.proofs.lemmas.stages.LaterKeys.{insert_info, insert_key_later, insert_value_later, putting_later, delete_info, delete_key_later, key_later, side_later, rank_later}
 use Rattle.ell_core.proofs.lemmas.keeping.going_on.Cards.{GoesOn, inner_on}
 use Rattle.ell_core.proofs.lemmas.keeping.going_on.InHand.{SameGoal, same_place, unflagged_same, flagged_same}
 
@@ -24,7 +24,9 @@ module _ (old new : Words) (stage stages : Stages) (h : GoesOn old new stage sta
       let tag : tag_for new k seen.node ≡ new.tag seen.node (is_right old seen.node k) = ap (new.tag seen.node) own in
       record {
         node = inner_on old new stage stages h seen.node seen.node refl was.node;
-        less = was.less;
+        less = let a = was.less in
+            let n = rank_later old new stage h.sound h.words seen.node seen.node refl was.node.born in
+            let l = rank_later old new stage h.sound h.words x x refl born in omega arith;
         word = let a = was.word in let up = h.words.update seen.node in omega arith;
         side = side ∙ (was.side ∙ sym own);
         at_least = let a = was.at_least in let up = h.words.tag seen.node (is_right old seen.node k) in omega arith;

@@ -1,5 +1,6 @@
 use Rattle.std.proofs.Common.{◌≡◌, ◌≢◌, ℕ, ◌<◌, if◌then◌else◌, Bool, true, false, [], ◌∷◌, ◌++◌, inl, inr, ◌⊎◌, ◌↔◌, refl, sym, ap, ◌∙◌, subst, arith}
-use Rattle.ell_word.specs.Node.{internal, right_leaf}
+use Rattle.std.proofs.lemmas.Bool.{cases_eq}
+use Rattle.ell_word.specs.Node.{internal, left_leaf, right_leaf}
 use Rattle.ell_core.specs.declared.exchange.Exchange.TheVariants as exchange
 use Rattle.ell_core.specs.declared.event.Act.TheVariants as act
 use Rattle.ell_core.specs.declared.event.Stepped.{Stepped}
@@ -17,8 +18,11 @@ use Rattle.ell_layout.proofs.lemmas.Writes.{put_same}
 use Rattle.ell_core.proofs.lemmas.stages.Order.{waits_or_changed, changed-insert}
 use Rattle.ell_core.proofs.lemmas.keeping.Learning.{KnowsAllowed, learns_fact, takes_on_knowing, follows_knowing}
 use Rattle.ell_core.proofs.lemmas.keeping.OneWorker.{keeps_worker}
-use Rattle.ell_core.proofs.lemmas.keeping.insert_child.Card.{Brings, just_changed, ichild_words, ichild_stages, its_child, its_tag}
-use Rattle.ell_core.proofs.lemmas.keeping.insert_child.Tree.{brings_node, pairs_after, key_absent}
+use Rattle.ell_core.proofs.lemmas.keeping.insert_child.Card.{Brings, just_changed, same_by, ichild_words, ichild_stages, its_child, its_tag}
+use Rattle.ell_core.proofs.lemmas.keeping.insert_child.Nodes.{Adds, pairs_after}
+use Rattle.ell_core.proofs.lemmas.keeping.insert_child.Tree.{adds_plain}
+use Rattle.ell_core.proofs.lemmas.keeping.insert_child.Flat.{adds_flat}
+use Rattle.ell_core.proofs.lemmas.words.Sides.{max_is}
 use Rattle.ell_core.proofs.lemmas.keeping.insert_child.Leaf.{brings_leaf, pairs_replaced, key_had}
 use Rattle.ell_core.proofs.lemmas.keeping.insert_child.Cards.{stages_after, words_after, unborn_says}
 use Rattle.ell_core.proofs.lemmas.keeping.insert_child.Words.{sound_after}
@@ -46,11 +50,18 @@ brought_stage w c = if is_replace_card w c then RChanged else IChanged
 
 -- the side on which the node comes in is that of the card's key
 pub brought_side : (w : Words) (stage : Stages) (c : ℕ) → InsertCard w stage c → exchange_side w (w.p c) (brought w c) ≡ insert_side w c
-brought_side w stage c said = ap (is_right w (w.p c)) (by (is_replace_card w c))
+brought_side w stage c said = ap (is_right w (w.p c)) (by (is_replace_card w c) refl)
   where
-    by : (b : Bool) → w.key (if b then right_leaf c else internal c) ≡ w.key (internal c)
-    by true = sym said.node_key
-    by false = refl
+    by : (b : Bool) → is_replace_card w c ≡ b → w.key (if b then right_leaf c else internal c) ≡ w.key (internal c)
+    by true one = sym (said.node_key.greater (inr (same_by w c one)) ∙ max_is (w.key (left_leaf c)) (w.key (right_leaf c)) said.ordered)
+    by false two = refl
+
+-- a card of two leaf keys adds its key
+adds : (w : Words) (stage : Stages) (sound : WordsAreSound w stage) (c : ℕ) (flagged : stage c ≡ IFlagged) → is_replace_card w c ≡ false → Adds w stage c
+adds w stage sound c flagged two = elim (cases_eq w.flat_from 0) [
+  | inl plain ↦ adds_plain w stage sound c flagged two plain
+  | inr some ↦ adds_flat w stage sound c flagged two (omega arith)
+]
 
 -- the card brings its right leaf where it replaces a leaf, else its internal node
 pub brings : (w : Words) (stage : Stages) (sound : WordsAreSound w stage) (c : ℕ) (flagged : stage c ≡ IFlagged)
@@ -59,7 +70,7 @@ brings w stage sound c flagged = by (is_replace_card w c) refl
   where
     by : (b : Bool) → is_replace_card w c ≡ b → Brings w stage c (if b then right_leaf c else internal c) (if b then RChanged else IChanged)
     by true one = brings_leaf w stage sound c flagged one
-    by false two = brings_node w stage sound c flagged two
+    by false two = (adds w stage sound c flagged two).brings
 
 module _ (m : Machine) (stage : Stages) (i : ℕ) (sound : Invariant m stage) (c : ℕ) where
   -- the scene after a child exchange, by its words
@@ -175,7 +186,7 @@ ichild_brings w stage sound c flagged = by (is_replace_card w c) refl
     by : (b : Bool) → is_replace_card w c ≡ b
         → BringsKey b w (ichild_words w c (if b then right_leaf c else internal c)) (insert_key w c) (w.value (w.l c)) (insert_value w c)
     by true one = record { had = key_had w stage sound c flagged one; pairs = pairs_replaced w stage sound c flagged one }
-    by false two = record { absent = key_absent w stage sound c flagged two; pairs = pairs_after w stage sound c flagged two }
+    by false two = (let its = adds w stage sound c flagged two in record { absent = its.absent; pairs = pairs_after w stage sound c flagged two its })
 
 -- so does each one that is won
 pub ichild_won-brings : (m : Machine) (stage : Stages) (i c : ℕ) (becomes : Scene) → Invariant m stage → IChild c (scene m i) Won becomes

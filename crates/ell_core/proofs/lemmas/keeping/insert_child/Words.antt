@@ -12,6 +12,7 @@ use Rattle.ell_core.proofs.lemmas.keeping.insert_child.Card.{Brings, just_change
 use Rattle.ell_core.proofs.lemmas.keeping.insert_child.Cards.{as_before, still, stages_after, card_after, insert_after, delete_after}
 use Rattle.ell_core.specs.tree.Rank.{rank}
 use Rattle.ell_core.proofs.lemmas.words.Later.{tags_below}
+use Rattle.ell_core.proofs.lemmas.stages.Kinds.{starts_later}
 
 -- a key and one that is at least the node's are not on the same side if the key is less
 not_same_side : (at k old : ℕ) → k < at → old ≡ at → nat_le at k ≡ nat_le at old → ⊥
@@ -71,10 +72,10 @@ module _ (w : Words) (stage : Stages) (sound : WordsAreSound w stage) (c : ℕ) 
     | inr e ↦ (let more = (sound.children x inner born).right_more in let a = ap w.key e in omega arith)
   ]
 
-  rising_after : (x : ℕ) → IsInternal x → Born stage x → (right : Bool) → rank x < rank (after.child x right)
+  rising_after : (x : ℕ) → IsInternal x → Born stage x → (right : Bool) → rank w x < rank w (after.child x right)
   rising_after x inner born right = elim ((its_relinks w stage sound c flagged q).others x right) [
-    | inl h ↦ (let up = b.rises in let at = ap rank h.0 in let to = ap rank (new_there x right h) in omega arith)
-    | inr e ↦ (let less = (sound.children x inner born).rising right in let to = ap rank e in omega arith)
+    | inl h ↦ (let up = b.rises in let at = ap (rank w) h.0 in let to = ap (rank w) (new_there x right h) in omega arith)
+    | inr e ↦ (let less = (sound.children x inner born).rising right in let to = ap (rank w) e in omega arith)
   ]
 
   -- the children of each node are sound afterwards
@@ -139,6 +140,7 @@ module _ (w : Words) (stage : Stages) (sound : WordsAreSound w stage) (c : ℕ) 
   pub tree_after : TreeIsSound after stages
   tree_after = record {
     ordered = b.ordered;
+    trie = b.trie;
     root_key = sound.tree.root_key;
     root_right = elim ((its_relinks w stage sound c flagged q).others 0 true) [
       | inl h ↦ absurd (not_root h)
@@ -159,6 +161,7 @@ module _ (w : Words) (stage : Stages) (sound : WordsAreSound w stage) (c : ℕ) 
   pub sound_after : WordsAreSound after stages
   sound_after = record {
     opening = put_other stage c now 0 not_opening ∙ sound.opening;
+    flat = λ some. starts_later w.flat_from stage stages (stages_after w stage sound c flagged q now b).start (sound.flat some);
     tags = (
         let expected = (its_card w stage sound c flagged).expected in
         let tag = its_tag w stage sound c flagged in

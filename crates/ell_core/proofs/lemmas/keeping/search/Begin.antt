@@ -13,7 +13,8 @@ use Rattle.ell_core.specs.history.Invariant.{top, StandIsSound, Invariant}
 use Rattle.ell_core.specs.history.Later.{Follows, KeepsInvariant}
 use Rattle.ell_core.specs.acts.Wins.{wins_by}
 use Rattle.ell_core.proofs.lemmas.outcomes.Decide.{same_value, some_not_none}
-use Rattle.ell_core.proofs.lemmas.tree.Courses.{OnCourse-start}
+use Rattle.ell_trie.specs.Courses.{ordinary}
+use Rattle.ell_trie.proofs.lemmas.order.Courses.{OnCourse-start}
 use Rattle.ell_core.proofs.lemmas.keeping.OneWorker.{HasInHand, TakesOn, follows_worker}
 use Rattle.ell_core.proofs.lemmas.stages.Counts.{counts_unmade}
 use Rattle.ell_core.proofs.lemmas.stages.Order.{backed_made, backed_insert, backed_delete}
@@ -82,7 +83,7 @@ module _ (m : Machine) (stage : Stages) (i : ℕ) (sound : Invariant m stage) wh
     read = λ word e. absurd (some_not_none e refl);
     leads = λ owned value. (let present = sound.workers.present i (key_of op) value owned in
         (λ l. sym (may.counts (key_of op) owned) ∙ present.0 l, λ e. present.1 (may.counts (key_of op) owned ∙ e)));
-    course = OnCourse-start m.words.key m.words.child top sound.words.tree.ordered (key_of op) below_top;
+    course = ordinary (OnCourse-start m.words.key m.words.child top sound.words.tree.ordered (key_of op) below_top);
     parent = λ seen e. absurd (some_not_none e refl);
     grandparent = λ seen above e. absurd (some_not_none e refl);
     has_parent = λ n. absurd (n refl);

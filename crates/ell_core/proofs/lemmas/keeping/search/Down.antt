@@ -1,7 +1,6 @@
 use Rattle.std.proofs.Common.{◌≡◌, ◌≢◌, ℕ, ◌+◌, ◌≤◌, Bool, true, false, nat_le, Some, None, inl, inr, refl, sym, ap, ◌∙◌, subst, arith}
 use Rattle.std.proofs.lemmas.Bool.{cases_eq, le-leb, lt-leb}
 use Rattle.ell_ops.specs.declared.op.Op.{Op}
-use Rattle.ell_ops.specs.declared.op.Op.TheVariants.{Find, Insert, Delete, Swap}
 use Rattle.ell_ops.specs.Meaning.{greatest_key, key_of}
 use Rattle.ell_word.specs.Node.{IsInternal, infinity1}
 use Rattle.ell_core.specs.declared.event.Act.TheVariants as act
@@ -10,14 +9,14 @@ use Rattle.ell_layout.specs.Words.{Words, IsLeaf}
 use Rattle.ell_core.specs.state.Machine.{Worker, Machine, with_scene}
 use Rattle.ell_layout.specs.Cards.{is_right, child_for, tag_for}
 use Rattle.ell_core.specs.acts.Searching.{gone_down}
-use Rattle.ell_core.specs.tree.Ranges.{below}
+use Rattle.ell_trie.specs.Ranges.{below}
 use Rattle.ell_core.specs.history.Stages.{Stages}
-use Rattle.ell_core.specs.history.Invariant.{top, IsOnCourse, ChildrenAreSound, TreeIsSound, WordsAreSound, SeenIsSound, StandIsSound, Unflagged, WorkerIsSound, Invariant}
+use Rattle.ell_core.specs.history.Invariant.{top, IsOnCourse, ChildrenAreSound, TreeIsSound, WordsAreSound, SeenIsSound, StandIsSound, WorkerIsSound, Invariant}
 use Rattle.ell_core.specs.history.Later.{Follows, KeepsInvariant}
 use Rattle.ell_core.specs.acts.Wins.{wins_by}
 use Rattle.ell_core.proofs.lemmas.outcomes.Decide.{same_value, some_not_none}
-use Rattle.ell_core.proofs.lemmas.tree.Bounds.{below_of, leaf_key}
-use Rattle.ell_core.proofs.lemmas.tree.Courses.{OnCourse-down}
+use Rattle.ell_trie.proofs.lemmas.order.Bounds.{below_of, leaf_key}
+use Rattle.ell_core.proofs.lemmas.tree.Courses.{course_down}
 use Rattle.ell_core.proofs.lemmas.keeping.OneWorker.{TakesOn, follows_worker, takes_on_same}
 
 -- the child on a side has its key on that side
@@ -38,24 +37,13 @@ leaf_below_root w stage k h real outer =
     leaf_key w.key w.child infinity1 (child_for w k 0) outer
     (below_of w.key w.child top h.ordered {k = infinity1} {x = 0} refl (ap (w.child 0) side) h.last)
 
--- a worker with a card in hand that is not flagged stands at a leaf
-pub unflagged_at_leaf : (w : Words) (stage : Stages) (v : Worker) (op : Op) (c x : ℕ) → WordsAreSound w stage
-    → Unflagged w stage v op c → v.search.node ≡ Some x → IsLeaf x
-unflagged_at_leaf w stage v (Find k) c x sound h at = absurd h
-unflagged_at_leaf w stage v (Insert k value) c x sound h at =
-    subst IsLeaf (same_value h.stands at) ((sound.cards c).insert h.claimed.0).leaf.outer
-unflagged_at_leaf w stage v (Swap k was value) c x sound h at =
-    subst IsLeaf (same_value h.stands at) ((sound.cards c).insert h.claimed.0).leaf.outer
-unflagged_at_leaf w stage v (Delete k) c x sound h at =
-    subst IsLeaf (same_value h.stands at) ((sound.cards c).delete h.claimed.0).leaf.outer
-
 -- a worker that has gone down from a node
 abbrev pub down : Words → Worker → Op → Seen → Worker
 down w v op seen = record v { search = gone_down v.search seen (child_for w (key_of op) seen.node) }
 
 module _ (w : Words) (stage : Stages) (words : WordsAreSound w stage) (v : Worker) (op : Op) (seen : Seen)
     (sound : WorkerIsSound w stage v) (busy : v.operation ≡ Some op) (at : v.search.node ≡ Some seen.node)
-    (inner : IsInternal seen.node) (read : v.search.read ≡ Some seen.word)
+    (inner : IsInternal seen.node) (read : v.search.read ≡ Some seen.word) (no_card : v.card ≡ None)
     (tagged : seen.tag ≡ tag_for w (key_of op) seen.node) where
   -- the key, and the child on its side
   abbrev k : ℕ
@@ -100,7 +88,7 @@ module _ (w : Words) (stage : Stages) (words : WordsAreSound w stage) (v : Worke
       λ l. (stood.leads owns value).0 (below inner refl l),
       λ e. below_of w.key w.child top words.tree.ordered inner refl ((stood.leads owns value).1 e),
     );
-    course = OnCourse-down w.key w.child top words.tree.ordered stood.course inner;
+    course = course_down w stage words k seen.node stood.born stood.course inner;
     parent = λ other e. subst (λ s. SeenIsSound w stage k s child × IsOnCourse w k s.node) (same_value refl e)
         (seen_down, stood.course);
     grandparent = λ other above e f. subst (λ s. SeenIsSound w stage k above s.node) (same_value refl e)
@@ -119,18 +107,17 @@ module _ (w : Words) (stage : Stages) (words : WordsAreSound w stage) (v : Worke
     owned = sound.owned;
     stands = λ other x e there. subst (λ o. StandIsSound w stage (down w v op seen) (key_of o) x) (same_value busy e)
         (subst (StandIsSound w stage (down w v op seen) k) (same_value refl there) stands_down);
-    unflagged = λ other c e holds f.
-        absurd (unflagged_at_leaf w stage v other c seen.node words (sound.unflagged other c e holds f) at inner);
+    unflagged = λ other c e holds f. absurd (some_not_none holds no_card);
     flagged = λ other c e holds f. absurd (some_not_none at (sound.flagged other c e holds f).1);
   }
 
 -- a worker may go down
 takes_on_down : (m : Machine) (stage : Stages) (i : ℕ) (op : Op) (seen : Seen) → Invariant m stage
     → (m.worker i).operation ≡ Some op → (m.worker i).search.node ≡ Some seen.node → IsInternal seen.node
-    → (m.worker i).search.read ≡ Some seen.word → seen.tag ≡ tag_for m.words (key_of op) seen.node
+    → (m.worker i).search.read ≡ Some seen.word → (m.worker i).card ≡ None → seen.tag ≡ tag_for m.words (key_of op) seen.node
     → TakesOn m stage i (down m.words (m.worker i) op seen)
-takes_on_down m stage i op seen sound busy at inner read tagged = takes_on_same m stage i (down m.words (m.worker i) op seen)
-    (sound_down m.words stage sound.words (m.worker i) op seen (sound.workers.each i) busy at inner read tagged) refl refl refl refl refl
+takes_on_down m stage i op seen sound busy at inner read no_card tagged = takes_on_same m stage i (down m.words (m.worker i) op seen)
+    (sound_down m.words stage sound.words (m.worker i) op seen (sound.workers.each i) busy at inner read no_card tagged) refl refl refl refl refl
 
 -- down keeps the invariant
 pub keeps_down : KeepsInvariant act.Down
@@ -139,4 +126,4 @@ keeps_down m stage i said becomes there sound happens =
     subst (λ s. Follows m stage act.Down i said (with_scene m i s)) (sym r.gives)
     (follows_worker m stage act.Down i said _ there sound
     (λ c. ap (λ s. wins_by act.Down (m.worker i).card s c) r.says)
-    (takes_on_down m stage i r.op r.seen sound r.busy r.stands r.internal r.read r.tagged))
+    (takes_on_down m stage i r.op r.seen sound r.busy r.stands r.internal r.read r.no_card r.tagged))

@@ -12,7 +12,7 @@ use Rattle.ell_core.specs.state.Machine.{Machine, Scene, scene, with_scene}
 use Rattle.ell_layout.specs.Cards.{dflag, is_right}
 use Rattle.ell_core.specs.acts.Searching.{IsClean}
 use Rattle.ell_core.specs.acts.Exchanges.{won_or_lost, flags, flagged_worker}
-use Rattle.ell_core.specs.tree.Ranges.{at_leaf}
+use Rattle.ell_trie.specs.Ranges.{at_leaf}
 use Rattle.ell_core.specs.history.Stages.{Stages, Opening, DClaimed, DFlagged, is_claimed, delete_won, insert_open, delete_open}
 use Rattle.ell_core.specs.history.Invariant.{delete_side, DeleteCard, DeleteStage, Markable, UpdateIsSound, SeenIsSound, StandIsSound, DeleteInHand, Invariant}
 use Rattle.ell_core.specs.history.Later.{Follows, KeepsInvariant, wins_of}
@@ -100,7 +100,7 @@ module _ (m : Machine) (stage : Stages) (i k c : ℕ) (grandparent : Seen) (ther
     -- the parent's word is as it was
     parent_same : after.update (m.words.p c) ≡ m.words.update (m.words.p c)
     parent_same = put_other m.words.update grandparent.node (dflag c) (m.words.p c) (λ e. let less = said.first in
-        let same = ap rank node in let other = ap rank e in omega arith)
+        let same = ap (rank m.words) node in let other = ap (rank m.words) e in omega arith)
 
     markable : Markable after c
     markable = record {

@@ -81,7 +81,7 @@ module _ (m : Machine) (stage : Stages) (i c : ℕ) (there : i < m.count) (sound
 
     -- the word of the parent stays
     pub parent_stays : m.words.p c ≢ m.words.gp c
-    parent_stays h = let first = ((sound.words.cards c).delete (delete_open-delete (stage c) u.stands)).first in let same = ap rank h in omega arith
+    parent_stays h = let first = ((sound.words.cards c).delete (delete_open-delete (stage c) u.stands)).first in let same = ap (rank m.words) h in omega arith
 
     -- a won unflag
     wins : (a : Act) → DeleteStage unflagged (λ d. new) c

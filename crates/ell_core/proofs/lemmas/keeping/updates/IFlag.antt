@@ -3,7 +3,7 @@ use Rattle.std.proofs.lemmas.Bool.{false≢true, cases_eq, eq-eqb, ne_eqb}
 use Rattle.std.proofs.lemmas.Bool.Decides.{nat_tests}
 use Rattle.ell_ops.specs.declared.op.Op.{Op}
 use Rattle.ell_ops.specs.declared.op.Op.TheVariants.{Find, Insert, Delete, Swap}
-use Rattle.ell_core.specs.tree.Ranges.{at_leaf}
+use Rattle.ell_trie.specs.Ranges.{at_leaf}
 use Rattle.ell_word.specs.Node.{left_leaf, right_leaf}
 use Rattle.ell_core.specs.declared.exchange.Exchange.TheVariants as exchange
 use Rattle.ell_core.specs.declared.event.Act.TheVariants as act
@@ -17,6 +17,9 @@ use Rattle.ell_core.specs.state.Machine.{Machine, Scene, scene, with_scene, entr
 use Rattle.ell_layout.specs.Cards.{iflag, is_right}
 use Rattle.ell_core.specs.acts.Searching.{IsClean, put_of}
 use Rattle.ell_core.specs.acts.Exchanges.{won_or_lost, flags, flagged_worker}
+use Rattle.ell_core.specs.tree.Flat.{IsInBlock}
+use Rattle.ell_core.proofs.lemmas.tree.Paths.{internal_or_leaf}
+use Rattle.ell_core.proofs.lemmas.stages.Edges.{found_block, replaces_leaf}
 use Rattle.ell_core.specs.history.Stages.{Stages, Opening, IClaimed, IFlagged, is_claimed, insert_won, insert_open, delete_open, made_by_stage}
 use Rattle.ell_core.specs.history.Invariant.{IsOnCourse, insert_key, insert_side, InsertCard, InsertStage, UpdateIsSound, SeenIsSound, StandIsSound, InsertInHand, IsPutting, Invariant}
 use Rattle.ell_core.specs.history.Later.{Follows, KeepsInvariant, wins_of}
@@ -27,7 +30,7 @@ use Rattle.ell_core.proofs.lemmas.keeping.updates.Words.{NewWord}
 use Rattle.ell_core.proofs.lemmas.keeping.Puts.{put_key, putting_hand, putting_flag}
 use Rattle.ell_core.proofs.lemmas.keeping.SameOutcome.{follows_as}
 use Rattle.ell_core.proofs.lemmas.keeping.updates.Flag.{flags_won, flags_lost, HoldsCard, hand_of, flag_loses, flag_wins}
-use Rattle.ell_core.proofs.lemmas.tree.Bounds.{leaf_key}
+use Rattle.ell_trie.proofs.lemmas.order.Bounds.{leaf_key}
 use Rattle.ell_core.proofs.lemmas.words.Sides.{insert_key-side, key_of_three}
 use Rattle.ell_core.proofs.lemmas.keeping.going_on.Stages.{no_delete}
 use Rattle.ell_core.proofs.lemmas.stages.Advances.{iflag_later, iflag_kind, StageLater, SameKind}
@@ -94,13 +97,16 @@ module _ (m : Machine) (stage : Stages) (i : ℕ) (op : Op) (what : Put) (puts :
 
   -- a key of its own was absent, since the leaf where it stands has another one, or it was present with the leaf's value
   entry_is : (old : Option ℕ) → IsPutting m.words c old → WorkerOwns (m.worker i) k → (m.worker i).ledger k ≡ Some (entry_of old)
-  entry_is None less owns = absent_entry ((m.worker i).ledger k) owns
-      (λ v e. other_of_two (m.words.key (left_leaf c)) (m.words.key (right_leaf c)) (m.words.key (m.words.l c)) less
-      (hand.own ∙ sym (leaf_key m.words.key m.words.child k (m.words.l c) said.leaf.outer ((stand.leads owns v).1 e))))
+  entry_is None less owns = absent_entry ((m.worker i).ledger k) owns (λ v e. elim (internal_or_leaf (m.words.l c)) [
+    | inl inner ↦ said.edge inner (subst (IsInBlock m.words (m.words.l c)) (sym hand.own)
+        (found_block m.words stage sound.words k (m.words.l c) inner said.lower ((stand.leads owns v).1 e)))
+    | inr outer ↦ other_of_two (m.words.key (left_leaf c)) (m.words.key (right_leaf c)) (m.words.key (m.words.l c)) less
+        (hand.own ∙ sym (leaf_key m.words.key m.words.child k (m.words.l c) outer ((stand.leads owns v).1 e)))
+  ])
   entry_is (Some v) one owns =
       let key = one_of_one (m.words.key (left_leaf c)) (m.words.key (right_leaf c)) (m.words.key (m.words.l c)) one.0
       (elim said.copy [ inl left ↦ inl left.key | inr right ↦ inr right.key ]) in
-      (stand.leads owns v).0 (at_leaf said.leaf.outer (sym key ∙ hand.own) one.1)
+      (stand.leads owns v).0 (at_leaf (replaces_leaf m.words stage sound.words c said one.0) (sym key ∙ hand.own) one.1)
 
   module _ (won : m.words.update parent.node ≡ parent.word) where
     -- the parent's word was clean, and is the card's flag

@@ -48,7 +48,7 @@ module _ (m : Machine) (stage : Stages) (i c : ℕ) (there : i < m.count) (sound
 
   -- the parent is not the grandparent
   apart : m.words.gp c ≢ m.words.p c
-  apart h = let first = card.first in let same = ap rank h in omega arith
+  apart h = let first = card.first in let same = ap (rank m.words) h in omega arith
 
   -- it is not the opening tree's
   not_opening : stage c ≢ Opening

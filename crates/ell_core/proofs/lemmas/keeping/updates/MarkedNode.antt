@@ -6,8 +6,8 @@ use Rattle.ell_core.specs.history.Stages.{Stages, delete_open, is_marked, delete
 use Rattle.ell_core.specs.history.Invariant.{UpdateIsSound, IsIn, top, delete_side, WordsAreSound}
 use Rattle.ell_layout.proofs.lemmas.Writes.{put_same, put_other}
 use Rattle.ell_word.specs.Node.{IsInternal}
-use Rattle.ell_core.specs.tree.Ranges.{low_of, high_of, Spans, goes, IsOrdered}
-use Rattle.ell_core.proofs.lemmas.tree.Bounds.{child_within, side_of}
+use Rattle.ell_trie.specs.Ranges.{low_of, high_of, Spans, goes, IsOrdered}
+use Rattle.ell_trie.proofs.lemmas.order.Bounds.{child_within, side_of}
 use Rattle.ell_core.proofs.lemmas.stages.Order.{delete_open-delete}
 use Rattle.ell_core.proofs.lemmas.words.Sides.{sibling_cases}
 

@@ -11,6 +11,8 @@ use Rattle.ell_layout.proofs.lemmas.Writes.{put_same, put_other, put_cases}
 use Rattle.ell_core.proofs.lemmas.keeping.updates.Cards.{UpdateExchange, born_later, born_before, card_later, insert_later, delete_later}
 use Rattle.ell_core.proofs.lemmas.keeping.going_on.Stages.{insert_stage_same, delete_stage_same}
 use Rattle.ell_core.proofs.lemmas.stages.Advances.{stages_put}
+use Rattle.ell_core.proofs.lemmas.stages.Kinds.{starts_later}
+use Rattle.ell_trie.proofs.lemmas.Paths.{same_born}
 
 -- what is particular to an exchange: what the new stage says of the card, and what the new word says at its node
 pub record NewWord (w : Words) (stage : Stages) (x value c : ℕ) (new : Stage) : Type 0 where
@@ -66,6 +68,7 @@ module _ (w : Words) (stage : Stages) (x value c : ℕ) (new : Stage) (e : Updat
   tree_later : TreeIsSound w stage → TreeIsSound (with_update w x value) (put stage c new)
   tree_later k = record {
     ordered = k.ordered;
+    trie = λ flat. same_born (λ y inner. born_before w stage x value c new e y) (born_later w stage x value c new e) (k.trie flat);
     root_key = k.root_key;
     root_right = k.root_right;
     right_key = k.right_key;
@@ -104,6 +107,7 @@ module _ (w : Words) (stage : Stages) (x value c : ℕ) (new : Stage) (e : Updat
       → WordsAreSound (with_update w x value) (put stage c new)
   words_exchanged now k = record {
     opening = put_other stage c new 0 (λ zero. e.tree (ap stage (sym zero) ∙ k.opening)) ∙ k.opening;
+    flat = λ some. starts_later w.flat_from stage (put stage c new) (stages_put stage c new e.later).start (k.flat some);
     tags = k.tags;
     cards = card_later w stage x value c new e k;
     inserts = inserts_later now k;

@@ -1,8 +1,8 @@
 use Rattle.std.proofs.Common.{◌≡◌, ℕ, zero, suc, ◌%◌, ◌<◌, ◌≤◌, Bool, nat_le, refl, sym, ap, ◌∙◌, subst, inl, inr, arith}
 use Rattle.std.proofs.lemmas.Bool.{cases_order, cases_lt}
 use Rattle.ell_word.specs.Node.{IsInternal}
-use Rattle.ell_core.specs.tree.Ranges.{low_of, high_of, Spans, root, goes, IsOrdered}
-use Rattle.ell_core.proofs.lemmas.tree.Bounds.{child_within, side_of}
+use Rattle.ell_trie.specs.Ranges.{low_of, high_of, Spans, root, goes, IsOrdered}
+use Rattle.ell_trie.proofs.lemmas.order.Bounds.{child_within, side_of}
 
 -- a node with its range
 pub record Place : Type 0 where

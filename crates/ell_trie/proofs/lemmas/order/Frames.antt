@@ -1,6 +1,6 @@
-use Rattle.std.proofs.Common.{◌≡◌, ℕ, ◌<◌, ◌≤◌, Bool, nat_le, sym, ap, ◌∙◌, subst}
+use Rattle.std.proofs.Common.{◌≡◌, ℕ, ◌<◌, ◌≤◌, Bool, nat_le, sym, ap, ◌∙◌, subst, arith}
 use Rattle.ell_word.specs.Node.{IsInternal}
-use Rattle.ell_core.specs.tree.Ranges.{next_node, low_of, high_of, Spans, root, goes, IsOrdered, FindsLeaf, at_leaf, below, OnCourse, here, off, dead}
+use Rattle.ell_trie.specs.Ranges.{next_node, low_of, high_of, Spans, root, goes, IsOrdered, FindsLeaf, at_leaf, below, OnCourse, here, off, dead}
 
 module _ (Born : ℕ → Type 0) (key key_after : ℕ → ℕ) (child after : ℕ → Bool → ℕ) (top : ℕ) (start : Born 0)
     (closed : (x : ℕ) (t : Bool) → IsInternal x → Born x → Born (child x t))
@@ -20,7 +20,7 @@ module _ (Born : ℕ → Type 0) (key key_after : ℕ → ℕ) (child after : �
       goes t (Spans-same r) i (e ∙ sym (same_child x t o)) (f ∙ ap (low_of t low) same) (g ∙ ap (high_of t high) same)
 
   -- the next node of a walk stays
-  next_same : (k x : ℕ) → Born x → next_node key_after after k x ≡ next_node key child k x
+  pub next_same : (k x : ℕ) → Born x → next_node key_after after k x ≡ next_node key child k x
   next_same k x o = ap (λ v. after x (nat_le v k)) (same_key x o) ∙ same_child x (nat_le (key x) k) o
 
   -- a key is met as before
@@ -65,6 +65,20 @@ module _ (Born : ℕ → Type 0) (key key_after : ℕ → ℕ) (child after : �
         (h.proper x low high (Spans-back r) i);
     rising = λ x low high t r i. subst (λ v. rank x < rank v) (sym (same_child x t (Spans-back_born r)))
         (h.rising x low high t (Spans-back r) i);
+  }
+
+  -- so it does by another rank that is the same for what was born
+  pub IsOrdered-ranked : {rank rank_after : ℕ → ℕ} → ((x : ℕ) → Born x → rank_after x ≡ rank x) → IsOrdered key child top rank
+      → IsOrdered key_after after top rank_after
+  IsOrdered-ranked same h = let kept = IsOrdered-same h in record {
+    within = kept.within;
+    proper = kept.proper;
+    rising = λ x low high t r i. (
+        let born = Spans-back_born r in
+        let up = kept.rising x low high t r i in
+        let upper = same x born in
+        let lower = same (after x t) (closed_after x t i born) in
+        omega arith);
   }
 
   -- a node stays on course

@@ -1,7 +1,7 @@
 use Rattle.std.proofs.Common.{◌≡◌, ◌≢◌, ℕ, ◌<◌, ◌≤◌, Bool, true, false, not, nat_le, refl, sym, ap, ◌∙◌, subst, inl, inr, ◌⊎◌, arith}
 use Rattle.ell_word.specs.Node.{IsInternal}
-use Rattle.ell_core.specs.tree.Ranges.{low_of, high_of, Spans, root, goes, FindsLeaf, at_leaf, below, IsOrdered, Relinked}
-use Rattle.ell_core.proofs.lemmas.tree.Bounds.{leaf_key, Meets-down, Meets-within, child_within, side_of, below_of, leaf_is_met}
+use Rattle.ell_trie.specs.Ranges.{low_of, high_of, Spans, root, goes, FindsLeaf, at_leaf, below, IsOrdered, Relinked}
+use Rattle.ell_trie.proofs.lemmas.order.Bounds.{leaf_key, Meets-down, Meets-within, child_within, side_of, below_of, leaf_is_met}
 
 -- a side is another or it is not
 pub same_or_not : (u t : Bool) → (u ≡ t) ⊎ (u ≡ not t)

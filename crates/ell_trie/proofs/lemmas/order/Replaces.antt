@@ -1,8 +1,8 @@
 use Rattle.std.proofs.Common.{◌≡◌, ◌≢◌, ℕ, ◌<◌, ◌≤◌, Bool, nat_le, refl, sym, ap, ◌∙◌, subst, inl, inr, ◌⊎◌}
 use Rattle.ell_word.specs.Node.{IsInternal}
-use Rattle.ell_core.specs.tree.Ranges.{low_of, high_of, Spans, root, goes, FindsLeaf, at_leaf, below, IsOrdered, Relinked, OnCourse, here, off, dead}
-use Rattle.ell_core.proofs.lemmas.tree.Bounds.{leaf_key, Meets-up}
-use Rattle.ell_core.proofs.lemmas.tree.OneRange.{two_leaves}
+use Rattle.ell_trie.specs.Ranges.{low_of, high_of, Spans, root, goes, FindsLeaf, at_leaf, below, IsOrdered, Relinked, OnCourse, here, off, dead}
+use Rattle.ell_trie.proofs.lemmas.order.Bounds.{leaf_key, Meets-up}
+use Rattle.ell_trie.proofs.lemmas.order.OneRange.{two_leaves}
 
 -- the shape of the change: the child of p on the side s, a leaf l, becomes another leaf q of the same key
 pub record Replaces (rank key : ℕ → ℕ) (child after : ℕ → Bool → ℕ) (p : ℕ) (s : Bool) (l q : ℕ) : Type 0 where

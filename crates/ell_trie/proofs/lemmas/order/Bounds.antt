@@ -1,7 +1,7 @@
 use Rattle.std.proofs.Common.{◌≡◌, ℕ, ◌<◌, ◌≤◌, Bool, true, false, nat_le, refl, sym, ◌∙◌, subst, arith}
 use Rattle.std.proofs.lemmas.Bool.Decides.{nat_tests}
 use Rattle.ell_word.specs.Node.{IsInternal}
-use Rattle.ell_core.specs.tree.Ranges.{next_node, low_of, high_of, Spans, root, goes, FindsLeaf, at_leaf, below, IsOrdered}
+use Rattle.ell_trie.specs.Ranges.{next_node, low_of, high_of, Spans, root, goes, FindsLeaf, at_leaf, below, IsOrdered}
 
 -- a walk that ends at the leaf where it starts has the leaf's key
 pub leaf_key : (key : ℕ → ℕ) (child : ℕ → Bool → ℕ) {holds : ℕ → Type 0} (k x : ℕ) → ¬ IsInternal x → FindsLeaf key child holds k x → key x ≡ k

@@ -1,7 +1,7 @@
 use Rattle.std.proofs.Common.{◌≡◌, ◌≢◌, ℕ, ◌%◌, ◌<◌, ◌≤◌, Bool, true, false, nat_le, refl, sym, ap, ◌∙◌, subst, inl, inr, ◌⊎◌, ◌↔◌, arith}
 use Rattle.ell_word.specs.Node.{IsInternal}
-use Rattle.ell_core.specs.tree.Ranges.{next_node, low_of, high_of, Spans, root, goes, FindsLeaf, at_leaf, below, IsOrdered, Relinked}
-use Rattle.ell_core.proofs.lemmas.tree.Bounds.{leaf_key, leaf_holds, Meets-up, Meets-down}
+use Rattle.ell_trie.specs.Ranges.{next_node, low_of, high_of, Spans, root, goes, FindsLeaf, at_leaf, below, IsOrdered, Relinked}
+use Rattle.ell_trie.proofs.lemmas.order.Bounds.{leaf_key, leaf_holds, Meets-up, Meets-down}
 
 -- the shape of the change: the child of p on the side s, a leaf l, becomes the internal node q, whose leaves have the keys
 -- of l and k
