@@ -1,3 +1,5 @@
+-- What is known of the ranks of nodes.
+pub mod Ranks
 -- words of updates, of fields, and lists of keys
 pub mod words
 -- what a pass knows and was told, after what it knew and was told

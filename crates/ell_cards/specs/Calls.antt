@@ -21,12 +21,12 @@ use Rattle.ell_core.specs.acts.Events.{Steps}
 use Rattle.ell_core.specs.statements.Effects.{AnswersAsMap, contents_in}
 use Rattle.ell_cards.specs.declared.call.Call.{Call}
 use Rattle.ell_cards.specs.declared.call.Call.TheVariants as call
-use Rattle.ell_cards.specs.declared.view.Told.TheVariants.{Met, Key, Value, Info, Frozen}
+use Rattle.ell_cards.specs.declared.view.Told.TheVariants.{Met, Key, Value, Frozen}
 use Rattle.ell_cards.specs.declared.view.View.{View}
-use Rattle.ell_cards.specs.Models.{IsTold, IsFree, Does, StandsAt, InTable, KnowsDelete, EndWasUnknown}
-use Rattle.ell_cards.specs.Changes.{counted, with_fact, if_won, exchanged, after_begin, after_again, after_leave, after_answer, after_upd, after_claim, after_flag, after_mark, glance_down, is_this, told_info, after_fill}
+use Rattle.ell_cards.specs.Models.{IsTold, IsFree, Does, StandsAt, InTable, EndWasUnknown}
+use Rattle.ell_cards.specs.Changes.{counted, with_fact, if_won, exchanged, after_begin, after_again, after_leave, after_answer, after_upd, after_claim, after_flag, after_mark, glance_down, is_this, told_info, depth_there, after_fill}
 use Rattle.ell_cards.specs.Guards.{MayBegin, MayAnswer, MayRead, MayGoDown, MayAsk, KnowsPlace, MayLookDown, MayClaim, MayFill, MayIFlag, MayDFlag, MayIChild, MayMark, MayDChild}
-use Rattle.ell_core.specs.tree.Rank.{rank}
+use Rattle.ell_cards.specs.Depths.{met_at, depth_told}
 use Rattle.ell_word.specs.declared.link.Link.{Link}
 use Rattle.ell_word.specs.Link.{linked, link_in}
 use Rattle.ell_core.specs.declared.view.Seen.{Seen}
@@ -120,23 +120,23 @@ after (call.Down x right) n v = counted (record v {
   worker = record (v.worker) {
     search = gone_down v.worker.search (seen_below v x n) (link_in n).node;
   };
-  told = Met (link_in n).node ∷ v.told;
+  told = met_at (depth_told v.told x + 1) (link_in n).node v.told;
   here = None;
 })
 after call.Next n v = record v { next = Some n; made = v.made + 1 }
 after (call.KeyOf x) n v =
     counted (record v { told = Key x n ∷ v.told; here = if is_this v.worker.search.node x then Some n else v.here })
 after (call.ValueOf x) n v = record v { told = Value x n ∷ v.told; made = v.made + 1 }
-after (call.Info c f) n v = record v { told = told_info c f n v.told; made = v.made + 1 }
+after (call.Info c f) n v = record v { told = told_info (depth_there v c f) c f n v.told; made = v.made + 1 }
 after (call.FrozenChild c p right) n v =
-    record v { told = Frozen c right (link_in n).node ∷ Met (link_in n).node ∷ v.told; made = v.made + 1 }
+    record v { told = Frozen c right (link_in n).node ∷ met_at (depth_told v.told p + 1) (link_in n).node v.told; made = v.made + 1 }
 after call.Look n v = counted (record v {
-  told = Met (link_in n).node ∷ v.told;
+  told = met_at (depth_told v.told 0 + 1) (link_in n).node v.told;
   glances = record { node = (link_in n).node; low = 0; high = greatest_key + 1 } ∷ [];
   looks = v.looks + 1;
 })
 after (call.LookDown from key right) n v = counted (record v {
-  told = Met (link_in n).node ∷ v.told;
+  told = met_at (depth_told v.told from.node + 1) (link_in n).node v.told;
   glances = glance_down from key right (link_in n).node ∷ v.glances;
 })
 after (call.Claim c) n v = after_claim (n == c) c v
@@ -232,16 +232,6 @@ TellsLedgerValue v x value =
     (op : Op) → Does v op → StandsAt v x → v.here ≡ Some (key_of op) → ledger_of v.worker.ledger (key_of op) ≢ None
     → contents_in (ledger_of v.worker.ledger) (key_of op) ≡ Some value
 
--- where a card goes is ever deeper, by the ranks of nodes: a delete's parent below its grandparent, and a leaf below
--- the parent
-abbrev pub TellsDepth : View → ℕ → Field → ℕ → Type 0
-TellsDepth v c field.Gp x = KnowsDelete v c → (p : ℕ) → IsTold v (Info c field.P p) → rank x < rank p
-TellsDepth v c field.P x =
-    (KnowsDelete v c → (gp : ℕ) → IsTold v (Info c field.Gp gp) → rank gp < rank x)
-    × ((l : ℕ) → IsTold v (Info c field.L l) → rank x < rank l)
-TellsDepth v c field.L x = (p : ℕ) → IsTold v (Info c field.P p) → rank p < rank (link_in x).node
-TellsDepth v c _ x = Unit {0}
-
 -- a word of a card that names a node names one of the table; grandparent and parent are internal
 abbrev pub TellsNode : ℕ → Field → ℕ → Type 0
 TellsNode last field.Gp x = InTable last x × IsInternal x
@@ -256,14 +246,14 @@ Tells last (call.Answer said) v n =
     × (v.next_at_least ≤ last + 1)
 Tells last call.Leave v n = v.next_at_least ≤ last + 1
 Tells last (call.Upd x) v n = ((unpacked n).card ≤ last) × EndWasUnknown v (unpacked n).state (unpacked n).card
-Tells last (call.Down x right) v n = (rank x < rank (link_in n).node) × InTable last (link_in n).node
+Tells last (call.Down x right) v n = InTable last (link_in n).node
 Tells last call.Next v n = (1 ≤ n) × (n ≤ last + 1) × (v.next_at_least ≤ n)
 Tells last (call.KeyOf x) v n = TellsLeaf v x n
 Tells last (call.ValueOf x) v n = TellsLedgerValue v x n
-Tells last (call.Info c f) v n = TellsNode last f n × TellsDepth v c f n
-Tells last (call.FrozenChild c p right) v n = (rank p < rank (link_in n).node) × InTable last (link_in n).node
-Tells last call.Look v n = (rank 0 < rank (link_in n).node) × InTable last (link_in n).node
-Tells last (call.LookDown from key right) v n = (rank from.node < rank (link_in n).node) × InTable last (link_in n).node
+Tells last (call.Info c f) v n = TellsNode last f n
+Tells last (call.FrozenChild c p right) v n = InTable last (link_in n).node
+Tells last call.Look v n = (0 < (link_in n).node) × InTable last (link_in n).node
+Tells last (call.LookDown from key right) v n = (0 < (link_in n).node) × InTable last (link_in n).node
 Tells last (call.IFlag c p from) v n = (unpacked n).card ≤ last
 Tells last (call.DFlag c gp from) v n = (unpacked n).card ≤ last
 Tells last (call.Mark c p was) v n = (unpacked n).card ≤ last

@@ -1,6 +1,7 @@
 use Rattle.std.specs.Option.{option_or}
 use Rattle.std.specs.List.{list_all}
-use Rattle.std.specs.Prelude.{filter, map, not, option_map, option_and_then, ℕ, ◌+◌, ◌==◌, ◌++◌, if◌then◌else◌, Bool, true, false, Option, Some, None, List, [], ◌∷◌, length, unwrap_or, nat_lt, max, Result, Ok, Err, ◌-◌, ◌%◌, ◌^◌}
+use Rattle.ell_core.specs.state.Facts.{known_of}
+use Rattle.std.specs.Prelude.{◌||◌, filter, map, not, option_map, option_and_then, ℕ, ◌+◌, ◌==◌, ◌++◌, if◌then◌else◌, Bool, true, false, Option, Some, None, List, [], ◌∷◌, length, unwrap_or, nat_lt, max, Result, Ok, Err, ◌-◌, ◌%◌, ◌^◌}
 use Rattle.ell_ops.specs.KeySet.{set_of}
 use Rattle.ell_ops.specs.declared.op.Op.{Op}
 use Rattle.ell_ops.specs.declared.op.Op.TheVariants.{Insert, Delete, Swap}
@@ -28,6 +29,7 @@ use Rattle.ell_cards.specs.declared.view.Hindrance.{Hindrance}
 use Rattle.ell_cards.specs.declared.view.Hindrance.TheVariants.{Claim, Found}
 use Rattle.ell_cards.specs.declared.glance.Glance.{Glance}
 use Rattle.ell_cards.specs.declared.view.View.{View}
+use Rattle.ell_cards.specs.Depths.{met_at, depth_under, tells_grandparent_of, tells_parent_of}
 use Rattle.ell_cards.specs.Models.{TablePlan, knows_end, whole_share, given_share}
 use Rattle.ell_core.specs.declared.view.Entry.{Entry}
 use Rattle.ell_core.specs.declared.view.Entry.TheVariants.{Present, Absent}
@@ -249,12 +251,24 @@ abbrev pub is_this : Option ℕ → ℕ → Bool
 is_this None x = false
 is_this (Some y) x = y == x
 
--- what was told with a word of a card; a node is met, and the leaf's has the tag that the card expects
-abbrev pub told_info : ℕ → Field → ℕ → List Told → List Told
-told_info c Gp x told = Info c Gp x ∷ Met x ∷ told
-told_info c P x told = Info c P x ∷ Met x ∷ told
-told_info c L x told = Info c L (link_in x).node ∷ Expects c (link_in x).tag ∷ Met (link_in x).node ∷ told
-told_info c f x told = Info c f (says_by f x) ∷ told
+-- whether facts tell that a card is a delete's
+abbrev pub knows_delete : List Fact → ℕ → Bool
+knows_delete facts c = known_of facts (fact.DFlagged c) || known_of facts (fact.Marked c)
+
+-- the depth of a card's node, as far as a pass knows what is above it: a delete's parent is below its grandparent, and the
+-- leaf below the parent
+abbrev pub depth_there : View → ℕ → Field → ℕ
+depth_there v c P = if knows_delete v.worker.knows c then depth_under (tells_grandparent_of c) v.told v.told else 0
+depth_there v c L = depth_under (tells_parent_of c) v.told v.told
+depth_there v c _ = 0
+
+-- what was told with a word of a card; a node of this depth is met, and the leaf's word has the tag that the card expects
+abbrev pub told_info : ℕ → ℕ → Field → ℕ → List Told → List Told
+told_info depth c Gp x told = Info c Gp x ∷ Met x ∷ told
+told_info depth c P x told = Info c P x ∷ met_at depth x told
+told_info depth c L x told =
+    Info c L (link_in x).node ∷ Expects c (link_in x).tag ∷ met_at depth (link_in x).node told
+told_info depth c f x told = Info c f (says_by f x) ∷ told
 
 -- where those keys have come that go from a node with this key to this child, which is on this side
 abbrev pub glance_down : Glance → ℕ → Bool → ℕ → Glance

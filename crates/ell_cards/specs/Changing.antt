@@ -80,11 +80,11 @@ pub record HoldsAtEnd (s' : TableState) (seat c : ℕ) : Type 0 where
 -- each call has one point within its span: a state of which its answer is, or the turn in which its card's child
 -- exchange was won
 abbrev pub CallsHaveTheirPoint : Type 0
-CallsHaveTheirPoint = (keys : List ℕ) (last : ℕ) (s : TableState) → HasMachine keys last s
+CallsHaveTheirPoint = (plan : TablePlan) (s : TableState) → HasMachine plan s
     → (seat : ℕ) (op : Op) (begun : TableState) (turns : List Turn)
-    (s' : TableState) (said : Reply) → IsCalled last s seat op begun turns s' said
-    → SaysWhatWas last op begun turns s' said
-    ⊎ ((said ≡ reply_of_change op) × ((c : ℕ) × HoldsAtEnd s' seat c × TakesEffect last op c begun turns s'))
+    (s' : TableState) (said : Reply) → IsCalled plan.last_card s seat op begun turns s' said
+    → SaysWhatWas plan.last_card op begun turns s' said
+    ⊎ ((said ≡ reply_of_change op) × ((c : ℕ) × HoldsAtEnd s' seat c × TakesEffect plan.last_card op c begun turns s'))
 
 -- a map is what the tree of these words has: just its keys, with their values
 abbrev pub HasMap : Words → Contents → Type 0
@@ -124,27 +124,27 @@ pub record AnswersAt (last seat : ℕ) (op : Op) (begun : TableState) (turns : L
 
 -- so does each call of each pass in each run, on a key of its own or on a shared one
 abbrev pub CallsAnswerAsAMap : Type 0
-CallsAnswerAsAMap = (keys : List ℕ) (last : ℕ) (s : TableState) → HasMachine keys last s
+CallsAnswerAsAMap = (plan : TablePlan) (s : TableState) → HasMachine plan s
     → (seat : ℕ) (op : Op) (begun : TableState) (turns : List Turn)
-    (s' : TableState) (said : Reply) → IsCalled last s seat op begun turns s' said
-    → AnswersAt last seat op begun turns s' said
+    (s' : TableState) (said : Reply) → IsCalled plan.last_card s seat op begun turns s' said
+    → AnswersAt plan.last_card seat op begun turns s' said
 
 -- a card that a pass has in hand in a state is in no other call's hand later: not in that of another pass whose call
 -- goes on, nor of a call that begins later
-pub record HasItAlone (keys : List ℕ) (last : ℕ) (s : TableState) (seat c : ℕ) : Type 0 where
-  pub beside : (other : ℕ) → other ≢ seat → (turns : List Turn) (s' : TableState) → TableRun last s turns s'
+pub record HasItAlone (plan : TablePlan) (s : TableState) (seat c : ℕ) : Type 0 where
+  pub beside : (other : ℕ) → other ≢ seat → (turns : List Turn) (s' : TableState) → TableRun plan.last_card s turns s'
       → KeepOn other turns → (u : View)
       → get_elem? s.views other ≡ some u → (w : View) → get_elem? s'.views other ≡ some w → w.worker.card ≢ Some c
-  pub later : (more : List Turn) (s2 : TableState) → TableRun last s more s2
+  pub later : (more : List Turn) (s2 : TableState) → TableRun plan.last_card s more s2
       → (other : ℕ) (op : Op) (begun : TableState) (turns : List Turn) (s' : TableState) (said : Reply)
-      → IsCalled last s2 other op begun turns s' said → (w : View) → get_elem? s'.views other ≡ some w
+      → IsCalled plan.last_card s2 other op begun turns s' said → (w : View) → get_elem? s'.views other ≡ some w
       → w.worker.card ≢ Some c
 
 -- so no two calls have one card, and each point that changes the tree is one call's
 abbrev pub CallsHaveTheirOwnCards : Type 0
-CallsHaveTheirOwnCards = (keys : List ℕ) (last : ℕ) (s : TableState) → HasMachine keys last s → (seat : ℕ) (v : View)
+CallsHaveTheirOwnCards = (plan : TablePlan) (s : TableState) → HasMachine plan s → (seat : ℕ) (v : View)
     → get_elem? s.views seat ≡ some v
-    → (c : ℕ) → v.worker.card ≡ Some c → HasItAlone keys last s seat c
+    → (c : ℕ) → v.worker.card ≡ Some c → HasItAlone plan s seat c
 
 -- wherever turns lead from a start, the tree is a map
 pub record IsAMap (s : TableState) : Type 0 where

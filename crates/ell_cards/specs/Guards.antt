@@ -72,7 +72,8 @@ pub record MayRead (v : View) (x : ℕ) : Type 0 where
   pub inner : IsInternal x
   pub unread : v.worker.search.read ≡ None
 
--- down: the pass stands at this internal node, read its update word and was told its key; this is the operation's side
+-- down: the pass stands without a card at this internal node, read its update word and was told its key; this is the
+-- operation's side
 pub record MayGoDown (v : View) (x : ℕ) (right : Bool) : Type 0 where
   pub op : Op
   pub word : ℕ
@@ -83,6 +84,7 @@ pub record MayGoDown (v : View) (x : ℕ) (right : Bool) : Type 0 where
   pub read : v.worker.search.read ≡ Some word
   pub told : v.here ≡ Some key
   pub side : right ≡ nat_le key (key_of op)
+  pub no_card : v.worker.card ≡ None
 
 -- the words of a card that are nodes
 abbrev pub NamesNode : Field → Type 0
@@ -170,20 +172,20 @@ pub record MayDFlag (v : View) (c gp : ℕ) (from : Update) : Type 0 where
   pub filled : IsFilled v
 
 -- ichild: the card is known flagged; these are its parent, its leaf with the tag that it expects, the node that it
--- brings, and its key's side there
+-- brings, by the keys of its leaves, and the side there of the right one's key
 pub record MayIChild (v : View) (c p : ℕ) (l : Link) (node : ℕ) (right : Bool) : Type 0 where
   pub parent_key : ℕ
-  pub card_key : ℕ
+  pub right_key : ℕ
   pub left_key : ℕ
   pub knows : Knows v (IFlagged c)
   pub parent : IsTold v (Info c field.P p)
   pub leaf : IsTold v (Info c field.L l.node)
   pub expects : IsTold v (Expects c l.tag)
   pub told_parent : IsTold v (Key p parent_key)
-  pub told_card : IsTold v (Info c field.Key card_key)
+  pub told_right : IsTold v (Info c field.RightLeafKey right_key)
   pub told_left : IsTold v (Info c field.LeftLeafKey left_key)
-  pub brings : node ≡ brought_by c (left_key == card_key)
-  pub side : right ≡ nat_le parent_key card_key
+  pub brings : node ≡ brought_by c (left_key == right_key)
+  pub side : right ≡ nat_le parent_key right_key
 
 -- mark: the card is known flagged, and these are its parent and the update word that its search read there
 abbrev pub MayMark : View → ℕ → ℕ → ℕ → Type 0

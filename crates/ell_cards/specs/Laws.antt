@@ -11,6 +11,7 @@ use Rattle.ell_core.specs.tree.Tree.{Reached}
 use Rattle.ell_core.specs.history.Stages.{waits}
 use Rattle.ell_core.specs.history.Later.{SaysTheSame, StagesLater}
 use Rattle.ell_core.specs.statements.Effects.{SamePairs}
+use Rattle.ell_cards.specs.Models.{TablePlan}
 use Rattle.ell_cards.specs.declared.call.Call.{Call}
 use Rattle.ell_cards.specs.declared.view.View.{View}
 use Rattle.ell_cards.specs.Models.{KnowsCard, IsFree}
@@ -21,61 +22,61 @@ use Rattle.ell_cards.specs.TurnEffects.{own_words, HasFlagged}
 use Rattle.ell_cards.specs.Machines.{HasMachine}
 
 -- the machine that a state has
-abbrev pub machine_of_table : (keys : List ℕ) (last : ℕ) (s : TableState) → HasMachine keys last s → Machine
-machine_of_table keys last s r = seated r.words s.views last
+abbrev pub machine_of_table : (plan : TablePlan) (s : TableState) → HasMachine plan s → Machine
+machine_of_table plan s r = seated r.words s.views plan.last_card
 
 -- the state after a call has a machine again: the one to which the call's event leads, or the same one; and what the
 -- call tells is so
-pub record IsEvent (keys : List ℕ) (last : ℕ) (s : TableState) (r : HasMachine keys last s) (id : ℕ) (v : View)
+pub record IsEvent (plan : TablePlan) (s : TableState) (r : HasMachine plan s) (id : ℕ) (v : View)
     (c : Call) : Type 0 where
-  pub kept : HasMachine keys last (state_after s id v c)
+  pub kept : HasMachine plan (state_after s id v c)
   pub later : StagesLater r.stages kept.stages
-  pub event : Becomes id (act_of c (found_by s c)) (said_of c (found_by s c)) (machine_of_table keys last s r)
-      (machine_of_table keys last (state_after s id v c) kept)
-  pub tells : Tells last c v (found_by s c)
+  pub event : Becomes id (act_of c (found_by s c)) (said_of c (found_by s c)) (machine_of_table plan s r)
+      (machine_of_table plan (state_after s id v c) kept)
+  pub tells : Tells plan.last_card c v (found_by s c)
 
 -- each step call is one event of the machine, or leaves it
 abbrev pub StepsAreEvents : Type 0
-StepsAreEvents = (keys : List ℕ) (last : ℕ) (s : TableState) (r : HasMachine keys last s) (id : ℕ) (v : View) (c : Call)
-    → get_elem? s.views id ≡ some v → May last c v → IsEvent keys last s r id v c
+StepsAreEvents = (plan : TablePlan) (s : TableState) (r : HasMachine plan s) (id : ℕ) (v : View) (c : Call)
+    → get_elem? s.views id ≡ some v → May plan.last_card c v → IsEvent plan s r id v c
 
 -- the state after a split has a machine again: the one before, after a split of that worker
-pub record SplitIsKept (keys : List ℕ) (last : ℕ) (s : TableState) (r : HasMachine keys last s) (id : ℕ) (v : View)
+pub record SplitIsKept (plan : TablePlan) (s : TableState) (r : HasMachine plan s) (id : ℕ) (v : View)
     (left : List ℕ) : Type 0 where
-  pub kept : HasMachine keys last (state_split s id v left)
+  pub kept : HasMachine plan (state_split s id v left)
   pub later : StagesLater r.stages kept.stages
-  pub split : Split (machine_of_table keys last s r) id (machine_of_table keys last (state_split s id v left) kept)
+  pub split : Split (machine_of_table plan s r) id (machine_of_table plan (state_split s id v left) kept)
 
 -- each split is one of the machine
 abbrev pub SplitsAreHandovers : Type 0
 SplitsAreHandovers =
-    (keys : List ℕ) (last : ℕ) (s : TableState) (r : HasMachine keys last s) (id : ℕ) (v : View) (left : List ℕ)
-    → get_elem? s.views id ≡ some v → IsFree v → SplitIsKept keys last s r id v left
+    (plan : TablePlan) (s : TableState) (r : HasMachine plan s) (id : ℕ) (v : View) (left : List ℕ)
+    → get_elem? s.views id ≡ some v → IsFree v → SplitIsKept plan s r id v left
 
 -- the state after a join has a machine again: the one before, after a join of these workers
-pub record IsJoin (keys : List ℕ) (last : ℕ) (s : TableState) (r : HasMachine keys last s) (id other : ℕ)
+pub record IsJoin (plan : TablePlan) (s : TableState) (r : HasMachine plan s) (id other : ℕ)
     (v w : View) : Type 0 where
-  pub kept : HasMachine keys last (state_joined s id other v w)
+  pub kept : HasMachine plan (state_joined s id other v w)
   pub later : StagesLater r.stages kept.stages
-  pub join : Join (machine_of_table keys last s r) id other
-      (machine_of_table keys last (state_joined s id other v w) kept)
+  pub join : Join (machine_of_table plan s r) id other
+      (machine_of_table plan (state_joined s id other v w) kept)
 
 -- each join is one of the machine
 abbrev pub JoinsAreHandovers : Type 0
-JoinsAreHandovers = (keys : List ℕ) (last : ℕ) (s : TableState) (r : HasMachine keys last s) (id other : ℕ) (v w : View)
+JoinsAreHandovers = (plan : TablePlan) (s : TableState) (r : HasMachine plan s) (id other : ℕ) (v w : View)
     → get_elem? s.views id ≡ some v → get_elem? s.views other ≡ some w → id ≢ other → IsFree v → IsFree w
-    → IsJoin keys last s r id other v w
+    → IsJoin plan s r id other v w
 
 -- the machine that a state has is sound
 abbrev pub MachineIsSound : Type 0
 MachineIsSound =
-    (keys : List ℕ) (last : ℕ) (s : TableState) (r : HasMachine keys last s) → IsSound (machine_of_table keys last s r)
+    (plan : TablePlan) (s : TableState) (r : HasMachine plan s) → IsSound (machine_of_table plan s r)
 
 -- where the machine's words are the table's own: the claim word, and each card that does not wait for its flag. That is
 -- each card of a node that is reached from the root, each that a flag or a mark of such a node names, and each that a
 -- pass knows flagged or marked, or has in hand, flagged. The same nodes are reached in both, and the trees have the
 -- same keys with the same values
-pub record WordsAreOwn (keys : List ℕ) (last : ℕ) (s : TableState) (r : HasMachine keys last s) : Type 0 where
+pub record WordsAreOwn (plan : TablePlan) (s : TableState) (r : HasMachine plan s) : Type 0 where
   pub next : r.words.next ≡ (own_words s).next
   pub settled : (c : ℕ) → waits (r.stages c) ≡ false → SaysTheSame (own_words s) r.words c
   pub reached : (x : ℕ) → Reached r.words x ↔ Reached (own_words s) x
@@ -89,4 +90,4 @@ pub record WordsAreOwn (keys : List ℕ) (last : ℕ) (s : TableState) (r : HasM
 -- so they are in every state that has a machine
 abbrev pub MachineHasOwnWords : Type 0
 MachineHasOwnWords =
-    (keys : List ℕ) (last : ℕ) (s : TableState) (r : HasMachine keys last s) → WordsAreOwn keys last s r
+    (plan : TablePlan) (s : TableState) (r : HasMachine plan s) → WordsAreOwn plan s r

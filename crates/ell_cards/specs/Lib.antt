@@ -1,3 +1,5 @@
+-- how deep the nodes are that a pass has met
+pub mod Depths
 -- what contracts see of a table and of a pass
 pub mod Models
 -- how each step call changes what a pass knows
@@ -76,7 +78,6 @@ pub use Rattle.ell_layout.specs.Cards
 pub use Rattle.ell_layout.specs.Layout
 pub use Rattle.ell_core.specs.state.Machine
 pub use Rattle.ell_core.specs.state.Opening
-pub use Rattle.ell_core.specs.tree.Rank
 pub use Rattle.ell_layout.specs.Words
 pub use Rattle.ell_core.specs.acts.Searching
 pub use Rattle.ell_core.specs.statements.Effects

@@ -16,18 +16,22 @@ use Rattle.ell_core.specs.history.Invariant.{Invariant}
 use Rattle.ell_core.specs.history.Stages.{Stages, Born, waits}
 use Rattle.ell_core.specs.statements.Told.{is_fixed}
 use Rattle.ell_core.specs.statements.Walks.{Avoids}
-use Rattle.ell_cards.specs.declared.view.Told.TheVariants.{Met, Key, Value, Info, Frozen, Expects}
+use Rattle.ell_cards.specs.Models.{TablePlan}
+use Rattle.ell_cards.specs.declared.view.Told.TheVariants.{Met, Depth, Key, Value, Info, Frozen, Expects}
 use Rattle.ell_cards.specs.declared.view.Told.{Told}
 use Rattle.ell_cards.specs.declared.view.View.{View}
+use Rattle.ell_cards.specs.Depths.{level}
 use Rattle.ell_cards.specs.Models.{IsTold, Knows, KnewBefore, stored_at}
 use Rattle.ell_cards.specs.States.{TableState, seated}
 use Rattle.ell_word.specs.Node.{greatest_card}
 
--- what was told holds of the machine's words: a node that was met came into the tree; a key, a value, or what a fixed
+-- what was told holds of the machine's words: a node that was met came into the tree, and has a level that a way to it may
+-- have come by; a key, a value, or what a fixed
 -- field of a claimed card says, with the tag that the card expects, is what was told; and so is a child of a parent that
 -- stays marked
 abbrev pub EntryHolds : Words → Stages → Told → Type 0
 EntryHolds w stage (Met x) = Born stage x
+EntryHolds w stage (Depth x d) = Born stage x × (d ≤ level w x)
 EntryHolds w stage (Key x key) = Born stage x × (w.key x ≡ key)
 EntryHolds w stage (Value x value) = Born stage x × (w.value x ≡ value)
 EntryHolds w stage (Info c f x) = (c < w.next) × (is_fixed f ≡ true) × (word w c f ≡ x)
@@ -69,15 +73,17 @@ NobodyShares s = (j : ℕ) (v : View) → get_elem? s.views j ≡ some v → v.w
 -- holds; and every key that a pass owns is one of the table's, and so is each that it knows may have an owner. So while
 -- a pass fills card 3, the machine has card 3 whole and the table what was stored of it, and at every other card that
 -- won its flag the two are alike
-pub record HasMachine (keys : List ℕ) (last : ℕ) (s : TableState) : Type 0 where
+pub record HasMachine (plan : TablePlan) (s : TableState) : Type 0 where
   pub words : Words
   pub stages : Stages
-  pub invariant : Invariant (seated words s.views last) stages
-  pub limit : last ≤ greatest_card
-  pub size : length s.words ≡ table_size last
+  pub invariant : Invariant (seated words s.views plan.last_card) stages
+  pub limit : plan.last_card ≤ greatest_card
+  pub size : length s.words ≡ table_size plan.last_card
   pub next : slice_index s.words 0 ≡ words.next
+  pub flat : slice_index s.words 1 ≡ words.flat_from
+  pub plain : words.flat_from ≡ 0
   pub settled : (c : ℕ) (f : Field) → waits (stages c) ≡ false → listed s.words c f ≡ table_word words c f
   pub views : (j : ℕ) (v : View) → get_elem? s.views j ≡ some v → ViewHolds s.words words stages v
-  pub owned : (j k : ℕ) (v : View) → get_elem? s.views j ≡ some v → WorkerOwns (worker_of v.worker) k → Contains keys k
+  pub owned : (j k : ℕ) (v : View) → get_elem? s.views j ≡ some v → WorkerOwns (worker_of v.worker) k → Contains plan.keys k
   pub listed : (j : ℕ) (v : View) (list : List ℕ) → get_elem? s.views j ≡ some v → v.worker.shared ≡ Some list
-      → list ≡ keys
+      → list ≡ plan.keys

@@ -13,26 +13,26 @@ use Rattle.ell_cards.specs.Models.{TablePlan}
 
 -- what was won for a card up to a state that has a machine, by its stage there
 abbrev pub won_before :
-    (keys : List ℕ) (last : ℕ) (s : TableState) → HasMachine keys last s → ℕ → List Exchange
-won_before keys last s r c = wins_of (r.stages c)
+    (plan : TablePlan) (s : TableState) → HasMachine plan s → ℕ → List Exchange
+won_before plan s r c = wins_of (r.stages c)
 
 -- what was won for each card before, none for card 0 and for one that is yet to be claimed, goes on in order in every
 -- run
-pub record WinsGoOn (keys : List ℕ) (last : ℕ) (s : TableState) (r : HasMachine keys last s) : Type 0 where
-  pub first : (c : ℕ) → c ≡ 0 → won_before keys last s r c ≡ []
-  pub fresh : (c : ℕ) → (own_words s).next ≤ c → won_before keys last s r c ≡ []
-  pub order : (turns : List Turn) (s' : TableState) (run : TableRun last s turns s') (c : ℕ)
-      → InOrder (won_before keys last s r c ++ run_wins last s turns s' run c)
+pub record WinsGoOn (plan : TablePlan) (s : TableState) (r : HasMachine plan s) : Type 0 where
+  pub first : (c : ℕ) → c ≡ 0 → won_before plan s r c ≡ []
+  pub fresh : (c : ℕ) → (own_words s).next ≤ c → won_before plan s r c ≡ []
+  pub order : (turns : List Turn) (s' : TableState) (run : TableRun plan.last_card s turns s') (c : ℕ)
+      → InOrder (won_before plan s r c ++ run_wins plan.last_card s turns s' run c)
 
 -- so it does from every state that has a machine
 abbrev pub TableWinsAreInOrder : Type 0
-TableWinsAreInOrder = (keys : List ℕ) (last : ℕ) (s : TableState) (r : HasMachine keys last s) → WinsGoOn keys last s r
+TableWinsAreInOrder = (plan : TablePlan) (s : TableState) (r : HasMachine plan s) → WinsGoOn plan s r
 
 -- a table as it starts has a machine that is an opening, and nothing was won yet
 pub record StartIsKept (plan : TablePlan) (s : TableState) : Type 0 where
-  pub kept : HasMachine plan.keys plan.last_card s
-  pub opening : IsOpening (machine_of_table plan.keys plan.last_card s kept)
-  pub unwon : (c : ℕ) → won_before plan.keys plan.last_card s kept c ≡ []
+  pub kept : HasMachine plan s
+  pub opening : IsOpening (machine_of_table plan s kept)
+  pub unwon : (c : ℕ) → won_before plan s kept c ≡ []
 
 -- so it is of every table as it starts
 abbrev pub StartsAreKept : Type 0
@@ -40,4 +40,4 @@ StartsAreKept = (plan : TablePlan) (s : TableState) → Starts plan s → StartI
 
 -- wherever turns have led a table, it has a machine
 abbrev pub ReachedHasMachine : Type 0
-ReachedHasMachine = (plan : TablePlan) (s : TableState) → IsReached plan s → HasMachine plan.keys plan.last_card s
+ReachedHasMachine = (plan : TablePlan) (s : TableState) → IsReached plan s → HasMachine plan s

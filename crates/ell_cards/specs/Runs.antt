@@ -9,6 +9,7 @@ use Rattle.ell_core.specs.state.Machine.{Machine}
 use Rattle.ell_core.specs.state.Handovers.{Split, Join}
 use Rattle.ell_core.specs.acts.Runs.{Run}
 use Rattle.ell_core.specs.soundness.Sound.{IsSound}
+use Rattle.ell_cards.specs.Models.{TablePlan}
 use Rattle.ell_cards.specs.Calls.{act_of, said_of, Becomes}
 use Rattle.ell_cards.specs.States.{TableState}
 use Rattle.ell_cards.specs.Turns.{Turn, Makes, Splits, Joins, TableRun, found_by}
@@ -25,33 +26,33 @@ GoesBy s (Joins seat other) m m' = Join m seat other m'
 
 -- a turn between states that have machines: the machine goes on by it, so do the pairs of the tree, and the table's own
 -- words after it are a sound state
-pub record TurnIsLawful (keys : List ℕ) (last : ℕ) (s : TableState) (r : HasMachine keys last s) (t : Turn)
-    (s' : TableState) (r' : HasMachine keys last s') : Type 0 where
-  pub machine : GoesBy s t (machine_of_table keys last s r) (machine_of_table keys last s' r')
+pub record TurnIsLawful (plan : TablePlan) (s : TableState) (r : HasMachine plan s) (t : Turn)
+    (s' : TableState) (r' : HasMachine plan s') : Type 0 where
+  pub machine : GoesBy s t (machine_of_table plan s r) (machine_of_table plan s' r')
   pub later : StagesLater r.stages r'.stages
   pub tree : PairsGoBy s t s'
-  pub sound : IsSound (own_machine last s')
+  pub sound : IsSound (own_machine plan.last_card s')
 
 -- the turns of a run from a state that has a machine, each to one that has
-abbrev pub TurnsAreLawful : (keys : List ℕ) (last : ℕ) (s : TableState) (r : HasMachine keys last s) (turns : List Turn)
-    (s' : TableState) (r' : HasMachine keys last s')
-    → TableRun last s turns s' → Type 0
-TurnsAreLawful keys last s r [] s' r' run = machine_of_table keys last s' r' ≡ machine_of_table keys last s r
-TurnsAreLawful keys last s r (t ∷ ts) s' r' run =
-    (between : HasMachine keys last run.0) × TurnIsLawful keys last s r t run.0 between
-    × TurnsAreLawful keys last run.0 between ts s' r' run.2
+abbrev pub TurnsAreLawful : (plan : TablePlan) (s : TableState) (r : HasMachine plan s) (turns : List Turn)
+    (s' : TableState) (r' : HasMachine plan s')
+    → TableRun plan.last_card s turns s' → Type 0
+TurnsAreLawful plan s r [] s' r' run = machine_of_table plan s' r' ≡ machine_of_table plan s r
+TurnsAreLawful plan s r (t ∷ ts) s' r' run =
+    (between : HasMachine plan run.0) × TurnIsLawful plan s r t run.0 between
+    × TurnsAreLawful plan run.0 between ts s' r' run.2
 
 -- a run leads from a state that has a machine to one that has, by such turns
-pub record RunIsLawful (keys : List ℕ) (last : ℕ) (s : TableState) (r : HasMachine keys last s) (turns : List Turn)
-    (s' : TableState) (run : TableRun last s turns s') : Type 0 where
-  pub kept : HasMachine keys last s'
-  pub lawful : TurnsAreLawful keys last s r turns s' kept run
+pub record RunIsLawful (plan : TablePlan) (s : TableState) (r : HasMachine plan s) (turns : List Turn)
+    (s' : TableState) (run : TableRun plan.last_card s turns s') : Type 0 where
+  pub kept : HasMachine plan s'
+  pub lawful : TurnsAreLawful plan s r turns s' kept run
 
 -- so does every run
 abbrev pub RunsAreLawful : Type 0
 RunsAreLawful =
-    (keys : List ℕ) (last : ℕ) (s : TableState) (r : HasMachine keys last s) (turns : List Turn) (s' : TableState)
-    (run : TableRun last s turns s') → RunIsLawful keys last s r turns s' run
+    (plan : TablePlan) (s : TableState) (r : HasMachine plan s) (turns : List Turn) (s' : TableState)
+    (run : TableRun plan.last_card s turns s') → RunIsLawful plan s r turns s' run
 
 -- the event of a call, if it is one, and what the machine shows of it
 abbrev pub event_of : ℕ → Option Act → List Event
@@ -90,8 +91,8 @@ AreCalls (_ ∷ ts) = ⊥
 
 -- a run of step calls whose turns are lawful is a run of the machine, by the events of the calls
 abbrev pub RunsAreSchedules : Type 0
-RunsAreSchedules = (keys : List ℕ) (last : ℕ) (s : TableState) (r : HasMachine keys last s) (turns : List Turn)
-    (s' : TableState) (r' : HasMachine keys last s')
-    (run : TableRun last s turns s') → AreCalls turns → TurnsAreLawful keys last s r turns s' r' run
-    → Run (machine_of_table keys last s r) (events_in last s turns s' run) (shown_in last s turns s' run)
-    (machine_of_table keys last s' r')
+RunsAreSchedules = (plan : TablePlan) (s : TableState) (r : HasMachine plan s) (turns : List Turn)
+    (s' : TableState) (r' : HasMachine plan s')
+    (run : TableRun plan.last_card s turns s') → AreCalls turns → TurnsAreLawful plan s r turns s' r' run
+    → Run (machine_of_table plan s r) (events_in plan.last_card s turns s' run) (shown_in plan.last_card s turns s' run)
+    (machine_of_table plan s' r')

@@ -61,7 +61,7 @@ insert_flags =
 -- seat 0 loses the mark, helps the insert to its end, and takes its own flag away
 abbrev pub mark_is_lost : List Turn
 mark_is_lost =
-    Makes 0 (call.Mark 2 4 3) ∷ Makes 0 (call.Info 3 field.L) ∷ Makes 0 (call.Info 3 field.Key) ∷ Makes 0
+    Makes 0 (call.Mark 2 4 3) ∷ Makes 0 (call.Info 3 field.L) ∷ Makes 0 (call.Info 3 field.RightLeafKey) ∷ Makes 0
     (call.Info 3 field.LeftLeafKey) ∷ Makes 0 (call.IChild 3 4 (record { node = 5; tag = 0 }) 12 false) ∷
     Makes 0 (call.IUnflag 3 4) ∷ Makes 0 (call.Backtrack 2 0) ∷ []
 

@@ -7,14 +7,14 @@ ghost use Rattle.ell_word.specs.declared.link.Link.{Link};
 ghost use Rattle.ell_word.specs.Node.{greatest_card};
 ghost use Rattle.ell_core.specs.declared.exchange.Exchange.TheVariants as exchange;
 ghost use Rattle.ell_core.specs.declared.fact.Fact.TheVariants.{IChanged, IOver, Marked, Unmarkable, Cut, DOver, Backed};
-ghost use Rattle.ell_core.specs.tree.Rank.{rank};
+ghost use Rattle.ell_cards.specs.Depths.{IsShallow};
 ghost use Rattle.ell_layout.specs.declared.field.Field.TheVariants.{Gp, P};
-ghost use Rattle.ell_layout.specs.Cards.{iflag, dflag};
+ghost use Rattle.ell_layout.specs.Cards.{iflag, dflag, says_by};
 ghost use Rattle.ell_cards.specs.Models.{Steps, InTable};
 ghost use Rattle.ell_cards.specs.Changes.{after_mark, with_fact, if_won, exchanged, found_update, found_word, child_found};
 ghost use Rattle.ell_cards.specs.declared.call.Call.TheVariants as call;
 ghost use Rattle.ell_cards.specs.Guards.{KnowsPlace, MayAsk, MayDChild, MayIChild, MayMark};
-ghost use Rattle.ell_cards.specs.Calls.{after, next_link, TellsNode, TellsDepth};
+ghost use Rattle.ell_cards.specs.Calls.{after, next_link, TellsNode};
 
 use crate::call::Call;
 use crate::outcomes::{child_outcome, update_outcome};
@@ -47,9 +47,9 @@ impl<A: Allocator + Copy> CardTable<A> {
         requires may { MayAsk pass.old.view card field }
         // It makes one step and counts it. The pass then knows exactly what this call tells.
         ensures step { Steps pass.old pass.new (after (call.Info card field) result pass.old.view) }
-        // A node that the card names is one of the table, each below the one before: grandparent, parent, leaf.
+        // A node that the card names is one of the table, and no deeper than such a node may be: grandparent, parent, leaf.
         ensures node { TellsNode self.now.plan.last_card field result }
-        ensures depth { TellsDepth pass.old.view card field result }
+        ensures shallow { IsShallow self.now.plan.last_card pass.new.view (says_by field result) }
     {
         self.names(pass);
         self.load(pass, Call::Info(card, field), field.address(card))
@@ -62,8 +62,8 @@ impl<A: Allocator + Copy> CardTable<A> {
         requires may { KnowsPlace pass.old.view (Marked card) card P parent }
         // It makes one step and counts it. The pass then knows exactly what this call tells.
         ensures step { Steps pass.old pass.new (after (call.FrozenChild card parent right) (linked result) pass.old.view) }
-        // The child has a greater rank, and is a node of the table.
-        ensures greater { rank parent < rank result.node }
+        // The child is no deeper than a node of the table may be, and is one of the table.
+        ensures shallow { IsShallow self.now.plan.last_card pass.new.view result.node }
         ensures there { InTable self.now.plan.last_card result.node }
     {
         self.names(pass);

@@ -10,6 +10,7 @@ ghost use Rattle.ell_cards.specs.Models.{Knows, Sees, TableModel, Steps};
 ghost use Rattle.ell_cards.specs.Changes.{after_fill};
 ghost use Rattle.ell_cards.specs.Naming.{IsNamed};
 ghost use Rattle.ell_cards.specs.Guards.{MayFill};
+ghost use Rattle.ell_cards.specs.Depths.{IsShallow};
 ghost use Rattle.ell_cards.specs.Calls.{word_of, atomic_of, Load, Exchange, after, May, Tells};
 ghost use Rattle.ell_cards.specs.Looking.{KeysAreFixed, ValuesAreFixed, ReadsItsOwn};
 ghost use Rattle.ell_cards.specs.Stepping.{MayLoad, MayStore, MayExchange, KeepsPass, SeesBy, StepsBy};
@@ -63,6 +64,8 @@ impl<A: Allocator + Copy> CardTable<A> {
         // All that the pass knows is of cards of the table.
         ensures cards { (fact : Fact) → Knows pass.now.view fact → card_of_fact fact ≤ self.now.plan.last_card }
         ensures room { self.now.plan.last_card ≤ greatest_card }
+        // The pass was told no greater depth of a node than a node of the table may have.
+        ensures shallow { (x : ℕ) → IsShallow self.now.plan.last_card pass.now.view x }
     {
         self.names(pass);
     }
@@ -104,6 +107,7 @@ impl<A: Allocator + Copy> CardTable<A> {
         ensures looked { ReadsItsOwn pass.new.view }
         ensures fixed { KeysAreFixed pass.new.view }
         ensures values { ValuesAreFixed pass.new.view }
+        ensures named { IsNamed self.now.plan.last_card pass.new.view }
     {
         self.load_as::<Brand>(pass, call, word)
     }
@@ -118,6 +122,7 @@ impl<A: Allocator + Copy> CardTable<A> {
         ensures step { Steps pass.old pass.new (after call result pass.old.view) }
         ensures tells { Tells self.now.plan.last_card call pass.old.view result }
         ensures values { ValuesAreFixed pass.new.view }
+        ensures named { IsNamed self.now.plan.last_card pass.new.view }
     {
         let found = self.see(pass, call, word);
         pass.count(1);

@@ -13,6 +13,8 @@ use std::marker::Model;
 pub enum Told {
     /// The pass has met this node, which came into the tree.
     Met(u64),
+    /// A way led the pass to this node, which it has met, by so many internal nodes.
+    Depth(u64, u64),
     /// This node has this key.
     Key(u64, u64),
     /// This leaf has this value.

@@ -2,7 +2,7 @@
 //! each node, so those calls leave it to their caller to count the step ([`Pass::count`]).
 ghost use Rattle.std.specs.Prelude.{◌≡◌, ◌≤◌, ◌<◌, ◌+◌, Some};
 ghost use Rattle.ell_core.specs.state.Machine.{ledger_of, worker_of};
-ghost use Rattle.ell_core.specs.tree.Rank.{rank};
+ghost use Rattle.ell_cards.specs.Depths.{IsShallow};
 ghost use Rattle.ell_word.specs.Link.{linked, IsLink};
 ghost use Rattle.ell_layout.specs.Words.{IsLeaf};
 ghost use Rattle.ell_core.specs.statements.Effects.{AnswersAsMap};
@@ -95,16 +95,16 @@ impl<A: Allocator + Copy> CardTable<A> {
         unpack(self.see(pass, Call::Upd(node), update_address(node)))
     }
 
-    /// Goes down from the internal node where the pass stands to the child on its key's side, a node of the table of
-    /// greater rank. Returns the child with its tag.
+    /// Goes down from the internal node where the pass stands to the child on its key's side, a node of the table, a
+    /// step deeper. Returns the child with its tag.
     #[inline(always)]
     pub fn down(&self, pass: &mut Pass<A>, node: u64, right: bool) -> Link
         requires own { pass.old.table ≡ self.now.id }
         requires may { MayGoDown pass.old.view node right }
         // It makes one step, which the caller has to count. The pass then knows exactly what this call tells.
         ensures step { Sees pass.old pass.new (after (call.Down node right) (linked result) pass.old.view) }
-        // The child has a greater rank, and is a node of the table; the node and the tag have a word.
-        ensures greater { rank node < rank result.node }
+        // The child is no deeper than a node of the table may be, and is one of the table; the node and the tag have a word.
+        ensures shallow { IsShallow self.now.plan.last_card pass.new.view result.node }
         ensures there { InTable self.now.plan.last_card result.node }
         ensures word { IsLink result }
     {
@@ -134,8 +134,9 @@ impl<A: Allocator + Copy> CardTable<A> {
         requires free { IsFree pass.old.view }
         // It makes one step, which the caller has to count. The pass then knows exactly what this call tells.
         ensures step { Sees pass.old pass.new (after call.Look (linked result) pass.old.view) }
-        // The child has a greater rank, and is a node of the table.
-        ensures greater { rank 0 < rank result.node }
+        // The child is below the root, no deeper than a node of the table may be, and is one of the table.
+        ensures below { 0 < result.node }
+        ensures shallow { IsShallow self.now.plan.last_card pass.new.view result.node }
         ensures there { InTable self.now.plan.last_card result.node }
     {
         self.names(pass);
@@ -143,7 +144,7 @@ impl<A: Allocator + Copy> CardTable<A> {
     }
 
     /// Goes down in a look from an internal node to which it has come, now or earlier, with the node's key, to the
-    /// child on a side: a node of the table of greater rank, to which those of the keys have come that go to this side.
+    /// child on a side: a node of the table, a step deeper, to which those of the keys have come that go to this side.
     /// Returns the child with its tag.
     #[inline(always)]
     pub fn look_down(&self, pass: &mut Pass<A>, from: Glance, key: u64, right: bool) -> Link
@@ -151,8 +152,9 @@ impl<A: Allocator + Copy> CardTable<A> {
         requires may { MayLookDown pass.old.view from key }
         // It makes one step, which the caller has to count. The pass then knows exactly what this call tells.
         ensures step { Sees pass.old pass.new (after (call.LookDown from key right) (linked result) pass.old.view) }
-        // The child has a greater rank, and is a node of the table.
-        ensures greater { rank from.node < rank result.node }
+        // The child is below the root, no deeper than a node of the table may be, and is one of the table.
+        ensures below { 0 < result.node }
+        ensures shallow { IsShallow self.now.plan.last_card pass.new.view result.node }
         ensures there { InTable self.now.plan.last_card result.node }
     {
         self.names(pass);

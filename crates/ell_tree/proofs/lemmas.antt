@@ -38,8 +38,6 @@ pub mod PassParts
 pub mod Closing
 -- what the steps of a look leave of a pass
 pub mod Looks
--- How the levels of nodes rise on the way down, and how high they are.
-pub mod Levels
 -- a look that goes on, from the nodes that it keeps
 pub mod Cursors
 -- a try that something hindered is counted once it is given up

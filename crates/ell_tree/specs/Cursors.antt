@@ -10,7 +10,7 @@ use Rattle.ell_tree.specs.declared.cursor.About.{About}
 use Rattle.ell_tree.specs.declared.cursor.Cursor.{Cursor}
 use Rattle.ell_tree.specs.Looks.{OnlyLooks}
 use Rattle.ell_tree.specs.Scans.{IsAbout}
-use Rattle.ell_core.specs.tree.Rank.{rank}
+use Rattle.ell_cards.specs.Depths.{depth_of}
 
 -- a pass was told of an inner node beside the root that has this key
 pub record IsNodeKey (last : ℕ) (v : View) (key : ℕ) : Type 0 where
@@ -33,7 +33,8 @@ pub record MayGoOnFrom (last : ℕ) (v : View) (g : Glance) : Type 0 where
   pub come : HasCome v g.node g.low g.high
   pub met : IsTold v (Met g.node)
   pub there : InTable last g.node
-  pub below : rank 0 < rank g.node
+  pub below : 0 < g.node
+  pub deep : 0 < depth_of v g.node
   pub lower : IsLower last v g.low
   pub upper : IsUpper last v g.high
   pub real : g.high ≤ greatest_key + 1

@@ -16,8 +16,7 @@ use Rattle.ell_tree.specs.declared.helping.Ending.{Ending}
 use Rattle.ell_tree.specs.declared.helping.Ending.TheVariants.{Done, Backed, Behind}
 use Rattle.ell_tree.specs.Hindrances.{Meets, MeetsUpTo}
 use Rattle.ell_tree.specs.Keeping.{KeepsAllButMet, IsInnerMet, IsSeenAt}
-use Rattle.ell_tree.specs.Levels.{level}
-use Rattle.ell_core.specs.tree.Rank.{rank}
+use Rattle.ell_cards.specs.Depths.{depth_of}
 
 -- the flag of an insert is known, and where its card goes
 pub record IsInsert (v : View) (c p : ℕ) (l : Link) (k j : ℕ) : Type 0 where
@@ -26,7 +25,7 @@ pub record IsInsert (v : View) (c p : ℕ) (l : Link) (k j : ℕ) : Type 0 where
   pub parent : IsTold v (Info c field.P p)
   pub leaf : IsTold v (Info c field.L l.node)
   pub expects : IsTold v (Expects c l.tag)
-  pub key : IsTold v (Info c field.Key k)
+  pub right_key : IsTold v (Info c field.RightLeafKey k)
   pub left_key : IsTold v (Info c field.LeftLeafKey j)
 
 -- the flag of a delete is known, and stands at its grandparent
@@ -85,19 +84,19 @@ DeleteEnds last c p old new (Behind flag) =
 -- one delete is helped to its end, which leads to another's flag that is deeper, or there is no more to do
 abbrev pub HelpEnds : ℕ → DeleteFlag → PassModel → PassModel → Ending → Type 0
 HelpEnds last flag old new Done =
-    KeepsAllButMet old new 12 × Meets old.view new.view × (level flag.grandparent + 1 ≤ last)
+    KeepsAllButMet old new 12 × Meets old.view new.view × (depth_of old.view flag.grandparent + 1 ≤ last)
     × Knows new.view (fact.DOver flag.card)
 HelpEnds last flag old new Backed =
-    KeepsAllButMet old new 12 × Meets old.view new.view × (level flag.grandparent + 1 ≤ last)
+    KeepsAllButMet old new 12 × Meets old.view new.view × (depth_of old.view flag.grandparent + 1 ≤ last)
     × Knows new.view (fact.Backed flag.card)
 HelpEnds last flag old new (Behind next) =
     KeepsAllButMet old new 4 × MeetsUpTo next.card old.view new.view × IsFlag last new.view next
-    × (rank flag.grandparent < rank next.grandparent)
+    × (depth_of old.view flag.grandparent + 1 ≤ last) × (depth_of old.view flag.grandparent < depth_of new.view next.grandparent)
     × Knows new.view (fact.Backed flag.card)
 
--- the most steps of a chain of helps that begins with a delete's flag at this node
+-- the most steps of a chain of helps that begins with a delete's flag at a node of this depth
 abbrev pub chain_steps : ℕ → ℕ → ℕ
-chain_steps last gp = 4 * (last - level gp) + 8
+chain_steps last depth = 4 * (last - depth) + 8
 
 -- the most steps of a help
 abbrev pub help_steps : ℕ → ℕ

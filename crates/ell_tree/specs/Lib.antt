@@ -22,8 +22,6 @@ pub mod CardsLeft
 pub mod Promises
 -- what steps keep
 pub mod Keeping
--- the levels of nodes
-pub mod Levels
 -- where a search ends
 pub mod Searches
 -- what helping comes to

@@ -7,6 +7,7 @@ ghost use Rattle.ell_core.specs.declared.fact.Fact.TheVariants as fact;
 ghost use Rattle.ell_layout.specs.declared.field.Field.TheVariants as field;
 ghost use Rattle.ell_cards.specs.declared.view.Told.TheVariants as told;
 ghost use Rattle.ell_cards.specs.Models.{IsTold, Knows};
+ghost use Rattle.ell_cards.specs.Depths.{depth_of};
 ghost use Rattle.ell_tree.specs.Helps.{DeleteEnds, HasSibling, HelpEnds, IsFlag, IsInsert, KnowsMark, IsParent, chain_steps, help_steps};
 ghost use Rattle.ell_tree.specs.Hindrances.{IsDeleteEnded, IsEnded, Meets};
 ghost use Rattle.ell_tree.specs.Keeping.{IsSeenAt, KeepsAll, KeepsAllButMet};
@@ -84,9 +85,9 @@ pub(crate) fn help_insert<A: Allocator + Copy, G: StepGate>(
     ensures over { Knows pass.new.view (fact.IOver card) }
 {
     let leaf = read_leaf(table, pass, card, gate);
-    let card_key = read_info(table, pass, card, Field::Key, gate);
+    let right_key = read_info(table, pass, card, Field::RightLeafKey, gate);
     let left_key = read_info(table, pass, card, Field::LeftLeafKey, gate);
-    finish_insert(table, pass, card, parent, leaf, card_key, left_key, gate);
+    finish_insert(table, pass, card, parent, leaf, right_key, left_key, gate);
 }
 
 /// Like `help_insert`, for a card whose leaf and keys are known.
@@ -96,17 +97,17 @@ pub(crate) fn finish_insert<A: Allocator + Copy, G: StepGate>(
     card: u64,
     parent: u64,
     leaf: Link,
-    card_key: u64,
+    right_key: u64,
     left_key: u64,
     gate: &G,
 )
     requires own { pass.old.table ≡ table.now.id }
-    requires insert { IsInsert pass.old.view card parent leaf card_key left_key }
+    requires insert { IsInsert pass.old.view card parent leaf right_key left_key }
     ensures keeps_all { KeepsAll pass.old pass.new 3 }
     ensures over { Knows pass.new.view (fact.IOver card) }
 {
     let above = read_key(table, pass, parent, gate);
-    change_child(table, pass, card, above, leaf, card_key, left_key, gate);
+    change_child(table, pass, card, above, leaf, right_key, left_key, gate);
     clear_insert(table, pass, card, parent, gate);
 }
 
@@ -188,7 +189,7 @@ pub(crate) fn help_delete<A: Allocator + Copy, G: StepGate>(
 )
     requires own { pass.old.table ≡ table.now.id }
     requires flag { IsFlag table.now.plan.last_card pass.old.view flag }
-    ensures keeps_but_met { KeepsAllButMet pass.old pass.new (chain_steps table.now.plan.last_card flag.grandparent) }
+    ensures keeps_but_met { KeepsAllButMet pass.old pass.new (chain_steps table.now.plan.last_card (depth_of pass.old.view flag.grandparent)) }
     ensures meets { Meets pass.old.view pass.new.view }
     ensures ended { IsDeleteEnded pass.new.view flag.card }
 {

@@ -58,9 +58,9 @@ pub(crate) fn try_put<A: Allocator + Copy, G: StepGate>(
     };
     match flag_insert(table, pass, card, what, place, gate) {
         Ok(()) => {
-            let (left_key, card_key) = (what.key.min(place.key), what.key.max(place.key));
+            let (left_key, right_key) = (what.key.min(place.key), what.key.max(place.key));
             let leaf = leaf_with(place, place.parent.tag);
-            finish_insert(table, pass, card, parent, leaf, card_key, left_key, gate);
+            finish_insert(table, pass, card, parent, leaf, right_key, left_key, gate);
             answer(table, pass, reply_once_done(what), gate);
             Tried::Answered(Some(what.was.unwrap_or(what.value)))
         }

@@ -1,6 +1,6 @@
 //! The search (paper of 2010, figure 8: Search).
 ghost use Rattle.std.specs.Prelude.{◌≡◌, ◌<◌, ◌+◌, ◌*◌, None};
-ghost use Rattle.ell_core.specs.tree.Rank.{rank};
+ghost use Rattle.ell_cards.specs.Depths.{IsShallow, depth_of};
 ghost use Rattle.ell_cards.specs.Models.{Does, InTable, IsTold, StandsAt};
 ghost use Rattle.ell_cards.specs.declared.view.Told.TheVariants.{Met};
 ghost use Rattle.ell_tree.specs.Counts.{CountsAll, HasUncounted};
@@ -131,11 +131,13 @@ fn descend<A: Allocator + Copy, G: StepGate>(
     requires busy { Does pass.old.view op }
     requires stands { StandsAt pass.old.view node }
     requires unread { pass.old.view.worker.search.read ≡ None }
+    requires no_card { pass.old.view.worker.card ≡ None }
     requires node { IsInnerMet table.now.plan.last_card pass.old.view node }
     ensures keeps_but_search { KeepsAllButSearch pass.old pass.new 3 }
     ensures uncounted { HasUncounted pass.old pass.new 3 }
     ensures here { result.0.node ≡ node }
-    ensures deeper { rank node < rank result.1 }
+    ensures deeper { depth_of pass.old.view node < depth_of pass.new.view result.1 }
+    ensures shallow { IsShallow table.now.plan.last_card pass.new.view result.1 }
     ensures there { InTable table.now.plan.last_card result.1 }
     ensures search { pass.new.view.worker.search ≡ below result.1 result.0 pass.old.view.worker.search.parent }
     ensures met { IsTold pass.new.view (Met result.1) }

@@ -10,9 +10,10 @@ ghost use Rattle.ell_core.specs.acts.Searching.{MayStop};
 ghost use Rattle.ell_layout.specs.Cards.{says_by};
 ghost use Rattle.ell_cards.specs.declared.view.Told.TheVariants as told;
 ghost use Rattle.ell_cards.specs.Models.{Does, IsFree, IsTold, Knows};
-ghost use Rattle.ell_cards.specs.Changes.{answered_so, is_mark_of, taken_by, tries_hindered, with_answer};
+ghost use Rattle.ell_cards.specs.Changes.{answered_so, depth_there, is_mark_of, taken_by, tries_hindered, with_answer};
+ghost use Rattle.ell_cards.specs.Depths.{IsShallow, depth_of};
 ghost use Rattle.ell_cards.specs.Guards.{KnowsPlace, MayAnswer, MayAsk, NamesNode};
-ghost use Rattle.ell_cards.specs.Calls.{TellsDepth, TellsNode};
+ghost use Rattle.ell_cards.specs.Calls.{TellsNode};
 ghost use Rattle.ell_cards.specs.Looking.{ValuesAreFixed};
 ghost use Rattle.ell_tree.specs.CardsTaken.{TakesNoCard};
 ghost use Rattle.ell_tree.specs.Counts.{Took};
@@ -143,7 +144,8 @@ pub(crate) fn read_info<A: Allocator + Copy, G: StepGate>(
     ensures told { IsTold pass.new.view (told.Info card field (says_by field result)) }
     ensures met { NamesNode field → IsTold pass.new.view (told.Met (says_by field result)) }
     ensures node { TellsNode table.now.plan.last_card field result }
-    ensures depth { TellsDepth pass.old.view card field result }
+    ensures shallow { IsShallow table.now.plan.last_card pass.new.view (says_by field result) }
+    ensures deeper { depth_there pass.old.view card field ≤ depth_of pass.new.view (says_by field result) }
 {
     gate.before(pass.label(), Kind::Look);
     table.info(pass, card, field)
@@ -195,7 +197,7 @@ pub(crate) fn change_child<A: Allocator + Copy, G: StepGate>(
     card: u64,
     parent: KeyedNode,
     leaf: Link,
-    card_key: u64,
+    right_key: u64,
     left_key: u64,
     gate: &G,
 )
@@ -205,15 +207,15 @@ pub(crate) fn change_child<A: Allocator + Copy, G: StepGate>(
     requires parent_key { IsTold pass.old.view (told.Key parent.node parent.key) }
     requires leaf { IsTold pass.old.view (told.Info card field.L leaf.node) }
     requires expects { IsTold pass.old.view (told.Expects card leaf.tag) }
-    requires card_key { IsTold pass.old.view (told.Info card field.Key card_key) }
+    requires right_key { IsTold pass.old.view (told.Info card field.RightLeafKey right_key) }
     requires left_key { IsTold pass.old.view (told.Info card field.LeftLeafKey left_key) }
     ensures keeps_all { KeepsAll pass.old pass.new 1 }
     ensures changed { Knows pass.new.view (fact.IChanged card) }
 {
     gate.before(pass.label(), Kind::Exchange(Exchange::IChild));
     table.facts_stay_inside(pass);
-    let node = brought_node(card, left_key, card_key);
-    let right = parent.key <= card_key;
+    let node = brought_node(card, left_key, right_key);
+    let right = parent.key <= right_key;
     let _ = table.ichild(pass, card, parent.node, leaf, node, right);
 }
 

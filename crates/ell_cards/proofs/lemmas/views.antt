@@ -4,6 +4,8 @@ pub mod Afters
 pub mod Facts
 -- entries that were told, beside more of them
 pub mod Entries
+-- the depths that were told of nodes
+pub mod Depths
 -- the view after a step, and what the step has told
 pub mod Steps
 -- a search that goes a node down, and the claim at its end

@@ -26,9 +26,8 @@ use Rattle.ell_tree.specs.Cursors.{AreKept, BeginsALook, FindsAbout, IsAmong, Ma
 use Rattle.ell_tree.specs.Looks.{stretch_steps}
 use Rattle.ell_tree.specs.Scans.{TellsItsOwn, value_there}
 use Rattle.ell_tree.proofs.lemmas.Looks.{come_part, reads_mine, only_trans, only_none_yet, look_only, down_only, key_only, value_only, only_counted}
-use Rattle.ell_tree.proofs.lemmas.Levels.{inner_above, above_rises, above_within}
-use Rattle.ell_core.proofs.lemmas.tree.Ranks.{ranked_apart}
-use Rattle.ell_core.specs.tree.Rank.{rank}
+use Rattle.ell_cards.specs.Depths.{depth_of, IsShallow}
+use Rattle.ell_cards.proofs.lemmas.views.Depths.{depth_more, went_deeper}
 
 -- a look that goes on, and on
 pub on_trans : (a b c : PassModel) (m n k : ℕ) → KeepsLooking a b m → KeepsLooking b c n → m + n ≤ k → KeepsLooking a c k
@@ -103,6 +102,7 @@ kept_on cards p q n g h k = record {
   met = h.only.told (Met g.node) k.met;
   there = k.there;
   below = k.below;
+  deep = (let deep = k.deep in let more = depth_more p.view.told q.view.told h.only.told g.node in omega arith);
   lower = lower_on cards p q n g.low h k.lower;
   upper = upper_on cards p q n g.high h k.upper;
   real = k.real;
@@ -124,7 +124,7 @@ begins_look old seen new n s counts = record {
   one = ap (λ (m : PassModel). m.view.looks) counts ∙ ap (λ (v : View). v.looks) (view_seen old seen (after_look n old.view) s);
 }
 
-pub first_kept : (cards : ℕ) (old new : PassModel) (n child : ℕ) → (link_in n).node ≡ child → Sees old new (after_look n old.view) → rank 0 < rank child → InTable cards child
+pub first_kept : (cards : ℕ) (old new : PassModel) (n child : ℕ) → (link_in n).node ≡ child → Sees old new (after_look n old.view) → 0 < child → InTable cards child
     → MayGoOnFrom cards new.view (record { node = child; low = 0; high = greatest_key + 1 })
 first_kept cards old new n child says s low there =
     let view = view_seen old new (after_look n old.view) s in
@@ -135,6 +135,7 @@ first_kept cards old new n child says s low there =
       met = subst (λ x. IsTold new.view (Met x)) says (subst (λ (v : View). IsTold v (Met (link_in n).node)) (sym view) (latest _ _));
       there = there;
       below = low;
+      deep = (let deep = went_deeper old.view new.view (after_look n old.view) 0 (link_in n).node child view says refl in omega arith);
       lower = inl refl;
       upper = inl refl;
       real = omega arith;
@@ -191,20 +192,22 @@ one_kept cards v c d j g room first each new k = record {
 pub record GoesDown (cards : ℕ) (old new : PassModel) (key : ℕ) (here : Glance) (cursor : Cursor) : Type 0 where
   pub count : ℕ
   pub on : KeepsLooking old new count
-  pub few : count + 2 ≤ 2 * inner_above here.node
+  pub few : count + 2 ≤ 2 * depth_of new.view here.node
+  pub shallow : IsShallow cards new.view here.node
   pub stands : MayGoOnFrom cards new.view here
   pub from : here.low ≤ key
   pub upto : key < here.high
   pub kept : AreKept cards new.view cursor
 
 pub keeps_first : (cards : ℕ) (old : PassModel) (key : ℕ) (here : Glance) (c d : Cursor) → AreKept cards old.view c → IsAmong c here → here.low ≤ key → key < here.high
-    → d.first ≡ c.first → d.kept ≡ c.kept → GoesDown cards old old key here d
-keeps_first cards old key here c d kept among from upto first same =
+    → d.first ≡ c.first → d.kept ≡ c.kept → ((x : ℕ) → IsShallow cards old.view x) → GoesDown cards old old key here d
+keeps_first cards old key here c d kept among from upto first same shallow =
     let stands = among_kept cards old.view c here kept among in
     record {
       count = 0;
       on = on_none old;
-      few = (let above = above_rises 0 here.node refl stands.below in omega arith);
+      few = (let deep = stands.deep in omega arith);
+      shallow = shallow here.node;
       stands = stands;
       from = from;
       upto = upto;
@@ -252,22 +255,34 @@ module _ (cards : ℕ) (old a b : PassModel) (key : ℕ) (here : Glance) (cursor
   pub may_go_down : IsInternal here.node → MayLookDown b.view here k
   may_go_down inner = record { come = stands_still.come; met = stands_still.met; inner = inner; told = told_key }
 
+  -- the child to which it goes down is deeper
+  pub child_deeper : (d : PassModel) (right : Bool) (n child : ℕ) → (link_in n).node ≡ child → Sees b d (after_look_down here k right n b.view)
+      → depth_of a.view here.node < depth_of d.view child
+  child_deeper d right n child says s =
+      let after = after_look_down here k right n b.view in
+      let still = depth_more a.view.told b.view.told asked_on.only.told here.node in
+      let deep = went_deeper b.view d.view after here.node (link_in n).node child (view_seen b d after s) says refl in
+      omega arith
+
   pub goes_down : (d : PassModel) (right : Bool) (n child : ℕ) (after : Cursor) → (link_in n).node ≡ child → Sees b d (after_look_down here k right n b.view) → IsInternal here.node
-      → rank here.node < rank child → InTable cards child → right ≡ nat_le k key → AreKept cards b.view after → GoesDown cards old d key (glance_down here k right child) after
-  goes_down d right n child after says s inner deeper there side kept =
+      → 0 < child → IsShallow cards d.view child → InTable cards child → right ≡ nat_le k key → AreKept cards b.view after → GoesDown cards old d key (glance_down here k right child) after
+  goes_down d right n child after says s inner low shallow there side kept =
       let view = view_seen b d (after_look_down here k right n b.view) s in
       let on = down_on b d here k right n s in
-      let is : IsNodeKey cards d.view k = record { node = here.node; inner = inner; there = at.stands.there; below = (let other = ranked_apart 0 here.node at.stands.below in omega arith); told = on.only.told (Key here.node k) told_key } in
+      let deep = child_deeper d right n child says s in
+      let is : IsNodeKey cards d.view k = record { node = here.node; inner = inner; there = at.stands.there; below = at.stands.below; told = on.only.told (Key here.node k) told_key } in
       record {
         count = at.count + 2;
         on = on_trans old a d at.count 2 (at.count + 2) at.on (on_trans a b d 1 1 2 asked_on on (omega arith)) (omega arith);
-        few = (let few = at.few in let above = above_rises here.node child inner deeper in omega arith);
+        few = (let few = at.few in omega arith);
+        shallow = shallow;
         stands = record {
           come = subst (λ (v : View). HasCome v child (from_of right here.low k) (upto_of right here.high k)) (sym view)
               (record { glance = glance_down here k right (link_in n).node; among = latest _ _; there = says; from = omega arith; upto = omega arith });
           met = subst (λ x. IsTold d.view (Met x)) says (subst (λ (v : View). IsTold v (Met (link_in n).node)) (sym view) (latest _ _));
           there = there;
-          below = (let above = at.stands.below in omega arith);
+          below = low;
+          deep = omega arith;
           lower = lower_down right cards d.view here.low k (lower_on cards b d 1 here.low on stands_still.lower) is;
           upper = upper_down right cards d.view here.high k (upper_on cards b d 1 here.high on stands_still.upper) is;
           real = upto_real right here.high k (greatest_key + 1) at.stands.real;
@@ -328,7 +343,7 @@ module _ (cards : ℕ) (a b : PassModel) (key : ℕ) (leaf : Glance) (k : ℕ) (
 pub keeps_found : (cards : ℕ) (old a b : PassModel) (key : ℕ) (here : Glance) (cursor : Cursor) → GoesDown cards old a key here cursor → KeepsLooking a b 2
     → KeepsLooking old b (stretch_steps cards)
 keeps_found cards old a b key here cursor at on =
-    on_trans old a b at.count 2 (stretch_steps cards) at.on on (let few = at.few in let room = above_within cards here.node at.stands.there in omega arith)
+    on_trans old a b at.count 2 (stretch_steps cards) at.on on (let few = at.few in let room = at.shallow.any in omega arith)
 
 -- what a look has found of a stretch it has found of each key of it
 pub found_of_key : (v : View) (low high key : ℕ) (there : Option (ℕ × ℕ)) → HasFoundBetween v low high there → low ≤ key → key < high

@@ -92,7 +92,7 @@ module _ (t f : View) (c : ℕ) (place : LeafFound) (loses : LosesNothing t f) w
     parent = loses.told _ (h.told (Info c field.P place.parent.node) (latest _ _));
     leaf = loses.told _ (h.told (Info c field.L place.leaf) (earlier _ _ _ (latest _ _)));
     expects = loses.told _ h.expects;
-    key = loses.told _ (h.told (Info c field.Key (max what.key place.key)) (earlier _ _ _ (earlier _ _ _ (latest _ _))));
+    right_key = loses.told _ (h.told (Info c field.RightLeafKey (max what.key place.key)) (earlier _ _ _ (earlier _ _ _ (earlier _ _ _ (earlier _ _ _ (latest _ _))))));
     left_key = loses.told _ (h.told (Info c field.LeftLeafKey (min what.key place.key)) (earlier _ _ _ (earlier _ _ _ (earlier _ _ _ (latest _ _)))));
   }
 

@@ -12,9 +12,12 @@ use Rattle.ell_cards.specs.declared.view.Told.{Told}
 use Rattle.ell_cards.specs.declared.view.Told.TheVariants.{Met, Info}
 use Rattle.ell_cards.specs.declared.view.View.{View}
 use Rattle.ell_cards.specs.Models.{PassModel, Counts, Sees, Steps, some_more, Has, latest, earlier, IsTold, Knows}
-use Rattle.ell_cards.specs.Changes.{facts_by, places_by, with_fact, exchanged, after_upd}
+use Rattle.ell_cards.specs.Depths.{depth_of}
+use Rattle.ell_word.specs.Link.{link_in}
+use Rattle.ell_cards.specs.Changes.{depth_there, facts_by, places_by, with_fact, exchanged, after_upd}
 use Rattle.ell_cards.proofs.lemmas.views.Afters.{after_down, after_key_of, after_value_of, after_info, after_frozen_child, after_next}
 use Rattle.ell_cards.proofs.lemmas.views.Facts.{knows_new, knows_more, facts_by_more}
+use Rattle.ell_cards.proofs.lemmas.views.Depths.{met_more}
 use Rattle.ell_cards.proofs.lemmas.views.Entries.{places_more, info_more}
 use Rattle.ell_cards.specs.Stepping.{SameShare}
 use Rattle.ell_tree.proofs.lemmas.Counts.{took_none, took_one, took_unseen, took_counted, took_within, took_trans}
@@ -223,13 +226,13 @@ pub value_of_keeps : (x value : ℕ) (v : View) → LosesNothing v (after_value_
 value_of_keeps x value v = record { ledger = refl; operation = refl; answers = refl; share = record { share = refl; ownable = refl }; knows = λ f h. h; told = λ e h. earlier e _ _ h; before = refl; least = omega arith; hindered = refl; earlier = λ hs e. e }
 
 pub down_keeps : (x child : ℕ) (v : View) → LosesNothing v (after_down x child v)
-down_keeps x child v = record { ledger = refl; operation = refl; answers = refl; share = record { share = refl; ownable = refl }; knows = λ f h. h; told = λ e h. earlier e _ _ h; before = refl; least = omega arith; hindered = refl; earlier = λ hs e. e }
+down_keeps x child v = record { ledger = refl; operation = refl; answers = refl; share = record { share = refl; ownable = refl }; knows = λ f h. h; told = met_more (depth_of v x + 1) (link_in child).node v.told; before = refl; least = omega arith; hindered = refl; earlier = λ hs e. e }
 
 pub info_keeps : (c : ℕ) (f : Field) (x : ℕ) (v : View) → LosesNothing v (after_info c f x v)
-info_keeps c f x v = record { ledger = refl; operation = refl; answers = refl; share = record { share = refl; ownable = refl }; knows = λ g h. h; told = info_more c f x v.told; before = refl; least = omega arith; hindered = refl; earlier = λ hs e. e }
+info_keeps c f x v = record { ledger = refl; operation = refl; answers = refl; share = record { share = refl; ownable = refl }; knows = λ g h. h; told = info_more (depth_there v c f) c f x v.told; before = refl; least = omega arith; hindered = refl; earlier = λ hs e. e }
 
-pub frozen_keeps : (c : ℕ) (right : Bool) (x : ℕ) (v : View) → LosesNothing v (after_frozen_child c right x v)
-frozen_keeps c right x v = record { ledger = refl; operation = refl; answers = refl; share = record { share = refl; ownable = refl }; knows = λ f h. h; told = λ e h. earlier e _ _ (earlier e _ _ h); before = refl; least = omega arith; hindered = refl; earlier = λ hs e. e }
+pub frozen_keeps : (c p : ℕ) (right : Bool) (x : ℕ) (v : View) → LosesNothing v (after_frozen_child c p right x v)
+frozen_keeps c p right x v = record { ledger = refl; operation = refl; answers = refl; share = record { share = refl; ownable = refl }; knows = λ f h. h; told = λ e h. earlier e _ _ (met_more (depth_of v p + 1) (link_in x).node v.told e h); before = refl; least = omega arith; hindered = refl; earlier = λ hs e. e }
 
 pub learning_keeps : (wins : List (Exchange × ℕ)) (n : ℕ) (f : Fact) (v : View) → LosesNothing v (exchanged wins n (with_fact f v))
 learning_keeps wins n f v = record {

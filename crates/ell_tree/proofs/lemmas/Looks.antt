@@ -21,8 +21,8 @@ use Rattle.ell_tree.proofs.lemmas.Counts.{took_counted}
 use Rattle.ell_tree.specs.Ledgers.{Owns, present_in}
 use Rattle.ell_cards.proofs.lemmas.views.Steps.{view_seen}
 use Rattle.ell_tree.specs.Looks.{OnlyLooks, look_steps}
-use Rattle.ell_tree.proofs.lemmas.Levels.{inner_above, above_rises, above_within}
-use Rattle.ell_core.specs.tree.Rank.{rank}
+use Rattle.ell_cards.specs.Depths.{depth_of, IsShallow}
+use Rattle.ell_cards.proofs.lemmas.views.Depths.{depth_more, met_more, went_deeper}
 
 pub only_trans : (a b c : PassModel) (m n k : ℕ) → OnlyLooks a b m → OnlyLooks b c n → m + n ≤ k → OnlyLooks a c k
 only_trans a b c m n k h h' le = record {
@@ -124,11 +124,11 @@ only_counted a b c n k h u s =
 
 -- the steps of a look
 pub look_only : (old new : PassModel) (n : ℕ) → Sees old new (after_look n old.view) → OnlyLooks old new 1
-look_only old new n s = only_step old new _ _ _ _ s (λ e h. earlier e _ _ h)
+look_only old new n s = only_step old new _ _ _ _ s (met_more _ _ _)
 
 pub down_only : (old new : PassModel) (from : Glance) (k : ℕ) (right : Bool) (n : ℕ) → Sees old new (after_look_down from k right n old.view)
     → OnlyLooks old new 1
-down_only old new from k right n s = only_step old new _ _ _ _ s (λ e h. earlier e _ _ h)
+down_only old new from k right n s = only_step old new _ _ _ _ s (met_more _ _ _)
 
 pub key_only : (old new : PassModel) (x key : ℕ) → Sees old new (after_key_of x key old.view) → OnlyLooks old new 1
 key_only old new x key s = only_step old new _ _ _ _ s (λ e h. earlier e _ _ h)
@@ -140,20 +140,22 @@ value_only old new x value s = only_step old new _ _ _ _ s (λ e h. earlier e _ 
 pub record Comes (cards : ℕ) (old new : PassModel) (key node : ℕ) : Type 0 where
   pub count : ℕ
   pub only : OnlyLooks old new count
-  pub few : count + 1 ≤ 2 * inner_above node
+  pub few : count + 1 ≤ 2 * depth_of new.view node
+  pub shallow : IsShallow cards new.view node
   pub come : HasCome new.view node key (key + 1)
   pub met : IsTold new.view (Met node)
   pub there : InTable cards node
   pub one : new.view.looks ≡ old.view.looks + 1
 
 pub comes_first : (cards : ℕ) (old new : PassModel) (key n child : ℕ) → (link_in n).node ≡ child → key ≤ greatest_key → Sees old new (after_look n old.view)
-    → rank 0 < rank child → InTable cards child → Comes cards old new key child
-comes_first cards old new key n child says real s low there =
+    → IsShallow cards new.view child → InTable cards child → Comes cards old new key child
+comes_first cards old new key n child says real s shallow there =
     let view = view_seen old new (after_look n old.view) s in
     record {
       count = 1;
       only = look_only old new n s;
-      few = (let above = above_rises 0 child refl low in omega arith);
+      few = (let deep = went_deeper old.view new.view (after_look n old.view) 0 (link_in n).node child view says refl in omega arith);
+      shallow = shallow;
       come = subst (λ (v : View). HasCome v child key (key + 1)) (sym view)
           (record { glance = record { node = (link_in n).node; low = 0; high = greatest_key + 1 }; among = latest _ _; there = says; from = omega arith; upto = omega arith });
       met = subst (λ x. IsTold new.view (Met x)) says (subst (λ (v : View). IsTold v (Met (link_in n).node)) (sym view) (latest _ _));
@@ -190,16 +192,28 @@ module _ (cards : ℕ) (old a b : PassModel) (key node k : ℕ) (at : Comes card
   pub met_still : IsTold b.view (Met node)
   met_still = (key_only a b node k asked).told (Met node) at.met
 
+  pub deep_still : depth_of a.view node ≤ depth_of b.view node
+  deep_still = depth_more a.view.told b.view.told (key_only a b node k asked).told node
+
   pub one_none : b.view.looks ≡ old.view.looks + 1
   one_none = ap (λ (v : View). v.looks) asked_view ∙ at.one
 
   pub may_down : IsInternal node → MayLookDown b.view (record { node = node; low = key; high = key + 1 }) k
   may_down inner = record { come = come_still; met = met_still; inner = inner; told = told_key }
 
+  -- the child to which it goes down is deeper
+  pub down_deeper : (d : PassModel) (n child : ℕ) → (link_in n).node ≡ child
+      → Sees b d (after_look_down (record { node = node; low = key; high = key + 1 }) k (nat_le k key) n b.view) → depth_of a.view node < depth_of d.view child
+  down_deeper d n child says s =
+      let after = after_look_down (record { node = node; low = key; high = key + 1 }) k (nat_le k key) n b.view in
+      let still = deep_still in
+      let deep = went_deeper b.view d.view after node (link_in n).node child (view_seen b d after s) says refl in
+      omega arith
+
   pub comes_down : (d : PassModel) (n child : ℕ) → (link_in n).node ≡ child
-      → Sees b d (after_look_down (record { node = node; low = key; high = key + 1 }) k (nat_le k key) n b.view) → IsInternal node → rank node < rank child
+      → Sees b d (after_look_down (record { node = node; low = key; high = key + 1 }) k (nat_le k key) n b.view) → IsInternal node → IsShallow cards d.view child
       → InTable cards child → Comes cards old d key child
-  comes_down d n child says s inner deeper there =
+  comes_down d n child says s inner shallow there =
       let from : Glance = record { node = node; low = key; high = key + 1 } in
       let view = view_seen b d (after_look_down from k (nat_le k key) n b.view) s in
       let next : Glance = record { node = (link_in n).node; low = from_of (nat_le k key) key k; high = upto_of (nat_le k key) (key + 1) k } in
@@ -209,7 +223,8 @@ module _ (cards : ℕ) (old a b : PassModel) (key node k : ℕ) (at : Comes card
         count = at.count + 2;
         only = only_trans old a d at.count 2 (at.count + 2) at.only
             (only_trans a b d 1 1 2 (key_only a b node k asked) (down_only b d from k (nat_le k key) n s) (omega arith)) (omega arith);
-        few = (let few = at.few in let above = above_rises node child inner deeper in omega arith);
+        few = (let few = at.few in let deep = down_deeper d n child says s in omega arith);
+        shallow = shallow;
         come = subst (λ (v : View). HasCome v child key (key + 1)) (sym view)
             (record { glance = next; among = latest _ _; there = says; from = low; upto = omega arith });
         met = subst (λ x. IsTold d.view (Met x)) says (subst (λ (v : View). IsTold v (Met (link_in n).node)) (sym view) (latest _ _));
@@ -222,7 +237,7 @@ module _ (cards : ℕ) (old a b : PassModel) (key node k : ℕ) (at : Comes card
 
   pub only_none : OnlyLooks old b (look_steps cards)
   only_none = only_trans old a b at.count 1 (look_steps cards) at.only (key_only a b node k asked)
-      (let few = at.few in let room = above_within cards node at.there in omega arith)
+      (let few = at.few in let room = at.shallow.any in omega arith)
 
   pub found_some : (d : PassModel) (value : ℕ) → Sees b d (after_value_of node value b.view) → IsLeaf node → k ≡ key → HasFound d.view key (Some value)
   found_some d value s outer same =
@@ -245,7 +260,7 @@ module _ (cards : ℕ) (old a b : PassModel) (key node k : ℕ) (at : Comes card
   pub only_some : (d : PassModel) (value : ℕ) → Sees b d (after_value_of node value b.view) → OnlyLooks old d (look_steps cards)
   only_some d value s = only_trans old a d at.count 2 (look_steps cards) at.only
       (only_trans a b d 1 1 2 (key_only a b node k asked) (value_only b d node value s) (omega arith))
-      (let few = at.few in let room = above_within cards node at.there in omega arith)
+      (let few = at.few in let room = at.shallow.any in omega arith)
 
   pub one_some : (d : PassModel) (value : ℕ) → Sees b d (after_value_of node value b.view) → d.view.looks ≡ old.view.looks + 1
   one_some d value s = ap (λ (v : View). v.looks) (view_seen b d (after_value_of node value b.view) s) ∙ one_none

@@ -13,5 +13,5 @@ key_walks old seen new x key s counts =
 pub info_walks : (old new : PassModel) (c : ℕ) (f : Field) (x : ℕ) → Steps old new (after_info c f x old.view) → KeepsAll old new 1
 info_walks old new c f x s = keeps_all_step old new (after_info c f x old.view) s (info_keeps c f x old.view) refl refl refl refl refl refl
 
-pub child_walks : (old new : PassModel) (c : ℕ) (right : Bool) (x : ℕ) → Steps old new (after_frozen_child c right x old.view) → KeepsAll old new 1
-child_walks old new c right x s = keeps_all_step old new (after_frozen_child c right x old.view) s (frozen_keeps c right x old.view) refl refl refl refl refl refl
+pub child_walks : (old new : PassModel) (c p : ℕ) (right : Bool) (x : ℕ) → Steps old new (after_frozen_child c p right x old.view) → KeepsAll old new 1
+child_walks old new c p right x s = keeps_all_step old new (after_frozen_child c p right x old.view) s (frozen_keeps c p right x old.view) refl refl refl refl refl refl

@@ -18,6 +18,8 @@ use Rattle.ell_cards.specs.Changes.{after_upd, told_value}
 use Rattle.ell_cards.proofs.lemmas.views.Afters.{after_key_of, after_value_of, after_down}
 use Rattle.ell_cards.specs.Guards.{MayAnswer, TellsOf}
 use Rattle.ell_cards.specs.Calls.{TellsLeaf, TellsLedgerValue}
+use Rattle.ell_cards.specs.Depths.{depth_of}
+use Rattle.ell_cards.proofs.lemmas.views.Depths.{depth_more, went_deeper}
 use Rattle.ell_cards.proofs.lemmas.views.Entries.{places_more}
 use Rattle.ell_cards.proofs.lemmas.views.Steps.{view_seen}
 use Rattle.ell_cards.proofs.lemmas.views.Searches.{told_here}
@@ -73,6 +75,14 @@ module _ (a b d e : PassModel) (x : ℕ) (u : Update) (key : ℕ) (l : Link)
   pub descend_met : IsLink l → IsTold e.view (Met l.node)
   descend_met small = subst (λ (m : Link). IsTold e.view (Met m.node)) (link_same l small.node)
       (subst (λ (v : View). IsTold v (Met (link_in (linked l)).node)) (sym gone_view) (latest _ _))
+
+  pub descend_deeper : IsLink l → depth_of a.view x < depth_of e.view l.node
+  descend_deeper small =
+      let first = after_upd x u a.view in
+      let still = depth_more a.view.told first.told (places_more x u.state u.card a.view.told) x in
+      let deep = went_deeper (after_key_of x key first) e.view (after_down x (linked l) (after_key_of x key first)) x (link_in (linked l)).node l.node gone_view
+      (ap (λ (m : Link). m.node) (link_same l small.node)) refl in
+      omega arith
 
   pub descend_passed : (cards : ℕ) → IsLink l → IsInnerMet cards a.view x → u.card ≤ cards → KnowsPassed cards e.view (record { node = x; update = u; tag = l.tag })
   descend_passed cards small node named =

@@ -2,7 +2,7 @@ use Rattle.std.proofs.Common.{◌≡◌, ◌==◌, ℕ, zero, suc, ◌+◌, ◌*
 use Rattle.std.proofs.Math.Nat.{mul-le-mul_right}
 use Rattle.std.proofs.lemmas.Bool.{false≢true, or_left, or_right, or_cases}
 use Rattle.ell_cards.specs.declared.view.Told.{Told}
-use Rattle.ell_cards.specs.declared.view.Told.TheVariants.{Met, Key, Value, Info, Expects, Frozen}
+use Rattle.ell_cards.specs.declared.view.Told.TheVariants.{Met, Depth, Key, Value, Info, Expects, Frozen}
 use Rattle.ell_cards.specs.Contention.{how_many}
 use Rattle.ell_cards.specs.Looking.{KeysAreFixed}
 use Rattle.ell_cards.specs.Models.{Has, latest, earlier, PassModel}
@@ -46,6 +46,7 @@ told_there test node (e ∷ es) h = elim (or_cases (tells_key test node e) (told
         let same : x ≡ node = eqb-true x node is.0 in
         (key, subst (λ y. Has (Key x key ∷ es) (Key y key)) same (latest (Key x key) es), is.1)
     first (Met x) here = absurd (false≢true here)
+    first (Depth x d) here = absurd (false≢true here)
     first (Value x value) here = absurd (false≢true here)
     first (Info c f x) here = absurd (false≢true here)
     first (Expects c tag) here = absurd (false≢true here)

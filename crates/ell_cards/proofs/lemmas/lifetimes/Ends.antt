@@ -26,7 +26,7 @@ use Rattle.ell_cards.proofs.lemmas.own_words.OwnTree.{update_same, reached_same}
 use Rattle.ell_cards.proofs.lemmas.own_words.OwnWords.{same_next, same_card, own_words_are_sound}
 use Rattle.ell_cards.proofs.lemmas.own_words.OwnLedgers.{ledgers_tell_the_tree}
 
-module _ (plan : TablePlan) (s : TableState) (h : IsReached plan s) (r : HasMachine plan.keys plan.last_card s) (id : ℕ) (v : View)
+module _ (plan : TablePlan) (s : TableState) (h : IsReached plan s) (r : HasMachine plan s) (id : ℕ) (v : View)
     (here : get_elem? s.views id ≡ some v) (alone : IsAlone s id) (free : IsFree v) (all : All (λ k. ledger_of v.worker.ledger k ≢ None) plan.keys) where
   abbrev machine : Machine
   machine = seated r.words s.views plan.last_card
@@ -35,7 +35,7 @@ module _ (plan : TablePlan) (s : TableState) (h : IsReached plan s) (r : HasMach
   same_update : (x : ℕ) → Reached r.words x → IsInternal x → (own_words s).update x ≡ r.words.update x
   same_update x reached inner =
       let sound = r.invariant.words in
-      update_same r.words (own_words s) r.stages sound (same_card plan.keys plan.last_card s r) x inner (reached_born r.words r.stages sound x reached)
+      update_same r.words (own_words s) r.stages sound (same_card plan s r) x inner (reached_born r.words r.stages sound x reached)
 
   -- the pass owns each key of the table
   owns_each : (k : ℕ) → Contains plan.keys k → ledger_of v.worker.ledger k ≢ None
@@ -53,27 +53,27 @@ module _ (plan : TablePlan) (s : TableState) (h : IsReached plan s) (r : HasMach
   owns_all : OwnsAll machine id
   owns_all = record {
     all = λ j k may. elim may [
-      | inl owns ↦ inr (subst (λ (u : Worker). WorkerOwns u k) (sym (mine_is plan.keys plan.last_card s r id v here)) (owns_each k (owned_listed j k owns)))
+      | inl owns ↦ inr (subst (λ (u : Worker). WorkerOwns u k) (sym (mine_is plan s r id v here)) (owns_each k (owned_listed j k owns)))
       | inr shared ↦ inl (only_sharer s id alone j k shared)
     ];
-    free = subst WorkerIsIdle (sym (mine_is plan.keys plan.last_card s r id v here)) ((mine_sound plan.keys plan.last_card s r id v here).free free);
+    free = subst WorkerIsIdle (sym (mine_is plan s r id v here)) ((mine_sound plan s r id v here).free free);
   }
 
   -- what is reached in the list is reached in the machine
   reached_back : (x : ℕ) → Reached (own_words s) x → Reached r.words x
-  reached_back x h = (reached_same r.words (own_words s) r.stages r.invariant.words (same_card plan.keys plan.last_card s r) x).1 h
+  reached_back x h = (reached_same r.words (own_words s) r.stages r.invariant.words (same_card plan s r) x).1 h
 
   -- the tree of the list
   pub shows : ShowsMap plan v.worker.ledger (record { words = s.words; last_card = plan.last_card })
   shows =
-      let is = own_words_are_sound plan.keys plan.last_card s r in record {
+      let is = own_words_are_sound plan s r in record {
         size = r.size;
         tree = is.tree;
-        nodes = λ x h. let low = is.names.nodes x h in let next = same_next plan.keys plan.last_card s r in let room = r.invariant.limit in omega arith;
+        nodes = λ x h. let low = is.names.nodes x h in let next = same_next plan s r in let room = r.invariant.limit in omega arith;
         numbers = is.names.numbers;
         clean = λ x h inner. subst IsClean (sym (same_update x (reached_back x h) inner))
             (owner_finds_clean machine r.stages id r.invariant owns_all x (reached_back x h) inner);
         owned = λ k there. tree_key_is plan s h k (λ unshared. let by = is.ledgers.owned k there unshared in owned_listed by.worker k by.owns);
         listed = λ k owns. r.owned id k v here owns;
-        present = λ k value at. ledgers_tell_the_tree plan.keys plan.last_card s r id v here free k value (owns_each k at);
+        present = λ k value at. ledgers_tell_the_tree plan s r id v here free k value (owns_each k at);
       }

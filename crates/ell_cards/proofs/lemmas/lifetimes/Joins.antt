@@ -114,27 +114,27 @@ first_list keys l (Some m) b h g is = h is
 
 -- a join is one of the machine
 pub joins_are_handovers : JoinsAreHandovers
-joins_are_handovers keys cards s r id other v w here there apart free other_free =
-    let m = seated r.words s.views cards in
+joins_are_handovers plan s r id other v w here there apart free other_free =
+    let m = seated r.words s.views plan.last_card in
     let both = joined_view v w in
     let views = set (set s.views id both) other spent_view in
-    let same = mine_is keys cards s r id v here in
-    let same' = mine_is keys cards s r other w there in
+    let same = mine_is plan s r id v here in
+    let same' = mine_is plan s r other w there in
     let h = r.views id v here in
     let g = r.views other w there in
     let one : (k : ℕ) → ledger_of v.worker.ledger k ≢ None → ledger_of w.worker.ledger k ≢ None → ⊥ = λ k ours theirs.
     apart (r.invariant.workers.one_owner id other k (subst (λ (u : Worker). WorkerOwns u k) (sym same) ours) (subst (λ (u : Worker). WorkerOwns u k) (sym same') theirs)) in
     let parts = united_parts v.worker.ledger w.worker.ledger one in
     let turned : other ≢ id = λ e. apart (sym e) in
-    let join : Join m id other (seated r.words views cards) = record {
+    let join : Join m id other (seated r.words views plan.last_card) = record {
       left_there = inside s.views id v here;
       right_there = inside s.views other w there;
       apart = apart;
-      left_free = subst WorkerIsIdle (sym same) ((mine_sound keys cards s r id v here).free free);
-      right_free = subst WorkerIsIdle (sym same') ((mine_sound keys cards s r other w there).free other_free);
+      left_free = subst WorkerIsIdle (sym same) ((mine_sound plan s r id v here).free free);
+      right_free = subst WorkerIsIdle (sym same') ((mine_sound plan s r other w there).free other_free);
       both = worker_of both.worker;
       both_free = refl;
-      shares = λ k. shared_both keys v.worker.shared w.worker.shared (λ l is. r.listed id v l here is) (λ l is. r.listed other w l there is) k
+      shares = λ k. shared_both plan.keys v.worker.shared w.worker.shared (λ l is. r.listed id v l here is) (λ l is. r.listed other w l there is) k
           ∙ (λ t. (ap (λ (u : Worker). u.shared k) (sym same) t) || (ap (λ (u : Worker). u.shared k) (sym same') t));
       ledgers = subst (λ (u : Worker). AreParted (ledger_of both.worker.ledger) u.ledger (m.worker other).ledger) (sym same)
           (subst (λ (u : Worker). AreParted (ledger_of both.worker.ledger) (ledger_of v.worker.ledger) u.ledger) (sym same') parts);
@@ -146,17 +146,19 @@ joins_are_handovers keys cards s r id other v w here there apart free other_free
         words = r.words;
         worker = λ j. workers_joined s.views id other v w here there turned both j t;
         count = seats_joined s.views id other v w here there turned both t;
-        last_card = cards;
+        last_card = plan.last_card;
       };
     } in record {
       later = stages_same r.stages;
       kept = record {
         words = r.words;
         stages = r.stages;
-        invariant = joins_lawful m r.stages id other (seated r.words views cards) r.invariant join;
+        invariant = joins_lawful m r.stages id other (seated r.words views plan.last_card) r.invariant join;
         limit = r.limit;
         size = r.size;
         next = r.next;
+        flat = r.flat;
+        plain = r.plain;
         settled = r.settled;
         views = each_joined s.views id other v w here there turned both (ViewHolds s.words r.words r.stages)
             (rest_holds s.words r.words r.stages both (λ e told. elim (told_either v.told w.told e told) [ inl a ↦ h.entries e a | inr b ↦ g.entries e b ]) refl refl refl
@@ -164,15 +166,15 @@ joins_are_handovers keys cards s r id other v w here there apart free other_free
             (rest_holds s.words r.words r.stages spent_view
             (λ e told. met_root (EntryHolds r.words r.stages) (start_there r.words r.stages r.invariant.words 0 (omega arith) refl) e told) refl refl refl (λ n at. absurd (some_not_none at refl)) (omega arith) (λ f k. absurd (true≢false (sym k))))
             r.views;
-        owned = λ j k. each_joined s.views id other v w here there turned both (λ u. WorkerOwns (worker_of u.worker) k → Contains keys k)
+        owned = λ j k. each_joined s.views id other v w here there turned both (λ u. WorkerOwns (worker_of u.worker) k → Contains plan.keys k)
             (λ has. elim (ledger_united v.worker.ledger w.worker.ledger k) [
               | inl a ↦ r.owned id k v here a.1
               | inr b ↦ r.owned other k w there (λ none. has (b.1 ∙ none))
             ])
             (λ has. absurd (has refl))
             (λ i u at has. r.owned i k u at has) j;
-        listed = λ j u l at. each_joined s.views id other v w here there turned both (λ u. u.worker.shared ≡ Some l → l ≡ keys)
-            (first_list keys l v.worker.shared w.worker.shared (λ is. r.listed id v l here is) (λ is. r.listed other w l there is))
+        listed = λ j u l at. each_joined s.views id other v w here there turned both (λ u. u.worker.shared ≡ Some l → l ≡ plan.keys)
+            (first_list plan.keys l v.worker.shared w.worker.shared (λ is. r.listed id v l here is) (λ is. r.listed other w l there is))
             (λ is. absurd (some_not_none is refl)) (λ i u at is. r.listed i u l at is) j u at;
       };
       join = join;

@@ -13,7 +13,7 @@ use Rattle.ell_core.specs.soundness.Sound.{WorkerOwns}
 use Rattle.ell_core.specs.history.Invariant.{Invariant}
 use Rattle.ell_core.specs.statements.RunLaws.{IsOpening}
 use Rattle.ell_core.specs.state.Opening.{first_alone, keys_at_start, opening_of_one}
-use Rattle.ell_layout.proofs.lemmas.Listed.{words_are_listed, listed_next}
+use Rattle.ell_layout.proofs.lemmas.Listed.{words_are_listed, listed_next, listed_flat}
 use Rattle.ell_core.proofs.lemmas.outcomes.Decide.{some_not_none, same_value}
 use Rattle.ell_core.proofs.lemmas.opening.Invariant.{start_stages}
 use Rattle.ell_core.proofs.lemmas.opening.OneOwner.{one_worker_opens, one_worker_has}
@@ -43,7 +43,7 @@ alone plan (suc i) = refl
 
 -- the machine of the first pass is the opening of one worker
 one_opens : (plan : TablePlan) (cards : ℕ) → last_card plan.start cards ≡ plan.last_card
-    → opening_of_one plan.keys plan.start cards (shared_of (ownable_if plan.shared plan.keys))
+    → opening_of_one plan.keys plan.start cards (shared_of (ownable_if plan.shared plan.keys)) false
     ≡ seated (start_words plan.start) (first_of plan ∷ []) plan.last_card
 one_opens plan cards all = λ t. record { words = start_words plan.start; worker = λ i. sym (alone plan i) t; count = 1; last_card = all t }
 
@@ -102,8 +102,8 @@ opening_is_kept plan words may at =
     let first = first_of plan in
     let stages = start_stages (length plan.start + 1) in
     let shared = shared_of (ownable_if plan.shared plan.keys) in
-    let one = one_worker_opens plan.keys plan.start cards shared may.ascending may.real may.start_ascending (start_given plan may) (shared_apart plan.shared plan.keys) in
-    let has = one_worker_has plan.keys plan.start cards shared may.ascending may.real may.start_ascending (start_given plan may) (shared_apart plan.shared plan.keys) in
+    let one = one_worker_opens plan.keys plan.start cards shared false may.ascending may.real may.start_ascending (start_given plan may) (shared_apart plan.shared plan.keys) in
+    let has = one_worker_has plan.keys plan.start cards shared false may.ascending may.real may.start_ascending (start_given plan may) (shared_apart plan.shared plan.keys) in
     let invariant = subst (λ m. Invariant m stages) (one_opens plan cards all) has in
     record {
       kept = record {
@@ -113,6 +113,8 @@ opening_is_kept plan words may at =
         limit = may.limit;
         size = at.size;
         next = sym (listed_next words) ∙ ap (λ (v : Words). v.next) at.are;
+        flat = sym (listed_flat words) ∙ ap (λ (v : Words). v.flat_from) at.are;
+        plain = refl;
         settled = λ c f calm. sym (words_are_listed words c f) ∙ ap (λ (v : Words). table_word v c f) at.are;
         views = each_first first (ViewHolds words w stages)
             (rest_holds words w stages first

@@ -65,18 +65,18 @@ module _ (views : List View) (id : ℕ) (v : View) (here : get_elem? views id �
 
 -- a split is one of the machine
 pub splits_are_handovers : SplitsAreHandovers
-splits_are_handovers keys cards s r id v chosen here free =
-    let m = seated r.words s.views cards in
+splits_are_handovers plan s r id v chosen here free =
+    let m = seated r.words s.views plan.last_card in
     let left = left_view chosen v in
     let right = right_view chosen v in
     let views = set s.views id left ++ right ∷ [] in
-    let same = mine_is keys cards s r id v here in
+    let same = mine_is plan s r id v here in
     let h = r.views id v here in
     let parts = ledger_parts chosen v.worker.ledger in
     let owns = part_owns (ledger_of v.worker.ledger) (ledger_of left.worker.ledger) (ledger_of right.worker.ledger) parts in
-    let split : Split m id (seated r.words views cards) = record {
+    let split : Split m id (seated r.words views plan.last_card) = record {
       there = inside s.views id v here;
-      free = subst WorkerIsIdle (sym same) ((mine_sound keys cards s r id v here).free free);
+      free = subst WorkerIsIdle (sym same) ((mine_sound plan s r id v here).free free);
       left = worker_of left.worker;
       right = worker_of right.worker;
       left_free = refl;
@@ -90,27 +90,29 @@ splits_are_handovers keys cards s r id v chosen here free =
         words = r.words;
         worker = λ j. workers_split s.views id v here left right j t;
         count = seats_split s.views id v here left right t;
-        last_card = cards;
+        last_card = plan.last_card;
       };
     } in record {
       later = stages_same r.stages;
       kept = record {
         words = r.words;
         stages = r.stages;
-        invariant = splits_lawful m r.stages id (seated r.words views cards) r.invariant split;
+        invariant = splits_lawful m r.stages id (seated r.words views plan.last_card) r.invariant split;
         limit = r.limit;
         size = r.size;
         next = r.next;
+        flat = r.flat;
+        plain = r.plain;
         settled = r.settled;
         views = each_split s.views id v here left right (ViewHolds s.words r.words r.stages)
             (rest_holds s.words r.words r.stages left h.entries refl refl refl (λ n at. absurd (some_not_none at refl)) h.least h.knew)
             (rest_holds s.words r.words r.stages right h.entries refl refl refl (λ n at. absurd (some_not_none at refl)) h.least h.knew)
             r.views;
-        owned = λ j k. each_split s.views id v here left right (λ u. WorkerOwns (worker_of u.worker) k → Contains keys k)
+        owned = λ j k. each_split s.views id v here left right (λ u. WorkerOwns (worker_of u.worker) k → Contains plan.keys k)
             (λ has. r.owned id k v here ((owns k).0 has))
             (λ has. r.owned id k v here ((owns k).1 has))
             (λ i u at has. r.owned i k u at has) j;
-        listed = λ j u l at. each_split s.views id v here left right (λ u. u.worker.shared ≡ Some l → l ≡ keys)
+        listed = λ j u l at. each_split s.views id v here left right (λ u. u.worker.shared ≡ Some l → l ≡ plan.keys)
             (λ is. r.listed id v l here is) (λ is. r.listed id v l here is) (λ i u at is. r.listed i u l at is) j u at;
       };
       split = split;

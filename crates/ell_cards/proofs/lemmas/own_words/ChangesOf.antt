@@ -1,4 +1,4 @@
-use Rattle.std.proofs.Common.{◌≡◌, ℕ, ◌==◌, eq-eqb, ne_eqb, if◌then◌else◌, Bool, true, false, List, [], ◌∷◌, ◌++◌, Some, refl, sym, ap, ◌∙◌, subst, inl, inr, arith}
+use Rattle.std.proofs.Common.{◌≡◌, ℕ, ◌==◌, eq-eqb, ne_eqb, if◌then◌else◌, Bool, true, false, [], ◌∷◌, ◌++◌, Some, refl, sym, ap, ◌∙◌, subst, inl, inr, arith}
 use mathlib.Core.Option.{Option, some, none}
 use lib.ListN.{get_elem?}
 use Rattle.ell_ops.specs.declared.op.Op.{Op}
@@ -23,6 +23,7 @@ use Rattle.ell_core.proofs.lemmas.outcomes.Decide.{cases_option, some_not_none}
 use Rattle.ell_core.proofs.lemmas.stages.Holding.{insert_kind, delete_kind}
 use Rattle.ell_core.proofs.lemmas.stages.Order.{insert_open-insert, delete_open-delete, insert_won-insert, delete_won-delete}
 use Rattle.ell_core.proofs.lemmas.words.Sides.{card_key-insert, card_value-insert, card_key-delete}
+use Rattle.ell_cards.specs.Models.{TablePlan}
 use Rattle.ell_cards.specs.declared.call.Call.TheVariants as call
 use Rattle.ell_cards.specs.declared.view.View.{View}
 use Rattle.ell_cards.specs.Calls.{Becomes}
@@ -34,7 +35,7 @@ use Rattle.ell_core.specs.statements.Effects.{op_brought, op_of_card}
 use Rattle.ell_cards.specs.TurnEffects.{IsAtWork, ChangeIsOf}
 use Rattle.ell_cards.proofs.lemmas.seats.Statements.{OperationsByMachine}
 use Rattle.ell_cards.proofs.lemmas.stepping.AllCalls.{steps_are_events}
-use Rattle.ell_cards.proofs.lemmas.own_words.OwnWords.{own_card_key, own_card_value, own_card_kind}
+use Rattle.ell_cards.proofs.lemmas.own_words.OwnWords.{own_card_key, own_card_op}
 use Rattle.ell_cards.proofs.lemmas.seats.Seats.{mine_sound}
 
 -- a card that wins its ichild has its insert's flag standing
@@ -56,7 +57,7 @@ busy_with w stage v c sound has = elim (cases_option v.operation) [
   | inr e ↦ absurd (some_not_none has (ap (λ (u : Worker). u.card) (sound.free e)))
 ]
 
-module _ (keys : List ℕ) (cards : ℕ) (s : TableState) (r : HasMachine keys cards s) where
+module _ (plan : TablePlan) (s : TableState) (r : HasMachine plan s) where
   -- the operation of a flagged card, by its kind
   inserts : (v : Worker) (op : Op) (c : ℕ) → is_insert (r.stages c) ≡ true → Flagged r.words r.stages v op c
       → op ≡ op_of_card r.words c
@@ -80,7 +81,7 @@ module _ (keys : List ℕ) (cards : ℕ) (s : TableState) (r : HasMachine keys c
   deletes v (Delete k) c is h = ap Delete (sym h.1 ∙ sym (card_key-delete r.words c (delete_kind r.words r.stages r.invariant.words c is)))
 
   -- whoever has the card in hand, flagged, is at work with it
-  at_work : (c : ℕ) (Q : Op → Type 0) → ((v : Worker) (o : Op) → Flagged r.words r.stages v o c → Q o) → IsInHand (machine_of_table keys cards s r) c
+  at_work : (c : ℕ) (Q : Op → Type 0) → ((v : Worker) (o : Op) → Flagged r.words r.stages v o c → Q o) → IsInHand (machine_of_table plan s r) c
       → (op : Op) × Q op × IsAtWork s c op
   at_work c Q which hand = by hand.worker (get_elem? s.views hand.worker) refl hand.holds hand.flagged
     where
@@ -88,7 +89,7 @@ module _ (keys : List ℕ) (cards : ℕ) (s : TableState) (r : HasMachine keys c
           → (op : Op) × Q op × IsAtWork s c op
       by i none e has flagged = absurd (some_not_none has refl)
       by i (some v) e has flagged =
-          let sound = mine_sound keys cards s r i v e in
+          let sound = mine_sound plan s r i v e in
           let busy = busy_with r.words r.stages (worker_of v.worker) c sound has in (
             busy.0,
             which (worker_of v.worker) busy.0 (sound.flagged busy.0 c busy.1 has flagged).0,
@@ -96,13 +97,13 @@ module _ (keys : List ℕ) (cards : ℕ) (s : TableState) (r : HasMachine keys c
           )
 
   -- a card that wins has this win after those before
-  won_by : (id : ℕ) (a : Act) (c : ℕ) (k : Exchange) (s' : TableState) (r' : HasMachine keys cards s')
-      → Becomes id (Some a) (won_or_lost true) (machine_of_table keys cards s r) (machine_of_table keys cards s' r')
-      → wins_by a ((machine_of_table keys cards s r).worker id).card (won_or_lost true) c ≡ k ∷ []
+  won_by : (id : ℕ) (a : Act) (c : ℕ) (k : Exchange) (s' : TableState) (r' : HasMachine plan s')
+      → Becomes id (Some a) (won_or_lost true) (machine_of_table plan s r) (machine_of_table plan s' r')
+      → wins_by a ((machine_of_table plan s r).worker id).card (won_or_lost true) c ≡ k ∷ []
       → (later : Stage) × (wins_of later ≡ wins_of (r.stages c) ++ k ∷ [])
   won_by id a c k s' r' steps is =
-      let follows = (events_lawful (machine_of_table keys cards s r) r.stages (record { worker = id; act = a }) (won_or_lost true)
-      (machine_of_table keys cards s' r') r.invariant steps).follows in
+      let follows = (events_lawful (machine_of_table plan s r) r.stages (record { worker = id; act = a }) (won_or_lost true)
+      (machine_of_table plan s' r') r.invariant steps).follows in
       (follows.stages c, follows.wins c ∙ ap (λ ks. wins_of (r.stages c) ++ ks) is)
 
 -- one win, of this card
@@ -110,34 +111,31 @@ one_win : (c : ℕ) (k : Exchange) → (if c == c then k ∷ [] else []) ≡ k �
 one_win c k = ap (λ b. if b then k ∷ [] else []) (eq-eqb c c refl)
 
 pub table_changes_are_operations : OperationsByMachine
-table_changes_are_operations keys cards s r id v (call.IChild c p l q right) here may =
-    let step = steps_are_events keys cards s r id v (call.IChild c p l q right) here may in by step.kept (found_by s (call.IChild c p l q right) == linked l) step.event
+table_changes_are_operations plan s r id v (call.IChild c p l q right) here may =
+    let step = steps_are_events plan s r id v (call.IChild c p l q right) here may in by step.kept (found_by s (call.IChild c p l q right) == linked l) step.event
   where
-    by : (r' : HasMachine keys cards (state_after s id v (call.IChild c p l q right))) (b : Bool)
-        → Becomes id (Some (act.IChild c)) (won_or_lost b) (machine_of_table keys cards s r) (machine_of_table keys cards (state_after s id v (call.IChild c p l q right)) r')
+    by : (r' : HasMachine plan (state_after s id v (call.IChild c p l q right))) (b : Bool)
+        → Becomes id (Some (act.IChild c)) (won_or_lost b) (machine_of_table plan s r) (machine_of_table plan (state_after s id v (call.IChild c p l q right)) r')
         → ChangeIsOf (call.IChild c p l q right) b s
     by r' true h =
-        let won = won_by keys cards s r id (act.IChild c) c exchange.IChild (state_after s id v (call.IChild c p l q right)) r' h (one_win c exchange.IChild) in
+        let won = won_by plan s r id (act.IChild c) c exchange.IChild (state_after s id v (call.IChild c p l q right)) r' h (one_win c exchange.IChild) in
         let opened = before_ichild (r.stages c) won.0 won.1 in
-        let work = at_work keys cards s r c (λ o. o ≡ op_of_card r.words c)
-        (λ u o f. inserts keys cards s r u o c (insert_open-insert (r.stages c) opened) f) (r.invariant.workers.insert_in_hand c opened) in
-        let key = own_card_key keys cards s r id c v here (inl may.knows) in
-        let value = own_card_value keys cards s r id c v here (inl may.knows) in
-        let same = own_card_kind keys cards s r id c v here (inl may.knows) in
-        subst (IsAtWork s c) (work.1 ∙ (λ i. op_brought (same.0 i) (sym key i) (same.1 i) (sym value i))) work.2
+        let work = at_work plan s r c (λ o. o ≡ op_of_card r.words c)
+        (λ u o f. inserts plan s r u o c (insert_open-insert (r.stages c) opened) f) (r.invariant.workers.insert_in_hand c opened) in
+        subst (IsAtWork s c) (work.1 ∙ sym (own_card_op plan s r id c v here (inl may.knows))) work.2
     by r' false h = tt
-table_changes_are_operations keys cards s r id v (call.DChild c gp p y right) here may =
-    let step = steps_are_events keys cards s r id v (call.DChild c gp p y right) here may in by step.kept (found_by s (call.DChild c gp p y right) == linked p) step.event
+table_changes_are_operations plan s r id v (call.DChild c gp p y right) here may =
+    let step = steps_are_events plan s r id v (call.DChild c gp p y right) here may in by step.kept (found_by s (call.DChild c gp p y right) == linked p) step.event
   where
-    by : (r' : HasMachine keys cards (state_after s id v (call.DChild c gp p y right))) (b : Bool)
-        → Becomes id (Some (act.DChild c)) (won_or_lost b) (machine_of_table keys cards s r) (machine_of_table keys cards (state_after s id v (call.DChild c gp p y right)) r')
+    by : (r' : HasMachine plan (state_after s id v (call.DChild c gp p y right))) (b : Bool)
+        → Becomes id (Some (act.DChild c)) (won_or_lost b) (machine_of_table plan s r) (machine_of_table plan (state_after s id v (call.DChild c gp p y right)) r')
         → ChangeIsOf (call.DChild c gp p y right) b s
     by r' true h =
-        let won = won_by keys cards s r id (act.DChild c) c exchange.DChild (state_after s id v (call.DChild c gp p y right)) r' h (one_win c exchange.DChild) in
+        let won = won_by plan s r id (act.DChild c) c exchange.DChild (state_after s id v (call.DChild c gp p y right)) r' h (one_win c exchange.DChild) in
         let opened = before_dchild (r.stages c) won.0 won.1 in
-        let work = at_work keys cards s r c (λ o. o ≡ Delete (card_key r.words c))
-        (λ u o f. deletes keys cards s r u o c (delete_open-delete (r.stages c) opened) f) (r.invariant.workers.delete_in_hand c opened) in
-        let own = own_card_key keys cards s r id c v here (inr (inr may.knows)) in
+        let work = at_work plan s r c (λ o. o ≡ Delete (card_key r.words c))
+        (λ u o f. deletes plan s r u o c (delete_open-delete (r.stages c) opened) f) (r.invariant.workers.delete_in_hand c opened) in
+        let own = own_card_key plan s r id c v here (inr (inr may.knows)) in
         subst (IsAtWork s c) (work.1 ∙ ap Delete (sym own)) work.2
     by r' false h = tt
-table_changes_are_operations keys cards s r id v _ here may = tt
+table_changes_are_operations plan s r id v _ here may = tt

@@ -1,5 +1,8 @@
 use Rattle.std.proofs.Common.{◌≡◌, ◌≢◌, ℕ, ◌<◌, ◌≤◌, ◌==◌, nat_le, if◌then◌else◌, Bool, true, false, not, Option, Some, None, refl, ap, ◌∙◌, arith}
 use Rattle.ell_ops.specs.declared.op.Op.{Op}
+use Rattle.ell_ops.specs.declared.op.Op.TheVariants.{Swap}
+use Rattle.ell_word.specs.Node.{left_leaf, right_leaf}
+use Rattle.ell_core.specs.statements.Effects.{op_brought, op_of_card}
 use Rattle.ell_ops.specs.Meaning.{key_of}
 use Rattle.ell_word.specs.declared.update.State.{State}
 use Rattle.ell_word.specs.declared.update.State.TheVariants as state
@@ -8,7 +11,7 @@ use Rattle.ell_core.specs.declared.fact.Fact.TheVariants as fact
 use Rattle.ell_layout.specs.declared.field.Field.TheVariants as field
 use Rattle.ell_layout.specs.Words.{Words, IsLeaf}
 use Rattle.ell_core.specs.state.Machine.{Worker}
-use Rattle.ell_layout.specs.Cards.{iflag, dflag, marked, is_delete_card, card_key, card_value, card_tag}
+use Rattle.ell_layout.specs.Cards.{iflag, dflag, marked, is_delete_card, is_replace_card, card_key, card_value, card_tag}
 use Rattle.ell_core.specs.state.Facts.{card_of_fact}
 use Rattle.ell_core.specs.soundness.Holds.{IFlagHolds, IChangeHolds, DFlagHolds, MarkHolds, UnmarkableHolds, CutHolds, Holds, is_changed_in, is_cut_in, entry_made, made_in, with_made, effective_of, effective}
 use Rattle.ell_core.specs.soundness.Sound.{flags_at}
@@ -47,9 +50,25 @@ module _ (w t : Words) (stage : Stages) (sound : WordsAreSound w stage) (same : 
   pub leaf_value_same : IsLeaf (w.l c) → t.value (t.l c) ≡ w.value (w.l c)
   leaf_value_same outer = ap t.value (here.words field.L) ∙ value_same w t stage sound same (w.l c) outer goes.leaf
 
-  pub card_value_same : IsLeaf (w.l c) → card_value t c ≡ card_value w c
-  card_value_same outer = λ i. if is_delete_same i then leaf_value_same outer i
-      else (if here.words field.LeftLeafKey i == leaf_key_same i then here.words field.RightValue i else here.words field.LeftValue i)
+  pub card_value_same : (is_delete_card w c ≡ true → IsLeaf (w.l c)) → card_value t c ≡ card_value w c
+  card_value_same outer = (λ i. if is_delete_same i then t.value (t.l c)
+      else (if here.words field.LeftLeafKey i == leaf_key_same i then here.words field.RightValue i else here.words field.LeftValue i)) ∙ by (is_delete_card w c) refl
+    where
+      by : (b : Bool) → is_delete_card w c ≡ b
+          → (if b then t.value (t.l c) else (if w.key (left_leaf c) == w.key (w.l c) then w.value (right_leaf c) else w.value (left_leaf c)))
+          ≡ (if b then w.value (w.l c) else (if w.key (left_leaf c) == w.key (w.l c) then w.value (right_leaf c) else w.value (left_leaf c)))
+      by true is = leaf_value_same (outer is)
+      by false is = refl
+
+  -- the operation that it is for, if it is an insert's
+  pub card_op_same : (is_delete_card w c ≡ true → IsLeaf (w.l c)) → (is_replace_card w c ≡ true → IsLeaf (w.l c)) → op_of_card t c ≡ op_of_card w c
+  card_op_same outer replaces =
+      (λ i. op_brought (here.words field.LeftLeafKey i == here.words field.RightLeafKey i) (card_key_same i) (t.value (t.l c)) (card_value_same outer i))
+      ∙ by (is_replace_card w c) refl
+    where
+      by : (b : Bool) → is_replace_card w c ≡ b → op_brought b (card_key w c) (t.value (t.l c)) (card_value w c) ≡ op_brought b (card_key w c) (w.value (w.l c)) (card_value w c)
+      by true is = ap (λ was. Swap (card_key w c) was (card_value w c)) (leaf_value_same (replaces is))
+      by false is = refl
 
   -- the update word at a node where it goes
   update_there : (x y : ℕ) → x ≡ y → IsReadable w stage y → t.update x ≡ w.update y

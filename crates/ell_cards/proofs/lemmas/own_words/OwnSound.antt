@@ -18,7 +18,7 @@ use Rattle.ell_cards.proofs.lemmas.own_words.OwnTree.{update_same, reached_same,
 use Rattle.ell_cards.proofs.lemmas.own_words.OwnCards.{allowed_settled, allowed_claimed, made_same, place_same, fact_same, effective_same}
 
 -- a machine that the invariant holds of, and other words that say the same at each card that does not wait
-module _ (m : Machine) (t : Words) (stage : Stages) (holds : Invariant m stage) (next : t.next ≡ m.words.next)
+module _ (m : Machine) (t : Words) (stage : Stages) (holds : Invariant m stage) (next : t.next ≡ m.words.next) (flat : t.flat_from ≡ m.words.flat_from)
     (same : (c : ℕ) → waits (stage c) ≡ false → SaysTheSame m.words t c) where
   -- the same machine with those words
   abbrev own : Machine
@@ -63,7 +63,7 @@ module _ (m : Machine) (t : Words) (stage : Stages) (holds : Invariant m stage) 
         finds = λ owns value.
             let finds = finds_same m.words t stage holds.words same (key_of op) value x born in
             (λ h. (walk.finds owns value).0 (finds.1 h), λ h. finds.0 ((walk.finds owns value).1 h));
-        joins = joins_same m.words t stage holds.words same (key_of op) x born walk.joins;
+        joins = joins_same m.words t stage holds.words same flat (key_of op) x born walk.joins;
       }
 
   own_facts : FactsAreSound own
@@ -103,7 +103,7 @@ module _ (m : Machine) (t : Words) (stage : Stages) (holds : Invariant m stage) 
 
   pub own_sound : IsSound own
   own_sound = record {
-    tree = lawful_same m.words t stage holds.words same was.tree;
+    tree = lawful_same m.words t stage holds.words same flat was.tree;
     ledgers = own_ledgers;
     walks = own_walks;
     facts = own_facts;

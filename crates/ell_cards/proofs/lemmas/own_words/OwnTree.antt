@@ -1,4 +1,4 @@
-use Rattle.std.proofs.Common.{◌≡◌, ℕ, ◌%◌, ◌<◌, ◌≤◌, ◌↔◌, nat_le, Bool, true, false, List, [], ◌∷◌, refl, sym, ap, ◌∙◌, subst, arith}
+use Rattle.std.proofs.Common.{◌≡◌, ℕ, ◌%◌, ◌≤◌, ◌↔◌, nat_le, Bool, true, false, List, [], ◌∷◌, refl, sym, ap, ◌∙◌, subst, arith}
 use Rattle.ell_core.proofs.lemmas.stages.LaterKeys.{start_there}
 use Rattle.ell_ops.specs.Meaning.{greatest_key}
 use Rattle.ell_word.specs.Node.{IsInternal, card, right_leaf}
@@ -13,7 +13,9 @@ use Rattle.ell_core.specs.statements.Effects.{SamePairs}
 use Rattle.ell_core.proofs.lemmas.stages.Order.{born_is_node}
 use Rattle.ell_layout.proofs.lemmas.Writes.{internal_at_node, key_at_node, value_at_leaf, child_at_node, update_at_node}
 use Rattle.ell_core.proofs.lemmas.stages.Waiting.{born-settled}
-use Rattle.ell_core.specs.tree.Rank.{rank}
+use Rattle.ell_core.specs.tree.Flat.{IsInBlock}
+use Rattle.ell_core.proofs.lemmas.tree.Blocks.{in_block-same}
+use Rattle.ell_core.proofs.lemmas.tree.Ranks.{rank_same}
 
 -- trees of the same keys with the same values have the same keys
 pub same_keys : (old new : Words) → SamePairs old new → (k : ℕ) → IsTreeKey new k ↔ IsTreeKey old k
@@ -132,9 +134,11 @@ module _ (w t : Words) (stage : Stages) (sound : WordsAreSound w stage) (same : 
   )
 
   -- walks join the one from the root as before
-  pub joins_same : (k x : ℕ) → Born stage x → ((y : ℕ) → OnWalk w k x y → Reached w y → OnWalk w k 0 y)
-      → (y : ℕ) → OnWalk t k x y → Reached t y → OnWalk t k 0 y
-  joins_same k x born h y on reached = walk_on k root_born (h y (walk_back k born on) (below_back 0 root_born y reached))
+  pub joins_same : t.flat_from ≡ w.flat_from → (k x : ℕ) → Born stage x → ((y : ℕ) → OnWalk w k x y → Reached w y → IsInBlock w y k → OnWalk w k 0 y)
+      → (y : ℕ) → OnWalk t k x y → Reached t y → IsInBlock t y k → OnWalk t k 0 y
+  joins_same flat k x born h y on reached there =
+      let was = walk_back k born on in
+      walk_on k root_born (h y was (below_back 0 root_born y reached) (in_block-same t w y k (sym flat) (sym (key_same y (walk_born k born was))) there))
 
   -- the trees have the same keys with the same values
   pub pairs_same : SamePairs t w
@@ -191,11 +195,15 @@ module _ (w t : Words) (stage : Stages) (sound : WordsAreSound w stage) (same : 
       }
 
   -- the tree is lawful
-  pub lawful_same : IsLawful w → IsLawful t
-  lawful_same h = record {
+  pub lawful_same : t.flat_from ≡ w.flat_from → IsLawful w → IsLawful t
+  lawful_same flat h = record {
     rises = λ x right reached inner.
-        subst (λ n. rank x < rank n) (sym (child_same x right inner (reached_born x reached)))
-        (h.rises x right (below_back 0 root_born x reached) inner);
+        let born = reached_born x reached in
+        let up = h.rises x right (below_back 0 root_born x reached) inner in
+        let here = rank_same w t x x refl flat (key_same x born) in
+        let there = rank_same w t (w.child x right) (t.child x right) (child_same x right inner born) flat
+        (ap t.key (child_same x right inner born) ∙ key_same (w.child x right) (child_born x right inner born)) in
+        omega arith;
     one_path = λ x p q first second. h.one_path x p q (leads_back 0 root_born p x first) (leads_back 0 root_born q x second);
     left_less = λ x y reached inner below.
         let born = reached_born x reached in

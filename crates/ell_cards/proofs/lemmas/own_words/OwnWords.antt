@@ -1,18 +1,20 @@
-use Rattle.std.proofs.Common.{◌≡◌, ℕ, ◌<◌, ◌≤◌, ◌⊎◌, Bool, true, false, List, refl, sym, ◌∙◌, inl, inr, ◌%◌, ◌==◌, arith}
+use Rattle.std.proofs.Common.{eqb-true, ◌≡◌, ℕ, ◌<◌, ◌≤◌, ◌⊎◌, Bool, true, false, refl, sym, ◌∙◌, inl, inr, ◌%◌, ◌==◌, ◌&&◌, if◌then◌else◌, nat_le, nat_lt, subst, arith}
 use mathlib.Core.Option.{some}
 use lib.ListN.{get_elem?}
-use Rattle.ell_word.specs.Node.{card, internal, right_leaf}
+use Rattle.ell_word.specs.Node.{card, internal, left_leaf, right_leaf}
 use Rattle.ell_word.specs.Word.{unpacked}
-use Rattle.ell_layout.specs.Cards.{card_key, card_value, is_replace_card}
+use Rattle.ell_layout.specs.Cards.{card_key, card_value, is_delete_card, is_replace_card}
 use Rattle.ell_layout.specs.declared.field.Field.{Field}
 use Rattle.ell_layout.specs.declared.field.Field.TheVariants as field
-use Rattle.ell_layout.specs.Words.{IsLeaf, word, table_word}
+use Rattle.ell_layout.specs.Words.{Words, IsLeaf, word, table_word}
+use Rattle.ell_core.specs.history.Invariant.{insert_key, filled_child}
+use Rattle.ell_core.proofs.lemmas.stages.Edges.{replaces_leaf}
 use Rattle.ell_core.specs.soundness.Sound.{IsSound}
 use Rattle.ell_core.specs.history.Stages.{Stage, Born, is_claimed, is_start, is_insert, is_delete, is_born, is_node_born, waits, delete_won}
 use Rattle.ell_core.specs.history.Later.{SaysTheSame}
 use Rattle.ell_core.specs.statements.StepLaws.{GoesInTree}
-use Rattle.ell_core.specs.statements.Effects.{SamePairs}
-use Rattle.ell_layout.proofs.lemmas.Listed.{words_are_listed, listed_next, listed_small}
+use Rattle.ell_core.specs.statements.Effects.{SamePairs, op_of_card}
+use Rattle.ell_layout.proofs.lemmas.Listed.{words_are_listed, listed_next, listed_flat, listed_small}
 use Rattle.ell_layout.proofs.lemmas.Writes.{same_links}
 use Rattle.ell_core.proofs.lemmas.following.Reliance.{may_rely}
 use Rattle.ell_core.proofs.lemmas.following.Sound.{sound}
@@ -20,6 +22,7 @@ use Rattle.ell_core.proofs.lemmas.following.waiting.Cards.{flagged_made}
 use Rattle.ell_core.proofs.lemmas.stages.Order.{delete_won-delete, insert-claimed, delete-claimed, all-born}
 use Rattle.ell_core.proofs.lemmas.stages.Waiting.{born-settled, start-born, delete_won-settled}
 use Rattle.ell_core.proofs.lemmas.stages.LaterKeys.{born_below}
+use Rattle.ell_cards.specs.Models.{TablePlan}
 use Rattle.ell_cards.specs.declared.view.View.{View}
 use Rattle.ell_cards.specs.Models.{KnowsCard}
 use Rattle.ell_cards.specs.States.{TableState, seated}
@@ -30,17 +33,26 @@ use Rattle.ell_cards.proofs.lemmas.seats.Statements.{SoundByMachine}
 use Rattle.ell_cards.proofs.lemmas.stepping.Known.{known_card, known_settled, known_claimed}
 use Rattle.ell_cards.proofs.lemmas.seats.Seats.{mine_sound}
 use Rattle.ell_cards.proofs.lemmas.own_words.OwnTree.{reached_same, reached_born, pairs_same}
-use Rattle.ell_cards.proofs.lemmas.own_words.OwnCards.{card_key_same, card_value_same, leaf_value_same}
+use Rattle.ell_cards.proofs.lemmas.own_words.OwnCards.{card_key_same, card_op_same, card_value_same}
 use Rattle.ell_cards.proofs.lemmas.own_words.OwnSound.{own_sound}
 
 -- a card was not claimed, or is one of the opening tree's, an insert's or a delete's
 stage_kinds : (s : Stage) → (is_claimed s ≡ false) ⊎ ((is_start s ≡ true) ⊎ ((is_insert s ≡ true) ⊎ (is_delete s ≡ true)))
 stage_kinds s = grind arith
 
-module _ (keys : List ℕ) (cards : ℕ) (s : TableState) (r : HasMachine keys cards s) where
+-- one of two numbers, of which the second is no greater than a limit
+one_of_two : (test : Bool) (first second limit : ℕ) → second ≤ limit → ((if test then first else second) ≤ limit) ⊎ ((if test then first else second) ≡ first)
+one_of_two true first second limit low = inr refl
+one_of_two false first second limit low = inl low
+
+module _ (plan : TablePlan) (s : TableState) (r : HasMachine plan s) where
   -- the claim word, and each card that does not wait
   pub same_next : (own_words s).next ≡ r.words.next
   same_next = listed_next s.words ∙ r.next
+
+  -- and the word that says from where on the tree is flat
+  pub same_flat : (own_words s).flat_from ≡ r.words.flat_from
+  same_flat = listed_flat s.words ∙ r.flat
 
   -- a node that came into the tree fits beside a tag
   node_is_small : (x : ℕ) → Born r.stages x → x < 67108864
@@ -60,6 +72,11 @@ module _ (keys : List ℕ) (cards : ℕ) (s : TableState) (r : HasMachine keys c
       let there : Born r.stages (internal c) = (λ t. is_node_born (r.stages (same t)) (inner t)) ∙ born in
       node_is_small (r.words.child (internal c) right) ((r.invariant.words.children (internal c) inner there).born right)
 
+  -- what stands below the node of a card as it is filled: a node of the card, or the node where it goes
+  filled_cases : (w : Words) (c : ℕ) (right : Bool) → (filled_child w c right ≤ right_leaf c) ⊎ (filled_child w c right ≡ w.l c)
+  filled_cases w c false = one_of_two (w.l c % 4 == 0 && nat_le (w.key (w.l c)) (insert_key w c)) (w.l c) (left_leaf c) (right_leaf c) (omega arith)
+  filled_cases w c true = one_of_two (w.l c % 4 == 0 && nat_lt (insert_key w c) (w.key (w.l c))) (w.l c) (right_leaf c) (right_leaf c) (omega arith)
+
   -- what a card says fits beside a tag
   module _ (c : ℕ) where
     -- where it was not claimed, it says 0
@@ -72,19 +89,19 @@ module _ (keys : List ℕ) (cards : ℕ) (s : TableState) (r : HasMachine keys c
       where
         by : (b : Bool) → is_born (r.stages c) ≡ b → (right : Bool) → r.words.child (internal c) right < 67108864
         by true born right = born_child_is_small c right (all-born (r.stages c) 0 (omega arith) born)
-        by false unborn true =
-            let is = ((r.invariant.words.cards c).unborn inserts unborn).right in
-            own_is_small c (r.words.child (internal c) true) (insert-claimed (r.stages c) inserts) (omega (arith, is))
-        by false unborn false =
-            let is = ((r.invariant.words.cards c).unborn inserts unborn).left in
-            own_is_small c (r.words.child (internal c) false) (insert-claimed (r.stages c) inserts) (omega (arith, is))
+        by false unborn right = elim (filled_cases r.words c right) [
+          | inl own ↦ (let is = ((r.invariant.words.cards c).unborn inserts unborn).children right in
+              own_is_small c (r.words.child (internal c) right) (insert-claimed (r.stages c) inserts) (omega (arith, is, own)))
+          | inr below ↦ subst (λ x. x < 67108864) (sym (((r.invariant.words.cards c).unborn inserts unborn).children right ∙ below))
+              (node_is_small (r.words.l c) ((r.invariant.words.cards c).insert inserts).lower)
+        ]
 
     -- the leaf where it goes
     goes_small : r.words.l c < 67108864
     goes_small = elim (stage_kinds (r.stages c)) [
       | inl unclaimed ↦ blank_is_small unclaimed (r.words.l c) (((r.invariant.words.cards c).blank unclaimed).words field.L)
       | inr (inl start) ↦ (let is = (r.invariant.kinds.start c start).leaf in omega (arith, is))
-      | inr (inr (inl inserts)) ↦ node_is_small (r.words.l c) ((r.invariant.words.cards c).insert inserts).leaf.born
+      | inr (inr (inl inserts)) ↦ node_is_small (r.words.l c) ((r.invariant.words.cards c).insert inserts).lower
       | inr (inr (inr deletes)) ↦ node_is_small (r.words.l c) ((r.invariant.words.cards c).delete deletes).leaf.born
     ]
 
@@ -141,8 +158,8 @@ module _ (keys : List ℕ) (cards : ℕ) (s : TableState) (r : HasMachine keys c
       record { words = λ field. sym (h.words field); expects = sym h.expects; tags = λ right. sym (h.tags right) }
 
   -- the table's own words are a sound state
-  sound_state : IsSound (own_machine cards s)
-  sound_state = own_sound (seated r.words s.views cards) (own_words s) r.stages r.invariant same_next same_card
+  sound_state : IsSound (own_machine plan.last_card s)
+  sound_state = own_sound (seated r.words s.views plan.last_card) (own_words s) r.stages r.invariant same_next same_flat same_card
 
   -- the trees have the same keys with the same values
   pub own_pairs : SamePairs (own_words s) r.words
@@ -151,25 +168,33 @@ module _ (keys : List ℕ) (cards : ℕ) (s : TableState) (r : HasMachine keys c
   -- a card that a pass knows: where it goes, its key and its value
   module _ (id c : ℕ) (v : View) (here : get_elem? s.views id ≡ some v) (knows : KnowsCard v c) where
     known_goes : GoesInTree r.words r.stages c
-    known_goes = (may_rely (seated r.words s.views cards) r.stages id r.invariant).goes c (known_claimed keys cards s r id v here c knows)
+    known_goes = (may_rely (seated r.words s.views plan.last_card) r.stages id r.invariant).goes c (known_claimed plan s r id v here c knows)
 
-    known_leaf : IsLeaf (r.words.l c)
-    known_leaf = elim (known_card keys cards s r id v here c knows) [ inl i ↦ i.leaf.outer | inr d ↦ d.leaf.outer ]
+    -- a delete's card goes to a leaf, and so does an insert's that replaces it
+    delete_leaf : is_delete_card r.words c ≡ true → IsLeaf (r.words.l c)
+    delete_leaf deletes = elim (known_card plan s r id v here c knows) [
+      | inl i ↦ absurd (i.left_child (eqb-true (r.words.child (internal c) false) 0 deletes))
+      | inr d ↦ d.leaf.outer
+    ]
+
+    replaced_leaf : is_replace_card r.words c ≡ true → IsLeaf (r.words.l c)
+    replaced_leaf replaces = elim (known_card plan s r id v here c knows) [
+      | inl i ↦ replaces_leaf r.words r.stages r.invariant.words c i (eqb-true (r.words.key (left_leaf c)) (r.words.key (right_leaf c)) replaces)
+      | inr d ↦ d.leaf.outer
+    ]
 
     pub own_card_key : card_key (own_words s) c ≡ card_key r.words c
     own_card_key = card_key_same r.words (own_words s) r.stages r.invariant.words same_card c
-        (known_settled keys cards s r id v here c knows) known_goes
+        (known_settled plan s r id v here c knows) known_goes
 
     pub own_card_value : card_value (own_words s) c ≡ card_value r.words c
     own_card_value = card_value_same r.words (own_words s) r.stages r.invariant.words same_card c
-        (known_settled keys cards s r id v here c knows) known_goes known_leaf
+        (known_settled plan s r id v here c knows) known_goes delete_leaf
 
-    -- whether it replaces its leaf, and the value of that
-    pub own_card_kind : (is_replace_card r.words c ≡ is_replace_card (own_words s) c) × (r.words.value (r.words.l c) ≡ (own_words s).value ((own_words s).l c))
-    own_card_kind = let same = same_card c (known_settled keys cards s r id v here c knows) in (
-      (λ t. sym (same.words field.LeftLeafKey) t == sym (same.words field.RightLeafKey) t),
-      sym (leaf_value_same r.words (own_words s) r.stages r.invariant.words same_card c (known_settled keys cards s r id v here c knows) known_goes known_leaf),
-    )
+    -- and the operation that an insert's card is for
+    pub own_card_op : op_of_card (own_words s) c ≡ op_of_card r.words c
+    own_card_op = card_op_same r.words (own_words s) r.stages r.invariant.words same_card c
+        (known_settled plan s r id v here c knows) known_goes delete_leaf replaced_leaf
 
   -- the value of a card that a delete flagged
   pub own_taken_value : (c : ℕ) → delete_won (r.stages c) ≡ true → card_value (own_words s) c ≡ card_value r.words c
@@ -177,10 +202,10 @@ module _ (keys : List ℕ) (cards : ℕ) (s : TableState) (r : HasMachine keys c
       let deletes = delete_won-delete (r.stages c) won in
       let sound = r.invariant.words.cards c in
       card_value_same r.words (own_words s) r.stages r.invariant.words same_card c (delete_won-settled (r.stages c) won)
-      ((may_rely (seated r.words s.views cards) r.stages 0 r.invariant).goes c (sound.claimed.0 (delete-claimed (r.stages c) deletes))) (sound.delete deletes).leaf.outer
+      ((may_rely (seated r.words s.views plan.last_card) r.stages 0 r.invariant).goes c (sound.claimed.0 (delete-claimed (r.stages c) deletes))) (λ is. (sound.delete deletes).leaf.outer)
 
   -- where the words are the table's own
-  words_own : WordsAreOwn keys cards s r
+  words_own : WordsAreOwn plan s r
   words_own = record {
     next = sym same_next;
     settled = settled_card;
@@ -190,10 +215,10 @@ module _ (keys : List ℕ) (cards : ℕ) (s : TableState) (r : HasMachine keys c
     flags = λ x reached inner dirty.
         let hand = (sound_state.flags x reached inner dirty).in_hand in
         let c = (unpacked ((own_words s).update x)).card in
-        settled_card c (flagged_made r.words r.stages ((own_machine cards s).worker hand.worker) c (r.invariant.workers.each hand.worker) hand.holds hand.flagged);
-    known = λ i c v here knows. settled_card c (known_settled keys cards s r i v here c knows);
+        settled_card c (flagged_made r.words r.stages ((own_machine plan.last_card s).worker hand.worker) c (r.invariant.workers.each hand.worker) hand.holds hand.flagged);
+    known = λ i c v here knows. settled_card c (known_settled plan s r i v here c knows);
     held = λ i c v here h.
-        settled_card c (flagged_made r.words r.stages _ c (mine_sound keys cards s r i v here) h.holds h.flagged);
+        settled_card c (flagged_made r.words r.stages _ c (mine_sound plan s r i v here) h.holds h.flagged);
     tree = own_pairs;
   }
 
@@ -201,7 +226,7 @@ pub own_words_are_sound : SoundByMachine
 own_words_are_sound = sound_state
 
 pub machine_is_sound : MachineIsSound
-machine_is_sound keys cards s r = sound (seated r.words s.views cards) r.stages r.invariant
+machine_is_sound plan s r = sound (seated r.words s.views plan.last_card) r.stages r.invariant
 
 pub machine_has_own_words : MachineHasOwnWords
 machine_has_own_words = words_own

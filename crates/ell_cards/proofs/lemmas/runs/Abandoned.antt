@@ -288,7 +288,7 @@ module _ (plan : TablePlan) where
   -- so it stays abandoned by every turn, and in every run
   pub turn_abandoned : (s : TableState) → IsReached plan s → (c : ℕ) → IsAbandoned s c → (t : Turn) (s' : TableState) → TableTurns plan.last_card s t s' → IsAbandoned s' c
   turn_abandoned s reached c h t s' turn = record {
-    claimed = let rises = claim_word_rises plan.keys plan.last_card s (reached_kept plan s reached) t s' turn in let low = h.claimed in omega arith;
+    claimed = let rises = claim_word_rises plan s (reached_kept plan s reached) t s' turn in let low = h.claimed in omega arith;
     free = stays_free s reached c h t s' turn;
     unended = stays_unended s reached c h t s' turn (reached_on plan s reached t s' turn);
   }

@@ -13,6 +13,7 @@ use Rattle.ell_core.specs.statements.Effects.{reply_of_change, AddsPair, TakesPa
 use Rattle.ell_core.proofs.lemmas.outcomes.Decide.{same_value, some_not_none}
 use Rattle.ell_core.proofs.lemmas.following.AnswerMeaning.{key_kept, key_lacked, swap_lacked, swap_other}
 use Rattle.ell_core.proofs.lemmas.keeping.search.Answer.{gives_else}
+use Rattle.ell_cards.specs.Models.{TablePlan}
 use Rattle.ell_cards.specs.Looking.{HasThere}
 use Rattle.ell_cards.specs.TurnEffects.{own_words, PairsChangeBy}
 use Rattle.ell_cards.specs.States.{TableState}
@@ -138,7 +139,7 @@ change_says (Swap k was value) old new h there map = ap found (sym ((map k was).
 
 -- each call answers as a map at one point
 pub calls_answer_as_a_map : CallsAnswerAsAMap
-calls_answer_as_a_map keys cards s r seat op begun turns s' said called = elim (calls_have_their_point keys cards s r seat op begun turns s' said called) [
+calls_answer_as_a_map plan s r seat op begun turns s' said called = elim (calls_have_their_point plan s r seat op begun turns s' said called) [
   | inl was ↦ record {
     first = was.so.amid.first;
     state = was.so.state;
@@ -151,7 +152,7 @@ calls_answer_as_a_map keys cards s r seat op begun turns s' said called = elim (
     first = t.first;
     state = t.state;
     before = t.before;
-    after = subst (λ ts. TableRun cards t.state ts s') (sym t.at) (t.next, t.now, t.after);
+    after = subst (λ ts. TableRun plan.last_card t.state ts s') (sym t.at) (t.next, t.now, t.after);
     says = λ there map. by.0 ∙ change_says op (own_words t.state) (own_words t.next) t.changes there map;
     goes = inr (record {
       card = by.1.0;
@@ -180,24 +181,24 @@ call_map (call.DChild c gp p s right) true old new takes there map = (without th
 call_map (call.DChild c gp p s right) false old new same there map = (there, same_map old new same there map)
 call_map _ b old new same there map = (there, same_map old new same there map)
 
-turn_map : (keys : List ℕ) (cards : ℕ) (s : TableState) → HasMachine keys cards s → (t : Turn) (s' : TableState) → TableTurns cards s t s' → IsAMap s → IsAMap s'
-turn_map keys cards s r (Makes seat c) s' h m =
-    let more = call_map c (is_won (atomic_of c) (found_by s c)) (own_words s) (own_words s') (turn_lawful keys cards s r (Makes seat c) s' h).1.tree m.there m.map in
+turn_map : (plan : TablePlan) (s : TableState) → HasMachine plan s → (t : Turn) (s' : TableState) → TableTurns plan.last_card s t s' → IsAMap s → IsAMap s'
+turn_map plan s r (Makes seat c) s' h m =
+    let more = call_map c (is_won (atomic_of c) (found_by s c)) (own_words s) (own_words s') (turn_lawful plan s r (Makes seat c) s' h).1.tree m.there m.map in
     record { there = more.0; map = more.1 }
-turn_map keys cards s r (Splits seat left) s' h m =
-    record { there = m.there; map = same_map (own_words s) (own_words s') (turn_lawful keys cards s r (Splits seat left) s' h).1.tree m.there m.map }
-turn_map keys cards s r (Joins seat other) s' h m =
-    record { there = m.there; map = same_map (own_words s) (own_words s') (turn_lawful keys cards s r (Joins seat other) s' h).1.tree m.there m.map }
+turn_map plan s r (Splits seat left) s' h m =
+    record { there = m.there; map = same_map (own_words s) (own_words s') (turn_lawful plan s r (Splits seat left) s' h).1.tree m.there m.map }
+turn_map plan s r (Joins seat other) s' h m =
+    record { there = m.there; map = same_map (own_words s) (own_words s') (turn_lawful plan s r (Joins seat other) s' h).1.tree m.there m.map }
 
-run_map : (keys : List ℕ) (cards : ℕ) (s : TableState) → HasMachine keys cards s → (turns : List Turn) (s' : TableState) → TableRun cards s turns s' → IsAMap s → IsAMap s'
-run_map keys cards s r [] s' run m = subst IsAMap (sym run) m
-run_map keys cards s r (t ∷ ts) s' run m =
-    run_map keys cards run.0 (turn_lawful keys cards s r t run.0 run.1).0 ts s' run.2 (turn_map keys cards s r t run.0 run.1 m)
+run_map : (plan : TablePlan) (s : TableState) → HasMachine plan s → (turns : List Turn) (s' : TableState) → TableRun plan.last_card s turns s' → IsAMap s → IsAMap s'
+run_map plan s r [] s' run m = subst IsAMap (sym run) m
+run_map plan s r (t ∷ ts) s' run m =
+    run_map plan run.0 (turn_lawful plan s r t run.0 run.1).0 ts s' run.2 (turn_map plan s r t run.0 run.1 m)
 
 -- the tree is a map wherever turns lead from a start
 pub trees_are_maps : TreesAreMaps
 trees_are_maps plan s starts turns s' run =
-    run_map plan.keys plan.last_card s (starts_are_kept plan s starts).kept turns s' run
+    run_map plan s (starts_are_kept plan s starts).kept turns s' run
     (record { there = contents_of plan.start; map = starts_have_their_keys plan s starts })
 
 -- a call leads from a map to that after its effect
@@ -208,30 +209,30 @@ effect_map (call.DChild c gp p s right) true old new takes there map = taken old
 effect_map (call.DChild c gp p s right) false old new same there map = same_map old new same there map
 effect_map _ b old new same there map = same_map old new same there map
 
-pub turn_effects : (keys : List ℕ) (cards : ℕ) (s : TableState) → HasMachine keys cards s → (t : Turn) (s' : TableState) → TableTurns cards s t s' → (there : Contents)
+pub turn_effects : (plan : TablePlan) (s : TableState) → HasMachine plan s → (t : Turn) (s' : TableState) → TableTurns plan.last_card s t s' → (there : Contents)
     → HasMap (own_words s) there → HasMap (own_words s') (final there (turn_effect s t))
-turn_effects keys cards s r (Makes seat c) s' h there map =
-    effect_map c (is_won (atomic_of c) (found_by s c)) (own_words s) (own_words s') (turn_lawful keys cards s r (Makes seat c) s' h).1.tree there map
-turn_effects keys cards s r (Splits seat left) s' h there map =
-    same_map (own_words s) (own_words s') (turn_lawful keys cards s r (Splits seat left) s' h).1.tree there map
-turn_effects keys cards s r (Joins seat other) s' h there map =
-    same_map (own_words s) (own_words s') (turn_lawful keys cards s r (Joins seat other) s' h).1.tree there map
+turn_effects plan s r (Makes seat c) s' h there map =
+    effect_map c (is_won (atomic_of c) (found_by s c)) (own_words s) (own_words s') (turn_lawful plan s r (Makes seat c) s' h).1.tree there map
+turn_effects plan s r (Splits seat left) s' h there map =
+    same_map (own_words s) (own_words s') (turn_lawful plan s r (Splits seat left) s' h).1.tree there map
+turn_effects plan s r (Joins seat other) s' h there map =
+    same_map (own_words s) (own_words s') (turn_lawful plan s r (Joins seat other) s' h).1.tree there map
 
 final_append : (there : Contents) (a b : List Op) → final there (a ++ b) ≡ final (final there a) b
 final_append there [] b = refl
 final_append there (op ∷ ops) b = final_append (after op there) ops b
 
-run_maps : (keys : List ℕ) (cards : ℕ) (s : TableState) → HasMachine keys cards s → (turns : List Turn) (s' : TableState) (run : TableRun cards s turns s') → (there : Contents)
-    → HasMap (own_words s) there → HasMap (own_words s') (final there (run_effects cards s turns s' run))
-run_maps keys cards s r [] s' run there map = subst (λ (x : TableState). HasMap (own_words x) there) (sym run) map
-run_maps keys cards s r (t ∷ ts) s' run there map =
-    subst (HasMap (own_words s')) (sym (final_append there (turn_effect s t) (run_effects cards run.0 ts s' run.2)))
-    (run_maps keys cards run.0 (turn_lawful keys cards s r t run.0 run.1).0 ts s' run.2 (final there (turn_effect s t)) (turn_effects keys cards s r t run.0 run.1 there map))
+run_maps : (plan : TablePlan) (s : TableState) → HasMachine plan s → (turns : List Turn) (s' : TableState) (run : TableRun plan.last_card s turns s') → (there : Contents)
+    → HasMap (own_words s) there → HasMap (own_words s') (final there (run_effects plan.last_card s turns s' run))
+run_maps plan s r [] s' run there map = subst (λ (x : TableState). HasMap (own_words x) there) (sym run) map
+run_maps plan s r (t ∷ ts) s' run there map =
+    subst (HasMap (own_words s')) (sym (final_append there (turn_effect s t) (run_effects plan.last_card run.0 ts s' run.2)))
+    (run_maps plan run.0 (turn_lawful plan s r t run.0 run.1).0 ts s' run.2 (final there (turn_effect s t)) (turn_effects plan s r t run.0 run.1 there map))
 
 -- the tree is what one thread leaves
 pub trees_are_of_one_thread : TreesAreOfOneThread
 trees_are_of_one_thread plan s starts turns s' run =
-    run_maps plan.keys plan.last_card s (starts_are_kept plan s starts).kept turns s' run (contents_of plan.start) (starts_have_their_keys plan s starts)
+    run_maps plan s (starts_are_kept plan s starts).kept turns s' run (contents_of plan.start) (starts_have_their_keys plan s starts)
 
 -- two runs in a row
 pub runs_on : (cards : ℕ) (s : TableState) (a : List Turn) (between : TableState) (b : List Turn) (s' : TableState) → TableRun cards s a between → TableRun cards between b s'
@@ -240,16 +241,16 @@ runs_on cards s [] between b s' first next = subst (λ (x : TableState). TableRu
 runs_on cards s (t ∷ ts) between b s' first next = (first.0, first.1, runs_on cards first.0 ts between b s' first.2 next)
 
 -- the machine goes on
-pub run_kept : (keys : List ℕ) (cards : ℕ) (s : TableState) → HasMachine keys cards s → (turns : List Turn) (s' : TableState) → TableRun cards s turns s' → HasMachine keys cards s'
-run_kept keys cards s r [] s' run = subst (HasMachine keys cards) (sym run) r
-run_kept keys cards s r (t ∷ ts) s' run = run_kept keys cards run.0 (turn_lawful keys cards s r t run.0 run.1).0 ts s' run.2
+pub run_kept : (plan : TablePlan) (s : TableState) → HasMachine plan s → (turns : List Turn) (s' : TableState) → TableRun plan.last_card s turns s' → HasMachine plan s'
+run_kept plan s r [] s' run = subst (HasMachine plan) (sym run) r
+run_kept plan s r (t ∷ ts) s' run = run_kept plan run.0 (turn_lawful plan s r t run.0 run.1).0 ts s' run.2
 
 -- each call replies as one thread
 pub calls_reply_as_one_thread : CallsReplyAsOneThread
 calls_reply_as_one_thread plan opened starts earlier s run seat op begun turns s' said called =
     let last = plan.last_card in
-    let kept = run_kept plan.keys plan.last_card opened (starts_are_kept plan opened starts).kept earlier s run in
-    let at = calls_answer_as_a_map plan.keys plan.last_card s kept seat op begun turns s' said called in
+    let kept = run_kept plan opened (starts_are_kept plan opened starts).kept earlier s run in
+    let at = calls_answer_as_a_map plan s kept seat op begun turns s' said called in
     let all = earlier ++ Makes seat (call.Begin op) ∷ take at.first turns in
     let led = runs_on plan.last_card opened earlier s (Makes seat (call.Begin op) ∷ take at.first turns) at.state run (begun, called.begins, at.before) in
     record {

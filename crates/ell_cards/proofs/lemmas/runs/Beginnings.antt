@@ -156,8 +156,8 @@ stretches_are_of_one_state plan v low high said found s starts turns s' run seat
     elim (run_back plan.last_card seat s turns s' run (record { view = v; there = there; looks = some_glance v.glances found.comes.glance found.comes.among })) [
       | inl b ↦ record {
         began = b;
-        so = stretches_of_one_state plan.keys plan.last_card v low high said found b.from
-            (runs_are_lawful plan.keys plan.last_card s kept _ b.from b.before).kept seat b.to b.call _ s' b.after b.on there;
+        so = stretches_of_one_state plan v low high said found b.from
+            (runs_are_lawful plan s kept _ b.from b.before).kept seat b.to b.call _ s' b.after b.on there;
       }
       | inr h ↦ absurd (starts_still plan s starts plan.last_card seat h.1)
     ]
@@ -165,9 +165,9 @@ stretches_are_of_one_state plan v low high said found s starts turns s' run seat
 -- of two looks, one after the other, the second is of no earlier state
 pub stretches_are_in_order : StretchesAreInOrder
 stretches_are_in_order plan s starts turns ended run seat v at first found other begun call more s' run' on w at' second found' =
-    let kept = (runs_are_lawful plan.keys plan.last_card s (starts_are_kept plan s starts).kept turns ended run).kept in (
+    let kept = (runs_are_lawful plan s (starts_are_kept plan s starts).kept turns ended run).kept in (
       stretches_are_of_one_state plan v first.0 first.1 first.2 found s starts turns ended run seat at,
-      stretches_of_one_state plan.keys plan.last_card w second.0 second.1 second.2 found' ended kept other begun call more s' run' on at',
+      stretches_of_one_state plan w second.0 second.1 second.2 found' ended kept other begun call more s' run' on at',
     )
 
 -- a key with its value, if it has one

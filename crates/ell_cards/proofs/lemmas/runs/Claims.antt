@@ -1,3 +1,5 @@
+use Rattle.ell_cards.specs.Depths.{met_at, depth_told}
+use Rattle.ell_cards.proofs.lemmas.views.Depths.{met_more}
 use Rattle.std.proofs.Common.{◌≡◌, ◌≢◌, ℕ, ◌+◌, ◌<◌, ◌==◌, if◌then◌else◌, Bool, true, false, Some, List, [], ◌∷◌, ◌++◌, get_or, set, length, unwrap_or, refl, sym, ap, ◌∙◌, subst, inl, inr, eqb-true, get_or-set_other, arith}
 use Rattle.std.proofs.lemmas.Bool.{cases_eq}
 use lib.Seq.{set-get_or}
@@ -20,7 +22,7 @@ use Rattle.ell_cards.specs.declared.view.Told.{Told}
 use Rattle.ell_cards.specs.declared.view.Told.TheVariants.{Met, Key, Value, Info, Frozen, Expects}
 use Rattle.ell_cards.specs.declared.view.View.{View}
 use Rattle.ell_cards.specs.Models.{TablePlan, Has, latest, earlier, IsTold}
-use Rattle.ell_cards.specs.Changes.{expected_tag, told_filling, filling_of, filling_for, told_value, after_claim, after_flag, after_mark, is_mark_of, with_fact, unmarking, left_view, right_view, joined_view, spent_view}
+use Rattle.ell_cards.specs.Changes.{expected_tag, told_filling, filling_of, filling_for, told_value, after_claim, after_flag, after_mark, is_mark_of, with_fact, unmarking, left_view, right_view, joined_view, spent_view, depth_there}
 use Rattle.ell_cards.specs.Guards.{MayClaim, Wants}
 use Rattle.ell_cards.specs.Calls.{word_of, atomic_of, left_by, after}
 use Rattle.ell_cards.specs.States.{TableState}
@@ -52,14 +54,14 @@ pub after_told : (c : Call) (n : ℕ) (v : View) (e : Told) → IsTold v e → I
 after_told (call.Begin op) n v e h = earlier e (Met 0) v.told h
 after_told call.Again n v e h = earlier e (Met 0) v.told h
 after_told (call.Upd x) n v e h = places_more x (unpacked n).state (unpacked n).card v.told e h
-after_told (call.Down x right) n v e h = earlier e (Met (link_in n).node) v.told h
+after_told (call.Down x right) n v e h = met_more (depth_told v.told x + 1) (link_in n).node v.told e h
 after_told (call.KeyOf x) n v e h = earlier e (Key x n) v.told h
 after_told (call.ValueOf x) n v e h = earlier e (Value x n) v.told h
-after_told (call.Info c f) n v e h = info_more c f n v.told e h
+after_told (call.Info c f) n v e h = info_more (depth_there v c f) c f n v.told e h
 after_told (call.FrozenChild c p right) n v e h =
-    earlier e (Frozen c right (link_in n).node) (Met (link_in n).node ∷ v.told) (earlier e (Met (link_in n).node) v.told h)
-after_told call.Look n v e h = earlier e (Met (link_in n).node) v.told h
-after_told (call.LookDown from key right) n v e h = earlier e (Met (link_in n).node) v.told h
+    earlier e (Frozen c right (link_in n).node) (met_at (depth_told v.told p + 1) (link_in n).node v.told) (met_more (depth_told v.told p + 1) (link_in n).node v.told e h)
+after_told call.Look n v e h = met_more (depth_told v.told 0 + 1) (link_in n).node v.told e h
+after_told (call.LookDown from key right) n v e h = met_more (depth_told v.told from.node + 1) (link_in n).node v.told e h
 after_told (call.Claim c) n v e h = claim_told (n == c) c v e h
 after_told (call.IFlag c p from) n v e h = flag_told (n == packed from) (fact.IFlagged c) p (unpacked n) v e h
 after_told (call.DFlag c gp from) n v e h = flag_told (n == packed from) (fact.DFlagged c) gp (unpacked n) v e h

@@ -30,16 +30,16 @@ pub none_at_start : (plan : TablePlan) (s : TableState) → Starts plan s → (k
 none_at_start plan s starts k c = ap (total k c) starts.is
 
 -- a machine of a state, with stages of its cards by which each win of a card was told once, to one pass
-pub record Counts (keys : List ℕ) (cards : ℕ) (s : TableState) : Type 0 where
-  pub machine : HasMachine keys cards s
+pub record Counts (plan : TablePlan) (s : TableState) : Type 0 where
+  pub machine : HasMachine plan s
   pub stages : Stages
-  pub invariant : Invariant (machine_of_table keys cards s machine) stages
+  pub invariant : Invariant (machine_of_table plan s machine) stages
   pub counted : (k : Exchange) → 0 < number k → (c : ℕ) → total k c s ≡ count k (wins_of (stages c))
 
-pub wins_are_counted : (plan : TablePlan) (s : TableState) → IsReached plan s → Counts plan.keys plan.last_card s
+pub wins_are_counted : (plan : TablePlan) (s : TableState) → IsReached plan s → Counts plan s
 wins_are_counted plan s h =
     let k = starts_are_kept plan h.first h.starts in
-    let goes = run_goes plan.keys plan.last_card h.first k.kept k.kept.stages k.kept.invariant h.turns s h.run in record {
+    let goes = run_goes plan h.first k.kept k.kept.stages k.kept.invariant h.turns s h.run in record {
       machine = goes.0;
       stages = goes.1.stages;
       invariant = goes.1.invariant;

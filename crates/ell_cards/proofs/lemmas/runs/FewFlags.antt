@@ -20,6 +20,7 @@ use Rattle.ell_core.proofs.lemmas.stages.Order.{delete-claimed, insert_won-inser
 use Rattle.ell_core.proofs.lemmas.following.Backtracks.{IsTakenBack}
 use Rattle.ell_core.proofs.lemmas.following.SetSince.{IsSetSince, insert_flag, delete_flag, mark}
 use Rattle.ell_core.proofs.lemmas.following.Early.{is_early, stands_early, search_early, card_early}
+use Rattle.ell_cards.specs.Models.{TablePlan}
 use Rattle.ell_cards.specs.declared.view.View.{View}
 use Rattle.ell_cards.specs.Contention.{how_many, cards_in_hand}
 use Rattle.ell_cards.specs.States.{TableState, seat_worker}
@@ -74,9 +75,9 @@ seats_early w0 (v ∷ vs) free =
     let rest = seats_early w0 vs (λ j. free (suc j)) in
     omega arith
 
-module _ (keys : List ℕ) (cards : ℕ) (s0 : TableState) (r0 : HasMachine keys cards s0) (first : Stages)
-    (before : Invariant (machine_of_table keys cards s0 r0) first) (s : TableState) (won : ℕ → List Exchange) (flags : ℕ)
-    (at : Amid keys cards s0 r0 first before s won flags) (quiet : (d : ℕ) → sum_by child_changes (won d) ≡ 0)
+module _ (plan : TablePlan) (s0 : TableState) (r0 : HasMachine plan s0) (first : Stages)
+    (before : Invariant (machine_of_table plan s0 r0) first) (s : TableState) (won : ℕ → List Exchange) (flags : ℕ)
+    (at : Amid plan s0 r0 first before s won flags) (quiet : (d : ℕ) → sum_by child_changes (won d) ≡ 0)
     (lawful : IsLawful r0.words) (h : ℕ) (height : HasHeight r0.words h) where
   abbrev w : Words
   w = at.kept.words
@@ -85,7 +86,7 @@ module _ (keys : List ℕ) (cards : ℕ) (s0 : TableState) (r0 : HasMachine keys
   stage = at.went.stages
 
   abbrev n : ℕ
-  n = cards + 1
+  n = plan.last_card + 1
 
   -- whether a delete's flag was set in the stretch and taken back
   abbrev back : ℕ → Bool
@@ -428,21 +429,21 @@ module _ (keys : List ℕ) (cards : ℕ) (s0 : TableState) (r0 : HasMachine keys
 
 pub few_flags_without_a_change : FewFlagsWithoutAChange
 few_flags_without_a_change plan r h height =
-    few_flags plan.keys plan.last_card r.begun r0 r0.stages r0.invariant r.now (λ d. run_wins plan.last_card r.begun r.turns r.now r.run d) (won_in is_flag plan.last_card r.begun r.turns r.now r.run)
-    at (quiet_run plan.last_card r.begun r.turns r.now r.run r.unchanged) (machine_is_sound plan.keys plan.last_card r.begun r0).tree h
+    few_flags plan r.begun r0 r0.stages r0.invariant r.now (λ d. run_wins plan.last_card r.begun r.turns r.now r.run d) (won_in is_flag plan.last_card r.begun r.turns r.now r.run)
+    at (quiet_run plan.last_card r.begun r.turns r.now r.run r.unchanged) (machine_is_sound plan r.begun r0).tree h
     (λ path x leads inner. height path x
-    (leads_on r0.words (own_words r.begun) r0.stages r0.invariant.words (same_card plan.keys plan.last_card r.begun r0) 0
-    (root_born r0.words (own_words r.begun) r0.stages r0.invariant.words (same_card plan.keys plan.last_card r.begun r0)) path x leads) inner)
+    (leads_on r0.words (own_words r.begun) r0.stages r0.invariant.words (same_card plan r.begun r0) 0
+    (root_born r0.words (own_words r.begun) r0.stages r0.invariant.words (same_card plan r.begun r0)) path x leads) inner)
   where
     last : ℕ
     last = plan.last_card
 
-    r0 : HasMachine plan.keys plan.last_card r.begun
+    r0 : HasMachine plan r.begun
     r0 = led_kept plan r.opened r.starts r.before r.begun r.led
 
-    at : Amid plan.keys plan.last_card r.begun r0 r0.stages r0.invariant r.now (λ d. run_wins plan.last_card r.begun r.turns r.now r.run d) (won_in is_flag plan.last_card r.begun r.turns r.now r.run)
+    at : Amid plan r.begun r0 r0.stages r0.invariant r.now (λ d. run_wins plan.last_card r.begun r.turns r.now r.run d) (won_in is_flag plan.last_card r.begun r.turns r.now r.run)
     at =
         let same : 0 + won_in is_flag plan.last_card r.begun r.turns r.now r.run ≡ won_in is_flag plan.last_card r.begun r.turns r.now r.run = omega arith in
-        subst (Amid plan.keys plan.last_card r.begun r0 r0.stages r0.invariant r.now (λ d. run_wins plan.last_card r.begun r.turns r.now r.run d)) same
-        (run_amid plan.keys plan.last_card r.begun r0 r0.stages r0.invariant r.begun (λ d. []) 0 (amid_first plan.keys plan.last_card r.begun r0 r0.stages r0.invariant) (λ d. refl)
+        subst (Amid plan r.begun r0 r0.stages r0.invariant r.now (λ d. run_wins plan.last_card r.begun r.turns r.now r.run d)) same
+        (run_amid plan r.begun r0 r0.stages r0.invariant r.begun (λ d. []) 0 (amid_first plan r.begun r0 r0.stages r0.invariant) (λ d. refl)
         r.turns r.now r.run r.unchanged)

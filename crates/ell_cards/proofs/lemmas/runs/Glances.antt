@@ -19,17 +19,18 @@ use Rattle.ell_core.specs.state.Machine.{Machine}
 use Rattle.ell_layout.specs.Cards.{is_right}
 use Rattle.ell_core.specs.tree.Tree.{IsTreeKey, OnWalk, here, next}
 use Rattle.ell_core.specs.history.Stages.{Stages, Born}
-use Rattle.ell_core.specs.history.Invariant.{top, Invariant, WordsAreSound}
+use Rattle.ell_core.specs.history.Invariant.{Invariant, WordsAreSound}
 use Rattle.ell_core.specs.history.Later.{StagesLater}
 use Rattle.ell_core.specs.statements.Readers.{AllCome, from_of, upto_of}
 use Rattle.ell_core.proofs.lemmas.outcomes.Decide.{some_not_none}
-use Rattle.ell_core.proofs.lemmas.tree.Courses.{OnCourse-start}
+use Rattle.ell_core.proofs.lemmas.tree.Blocks.{no_block-plain}
 use Rattle.ell_core.proofs.lemmas.tree.Reached.{OnWalk-below, tree_key_leads}
 use Rattle.ell_core.proofs.lemmas.stages.Order.{born-claimed}
 use Rattle.ell_core.proofs.lemmas.stages.LaterKeys.{root_born}
 use Rattle.ell_core.proofs.lemmas.following.Lawful.{events_lawful}
 use Rattle.ell_core.proofs.lemmas.following.Stretches.{AllOnCourse, StretchGoesOn, stretch_goes_on, all_come_down, from_above, upto_below, goes_side, upto_real}
-use Rattle.ell_core.proofs.lemmas.runs.Looks.{walk_born, walk_course, walk_ends}
+use Rattle.ell_core.proofs.lemmas.runs.Looks.{walk_born, root_course, walk_course, walk_ends}
+use Rattle.ell_cards.specs.Models.{TablePlan}
 use Rattle.ell_cards.specs.declared.call.Call.{Call}
 use Rattle.ell_cards.specs.declared.call.Call.TheVariants as call
 use Rattle.ell_cards.specs.declared.glance.Glance.{Glance}
@@ -70,6 +71,13 @@ mark_look false c x u v = by (is_mark_of c u.state u.card)
     by true = refl
     by false = refl
 
+-- what comes to a node goes to its child
+come_to_child : (w : Words) (x low high : ℕ) (right : Bool) → IsInternal x → AllCome w x low high
+    → AllCome w (w.child x right) (from_of right low (w.key x)) (upto_of right high (w.key x))
+come_to_child w x low high right inner come =
+    all_come_down w x (from_of right low (w.key x)) (upto_of right high (w.key x)) right inner (goes_side right low high (w.key x))
+    (λ k a b. come k (from_above right low (w.key x) k a) (upto_below right high (w.key x) k b))
+
 -- a node, whose child on the side of a key is followed, with the keys that come to it
 module _ (x low high key : ℕ) (right : Bool) (inner : IsInternal x) (a : low ≤ key) (b : key < high) where
   child_still : (old new : Words) → new ≡ old → AllOnCourse old x low high → is_right old x key ≡ right → StretchGoesOn old new x low high key right
@@ -78,47 +86,48 @@ module _ (x low high key : ℕ) (right : Bool) (inner : IsInternal x) (a : low �
 
   -- over an act, or none
   becomes_child : (m : Machine) (stage : Stages) (i : ℕ) (o : Option Act) (said : Stepped) (m' : Machine) (stages : Stages) → Invariant m stage
-      → Becomes i o said m m' → WordsAreSound m'.words stages → Born stage x → AllOnCourse m.words x low high → is_right m.words x key ≡ right
-      → StretchGoesOn m.words m'.words x low high key right
-  becomes_child m stage i None said m' stages holds is sound born course side = child_still m.words m'.words (ap (λ (n : Machine). n.words) is) course side
-  becomes_child m stage i (Some act) said m' stages holds steps sound born course side =
+      → Becomes i o said m m' → WordsAreSound m'.words stages → Born stage x → Born stages x → m.words.flat_from ≡ 0 → AllOnCourse m.words x low high
+      → is_right m.words x key ≡ right → StretchGoesOn m.words m'.words x low high key right
+  becomes_child m stage i None said m' stages holds is sound born born' plain course side = child_still m.words m'.words (ap (λ (n : Machine). n.words) is) course side
+  becomes_child m stage i (Some act) said m' stages holds steps sound born born' plain course side =
       stretch_goes_on m stage (record { worker = i; act = act }) said m' stages holds steps sound
-      (events_lawful m stage (record { worker = i; act = act }) said m' holds steps).follows.words x low high key right inner born course a b side
+      (events_lawful m stage (record { worker = i; act = act }) said m' holds steps).follows.words x low high key right inner born born' course
+      (λ k l u. no_block-plain m.words x k plain) a b side
 
-  module _ (keys : List ℕ) (cards : ℕ) where
+  module _ (plan : TablePlan) where
     -- over a turn
-    turn_child : (s : TableState) (r : HasMachine keys cards s) (t : Turn) (s' : TableState) → TableTurns cards s t s' → Born r.stages x
+    turn_child : (s : TableState) (r : HasMachine plan s) (t : Turn) (s' : TableState) → TableTurns plan.last_card s t s' → Born r.stages x
         → AllOnCourse r.words x low high → is_right r.words x key ≡ right
-        → (r' : HasMachine keys cards s') × StagesLater r.stages r'.stages × StretchGoesOn r.words r'.words x low high key right
+        → (r' : HasMachine plan s') × StagesLater r.stages r'.stages × StretchGoesOn r.words r'.words x low high key right
     turn_child s r (Makes other c) s' h born course side =
-        let turn = turn_lawful keys cards s r (Makes other c) s' h in (
+        let turn = turn_lawful plan s r (Makes other c) s' h in (
           turn.0,
           turn.1.later,
-          becomes_child (machine_of_table keys cards s r) r.stages other (act_of c (found_by s c)) (said_of c (found_by s c))
-              (machine_of_table keys cards s' turn.0) turn.0.stages r.invariant turn.1.machine turn.0.invariant.words born course side,
+          becomes_child (machine_of_table plan s r) r.stages other (act_of c (found_by s c)) (said_of c (found_by s c))
+              (machine_of_table plan s' turn.0) turn.0.stages r.invariant turn.1.machine turn.0.invariant.words born (turn.1.later.born x born) r.plain course side,
         )
     turn_child s r (Splits other left) s' h born course side =
-        let turn = turn_lawful keys cards s r (Splits other left) s' h in
+        let turn = turn_lawful plan s r (Splits other left) s' h in
         let split = turn.1.machine in
         (turn.0, turn.1.later, child_still r.words turn.0.words (ap (λ (n : Machine). n.words) split.gives) course side)
     turn_child s r (Joins one other) s' h born course side =
-        let turn = turn_lawful keys cards s r (Joins one other) s' h in
+        let turn = turn_lawful plan s r (Joins one other) s' h in
         let join = turn.1.machine in
         (turn.0, turn.1.later, child_still r.words turn.0.words (ap (λ (n : Machine). n.words) join.gives) course side)
 
     -- in a state of a run all keys of the stretch came by the node, whose child was then as it is in the end
-    record CameSince (s : TableState) (turns : List Turn) (s' : TableState) (end : HasMachine keys cards s') : Type 0 where
+    record CameSince (s : TableState) (turns : List Turn) (s' : TableState) (end : HasMachine plan s') : Type 0 where
       before : List Turn
       after : List Turn
       are : turns ≡ before ++ after
       state : TableState
-      kept : HasMachine keys cards state
-      first : TableRun cards s before state
-      last : TableRun cards state after s'
+      kept : HasMachine plan state
+      first : TableRun plan.last_card s before state
+      last : TableRun plan.last_card state after s'
       come : AllCome kept.words x low high
       child : end.words.child x right ≡ kept.words.child x right
 
-    later_since : (s : TableState) (t : Turn) (between : TableState) (ts : List Turn) (s' : TableState) (end : HasMachine keys cards s') → TableTurns cards s t between
+    later_since : (s : TableState) (t : Turn) (between : TableState) (ts : List Turn) (s' : TableState) (end : HasMachine plan s') → TableTurns plan.last_card s t between
         → CameSince between ts s' end → CameSince s (t ∷ ts) s' end
     later_since s t between ts s' end turn c = record {
       before = t ∷ c.before;
@@ -133,11 +142,11 @@ module _ (x low high key : ℕ) (right : Bool) (inner : IsInternal x) (a : low �
     }
 
     -- over a run the child is as it was, or since such a state
-    same_or_since : (s : TableState) (r : HasMachine keys cards s) → Born r.stages x → AllOnCourse r.words x low high → is_right r.words x key ≡ right
-        → (turns : List Turn) (s' : TableState) → TableRun cards s turns s'
-        → (end : HasMachine keys cards s') × ((end.words.child x right ≡ r.words.child x right) ⊎ CameSince s turns s' end)
+    same_or_since : (s : TableState) (r : HasMachine plan s) → Born r.stages x → AllOnCourse r.words x low high → is_right r.words x key ≡ right
+        → (turns : List Turn) (s' : TableState) → TableRun plan.last_card s turns s'
+        → (end : HasMachine plan s') × ((end.words.child x right ≡ r.words.child x right) ⊎ CameSince s turns s' end)
     same_or_since s r born course side [] s' run =
-        subst (λ n. (end : HasMachine keys cards n) × ((end.words.child x right ≡ r.words.child x right) ⊎ CameSince s [] n end)) (sym run) (r, inl refl)
+        subst (λ n. (end : HasMachine plan n) × ((end.words.child x right ≡ r.words.child x right) ⊎ CameSince s [] n end)) (sym run) (r, inl refl)
     same_or_since s r born course side (t ∷ ts) s' run =
         let turn = turn_child s r t run.0 run.1 born course side in
         let rest = same_or_since run.0 turn.0 (turn.1.born x born) turn.2.course turn.2.side ts s' run.2 in (
@@ -161,20 +170,20 @@ module _ (x low high key : ℕ) (right : Bool) (inner : IsInternal x) (a : low �
           ],
         )
 
-module _ (keys : List ℕ) (cards : ℕ) where
+module _ (plan : TablePlan) where
   -- in a state of a run all keys of a stretch came by a node
   pub record Came (s0 : TableState) (turns : List Turn) (s : TableState) (x low high : ℕ) : Type 0 where
     pub before : List Turn
     pub after : List Turn
     pub are : turns ≡ before ++ after
     pub state : TableState
-    pub kept : HasMachine keys cards state
-    pub first : TableRun cards s0 before state
-    pub last : TableRun cards state after s
+    pub kept : HasMachine plan state
+    pub first : TableRun plan.last_card s0 before state
+    pub last : TableRun plan.last_card state after s
     pub come : AllCome kept.words x low high
     pub real : high ≤ greatest_key + 1
 
-  came_more : (s0 : TableState) (turns : List Turn) (s : TableState) (t : Turn) (s' : TableState) (x low high : ℕ) → TableTurns cards s t s'
+  came_more : (s0 : TableState) (turns : List Turn) (s : TableState) (t : Turn) (s' : TableState) (x low high : ℕ) → TableTurns plan.last_card s t s'
       → Came s0 turns s x low high → Came s0 (turns ++ t ∷ []) s' x low high
   came_more s0 turns s t s' x low high turn c = record {
     before = c.before;
@@ -183,7 +192,7 @@ module _ (keys : List ℕ) (cards : ℕ) where
     state = c.state;
     kept = c.kept;
     first = c.first;
-    last = one_more_turn cards c.state c.after s t s' c.last turn;
+    last = one_more_turn plan.last_card c.state c.after s t s' c.last turn;
     come = c.come;
     real = c.real;
   }
@@ -205,14 +214,14 @@ module _ (keys : List ℕ) (cards : ℕ) where
 
   module _ (seat : ℕ) (s : TableState) (v : View) (there : get_elem? s.views seat ≡ some v) (x k : ℕ) (told : IsTold v (Key x k)) where
     -- the key of a node is as it is told later
-    key_there : (state : TableState) (kept : HasMachine keys cards state) (turns : List Turn) → TableRun cards state turns s → Born kept.stages x → kept.words.key x ≡ k
+    key_there : (state : TableState) (kept : HasMachine plan state) (turns : List Turn) → TableRun plan.last_card state turns s → Born kept.stages x → kept.words.key x ≡ k
     key_there state kept turns run born =
-        let goes = run_goes keys cards state kept kept.stages kept.invariant turns s run in
+        let goes = run_goes plan state kept kept.stages kept.invariant turns s run in
         sym (goes.1.words.key x ((kept.invariant.words.cards (card x)).claimed.0 (born-claimed (kept.stages (card x)) (x % 4) born)))
         ∙ ((goes.0.views seat v there).entries (Key x k) told).1
 
     -- those that go to its child came by that
-    came_down : (s0 : TableState) (turns : List Turn) (low high : ℕ) (right : Bool) (n : ℕ) → IsInternal x → ((end : HasMachine keys cards s) → Born end.stages x → end.words.child x right ≡ n)
+    came_down : (s0 : TableState) (turns : List Turn) (low high : ℕ) (right : Bool) (n : ℕ) → IsInternal x → ((end : HasMachine plan s) → Born end.stages x → end.words.child x right ≡ n)
         → Came s0 turns s x low high → Came s0 turns s n (from_of right low k) (upto_of right high k)
     came_down s0 turns low high right n inner listed c = elim (cases_lt (from_of right low k) (upto_of right high k)) [
       | inr none ↦ record {
@@ -235,11 +244,11 @@ module _ (keys : List ℕ) (cards : ℕ) where
           let born = walk_born w c.kept.stages sound j (root_born w c.kept.stages sound) (c.come j a b) in
           let has = key_there c.state c.kept c.after c.last born in
           let side : is_right w x j ≡ right = ap (λ m. nat_le m j) has ∙ goes_side right low high k j (omega arith) less in
-          let course : AllOnCourse w x low high = λ i l u. let r = c.real in walk_course w c.kept.stages sound i (OnCourse-start w.key w.child top sound.tree.ordered i (omega arith)) (c.come i l u) in
+          let course : AllOnCourse w x low high = λ i l u. let r = c.real in walk_course w c.kept.stages sound i (root_born w c.kept.stages sound) (root_course w c.kept.stages sound i (omega arith)) (c.come i l u) in
           let down : (y : Words) → AllCome y x low high → y.key x ≡ k → n ≡ y.child x right → AllCome y n j (upto_of right high k) =
           λ y come key child. subst (λ z. AllCome y z j (upto_of right high k)) (sym child)
-          (subst (λ m. AllCome y (y.child x right) (from_of right low m) (upto_of right high m)) key (all_come_down y x low high right inner come)) in
-          let since = same_or_since x low high j right inner a b keys cards c.state c.kept born course side c.after s c.last in
+          (subst (λ m. AllCome y (y.child x right) (from_of right low m) (upto_of right high m)) key (come_to_child y x low high right inner come)) in
+          let since = same_or_since x low high j right inner a b plan c.state c.kept born course side c.after s c.last in
           let is = sym (listed since.0 ((since.0.views seat v there).entries (Key x k) told).0) in
           elim since.1 [
             | inl same ↦ record {
@@ -263,7 +272,7 @@ module _ (keys : List ℕ) (cards : ℕ) where
                   are = c.are ∙ (ap (λ us. c.before ++ us) later.are ∙ sym (append_assoc c.before later.before later.after));
                   state = later.state;
                   kept = later.kept;
-                  first = run_append cards s0 c.before c.state later.before later.state c.first later.first;
+                  first = run_append plan.last_card s0 c.before c.state later.before later.state c.first later.first;
                   last = later.last;
                   come = down u later.come (key_there later.state later.kept later.after later.last born') (is ∙ later.child);
                   real = upto_real right high k (greatest_key + 1) c.real;
@@ -271,32 +280,32 @@ module _ (keys : List ℕ) (cards : ℕ) where
           ]
     ]
 
-module _ (keys : List ℕ) (cards : ℕ) (seat : ℕ) where
+module _ (plan : TablePlan) (seat : ℕ) where
   -- the pass in the seat has nothing in hand, and each of its glances is of a state since this one
   record Looks (s0 : TableState) (turns : List Turn) (s : TableState) : Type 0 where
     view : View
     there : get_elem? s.views seat ≡ some view
     free : IsFree view
-    came : (g : Glance) → Has view.glances g → Came keys cards s0 turns s g.node g.low g.high
+    came : (g : Glance) → Has view.glances g → Came plan s0 turns s g.node g.low g.high
 
   module _ (s0 : TableState) (turns : List Turn) (s : TableState) (at : Looks s0 turns s) where
     -- so are they after a call, of a state that is not later than it
     abbrev AllCame : View → Type 0
-    AllCame v = (g : Glance) → Has v.glances g → Came keys cards s0 turns s g.node g.low g.high
+    AllCame v = (g : Glance) → Has v.glances g → Came plan s0 turns s g.node g.low g.high
 
-    came_still : {gs : List Glance} → gs ≡ at.view.glances → (g : Glance) → Has gs g → Came keys cards s0 turns s g.node g.low g.high
+    came_still : {gs : List Glance} → gs ≡ at.view.glances → (g : Glance) → Has gs g → Came plan s0 turns s g.node g.low g.high
     came_still same g has = at.came g (subst (λ gs. Has gs g) same has)
 
     goes_down : (from : Glance) (k : ℕ) (right : Bool) → MayLookDown at.view from k → AllCame (view_after s at.view (call.LookDown from k right))
     goes_down from k right may g (latest _ _) =
         let c = may.come in
-        let was = subst (λ x. Came keys cards s0 turns s x c.glance.low c.glance.high) c.there (at.came c.glance c.among) in
-        came_down keys cards seat s at.view at.there from.node k may.told s0 turns from.low from.high right (link_in (found_by s (call.LookDown from k right))).node may.inner
-        (λ end born. sym (ap (λ (k : Link). k.node) (child_read keys cards s end seat at.view at.there from.node right may.inner born)))
-        (came_part keys cards s0 turns s from.node c.glance.low c.glance.high from.low from.high c.from c.upto was)
+        let was = subst (λ x. Came plan s0 turns s x c.glance.low c.glance.high) c.there (at.came c.glance c.among) in
+        came_down plan seat s at.view at.there from.node k may.told s0 turns from.low from.high right (link_in (found_by s (call.LookDown from k right))).node may.inner
+        (λ end born. sym (ap (λ (k : Link). k.node) (child_read plan s end seat at.view at.there from.node right may.inner born)))
+        (came_part plan s0 turns s from.node c.glance.low c.glance.high from.low from.high c.from c.upto was)
     goes_down from k right may g (earlier _ _ _ has) = at.came g has
 
-    call_came : (c : Call) → BeginsNothing c → May cards c at.view → AllCame (view_after s at.view c)
+    call_came : (c : Call) → BeginsNothing c → May plan.last_card c at.view → AllCame (view_after s at.view c)
     call_came call.Look keeps may = absurd keeps
     call_came (call.LookDown from k right) keeps may = goes_down from k right may
     call_came (call.Claim c) keeps may = came_still (claim_look (found_by s (call.Claim c) == c) c at.view)
@@ -324,9 +333,9 @@ module _ (keys : List ℕ) (cards : ℕ) (seat : ℕ) where
     call_came (call.DUnflag c gp) keeps may = at.came
     call_came (call.Backtrack c gp) keeps may = at.came
 
-    turn_looks : (t : Turn) (s' : TableState) → TableTurns cards s t s' → Only BeginsNothing seat t → Looks s0 (turns ++ t ∷ []) s'
+    turn_looks : (t : Turn) (s' : TableState) → TableTurns plan.last_card s t s' → Only BeginsNothing seat t → Looks s0 (turns ++ t ∷ []) s'
     turn_looks t s' h on =
-        let goes = turn_seat BeginsNothing cards s seat at.view at.there t s' h on in
+        let goes = turn_seat BeginsNothing plan.last_card s seat at.view at.there t s' h on in
         let came : AllCame goes.view = elim goes.made [
           | inl same ↦ came_still (ap (λ (u : View). u.glances) same)
           | inr c ↦ subst AllCame (sym c.3) (call_came c.0 c.1 c.2)
@@ -334,11 +343,11 @@ module _ (keys : List ℕ) (cards : ℕ) (seat : ℕ) where
         record {
           view = goes.view;
           there = goes.there;
-          free = (turn_free cards s seat at.view t s' goes at.free).free;
-          came = λ g has. came_more keys cards s0 turns s t s' g.node g.low g.high h (came g has);
+          free = (turn_free plan.last_card s seat at.view t s' goes at.free).free;
+          came = λ g has. came_more plan s0 turns s t s' g.node g.low g.high h (came g has);
         }
 
-  run_looks : (s0 : TableState) (turns : List Turn) (s : TableState) → Looks s0 turns s → (more : List Turn) (s' : TableState) → TableRun cards s more s' → LooksOn seat more
+  run_looks : (s0 : TableState) (turns : List Turn) (s : TableState) → Looks s0 turns s → (more : List Turn) (s' : TableState) → TableRun plan.last_card s more s' → LooksOn seat more
       → Looks s0 (turns ++ more) s'
   run_looks s0 turns s at [] s' run on =
       subst (λ us. Looks s0 us s') (sym (append-nil turns)) (subst (Looks s0 turns) (sym run) at)
@@ -352,9 +361,9 @@ module _ (keys : List ℕ) (cards : ℕ) (seat : ℕ) where
   left_of_top k most key e real = sym (lt-leb k key (omega arith))
 
   -- a look that begins has come to its node by all real keys
-  look_begins : (s : TableState) → HasMachine keys cards s → (s1 : TableState) → CallIsMade cards s seat call.Look s1 → Looks s1 [] s1
+  look_begins : (s : TableState) → HasMachine plan s → (s1 : TableState) → CallIsMade plan.last_card s seat call.Look s1 → Looks s1 [] s1
   look_begins s r s1 h =
-      let turn = turn_lawful keys cards s r (Makes seat call.Look) s1 h in
+      let turn = turn_lawful plan s r (Makes seat call.Look) s1 h in
       let kept = turn.0 in
       let n = (link_in (found_by s call.Look)).node in
       let sound = r.invariant.words in
@@ -362,7 +371,7 @@ module _ (keys : List ℕ) (cards : ℕ) (seat : ℕ) where
       ap (λ (t : TableState). get_elem? t.views seat) h.gives ∙ set_there s.views seat (view_after s h.view call.Look) h.view h.there in
       let same : kept.words ≡ r.words = ap (λ (m : Machine). m.words) turn.1.machine in
       let is : r.words.child 0 false ≡ n =
-      sym (ap (λ (k : Link). k.node) (child_read keys cards s r seat h.view h.there 0 false refl (root_born r.words r.stages sound))) in
+      sym (ap (λ (k : Link). k.node) (child_read plan s r seat h.view h.there 0 false refl (root_born r.words r.stages sound))) in
       let come : AllCome kept.words n 0 (greatest_key + 1) = λ k low less.
       subst (λ (w : Words). OnWalk w k 0 n) (sym same)
       (next refl (here (sym (ap (r.words.child 0) (sym (left_of_top (r.words.key 0) greatest_key k sound.tree.root_key (omega arith))) ∙ is)))) in
@@ -373,8 +382,8 @@ module _ (keys : List ℕ) (cards : ℕ) (seat : ℕ) where
         came = λ g has. first g has kept come;
       }
     where
-      first : (g : Glance) → Has (record { node = (link_in (found_by s call.Look)).node; low = 0; high = greatest_key + 1 } ∷ []) g → (kept : HasMachine keys cards s1)
-          → AllCome kept.words (link_in (found_by s call.Look)).node 0 (greatest_key + 1) → Came keys cards s1 [] s1 g.node g.low g.high
+      first : (g : Glance) → Has (record { node = (link_in (found_by s call.Look)).node; low = 0; high = greatest_key + 1 } ∷ []) g → (kept : HasMachine plan s1)
+          → AllCome kept.words (link_in (found_by s call.Look)).node 0 (greatest_key + 1) → Came plan s1 [] s1 g.node g.low g.high
       first g (latest _ _) kept come = record {
         before = [];
         after = [];
@@ -392,24 +401,24 @@ module _ (keys : List ℕ) (cards : ℕ) (seat : ℕ) where
           nowhere g has = elim has [ ]
 
 -- a state of which all keys of a stretch came by a node is amid its run
-came_amid : (keys : List ℕ) (cards : ℕ) (s0 : TableState) (turns : List Turn) (s : TableState) (x low high : ℕ) (c : Came keys cards s0 turns s x low high)
-    → IsAmid cards s0 turns s c.state
-came_amid keys cards s0 turns s x low high c =
+came_amid : (plan : TablePlan) (s0 : TableState) (turns : List Turn) (s : TableState) (x low high : ℕ) (c : Came plan s0 turns s x low high)
+    → IsAmid plan.last_card s0 turns s c.state
+came_amid plan s0 turns s x low high c =
     let n = length c.before in
     let first : take n turns ≡ c.before = ap (take n) c.are ∙ take-append_seam c.before c.after in
     let last : drop n turns ≡ c.after = ap (drop n) c.are ∙ drop-append_seam c.before c.after in
     record {
       first = n;
-      before = subst (λ us. TableRun cards s0 us c.state) (sym first) c.first;
-      after = subst (λ us. TableRun cards c.state us s) (sym last) c.last;
+      before = subst (λ us. TableRun plan.last_card s0 us c.state) (sym first) c.first;
+      after = subst (λ us. TableRun plan.last_card c.state us s) (sym last) c.last;
     }
 
-module _ (keys : List ℕ) (cards : ℕ) (s0 : TableState) (turns : List Turn) (s : TableState) (seat : ℕ) (v : View) (there : get_elem? s.views seat ≡ some v) where
+module _ (plan : TablePlan) (s0 : TableState) (turns : List Turn) (s : TableState) (seat : ℕ) (v : View) (there : get_elem? s.views seat ≡ some v) where
   -- what was found at a leaf by all keys of a stretch
-  found_there : (low high : ℕ) (what : Option (ℕ × ℕ)) → (found : HasFoundBetween v low high what) → Came keys cards s0 turns s found.leaf low high
-      → WasSo cards s0 turns s (HasBetween low high what)
+  found_there : (low high : ℕ) (what : Option (ℕ × ℕ)) → (found : HasFoundBetween v low high what) → Came plan s0 turns s found.leaf low high
+      → WasSo plan.last_card s0 turns s (HasBetween low high what)
   unfolding HasBetween
-  found_there low high what found c = record { state = c.state; amid = came_amid keys cards s0 turns s found.leaf low high c; so = by what found.tells }
+  found_there low high what found c = record { state = c.state; amid = came_amid plan s0 turns s found.leaf low high c; so = by what found.tells }
     where
       w : Words
       w = c.kept.words
@@ -418,17 +427,17 @@ module _ (keys : List ℕ) (cards : ℕ) (s0 : TableState) (turns : List Turn) (
       born k a b = walk_born w c.kept.stages c.kept.invariant.words k (root_born w c.kept.stages c.kept.invariant.words) (c.come k a b)
 
       has : (k : ℕ) → low ≤ k → k < high → w.key found.leaf ≡ found.leaf_key
-      has k a b = key_there keys cards seat s v there found.leaf found.leaf_key found.told c.state c.kept c.after c.last (born k a b)
+      has k a b = key_there plan seat s v there found.leaf found.leaf_key found.told c.state c.kept c.after c.last (born k a b)
 
       -- a key of the stretch that the tree has is the leaf's
       only : (k : ℕ) → low ≤ k → k < high → IsTreeKey (own_words c.state) k → found.leaf_key ≡ k
       only k a b tree =
           sym (has k a b) ∙ walk_ends w k (c.come k a b) found.outer
-          (tree_key_leads w c.kept.invariant.words.tree.ordered k ((same_keys (own_words c.state) w (own_pairs keys cards c.state c.kept) k).1 tree))
+          (tree_key_leads w c.kept.invariant.words.tree.ordered k ((same_keys (own_words c.state) w (own_pairs plan c.state c.kept) k).1 tree))
 
       value_there : (value : ℕ) → IsTold v (Value found.leaf value) → Born c.kept.stages found.leaf → w.value found.leaf ≡ value
       value_there value told born' =
-          let goes = run_goes keys cards c.state c.kept c.kept.stages c.kept.invariant c.after s c.last in
+          let goes = run_goes plan c.state c.kept c.kept.stages c.kept.invariant c.after s c.last in
           sym (goes.1.words.value found.leaf ((c.kept.invariant.words.cards (card found.leaf)).claimed.0 (born-claimed (c.kept.stages (card found.leaf)) (found.leaf % 4) born')))
           ∙ ((goes.0.views seat v there).entries (Value found.leaf value) told).1
 
@@ -437,7 +446,7 @@ module _ (keys : List ℕ) (cards : ℕ) (s0 : TableState) (turns : List Turn) (
       by (Some pair) tells = (
         tells.1,
         tells.2,
-        (own_pairs keys cards c.state c.kept pair.0 pair.1).0 (record {
+        (own_pairs plan c.state c.kept pair.0 pair.1).0 (record {
           leaf = found.leaf;
           reached = OnWalk-below w pair.0 (c.come pair.0 tells.1 tells.2);
           outer = found.outer;
@@ -449,14 +458,14 @@ module _ (keys : List ℕ) (cards : ℕ) (s0 : TableState) (turns : List Turn) (
       )
 
 -- so what a look finds of a stretch was so in one state since it began
-pub stretches_of_one_state : (keys : List ℕ) (cards : ℕ) (v : View) (low high : ℕ) (there : Option (ℕ × ℕ)) → HasFoundBetween v low high there
-    → (s : TableState) → HasMachine keys cards s → (seat : ℕ) (s1 : TableState) → CallIsMade cards s seat call.Look s1 → (turns : List Turn) (s' : TableState)
-    → TableRun cards s1 turns s' → LooksOn seat turns → get_elem? s'.views seat ≡ some v → WasSo cards s1 turns s' (HasBetween low high there)
-stretches_of_one_state keys cards v low high what found s r seat s1 call turns s' run on there =
-    let looks = run_looks keys cards seat s1 [] s1 (look_begins keys cards seat s r s1 call) turns s' run on in
+pub stretches_of_one_state : (plan : TablePlan) (v : View) (low high : ℕ) (there : Option (ℕ × ℕ)) → HasFoundBetween v low high there
+    → (s : TableState) → HasMachine plan s → (seat : ℕ) (s1 : TableState) → CallIsMade plan.last_card s seat call.Look s1 → (turns : List Turn) (s' : TableState)
+    → TableRun plan.last_card s1 turns s' → LooksOn seat turns → get_elem? s'.views seat ≡ some v → WasSo plan.last_card s1 turns s' (HasBetween low high there)
+stretches_of_one_state plan v low high what found s r seat s1 call turns s' run on there =
+    let looks = run_looks plan seat s1 [] s1 (look_begins plan seat s r s1 call) turns s' run on in
     let same : looks.view ≡ v = some-injective looks.view v (sym looks.there ∙ there) in
     let c = found.comes in
     let came = looks.came c.glance (subst (λ (u : View). Has u.glances c.glance) (sym same) c.among) in
-    found_there keys cards s1 turns s' seat v there low high what found
-    (came_part keys cards s1 turns s' found.leaf c.glance.low c.glance.high low high c.from c.upto
-    (subst (λ x. Came keys cards s1 turns s' x c.glance.low c.glance.high) c.there came))
+    found_there plan s1 turns s' seat v there low high what found
+    (came_part plan s1 turns s' found.leaf c.glance.low c.glance.high low high c.from c.upto
+    (subst (λ x. Came plan s1 turns s' x c.glance.low c.glance.high) c.there came))

@@ -29,6 +29,7 @@ use Rattle.ell_core.specs.history.Later.{wins_of}
 use Rattle.ell_core.specs.acts.Wins.{win_for, win_by, wins_by}
 use Rattle.ell_core.proofs.lemmas.following.Lawful.{events_lawful, splits_lawful, joins_lawful}
 use Rattle.ell_core.proofs.lemmas.stages.Advances.{wins_same}
+use Rattle.ell_cards.specs.Models.{TablePlan}
 use Rattle.ell_cards.specs.declared.call.Call.{Call}
 use Rattle.ell_cards.specs.declared.call.Call.TheVariants as call
 use Rattle.ell_cards.specs.declared.view.View.{View}
@@ -170,7 +171,7 @@ module _ (m : Machine) (stage : Stages) (holds : Invariant m stage) (i : ℕ) (m
   call_wins (call.Backtrack c gp) n v cards mine may h = tries (act.Backtrack c) (n == dflag c) h
   call_wins _ n v cards mine may h = rests h
 
-module _ (keys : List ℕ) (cards : ℕ) where
+module _ (plan : TablePlan) where
   -- a split leaves each worker as it is, or with nothing in hand
   split_rests : (m : Machine) (i : ℕ) (m' : Machine) (split : Split m i m') → (j : ℕ)
       → ((put (put m.worker i split.left) m.count split.right j).search ≡ no_search) ⊎ (put (put m.worker i split.left) m.count split.right j ≡ m.worker j)
@@ -220,35 +221,35 @@ module _ (keys : List ℕ) (cards : ℕ) where
   }) (joins_lawful m stage i k m' holds join)
 
   -- what a turn makes of the machine
-  pub turn_turns : (s : TableState) (r : HasMachine keys cards s) (stage : Stages) → Invariant (machine_of_table keys cards s r) stage → (t : Turn) (s' : TableState)
-      → TableTurns cards s t s' → (k : HasMachine keys cards s') × Turned (machine_of_table keys cards s r) stage (turn_wins s t) (machine_of_table keys cards s' k)
+  pub turn_turns : (s : TableState) (r : HasMachine plan s) (stage : Stages) → Invariant (machine_of_table plan s r) stage → (t : Turn) (s' : TableState)
+      → TableTurns plan.last_card s t s' → (k : HasMachine plan s') × Turned (machine_of_table plan s r) stage (turn_wins s t) (machine_of_table plan s' k)
       × StagesLater r.stages k.stages
   turn_turns s r stage holds (Makes seat c) s' h =
-      let turn = turn_lawful keys cards s r (Makes seat c) s' h in (
+      let turn = turn_lawful plan s r (Makes seat c) s' h in (
         turn.0,
-        call_wins (machine_of_table keys cards s r) stage holds seat (machine_of_table keys cards s' turn.0) c (found_by s c) h.view cards
+        call_wins (machine_of_table plan s r) stage holds seat (machine_of_table plan s' turn.0) c (found_by s c) h.view plan.last_card
             (ap (λ o. (seat_worker o).card) h.there) h.may turn.1.machine,
         turn.1.later,
       )
   turn_turns s r stage holds (Splits seat left) s' h =
-      let turn = turn_lawful keys cards s r (Splits seat left) s' h in
-      (turn.0, splits (machine_of_table keys cards s r) stage seat (machine_of_table keys cards s' turn.0) holds turn.1.machine, turn.1.later)
+      let turn = turn_lawful plan s r (Splits seat left) s' h in
+      (turn.0, splits (machine_of_table plan s r) stage seat (machine_of_table plan s' turn.0) holds turn.1.machine, turn.1.later)
   turn_turns s r stage holds (Joins seat other) s' h =
-      let turn = turn_lawful keys cards s r (Joins seat other) s' h in
-      (turn.0, joins (machine_of_table keys cards s r) stage seat other (machine_of_table keys cards s' turn.0) holds turn.1.machine, turn.1.later)
+      let turn = turn_lawful plan s r (Joins seat other) s' h in
+      (turn.0, joins (machine_of_table plan s r) stage seat other (machine_of_table plan s' turn.0) holds turn.1.machine, turn.1.later)
 
   -- what a run makes of the machine
-  pub run_goes : (s : TableState) (r : HasMachine keys cards s) (stage : Stages) → Invariant (machine_of_table keys cards s r) stage → (turns : List Turn) (s' : TableState)
-      → (run : TableRun cards s turns s')
-      → (k : HasMachine keys cards s') × Went r.words stage (run_wins cards s turns s' run) (machine_of_table keys cards s' k) × StagesLater r.stages k.stages
+  pub run_goes : (s : TableState) (r : HasMachine plan s) (stage : Stages) → Invariant (machine_of_table plan s r) stage → (turns : List Turn) (s' : TableState)
+      → (run : TableRun plan.last_card s turns s')
+      → (k : HasMachine plan s') × Went r.words stage (run_wins plan.last_card s turns s' run) (machine_of_table plan s' k) × StagesLater r.stages k.stages
   run_goes s r stage holds [] s' run =
-      subst (λ x. (k : HasMachine keys cards x) × Went r.words stage (λ d. []) (machine_of_table keys cards x k) × StagesLater r.stages k.stages) (sym run)
-      (r, went_nowhere (machine_of_table keys cards s r) stage (machine_of_table keys cards s r) holds refl, stages_same r.stages)
+      subst (λ x. (k : HasMachine plan x) × Went r.words stage (λ d. []) (machine_of_table plan x k) × StagesLater r.stages k.stages) (sym run)
+      (r, went_nowhere (machine_of_table plan s r) stage (machine_of_table plan s r) holds refl, stages_same r.stages)
   run_goes s r stage holds (t ∷ ts) s' run =
       let first = turn_turns s r stage holds t run.0 run.1 in
       let rest = run_goes run.0 first.0 first.1.went.stages first.1.went.invariant ts s' run.2 in (
         rest.0,
-        went_after r.words stage (turn_wins s t) (machine_of_table keys cards run.0 first.0) (run_wins cards run.0 ts s' run.2)
-            (machine_of_table keys cards s' rest.0) first.1.went rest.1,
+        went_after r.words stage (turn_wins s t) (machine_of_table plan run.0 first.0) (run_wins plan.last_card run.0 ts s' run.2)
+            (machine_of_table plan s' rest.0) first.1.went rest.1,
         stages_later r.stages first.0.stages rest.0.stages first.2 rest.2,
       )

@@ -38,6 +38,7 @@ use Rattle.ell_core.proofs.lemmas.words.Packed.{packed_again}
 use Rattle.ell_core.proofs.lemmas.stages.Ended.{ends_last}
 use Rattle.ell_core.proofs.lemmas.following.waiting.Cards.{hand_waits}
 use Rattle.ell_core.proofs.lemmas.stages.Order.{delete_won-delete, insert_won-insert, insert_open-insert, one_kind, won_cases}
+use Rattle.ell_cards.specs.Models.{TablePlan}
 use Rattle.ell_cards.specs.declared.call.Call.{Call}
 use Rattle.ell_cards.specs.declared.call.Call.TheVariants as call
 use Rattle.ell_cards.specs.declared.view.Hindrance.{Hindrance}
@@ -155,23 +156,23 @@ pub held_is : (o : Option ℕ) (c : ℕ) → is_this o c ≡ true → o ≡ Some
 held_is None c e = absurd (false≢true e)
 held_is (Some d) c e = ap Some (eqb-true d c e)
 
-module _ (keys : List ℕ) (cards : ℕ) (m0 : Machine) (stage : Stages) (first : Invariant m0 stage)
-    (s : TableState) (r : HasMachine keys cards s) (now : Stages) (holds : Invariant (machine_of_table keys cards s r) now)
+module _ (plan : TablePlan) (m0 : Machine) (stage : Stages) (first : Invariant m0 stage)
+    (s : TableState) (r : HasMachine plan s) (now : Stages) (holds : Invariant (machine_of_table plan s r) now)
     (words : WordsLater m0.words r.words) (later : StagesLater stage now)
     (cleans : CleansSince m0.words stage r.words now)
     (seat : ℕ) (v : View) (there : get_elem? s.views seat ≡ some v)
-    (since : SearchSince m0.words stage r.words ((machine_of_table keys cards s r).worker seat))
+    (since : SearchSince m0.words stage r.words ((machine_of_table plan s r).worker seat))
     (later_words : Words) (ends : Stages) (words' : WordsLater r.words later_words) (later' : StagesLater now ends)
     (old : List Hindrance) (hindered : HinderedSince m0.words stage r.words now old v) where
   -- the worker
-  me : (machine_of_table keys cards s r).worker seat ≡ worker_of v.worker
+  me : (machine_of_table plan s r).worker seat ≡ worker_of v.worker
   me = ap seat_worker there
 
   sound : WorkerIsSound r.words now (worker_of v.worker)
   sound = subst (WorkerIsSound r.words now) me (holds.workers.each seat)
 
-  rely : Reliance (machine_of_table keys cards s r) now seat
-  rely = may_rely (machine_of_table keys cards s r) now seat holds
+  rely : Reliance (machine_of_table plan s r) now seat
+  rely = may_rely (machine_of_table plan s r) now seat holds
 
   hand_later : (c : ℕ) → c < r.words.next → PlaceSince m0.words stage (r.words.p c) (r.words.was c) → PlaceSince m0.words stage (later_words.p c) (later_words.was c)
   hand_later c low h =
@@ -246,7 +247,7 @@ module _ (keys : List ℕ) (cards : ℕ) (m0 : Machine) (stage : Stages) (first 
         let h = cleans x (n / 4) rose word (omega (arith, e, is, calm, low, other)) in
         (h.0, λ c. ends_last now ends later' (n / 4) h.1, named)
     | inr dirty ↦ (
-      word_unended m0 stage (machine_of_table keys cards s r) now first holds words later x inner born place.there n is (λ c. dirty (clean_remainder n c)),
+      word_unended m0 stage (machine_of_table plan s r) now first holds words later x inner born place.there n is (λ c. dirty (clean_remainder n c)),
       λ c. absurd (dirty (clean_remainder n c)),
       named,
     )
@@ -265,7 +266,7 @@ module _ (keys : List ℕ) (cards : ℕ) (m0 : Machine) (stage : Stages) (first 
       finds seen.node seen.word n inner born place low (three seen.word calm) (ap r.words.update node ∙ is) (λ e. other (e ∙ word))
 
   -- a lost claim
-  claim_hindered : (c : ℕ) → May cards (call.Claim c) v → (b : Bool) → (found_by s (call.Claim c) == c) ≡ b → HinderedSince m0.words stage later_words ends old (after_claim b c v)
+  claim_hindered : (c : ℕ) → May plan.last_card (call.Claim c) v → (b : Bool) → (found_by s (call.Claim c) == c) ≡ b → HinderedSince m0.words stage later_words ends old (after_claim b c v)
   claim_hindered c may true e =
       calm (after_claim true c v) refl refl hindered.next named_later
       (λ d has.
@@ -322,11 +323,11 @@ module _ (keys : List ℕ) (cards : ℕ) (m0 : Machine) (stage : Stages) (first 
         ]
       ]
 
-  mark_found : (c p was : ℕ) → May cards (call.Mark c p was) v → r.words.update p ≡ found_by s (call.Mark c p was)
+  mark_found : (c p was : ℕ) → May plan.last_card (call.Mark c p was) v → r.words.update p ≡ found_by s (call.Mark c p was)
   mark_found c p was may =
-      let p_is : r.words.p c ≡ p = told_is keys cards s r seat v there c field.P p may.0.place in
-      let said = known_delete keys cards s r seat v there c (inl may.0.knows) in
-      update_listed keys cards s r seat v there p (subst IsInternal p_is said.parent.inner) (subst (Born r.stages) p_is said.parent.born)
+      let p_is : r.words.p c ≡ p = told_is plan s r seat v there c field.P p may.0.place in
+      let said = known_delete plan s r seat v there c (inl may.0.knows) in
+      update_listed plan s r seat v there p (subst IsInternal p_is said.parent.inner) (subst (Born r.stages) p_is said.parent.born)
 
   -- a flag, won or lost, by what was found at its node
   flag_hindered : (k : Exchange) (c : ℕ) (new : Fact) (x : ℕ) (from n : ℕ) (b : Bool) → (n == from) ≡ b
@@ -340,7 +341,7 @@ module _ (keys : List ℕ) (cards : ℕ) (m0 : Machine) (stage : Stages) (first 
       one_met (exchanged [] n (after_flag false new x (unpacked n) v)) (Found (unpacked n)) refl refl
       (lost (λ q. true≢false (sym (eq-eqb n from q) ∙ e))) refl (λ seen h. h) (λ d has. absurd (some_not_none has refl)) (λ key d busy has flagged. absurd (true≢false (sym flagged)))
 
-  iflag_hindered : (c p : ℕ) (from : Update) → May cards (call.IFlag c p from) v
+  iflag_hindered : (c p : ℕ) (from : Update) → May plan.last_card (call.IFlag c p from) v
       → HinderedSince m0.words stage later_words ends old (after (call.IFlag c p from) (found_by s (call.IFlag c p from)) v)
   iflag_hindered c p from may =
       let n = found_by s (call.IFlag c p from) in
@@ -348,8 +349,8 @@ module _ (keys : List ℕ) (cards : ℕ) (m0 : Machine) (stage : Stages) (first 
       let stands = ap (λ (z : Worker). z.search.node) me ∙ may.stands in
       let behind = ap (λ (z : Worker). z.search.parent) me ∙ may.behind in
       let there_now = (rely.parent may.leaf seen stands behind).node in
-      let there_then = ((relies keys cards s r seat v there).parent may.leaf seen stands behind).node in
-      let is = update_listed keys cards s r seat v there p (subst IsInternal may.node there_then.inner) (subst (Born r.stages) may.node there_then.born) in
+      let there_then = ((relies plan s r seat v there).parent may.leaf seen stands behind).node in
+      let is = update_listed plan s r seat v there p (subst IsInternal may.node there_then.inner) (subst (Born r.stages) may.node there_then.born) in
       let low = ((sound.stands may.op may.leaf may.busy may.stands).parent seen may.behind).0.word in
       let held = putting_hand r.words now (worker_of v.worker) may.what c may.op may.puts (sound.unflagged may.op c may.busy may.may.holds may.may.unflagged) in
       let same = same_Some held.parent seen (sym held.behind ∙ may.behind) in
@@ -358,7 +359,7 @@ module _ (keys : List ℕ) (cards : ℕ) (m0 : Machine) (stage : Stages) (first 
       (finds_seen seen p (packed from) n may.node may.read there_now.inner there_now.born (place_of seen (since.parent seen behind)) low
       (subst (λ (z : Seen). IsClean z.word) same held.calm) is)
 
-  dflag_hindered : (c gp : ℕ) (from : Update) → May cards (call.DFlag c gp from) v
+  dflag_hindered : (c gp : ℕ) (from : Update) → May plan.last_card (call.DFlag c gp from) v
       → HinderedSince m0.words stage later_words ends old (after (call.DFlag c gp from) (found_by s (call.DFlag c gp from)) v)
   dflag_hindered c gp from may =
       let n = found_by s (call.DFlag c gp from) in
@@ -367,8 +368,8 @@ module _ (keys : List ℕ) (cards : ℕ) (m0 : Machine) (stage : Stages) (first 
       let behind = ap (λ (z : Worker). z.search.parent) me ∙ may.behind in
       let above = ap (λ (z : Worker). z.search.grandparent) me ∙ may.above in
       let there_now = (rely.grandparent may.leaf may.parent seen stands behind above).node in
-      let there_then = ((relies keys cards s r seat v there).grandparent may.leaf may.parent seen stands behind above).node in
-      let is = update_listed keys cards s r seat v there gp (subst IsInternal may.node there_then.inner) (subst (Born r.stages) may.node there_then.born) in
+      let there_then = ((relies plan s r seat v there).grandparent may.leaf may.parent seen stands behind above).node in
+      let is = update_listed plan s r seat v there gp (subst IsInternal may.node there_then.inner) (subst (Born r.stages) may.node there_then.born) in
       let low = ((sound.stands (Delete may.key) may.leaf may.busy may.stands).grandparent may.parent seen may.behind may.above).word in
       let held = sound.unflagged (Delete may.key) c may.busy may.may.holds may.may.unflagged in
       let same = same_Some held.grandparent seen (sym held.above ∙ may.above) in
@@ -384,11 +385,11 @@ module _ (keys : List ℕ) (cards : ℕ) (m0 : Machine) (stage : Stages) (first 
       (subst (λ (z : Seen). IsClean z.word) same held.calm) is)
 
   -- a mark of the card in hand that was lost
-  mark_met : (c p was n : ℕ) → May cards (call.Mark c p was) v → r.words.update p ≡ n → n ≢ was → v.worker.card ≡ Some c
+  mark_met : (c p was n : ℕ) → May plan.last_card (call.Mark c p was) v → r.words.update p ≡ n → n ≢ was → v.worker.card ≡ Some c
       → Met m0.words stage later_words ends (Found (unpacked n))
   mark_met c p was n may is other has =
-      let p_is : r.words.p c ≡ p = told_is keys cards s r seat v there c field.P p may.0.place in
-      let was_is : r.words.was c ≡ was = told_is keys cards s r seat v there c field.Was was may.1 in
+      let p_is : r.words.p c ≡ p = told_is plan s r seat v there c field.P p may.0.place in
+      let was_is : r.words.was c ≡ was = told_is plan s r seat v there c field.Was was may.1 in
       let won = sound.facts (DFlagged c) may.0.knows in
       let said = (holds.words.cards c).delete (delete_won-delete (now c) won) in
       let busy = busy_hand c has in
@@ -418,22 +419,22 @@ module _ (keys : List ℕ) (cards : ℕ) (m0 : Machine) (stage : Stages) (first 
       let above = ((holds.words.updates p inner born).dflagged d is).1 in
       let goes = ap r.words.gp (sym e) ∙ above in
       let first = ((holds.words.cards c).delete deletes).first in
-      omega (arith, ap rank goes, ap rank place, first)
+      omega (arith, ap (rank r.words) goes, ap (rank r.words) place, first)
   word_apart c p deletes place inner born rose state.Mark d is apart e = false≢true (sym apart ∙ eq-eqb d c e)
   word_apart c p deletes place inner born rose state.Clean d is apart e =
       let said = (holds.words.cards c).delete deletes in
       let h = cleans p d rose is (first_card c deletes d e) in
       elim h.2.1 [
         | inl insert ↦ one_kind (now c) (ap (λ n. is_insert (now n)) (sym e) ∙ insert.0) deletes
-        | inr above ↦ (let goes = ap r.words.gp (sym e) ∙ above in let first = said.first in omega (arith, ap rank goes, ap rank place, first))
+        | inr above ↦ (let goes = ap r.words.gp (sym e) ∙ above in let first = said.first in omega (arith, ap (rank r.words) goes, ap (rank r.words) place, first))
       ]
 
   -- so the card in hand is none that its lost mark found
-  mark_apart : (c p was n : ℕ) → May cards (call.Mark c p was) v → r.words.update p ≡ n → n ≢ was → v.worker.card ≡ Some c
+  mark_apart : (c p was n : ℕ) → May plan.last_card (call.Mark c p was) v → r.words.update p ≡ n → n ≢ was → v.worker.card ≡ Some c
       → is_mark_of c (unpacked n).state (unpacked n).card ≡ false → (unpacked n).card ≢ c
   mark_apart c p was n may is other has apart =
-      let p_is : r.words.p c ≡ p = told_is keys cards s r seat v there c field.P p may.0.place in
-      let was_is : r.words.was c ≡ was = told_is keys cards s r seat v there c field.Was was may.1 in
+      let p_is : r.words.p c ≡ p = told_is plan s r seat v there c field.P p may.0.place in
+      let was_is : r.words.was c ≡ was = told_is plan s r seat v there c field.Was was may.1 in
       let won = sound.facts (DFlagged c) may.0.knows in
       let deletes = delete_won-delete (now c) won in
       let said = (holds.words.cards c).delete deletes in
@@ -445,7 +446,7 @@ module _ (keys : List ℕ) (cards : ℕ) (m0 : Machine) (stage : Stages) (first 
       word_apart c p deletes p_is (subst IsInternal p_is said.parent.inner) (subst (Born now) p_is said.parent.born)
       (subst (λ x. m0.words.update x < r.words.update x) p_is rose) (unpacked n).state (unpacked n).card (is ∙ sym (packed_again n)) apart
 
-  mark_hindered : (c p was : ℕ) → May cards (call.Mark c p was) v
+  mark_hindered : (c p was : ℕ) → May plan.last_card (call.Mark c p was) v
       → HinderedSince m0.words stage later_words ends old (after (call.Mark c p was) (found_by s (call.Mark c p was)) v)
   mark_hindered c p was may = by (n == was) refl
     where
@@ -476,7 +477,7 @@ module _ (keys : List ℕ) (cards : ℕ) (m0 : Machine) (stage : Stages) (first 
       by false e = lost (is_mark_of c (unpacked n).state (unpacked n).card) refl (λ q. true≢false (sym (eq-eqb n was q) ∙ e))
 
   -- a search that has gone down has the word behind it that it read
-  went_down : (x : ℕ) (right : Bool) → May cards (call.Down x right) v → (seen : Seen) → IsBehind (after (call.Down x right) (found_by s (call.Down x right)) v).worker.search seen
+  went_down : (x : ℕ) (right : Bool) → May plan.last_card (call.Down x right) v → (seen : Seen) → IsBehind (after (call.Down x right) (found_by s (call.Down x right)) v).worker.search seen
       → (unpacked seen.word).card < later_words.next
   went_down x right may seen (inl e) =
       let read : unwrap_or v.worker.search.read 0 ≡ may.word = ap (λ o. unwrap_or o 0) may.read in
@@ -514,7 +515,7 @@ module _ (keys : List ℕ) (cards : ℕ) (m0 : Machine) (stage : Stages) (first 
       (λ seen e. (since.grandparent seen (ap (λ (z : Worker). z.search.grandparent) me ∙ e), named_later seen (inr e)))
 
   -- any call that keeps on
-  pub call_hindered : (c : Call) → KeepsOn c → May cards c v → HinderedSince m0.words stage later_words ends old (after c (found_by s c) v)
+  pub call_hindered : (c : Call) → KeepsOn c → May plan.last_card c v → HinderedSince m0.words stage later_words ends old (after c (found_by s c) v)
   call_hindered (call.Begin op) keeps may = absurd keeps
   call_hindered call.Again keeps may = tried (after_again v) (way_now v) refl way_was_met refl refl refl (λ n e. absurd (some_not_none e refl)) refl
   call_hindered call.Leave keeps may = tried (after_leave v) (way_now v) refl way_was_met refl refl refl hindered.next refl

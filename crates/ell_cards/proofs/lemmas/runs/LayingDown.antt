@@ -55,7 +55,7 @@ module _ (plan : TablePlan) (s : TableState) (starts : Starts plan s) (turns : L
       elim (cases_lt change end) [
         | inl less ↦ elim (settled_at plan s starts turns s' run seat begin change o k end less laid.on leave.view leave.there) [
           | inl free ↦ some_not_none leave.may.busy free
-          | inr held ↦ not_backed_since plan.keys plan.last_card k.card (state change) (kept plan s starts turns s' run change) k.turn (state (suc change))
+          | inr held ↦ not_backed_since plan k.card (state change) (kept plan s starts turns s' run change) k.turn (state (suc change))
               (made plan s starts turns s' run change k.turn k.at) k.won (slice plan s starts turns s' run (suc change) end) (state end)
               (run_slice plan s starts turns s' run (suc change) end (omega arith)) seat leave.view leave.there (leave.may.backed k.card held.holds held.flagged)
         ]

@@ -61,14 +61,14 @@ module _ (plan : TablePlan) (opened : TableState) (starts : Starts plan opened) 
   same_map p t at none =
       one_map (own_words (at_turn (suc p))) (map_at (suc p)) (map_at p) (is_map plan opened starts turns s' run (suc p))
       (subst (λ ops. HasMap (own_words (at_turn (suc p))) (final (map_at p) ops)) none
-      (turn_effects plan.keys plan.last_card (at_turn p) (kept plan opened starts turns s' run p) t (at_turn (suc p)) (made plan opened starts turns s' run p t at)
+      (turn_effects plan (at_turn p) (kept plan opened starts turns s' run p) t (at_turn (suc p)) (made plan opened starts turns s' run p t at)
       (map_at p) (is_map plan opened starts turns s' run p)))
 
   -- and by a call that changes it
   right_change : (i p : ℕ) (op : Op) → Changes i p op → IsRight map_at (record { item = record { begin = i; op = op; reply = reply_of_change op }; at = p; past = suc p })
   right_change i p op g =
       let h = changed_of plan opened starts turns s' run i p op g in
-      let lawful = turn_lawful plan.keys plan.last_card (at_turn p) (kept plan opened starts turns s' run p) h.turn (at_turn (suc p))
+      let lawful = turn_lawful plan (at_turn p) (kept plan opened starts turns s' run p) h.turn (at_turn (suc p))
       (made plan opened starts turns s' run p h.turn h.at) in
       let makes = h.changes.makes (at_turn (suc p)) lawful.1.tree in
       let map = is_map plan opened starts turns s' run p in record {

@@ -13,6 +13,7 @@ use Rattle.ell_core.specs.history.Invariant.{Invariant}
 use Rattle.ell_core.specs.history.Later.{wins_of}
 use Rattle.ell_core.proofs.lemmas.outcomes.Decide.{some_not_none}
 use Rattle.ell_core.proofs.lemmas.stages.Sums.{backs, child_changes, sum_by, sum_append, backed-sum, sum-backed}
+use Rattle.ell_cards.specs.Models.{TablePlan}
 use Rattle.ell_cards.specs.declared.call.Call.{Call}
 use Rattle.ell_cards.specs.declared.call.Call.TheVariants as call
 use Rattle.ell_cards.specs.declared.view.View.{View}
@@ -137,35 +138,35 @@ first_alone seat (Makes other c) ts h = (h.0, tt)
 first_alone seat (Splits other left) ts h = (h.0, tt)
 first_alone seat (Joins one other) ts h = (h.0, h.1, tt)
 
-module _ (keys : List ℕ) (cards c : ℕ) where
+module _ (plan : TablePlan) (c : ℕ) where
   -- what a pass knows is so by the stages
-  not_known : (s : TableState) (r : HasMachine keys cards s) (stage : Stages) → Invariant (machine_of_table keys cards s r) stage → (seat : ℕ) (v : View)
+  not_known : (s : TableState) (r : HasMachine plan s) (stage : Stages) → Invariant (machine_of_table plan s r) stage → (seat : ℕ) (v : View)
       → get_elem? s.views seat ≡ some v → ¬ (is_backed (stage c) ≡ true) → ¬ Knows v (fact.Backed c)
   not_known s r stage holds seat v there fresh knows =
-      fresh ((holds.workers.each seat).facts (fact.Backed c) (ap (λ (u : Worker). u.knows (fact.Backed c)) (mine_is keys cards s r seat v there) ∙ knows))
+      fresh ((holds.workers.each seat).facts (fact.Backed c) (ap (λ (u : Worker). u.knows (fact.Backed c)) (mine_is plan s r seat v there) ∙ knows))
 
   -- what a turn leaves of it
-  settled_turn : (s : TableState) (r : HasMachine keys cards s) (stage : Stages) → Invariant (machine_of_table keys cards s r) stage → (seat : ℕ) (v : View)
-      → get_elem? s.views seat ≡ some v → ¬ (is_backed (stage c) ≡ true) → Settled c v → (t : Turn) (s' : TableState) → TableTurns cards s t s' → KeepOn seat (t ∷ [])
+  settled_turn : (s : TableState) (r : HasMachine plan s) (stage : Stages) → Invariant (machine_of_table plan s r) stage → (seat : ℕ) (v : View)
+      → get_elem? s.views seat ≡ some v → ¬ (is_backed (stage c) ≡ true) → Settled c v → (t : Turn) (s' : TableState) → TableTurns plan.last_card s t s' → KeepOn seat (t ∷ [])
       → (w : View) × (get_elem? s'.views seat ≡ some w) × Settled c w
   settled_turn s r stage holds seat v there fresh h t s' turn on =
-      let goes = turn_seat KeepsOn cards s seat v there t s' turn (first_keeps seat t [] on).0 in (
+      let goes = turn_seat KeepsOn plan.last_card s seat v there t s' turn (first_keeps seat t [] on).0 in (
         goes.view,
         goes.there,
         elim goes.made [
           | inl same ↦ subst (Settled c) (sym same) h
-          | inr y ↦ subst (Settled c) (sym y.3) (settled_by cards c y.0 (found_by s y.0) v y.1 y.2 (not_known s r stage holds seat v there fresh) h)
+          | inr y ↦ subst (Settled c) (sym y.3) (settled_by plan.last_card c y.0 (found_by s y.0) v y.1 y.2 (not_known s r stage holds seat v there fresh) h)
         ],
       )
 
   -- once a card has won its exchange of a child, the pass that has it in hand keeps it till it has nothing in hand
-  settled_on : (s : TableState) (r : HasMachine keys cards s) (stage : Stages) → Invariant (machine_of_table keys cards s r) stage → 0 < changes_by (stage c)
-      → (seat : ℕ) (v : View) → get_elem? s.views seat ≡ some v → Settled c v → (turns : List Turn) (s' : TableState) → TableRun cards s turns s' → KeepOn seat turns
+  settled_on : (s : TableState) (r : HasMachine plan s) (stage : Stages) → Invariant (machine_of_table plan s r) stage → 0 < changes_by (stage c)
+      → (seat : ℕ) (v : View) → get_elem? s.views seat ≡ some v → Settled c v → (turns : List Turn) (s' : TableState) → TableRun plan.last_card s turns s' → KeepOn seat turns
       → (w : View) → get_elem? s'.views seat ≡ some w → Settled c w
   settled_on s r stage holds changed seat v there h [] s' run on w there' =
       subst (Settled c) (some-injective v w (sym there ∙ (ap (λ (t : TableState). get_elem? t.views seat) (sym run) ∙ there'))) h
   settled_on s r stage holds changed seat v there h (t ∷ ts) s' run on w there' =
-      let next = turn_turns keys cards s r stage holds t run.0 run.1 in
+      let next = turn_turns plan s r stage holds t run.0 run.1 in
       let wins = next.1.went.wins c in
       let fresh = not_backed (stage c) (stage c) [] (sym (append-nil (wins_of (stage c)))) changed in
       let one = settled_turn s r stage holds seat v there fresh h t run.0 run.1 (first_alone seat t ts on) in
@@ -173,30 +174,30 @@ module _ (keys : List ℕ) (cards c : ℕ) where
       seat one.0 one.1 one.2 ts s' run.2 (first_keeps seat t ts on).1 w there'
 
   -- from the turn on in which it wins it
-  pub settled_since : (s : TableState) → HasMachine keys cards s → (seat : ℕ) (v : View) → get_elem? s.views seat ≡ some v → HasFlagged v c
-      → (t : Turn) (s1 : TableState) → TableTurns cards s t s1 → sum_by child_changes (turn_wins s t c) ≡ 1 → KeepOn seat (t ∷ [])
-      → (turns : List Turn) (s' : TableState) → TableRun cards s1 turns s' → KeepOn seat turns → (w : View) → get_elem? s'.views seat ≡ some w → Settled c w
+  pub settled_since : (s : TableState) → HasMachine plan s → (seat : ℕ) (v : View) → get_elem? s.views seat ≡ some v → HasFlagged v c
+      → (t : Turn) (s1 : TableState) → TableTurns plan.last_card s t s1 → sum_by child_changes (turn_wins s t c) ≡ 1 → KeepOn seat (t ∷ [])
+      → (turns : List Turn) (s' : TableState) → TableRun plan.last_card s1 turns s' → KeepOn seat turns → (w : View) → get_elem? s'.views seat ≡ some w → Settled c w
   settled_since s r seat v there h t s1 turn won keeps turns s' run on w there' =
-      let next = turn_turns keys cards s r r.stages r.invariant t s1 turn in
+      let next = turn_turns plan s r r.stages r.invariant t s1 turn in
       let changed = new_change (r.stages c) (next.1.went.stages c) (turn_wins s t c) (next.1.went.wins c) won in
       let one = settled_turn s r r.stages r.invariant seat v there
       (not_backed (r.stages c) (next.1.went.stages c) (turn_wins s t c) (next.1.went.wins c) changed) (inr h) t s1 turn keeps in
       settled_on s1 next.0 next.1.went.stages next.1.went.invariant changed seat one.0 one.1 one.2 turns s' run on w there'
 
   -- nor does any pass know it backed then
-  pub not_backed_since : (s : TableState) → HasMachine keys cards s → (t : Turn) (s1 : TableState) → TableTurns cards s t s1
-      → sum_by child_changes (turn_wins s t c) ≡ 1 → (turns : List Turn) (s' : TableState) → TableRun cards s1 turns s' → (seat : ℕ) (w : View)
+  pub not_backed_since : (s : TableState) → HasMachine plan s → (t : Turn) (s1 : TableState) → TableTurns plan.last_card s t s1
+      → sum_by child_changes (turn_wins s t c) ≡ 1 → (turns : List Turn) (s' : TableState) → TableRun plan.last_card s1 turns s' → (seat : ℕ) (w : View)
       → get_elem? s'.views seat ≡ some w → ¬ Knows w (fact.Backed c)
   not_backed_since s r t s1 turn won turns s' run seat w there =
-      let goes = run_goes keys cards s r r.stages r.invariant (t ∷ turns) s' (s1, turn, run) in
-      let changed = won_since (r.stages c) (goes.1.stages c) (turn_wins s t c) (run_wins cards s1 turns s' run c) (goes.1.wins c) won in
+      let goes = run_goes plan s r r.stages r.invariant (t ∷ turns) s' (s1, turn, run) in
+      let changed = won_since (r.stages c) (goes.1.stages c) (turn_wins s t c) (run_wins plan.last_card s1 turns s' run c) (goes.1.wins c) won in
       not_known s' goes.0 goes.1.stages goes.1.invariant seat w there (not_backed (goes.1.stages c) (goes.1.stages c) [] (sym (append-nil (wins_of (goes.1.stages c)))) changed)
 
   -- and no later turn wins another
-  pub changed_once : (s : TableState) → HasMachine keys cards s → (t : Turn) (s1 : TableState) → TableTurns cards s t s1 → sum_by child_changes (turn_wins s t c) ≡ 1
-      → (turns : List Turn) (s' : TableState) → TableRun cards s1 turns s' → (u : Turn) (s2 : TableState) → TableTurns cards s' u s2
+  pub changed_once : (s : TableState) → HasMachine plan s → (t : Turn) (s1 : TableState) → TableTurns plan.last_card s t s1 → sum_by child_changes (turn_wins s t c) ≡ 1
+      → (turns : List Turn) (s' : TableState) → TableRun plan.last_card s1 turns s' → (u : Turn) (s2 : TableState) → TableTurns plan.last_card s' u s2
       → sum_by child_changes (turn_wins s' u c) ≡ 1 → ⊥
   changed_once s r t s1 turn won turns s' run u s2 again twice =
-      let goes = run_goes keys cards s r r.stages r.invariant (t ∷ turns) s' (s1, turn, run) in
-      let more = turn_turns keys cards s' goes.0 goes.1.stages goes.1.invariant u s2 again in
-      two (r.stages c) (goes.1.stages c) (more.1.went.stages c) (turn_wins s t c) (run_wins cards s1 turns s' run c) (turn_wins s' u c) (goes.1.wins c) (more.1.went.wins c) won twice
+      let goes = run_goes plan s r r.stages r.invariant (t ∷ turns) s' (s1, turn, run) in
+      let more = turn_turns plan s' goes.0 goes.1.stages goes.1.invariant u s2 again in
+      two (r.stages c) (goes.1.stages c) (more.1.went.stages c) (turn_wins s t c) (run_wins plan.last_card s1 turns s' run c) (turn_wins s' u c) (goes.1.wins c) (more.1.went.wins c) won twice

@@ -107,9 +107,9 @@ module _ (plan : TablePlan) (opened : TableState) (starts : Starts plan opened) 
   abbrev pub after_turns : ℕ → TableState
   after_turns p = state_at plan.last_card opened turns s' run p
 
-  pub kept : (p : ℕ) → HasMachine plan.keys plan.last_card (after_turns p)
+  pub kept : (p : ℕ) → HasMachine plan (after_turns p)
   kept p =
-      (runs_are_lawful plan.keys plan.last_card opened (starts_are_kept plan opened starts).kept (take p turns) (after_turns p) (run_to plan.last_card opened turns s' run p)).kept
+      (runs_are_lawful plan opened (starts_are_kept plan opened starts).kept (take p turns) (after_turns p) (run_to plan.last_card opened turns s' run p)).kept
 
   -- the map that its tree is
   pub map_after : ℕ → Contents
@@ -219,7 +219,7 @@ module _ (plan : TablePlan) (opened : TableState) (starts : Starts plan opened) 
       → get_elem? (after_turns q).views seat ≡ some w → Settled h.card w
   settled_at seat i p op h q less on w there =
       let low = h.later in
-      settled_since plan.keys plan.last_card h.card (after_turns p) (kept p) seat h.view h.there h.held h.turn (after_turns (suc p)) (made p h.turn h.at) h.won
+      settled_since plan h.card (after_turns p) (kept p) seat h.view h.there h.held h.turn (after_turns (suc p)) (made p h.turn h.at) h.won
       (h.changes.keeps seat) (slice (suc p) q) (after_turns q) (run_slice (suc p) q (omega arith)) (keep_slice seat i (suc p) q (omega arith) (omega arith) on) w there
 
   -- so that it changes the tree once
@@ -228,7 +228,7 @@ module _ (plan : TablePlan) (opened : TableState) (starts : Starts plan opened) 
     | inl free ↦ some_not_none k.does free
     | inr held ↦
         let same : k.card ≡ h.card = same_Some k.card h.card (sym k.held.holds ∙ held.holds) in
-        changed_once plan.keys plan.last_card h.card (after_turns p) (kept p) h.turn (after_turns (suc p)) (made p h.turn h.at) h.won (slice (suc p) q) (after_turns q)
+        changed_once plan h.card (after_turns p) (kept p) h.turn (after_turns (suc p)) (made p h.turn h.at) h.won (slice (suc p) q) (after_turns q)
         (run_slice (suc p) q (omega arith)) k.turn (after_turns (suc q)) (made q k.turn k.at)
         (subst (λ c. sum_by child_changes (turn_wins (after_turns q) k.turn c) ≡ 1) same k.won)
   ]
@@ -280,7 +280,7 @@ module _ (plan : TablePlan) (opened : TableState) (starts : Starts plan opened) 
       elim (settled_at h.seat i p o k j (change_before i p j op o said h k) h.on end.view end.there) [
         | inl free ↦ some_not_none end.may.busy free
         | inr held ↦ some_not_none leaf.stands
-            ((mine_sound plan.keys plan.last_card (after_turns j) (kept j) h.seat end.view end.there).flagged end.may.op k.card end.may.busy held.holds held.flagged).1
+            ((mine_sound plan (after_turns j) (kept j) h.seat end.view end.there).flagged end.may.op k.card end.may.busy held.holds held.flagged).1
       ]
 
   -- it ends once
@@ -352,7 +352,7 @@ module _ (plan : TablePlan) (opened : TableState) (starts : Starts plan opened) 
 
   -- whose a turn is by which the tree changes
   won_for : (p : ℕ) (t : Turn) → TableTurns plan.last_card (after_turns p) t (after_turns (suc p)) → IsWonFor (after_turns p) t
-  won_for p (Makes seat y) h = table_changes_are_operations plan.keys plan.last_card (after_turns p) (kept p) seat h.view y h.there h.may
+  won_for p (Makes seat y) h = table_changes_are_operations plan (after_turns p) (kept p) seat h.view y h.there h.may
   won_for p (Splits seat left) h = tt
   won_for p (Joins seat other) h = tt
 
@@ -395,8 +395,8 @@ module _ (plan : TablePlan) (opened : TableState) (starts : Starts plan opened) 
       let turn = one_turn p g.turn h.turn g.at h.at in
       let won = subst (λ (t : Turn). sum_by child_changes (turn_wins (after_turns p) t g.card) ≡ 1) turn g.won in
       let card : g.card ≡ h.card = same_card (after_turns p) h.turn o h.changes g.card (omega arith) ∙ sym h.same in
-      let hand = ap (λ (w : Worker). w.card) (mine_is plan.keys plan.last_card (after_turns p) (kept p) seat g.view g.there) ∙ g.held.holds in
-      let hand' = ap (λ (w : Worker). w.card) (mine_is plan.keys plan.last_card (after_turns p) (kept p) other h.view h.there) ∙ h.held.holds in
+      let hand = ap (λ (w : Worker). w.card) (mine_is plan (after_turns p) (kept p) seat g.view g.there) ∙ g.held.holds in
+      let hand' = ap (λ (w : Worker). w.card) (mine_is plan (after_turns p) (kept p) other h.view h.there) ∙ h.held.holds in
       let same : seat ≡ other = (kept p).invariant.workers.one_hand seat other h.card (hand ∙ ap (λ c. Some c) card) hand' in record {
         begins = one_begin turns other i k p op o (subst (λ x. get_elem? turns i ≡ some (Makes x (call.Begin op))) same g.begins) g.later
             (subst (λ x. KeepsOnBetween x turns i p) same g.on) h.begins h.later h.on;
@@ -429,7 +429,7 @@ module _ (plan : TablePlan) (opened : TableState) (starts : Starts plan opened) 
         (keep_slice other k (suc k) p (omega arith) (omega arith) (λ n t a b. on n t a (omega arith))) in
         let keeps = keep_slice other k p j low (omega arith) on in
         let end = seat_on other (after_turns p) here.0 here.1 (slice p j) (after_turns j) (run_slice p j (omega arith)) keeps in
-        absurd ((calls_have_their_own_cards plan.keys plan.last_card (after_turns p) (kept p) seat h.view h.there h.card h.held.holds).beside other apart (slice p j) (after_turns j)
+        absurd ((calls_have_their_own_cards plan (after_turns p) (kept p) seat h.view h.there h.card h.held.holds).beside other apart (slice p j) (after_turns j)
         (run_slice p j (omega arith)) keeps here.0 here.1 end.0 end.1 ((holds.holds end.0 end.1).0 ∙ ap (λ n. Some n) same))
   ]
 
@@ -508,7 +508,7 @@ module _ (plan : TablePlan) (opened : TableState) (starts : Starts plan opened) 
   pub point_at : (i j : ℕ) (op : Op) (said : Reply) (h : IsAnswered turns i j op said)
       → (KnowsAnswerAtLeaf (called i j op said h).answers.view op said × ReadsAt i j op said) ⊎ ((said ≡ reply_of_change op) × ChangesThere i op)
   point_at i j op said h =
-      elim (point_of plan.keys plan.last_card (after_turns i) (kept i) h.seat op (after_turns (suc i)) (slice (suc i) j) (after_turns j) said (called i j op said h)) [
+      elim (point_of plan (after_turns i) (kept i) h.seat op (after_turns (suc i)) (slice (suc i) j) (after_turns j) said (called i j op said h)) [
         | inl leaf ↦ inl (leaf.0, reads_at i j op said h.later leaf.1)
         | inr card ↦ inr (card.0, changes_there i j op said h card.1.0 card.1.1 card.1.2)
       ]

@@ -150,24 +150,24 @@ module _ (m0 : Machine) (stage0 : Stages) (first : Invariant m0 stage0) (seat : 
     | inr n ↦ subst (SearchSince m0.words stage0 now) (sym (put_other f i v seat n)) since
   ]
 
-  module _ (keys : List ℕ) (cards : ℕ) (old : List Hindrance) where
+  module _ (plan : TablePlan) (old : List Hindrance) where
     -- what a turn leads to
     record Leads (s : TableState) (won : ℕ → List Exchange) : Type 0 where
-      kept : HasMachine keys cards s
-      went : Went m0.words stage0 won (machine_of_table keys cards s kept)
-      since : SearchSince m0.words stage0 kept.words ((machine_of_table keys cards s kept).worker seat)
+      kept : HasMachine plan s
+      went : Went m0.words stage0 won (machine_of_table plan s kept)
+      since : SearchSince m0.words stage0 kept.words ((machine_of_table plan s kept).worker seat)
       view : View
       there : get_elem? s.views seat ≡ some view
       hindered : HinderedSince m0.words stage0 kept.words went.stages old view
 
     -- what led to a state and what a turn makes of it
-    then_goes : (s : TableState) (won : ℕ → List Exchange) (at : Leads s won) (s' : TableState) (kept : HasMachine keys cards s') (more : ℕ → List Exchange)
-        → (goes : Went at.kept.words at.went.stages more (machine_of_table keys cards s' kept))
-        → SearchSince m0.words stage0 kept.words ((machine_of_table keys cards s' kept).worker seat) → (view : View) → get_elem? s'.views seat ≡ some view
+    then_goes : (s : TableState) (won : ℕ → List Exchange) (at : Leads s won) (s' : TableState) (kept : HasMachine plan s') (more : ℕ → List Exchange)
+        → (goes : Went at.kept.words at.went.stages more (machine_of_table plan s' kept))
+        → SearchSince m0.words stage0 kept.words ((machine_of_table plan s' kept).worker seat) → (view : View) → get_elem? s'.views seat ≡ some view
         → HinderedSince m0.words stage0 kept.words goes.stages old view → Leads s' (λ d. won d ++ more d)
     then_goes s won at s' kept more goes since view there hindered = record {
       kept = kept;
-      went = went_after m0.words stage0 won (machine_of_table keys cards s at.kept) more (machine_of_table keys cards s' kept) at.went goes;
+      went = went_after m0.words stage0 won (machine_of_table plan s at.kept) more (machine_of_table plan s' kept) at.went goes;
       since = since;
       view = view;
       there = there;
@@ -178,16 +178,16 @@ module _ (m0 : Machine) (stage0 : Stages) (first : Invariant m0 stage0) (seat : 
     hindered_still : (s : TableState) (won : ℕ → List Exchange) (at : Leads s won) (now : Words) (after : Stages) → WordsLater at.kept.words now → StagesLater at.went.stages after
         → HinderedSince m0.words stage0 now after old at.view
     hindered_still s won at now after words later =
-        hindered_rests keys cards m0 stage0 first s at.kept at.went.stages at.went.invariant at.went.words at.went.later at.went.cleans seat at.view at.there at.since now after words later old at.hindered
+        hindered_rests plan m0 stage0 first s at.kept at.went.stages at.went.invariant at.went.words at.went.later at.went.cleans seat at.view at.there at.since now after words later old at.hindered
 
     -- a search goes on by a turn
-    turn_since : (s : TableState) (won : ℕ → List Exchange) → Leads s won → (t : Turn) (s' : TableState) → TableTurns cards s t s' → KeepOn seat (t ∷ [])
+    turn_since : (s : TableState) (won : ℕ → List Exchange) → Leads s won → (t : Turn) (s' : TableState) → TableTurns plan.last_card s t s' → KeepOn seat (t ∷ [])
         → Leads s' (λ d. won d ++ turn_wins s t d)
     turn_since s won at (Makes other c) s' h keep =
-        let turn = turn_lawful keys cards s at.kept (Makes other c) s' h in
-        let m = machine_of_table keys cards s at.kept in
-        let m' = machine_of_table keys cards s' turn.0 in
-        let goes = (call_wins m at.went.stages at.went.invariant other m' c (found_by s c) h.view cards (ap (λ o. (seat_worker o).card) h.there) h.may turn.1.machine).went in
+        let turn = turn_lawful plan s at.kept (Makes other c) s' h in
+        let m = machine_of_table plan s at.kept in
+        let m' = machine_of_table plan s' turn.0 in
+        let goes = (call_wins m at.went.stages at.went.invariant other m' c (found_by s c) h.view plan.last_card (ap (λ o. (seat_worker o).card) h.there) h.may turn.1.machine).went in
         let on = becomes_since m at.went.stages other (act_of c (found_by s c)) (said_of c (found_by s c)) m' at.went.invariant at.went.words at.went.later
         turn.1.machine in
         elim (cases_eq seat other) [
@@ -205,8 +205,8 @@ module _ (m0 : Machine) (stage0 : Stages) (first : Invariant m0 stage0) (seat : 
                 ]
               ] in
               then_goes s won at s' turn.0 (turn_wins s (Makes other c)) goes since (view_after s at.view c) now
-              (call_hindered keys cards m0 stage0 first s at.kept at.went.stages at.went.invariant at.went.words at.went.later at.went.cleans seat at.view at.there at.since
-              turn.0.words goes.stages goes.words goes.later old at.hindered c (keep.0 (sym e)) (subst (λ u. May cards c u) own h.may))
+              (call_hindered plan m0 stage0 first s at.kept at.went.stages at.went.invariant at.went.words at.went.later at.went.cleans seat at.view at.there at.since
+              turn.0.words goes.stages goes.words goes.later old at.hindered c (keep.0 (sym e)) (subst (λ u. May plan.last_card c u) own h.may))
           | inr n ↦
               let now : get_elem? s'.views seat ≡ some at.view =
               ap (λ (t : TableState). get_elem? t.views seat) h.gives ∙ (set_else s.views other seat (view_after s h.view c) n ∙ at.there) in
@@ -214,9 +214,9 @@ module _ (m0 : Machine) (stage0 : Stages) (first : Invariant m0 stage0) (seat : 
               (hindered_still s won at turn.0.words goes.stages goes.words goes.later)
         ]
     turn_since s won at (Splits other left) s' h keep =
-        let turn = turn_lawful keys cards s at.kept (Splits other left) s' h in
-        let m = machine_of_table keys cards s at.kept in
-        let m' = machine_of_table keys cards s' turn.0 in
+        let turn = turn_lawful plan s at.kept (Splits other left) s' h in
+        let m = machine_of_table plan s at.kept in
+        let m' = machine_of_table plan s' turn.0 in
         let split = turn.1.machine in
         let goes = went_nowhere m at.went.stages m' (splits_lawful m at.went.stages other m' at.went.invariant split) (ap (λ (n : Machine). n.words) split.gives) in
         let less = inside s.views seat at.view at.there in
@@ -230,9 +230,9 @@ module _ (m0 : Machine) (stage0 : Stages) (first : Invariant m0 stage0) (seat : 
         (put_since m.words m.worker other split.left split.left_free at.since))) at.view now
         (hindered_still s won at turn.0.words goes.stages goes.words goes.later)
     turn_since s won at (Joins one other) s' h keep =
-        let turn = turn_lawful keys cards s at.kept (Joins one other) s' h in
-        let m = machine_of_table keys cards s at.kept in
-        let m' = machine_of_table keys cards s' turn.0 in
+        let turn = turn_lawful plan s at.kept (Joins one other) s' h in
+        let m = machine_of_table plan s at.kept in
+        let m' = machine_of_table plan s' turn.0 in
         let join = turn.1.machine in
         let goes = went_nowhere m at.went.stages m' (joins_lawful m at.went.stages one other m' at.went.invariant join) (ap (λ (n : Machine). n.words) join.gives) in
         let now : get_elem? s'.views seat ≡ some at.view =
@@ -251,15 +251,15 @@ module _ (m0 : Machine) (stage0 : Stages) (first : Invariant m0 stage0) (seat : 
     first_keeps (Joins one other) ts h = ((h.0, h.1, tt), h.2)
 
     -- and by a run
-    run_since : (s : TableState) (won : ℕ → List Exchange) → Leads s won → (turns : List Turn) (s' : TableState) (run : TableRun cards s turns s') → KeepOn seat turns
-        → Leads s' (λ d. won d ++ run_wins cards s turns s' run d)
+    run_since : (s : TableState) (won : ℕ → List Exchange) → Leads s won → (turns : List Turn) (s' : TableState) (run : TableRun plan.last_card s turns s') → KeepOn seat turns
+        → Leads s' (λ d. won d ++ run_wins plan.last_card s turns s' run d)
     run_since s won at [] s' run keep =
         subst (λ x. Leads x (λ d. won d ++ [])) (sym run)
         (subst (Leads s) (λ t d. sym (append-nil (won d)) t) at)
     run_since s won at (t ∷ ts) s' run keep =
         let keeps = first_keeps t ts keep in
         let one = turn_since s won at t run.0 run.1 keeps.0 in
-        subst (Leads s') (λ i d. append_assoc (won d) (turn_wins s t d) (run_wins cards run.0 ts s' run.2 d) i)
+        subst (Leads s') (λ i d. append_assoc (won d) (turn_wins s t d) (run_wins plan.last_card run.0 ts s' run.2 d) i)
         (run_since run.0 (λ d. won d ++ turn_wins s t d) one ts s' run.2 keeps.1)
 
 -- what a pass knows to have ended has
@@ -283,11 +283,11 @@ module _ (plan : TablePlan) (q : SearchRun plan) where
   opens = starts_are_kept plan q.opened q.starts
 
   -- where the run leads before the search begins
-  led_to : (k : HasMachine plan.keys plan.last_card q.begun) × Went opens.kept.words opens.kept.stages (run_wins plan.last_card q.opened q.before q.begun q.led) (machine_of_table plan.keys plan.last_card q.begun k)
-  led_to = let made = run_goes plan.keys plan.last_card q.opened opens.kept opens.kept.stages opens.kept.invariant q.before q.begun q.led in (made.0, made.1)
+  led_to : (k : HasMachine plan q.begun) × Went opens.kept.words opens.kept.stages (run_wins plan.last_card q.opened q.before q.begun q.led) (machine_of_table plan q.begun k)
+  led_to = let made = run_goes plan q.opened opens.kept opens.kept.stages opens.kept.invariant q.before q.begun q.led in (made.0, made.1)
 
   abbrev first : Machine
-  first = machine_of_table plan.keys plan.last_card q.begun led_to.0
+  first = machine_of_table plan q.begun led_to.0
 
   abbrev stage : Stages
   stage = led_to.1.stages
@@ -297,8 +297,8 @@ module _ (plan : TablePlan) (q : SearchRun plan) where
   won_by_then c = led_to.1.wins c ∙ ap (λ ks. ks ++ run_wins plan.last_card q.opened q.before q.begun q.led c) (opens.unwon c)
 
   -- where it leads while the search goes on
-  led : Leads first stage led_to.1.invariant q.seat plan.keys plan.last_card q.begins.view.hindrances q.now (run_wins plan.last_card q.begun q.meanwhile q.now q.run)
-  led = run_since first stage led_to.1.invariant q.seat plan.keys plan.last_card q.begins.view.hindrances q.begun (λ d. []) (record {
+  led : Leads first stage led_to.1.invariant q.seat plan q.begins.view.hindrances q.now (run_wins plan.last_card q.begun q.meanwhile q.now q.run)
+  led = run_since first stage led_to.1.invariant q.seat plan q.begins.view.hindrances q.begun (λ d. []) (record {
     kept = led_to.0;
     went = record {
       stages = stage;
@@ -328,7 +328,7 @@ module _ (plan : TablePlan) (q : SearchRun plan) where
   }) q.meanwhile q.now q.run q.keeps
 
   abbrev now : Machine
-  now = machine_of_table plan.keys plan.last_card q.now led.kept
+  now = machine_of_table plan q.now led.kept
 
   mine : now.worker q.seat ≡ worker_of q.view.worker
   mine = ap seat_worker q.there
@@ -401,14 +401,14 @@ pub known_milestones_were_reached : KnownMilestonesWereReached
 known_milestones_were_reached plan first starts turns s run seat v there =
     let last = plan.last_card in
     let opens = starts_are_kept plan first starts in
-    let led = run_goes plan.keys plan.last_card first opens.kept opens.kept.stages opens.kept.invariant turns s run in
+    let led = run_goes plan first opens.kept opens.kept.stages opens.kept.invariant turns s run in
     let low = (led.0.views seat v there).least in
     let is = listed_next s.words ∙ led.0.next in record {
       given_out = omega (arith, low, is);
       ended = λ c ended.
           let won = led.1.wins c ∙ ap (λ ks. ks ++ run_wins plan.last_card first turns s run c) (opens.unwon c) in
           ap has_end (sym won) ∙ (wins_end (led.1.stages c)
-          ∙ facts_ended (machine_of_table plan.keys plan.last_card s led.0) led.1.stages led.1.invariant seat v (ap seat_worker there) c ended);
+          ∙ facts_ended (machine_of_table plan s led.0) led.1.stages led.1.invariant seat v (ap seat_worker there) c ended);
     }
 
 -- a search begins after a begin and after an again

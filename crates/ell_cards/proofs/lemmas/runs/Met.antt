@@ -1,4 +1,4 @@
-use Rattle.std.proofs.Common.{◌≡◌, ◌≢◌, ℕ, ◌==◌, if◌then◌else◌, Bool, true, false, Some, None, List, [], ◌∷◌, set, unwrap_or, refl, sym, ap, ◌∙◌, subst, ⊎_elim}
+use Rattle.std.proofs.Common.{◌+◌, ◌≡◌, ◌≢◌, ℕ, ◌==◌, if◌then◌else◌, Bool, true, false, Some, None, List, [], ◌∷◌, set, unwrap_or, refl, sym, ap, ◌∙◌, subst, ⊎_elim}
 use mathlib.Core.Option.{some}
 use lib.ListN.{get_elem?}
 use Rattle.atomic_table.proofs.Lists.{at_set}
@@ -16,6 +16,8 @@ use Rattle.ell_cards.specs.declared.call.Call.TheVariants as call
 use Rattle.ell_cards.specs.declared.view.Told.{Told}
 use Rattle.ell_cards.specs.declared.view.Told.TheVariants.{Met}
 use Rattle.ell_cards.specs.declared.view.View.{View}
+use Rattle.ell_cards.specs.Depths.{depth_told}
+use Rattle.ell_cards.proofs.lemmas.views.Depths.{met_there}
 use Rattle.ell_cards.specs.Models.{TablePlan, latest, IsTold}
 use Rattle.ell_cards.specs.Changes.{first_of, left_view, right_view, joined_view, after_claim, after_flag, after_mark, is_mark_of, with_fact, unmarking}
 use Rattle.ell_cards.specs.Calls.{after, May, seen_below}
@@ -104,7 +106,7 @@ after_met cards (call.Upd x) n v may h = met_still v (after (call.Upd x) n v) (a
 after_met cards (call.Down x right) n v may h =
     let w = after (call.Down x right) n v in
     let more = after_told (call.Down x right) n v in record {
-      node = λ y e. subst (λ z. IsTold w (Met z)) (some_same e) (latest (Met (link_in n).node) v.told);
+      node = λ y e. subst (λ z. IsTold w (Met z)) (some_same e) (met_there (depth_told v.told x + 1) (link_in n).node v.told);
       parent = λ seen e. subst (IsPassed w) (seen_met (seen_below v x n) seen e) (record { inner = may.inner; met = more (Met x) (h.node x may.stands) });
       grandparent = λ seen e. passed_still v w more seen.node (h.parent seen e);
     }

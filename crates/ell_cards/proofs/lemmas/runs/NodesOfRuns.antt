@@ -8,6 +8,7 @@ use Rattle.ell_core.specs.tree.Tree.{Reached}
 use Rattle.ell_core.specs.history.Stages.{Born}
 use Rattle.ell_core.proofs.lemmas.following.Sound.{word_by_state}
 use Rattle.ell_core.proofs.lemmas.stages.Order.{born-claimed}
+use Rattle.ell_cards.specs.Models.{TablePlan}
 use Rattle.ell_cards.specs.States.{TableState}
 use Rattle.ell_cards.specs.Machines.{HasMachine}
 use Rattle.ell_cards.specs.Laws.{machine_of_table}
@@ -19,39 +20,39 @@ use Rattle.ell_cards.proofs.lemmas.own_words.OwnWords.{same_card}
 use Rattle.ell_cards.proofs.lemmas.runs.GoingOn.{Went, run_goes}
 
 -- two states with machines, the second one's gone on from the first one's, and a node that was reached in the first
-module _ (keys : List ℕ) (cards : ℕ) (s : TableState) (r : HasMachine keys cards s) (s' : TableState) (k : HasMachine keys cards s') (won : ℕ → List Exchange)
-    (went : Went r.words r.stages won (machine_of_table keys cards s' k)) (stages : StagesLater r.stages k.stages) (x : ℕ) (reached : Reached (own_words s) x) where
+module _ (plan : TablePlan) (s : TableState) (r : HasMachine plan s) (s' : TableState) (k : HasMachine plan s') (won : ℕ → List Exchange)
+    (went : Went r.words r.stages won (machine_of_table plan s' k)) (stages : StagesLater r.stages k.stages) (x : ℕ) (reached : Reached (own_words s) x) where
   -- it came into the tree
   born : Born r.stages x
-  born = reached_born r.words (own_words s) r.stages r.invariant.words (same_card keys cards s r) x reached
+  born = reached_born r.words (own_words s) r.stages r.invariant.words (same_card plan s r) x reached
 
   later : Born k.stages x
   later = stages.born x born
 
   -- so the table's own words there are the machine's
   key_then : (own_words s).key x ≡ r.words.key x
-  key_then = key_same r.words (own_words s) r.stages r.invariant.words (same_card keys cards s r) x born
+  key_then = key_same r.words (own_words s) r.stages r.invariant.words (same_card plan s r) x born
 
   key_now : (own_words s').key x ≡ k.words.key x
-  key_now = key_same k.words (own_words s') k.stages k.invariant.words (same_card keys cards s' k) x later
+  key_now = key_same k.words (own_words s') k.stages k.invariant.words (same_card plan s' k) x later
 
   child_then : IsInternal x → (right : Bool) → (own_words s).child x right ≡ r.words.child x right
-  child_then inner right = child_same r.words (own_words s) r.stages r.invariant.words (same_card keys cards s r) x right inner born
+  child_then inner right = child_same r.words (own_words s) r.stages r.invariant.words (same_card plan s r) x right inner born
 
   child_now : IsInternal x → (right : Bool) → (own_words s').child x right ≡ k.words.child x right
-  child_now inner right = child_same k.words (own_words s') k.stages k.invariant.words (same_card keys cards s' k) x right inner later
+  child_now inner right = child_same k.words (own_words s') k.stages k.invariant.words (same_card plan s' k) x right inner later
 
   tag_then : IsInternal x → (right : Bool) → (own_words s).tag x right ≡ r.words.tag x right
-  tag_then inner right = tag_same r.words (own_words s) r.stages r.invariant.words (same_card keys cards s r) x right inner born
+  tag_then inner right = tag_same r.words (own_words s) r.stages r.invariant.words (same_card plan s r) x right inner born
 
   tag_now : IsInternal x → (right : Bool) → (own_words s').tag x right ≡ k.words.tag x right
-  tag_now inner right = tag_same k.words (own_words s') k.stages k.invariant.words (same_card keys cards s' k) x right inner later
+  tag_now inner right = tag_same k.words (own_words s') k.stages k.invariant.words (same_card plan s' k) x right inner later
 
   update_then : IsInternal x → (own_words s).update x ≡ r.words.update x
-  update_then inner = update_same r.words (own_words s) r.stages r.invariant.words (same_card keys cards s r) x inner born
+  update_then inner = update_same r.words (own_words s) r.stages r.invariant.words (same_card plan s r) x inner born
 
   update_now : IsInternal x → (own_words s').update x ≡ k.words.update x
-  update_now inner = update_same k.words (own_words s') k.stages k.invariant.words (same_card keys cards s' k) x inner later
+  update_now inner = update_same k.words (own_words s') k.stages k.invariant.words (same_card plan s' k) x inner later
 
   -- its card was claimed
   below : card x < r.words.next
@@ -86,6 +87,6 @@ module _ (keys : List ℕ) (cards : ℕ) (s : TableState) (r : HasMachine keys c
 
 -- by what a run makes of the machine
 pub table_nodes_go_on : NodesByMachine
-table_nodes_go_on keys cards s r turns s' run x reached =
-    let goes = run_goes keys cards s r r.stages r.invariant turns s' run in
-    node_goes_on keys cards s r s' goes.0 (run_wins cards s turns s' run) goes.1 goes.2 x reached
+table_nodes_go_on plan s r turns s' run x reached =
+    let goes = run_goes plan s r r.stages r.invariant turns s' run in
+    node_goes_on plan s r s' goes.0 (run_wins plan.last_card s turns s' run) goes.1 goes.2 x reached

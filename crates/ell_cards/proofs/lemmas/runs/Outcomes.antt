@@ -1,4 +1,4 @@
-use Rattle.std.proofs.Common.{◌≡◌, ℕ, ◌+◌, ◌<◌, ◌==◌, if◌then◌else◌, Bool, true, false, None, List, ◌∷◌, get_or, set, length, refl, sym, ap, ◌∙◌, subst, inl, inr, true≢false, eq-eqb, get_or-set_same, arith}
+use Rattle.std.proofs.Common.{◌≡◌, ℕ, ◌+◌, ◌<◌, ◌==◌, if◌then◌else◌, Bool, true, false, None, ◌∷◌, get_or, set, length, refl, sym, ap, ◌∙◌, subst, inl, inr, true≢false, eq-eqb, get_or-set_same, arith}
 use Rattle.ell_core.proofs.lemmas.keeping.Puts.{putting_hand}
 use Rattle.std.proofs.lemmas.Bool.{cases_eq, cases_lt, false≢true}
 use mathlib.Core.Option.{some}
@@ -59,11 +59,11 @@ use Rattle.ell_cards.proofs.lemmas.runs.Won.{number, one, count, times, total, w
 use Rattle.ell_cards.proofs.lemmas.runs.Counts.{Counts, wins_are_counted, ClaimsCount, claims_are_counted}
 
 -- the update word that a machine has at a node that came into the tree is the table's
-pub listed_update : (keys : List ℕ) (cards : ℕ) (s : TableState) (r : HasMachine keys cards s) (x : ℕ) → IsInternal x → Born r.stages x
+pub listed_update : (plan : TablePlan) (s : TableState) (r : HasMachine plan s) (x : ℕ) → IsInternal x → Born r.stages x
     → get_or s.words (update_address x) 0 ≡ r.words.update x
-listed_update keys cards s r x inner born =
+listed_update plan s r x inner born =
     sym (update_at_node (own_words s) x inner ∙ words_are_listed s.words (card x) field.Update)
-    ∙ update_same r.words (own_words s) r.stages r.invariant.words (same_card keys cards s r) x inner born
+    ∙ update_same r.words (own_words s) r.stages r.invariant.words (same_card plan s r) x inner born
 
 -- a win is told once
 own_time : (b : Bool) (k : Exchange) (c : ℕ) → times k c (if_won b k c) ≡ one b
@@ -78,11 +78,11 @@ one_is false true e = absurd (omega arith)
 one_is false false e = refl
 
 -- a pass that knows a fact of a card knows a win of it: it was told once
-pub known_once : (keys : List ℕ) (cards : ℕ) (s : TableState) → Counts keys cards s → (id : ℕ) (w : View) → get_elem? s.views id ≡ some w
+pub known_once : (plan : TablePlan) (s : TableState) → Counts plan s → (id : ℕ) (w : View) → get_elem? s.views id ≡ some w
     → (k : Exchange) → 0 < number k → (f : Fact) → ((st : Stage) → allows f st ≡ true → count k (wins_of st) ≡ 1) → Knows w f → total k (card_of_fact f) s ≡ 1
-known_once keys cards s h id w there k more f tells knows =
+known_once plan s h id w there k more f tells knows =
     h.counted k more (card_of_fact f) ∙ tells (h.stages (card_of_fact f))
-    ((h.invariant.workers.each id).facts f (ap (λ (u : Worker). u.knows f) (mine_is keys cards s h.machine id w there) ∙ knows))
+    ((h.invariant.workers.each id).facts f (ap (λ (u : Worker). u.knows f) (mine_is plan s h.machine id w there) ∙ knows))
 
 -- two states of one claim word have the same claims
 claims_alike : (first : ℕ) (s s' : TableState) → get_or s'.words 0 0 ≡ get_or s.words 0 0 → ClaimsCount first s → ClaimsCount first s' → (c : ℕ)
@@ -135,10 +135,10 @@ delete-opens : (st : Stage) → delete_won st ≡ true → count exchange.DUnfla
 delete-opens st h g f = grind arith
 
 -- what a pass knows of a card holds of its stage
-known_holds : (keys : List ℕ) (cards : ℕ) (s : TableState) (r : HasMachine keys cards s) (id : ℕ) (w : View) → get_elem? s.views id ≡ some w → (f : Fact) → Knows w f
+known_holds : (plan : TablePlan) (s : TableState) (r : HasMachine plan s) (id : ℕ) (w : View) → get_elem? s.views id ≡ some w → (f : Fact) → Knows w f
     → allows f (r.stages (card_of_fact f)) ≡ true
-known_holds keys cards s r id w there f knows =
-    (r.invariant.workers.each id).facts f (ap (λ (u : Worker). u.knows f) (mine_is keys cards s r id w there) ∙ knows)
+known_holds plan s r id w there f knows =
+    (r.invariant.workers.each id).facts f (ap (λ (u : Worker). u.knows f) (mine_is plan s r id w there) ∙ knows)
 
 -- two answers are alike that can't be apart
 alike_by : (a b : Bool) → (a ≡ false → b ≡ true → ⊥) → (a ≡ true → b ≡ false → ⊥) → a ≡ b
@@ -154,10 +154,10 @@ module _ (plan : TablePlan) (s : TableState) (h : IsReached plan s) (id : ℕ) (
   pub went : IsReached plan (state_after s id v c)
   went = reached_on plan s h (Makes id c) (state_after s id v c) (record { view = v; there = here; may = may; gives = refl })
 
-  pub went_counts : Counts plan.keys plan.last_card (state_after s id v c)
+  pub went_counts : Counts plan (state_after s id v c)
   went_counts = wins_are_counted plan (state_after s id v c) went
 
-  pub told_counts : Counts plan.keys plan.last_card (told_of s id v c n)
+  pub told_counts : Counts plan (told_of s id v c n)
   told_counts = wins_are_counted plan (told_of s id v c n) on
 
   pub went_there : get_elem? (state_after s id v c).views id ≡ some (after c (found_by s c) v)
@@ -178,8 +178,8 @@ module _ (plan : TablePlan) (s : TableState) (h : IsReached plan s) (id : ℕ) (
       → won_by c (found_by s c) ≡ if_won (is_won (atomic_of c) (found_by s c)) k (card_of_fact f) → won_by c n ≡ if_won (is_won (atomic_of c) n) k (card_of_fact f)
       → Knows (after c (found_by s c) v) f → Knows (after c n v) f → is_won (atomic_of c) n ≡ is_won (atomic_of c) (found_by s c)
   taught_alike k more f tells found told knows knew =
-      let a = known_once plan.keys plan.last_card (state_after s id v c) went_counts id (after c (found_by s c) v) went_there k more f tells knows in
-      let b = known_once plan.keys plan.last_card (told_of s id v c n) told_counts id (after c n v) told_there k more f tells knew in
+      let a = known_once plan (state_after s id v c) went_counts id (after c (found_by s c) v) went_there k more f tells knows in
+      let b = known_once plan (told_of s id v c n) told_counts id (after c n v) told_there k more f tells knew in
       let x = went_total k (card_of_fact f) (is_won (atomic_of c) (found_by s c)) found in
       let y = told_total k (card_of_fact f) (is_won (atomic_of c) n) told in
       one_is (is_won (atomic_of c) n) (is_won (atomic_of c) (found_by s c)) (omega arith)
@@ -188,7 +188,7 @@ module _ (plan : TablePlan) (s : TableState) (h : IsReached plan s) (id : ℕ) (
 module _ (plan : TablePlan) (s : TableState) (h : IsReached plan s) (id : ℕ) (v : View) (here : get_elem? s.views id ≡ some v)
     (c : Call) (may : May plan.last_card c v) (n : ℕ) (on : IsReached plan (told_of s id v c n))
     (d : ℕ) (hand : MayFill v d) (x : ℕ) (passed : IsPassed v x) (at : word_of c ≡ update_address x) where
-  abbrev before : HasMachine plan.keys plan.last_card s
+  abbrev before : HasMachine plan s
   before = reached_kept plan s h
 
   abbrev T : TableState
@@ -201,9 +201,9 @@ module _ (plan : TablePlan) (s : TableState) (h : IsReached plan s) (id : ℕ) (
   there = told_there plan s h id v here c may n on
 
   -- the card waits
-  waits_there : (r : HasMachine plan.keys plan.last_card s) (stages : Stages) → Invariant (machine_of_table plan.keys plan.last_card s r) stages → waits (stages d) ≡ true
+  waits_there : (r : HasMachine plan s) (stages : Stages) → Invariant (machine_of_table plan s r) stages → waits (stages d) ≡ true
   waits_there r stages invariant =
-      let same = mine_is plan.keys plan.last_card s r id v here in
+      let same = mine_is plan s r id v here in
       hand_waits r.words stages (seat_worker (get_elem? s.views id)) d (invariant.workers.each id)
       (ap (λ (u : Worker). u.card) same ∙ hand.holds) (ap (λ (u : Worker). u.flagged) same ∙ hand.unflagged)
 
@@ -226,23 +226,23 @@ module _ (plan : TablePlan) (s : TableState) (h : IsReached plan s) (id : ℕ) (
   left = left_by (atomic_of c) (found_by s c)
 
   -- the machine has it too, at a node that was met
-  flag_listed : (r : HasMachine plan.keys plan.last_card T) → left ≡ r.words.update x
+  flag_listed : (r : HasMachine plan T) → left ≡ r.words.update x
   flag_listed r =
       let born = (r.views id w there).entries (Met x) (after_told c n v (Met x) passed.met) in
       sym (get_or-set_same s.words (word_of c) left 0 (steps_stay_inside plan s h id v c here may))
-      ∙ (ap (λ i. get_or T.words i 0) at ∙ listed_update plan.keys plan.last_card T r x passed.inner born)
+      ∙ (ap (λ i. get_or T.words i 0) at ∙ listed_update plan T r x passed.inner born)
 
   -- where it was laid aside, it is in nobody's hand
-  in_no_hand : (r : HasMachine plan.keys plan.last_card T) → w.worker.card ≡ None → IsInHand (machine_of_table plan.keys plan.last_card T r) d → ⊥
+  in_no_hand : (r : HasMachine plan T) → w.worker.card ≡ None → IsInHand (machine_of_table plan T r) d → ⊥
   in_no_hand r aside held = elim (cases_eq held.worker id) [
     | inl e ↦ some_not_none (sym (ap (λ i. (seat_worker (get_elem? T.views i)).card) e ∙ ap (λ (u : Worker). u.card) (ap seat_worker there)) ∙ held.holds) aside
-    | inr apart ↦ apart (sym (one_hand (machine_of_table plan.keys plan.last_card s before) before.stages before.invariant id held.worker d
-        (record { holds = ap (λ (u : Worker). u.card) (mine_is plan.keys plan.last_card s before id v here) ∙ hand.holds; unflagged = ap (λ (u : Worker). u.flagged) (mine_is plan.keys plan.last_card s before id v here) ∙ hand.unflagged })
+    | inr apart ↦ apart (sym (one_hand (machine_of_table plan s before) before.stages before.invariant id held.worker d
+        (record { holds = ap (λ (u : Worker). u.card) (mine_is plan s before id v here) ∙ hand.holds; unflagged = ap (λ (u : Worker). u.flagged) (mine_is plan s before id v here) ∙ hand.unflagged })
         (ap (λ o. (seat_worker o).card) (sym (set_else s.views id held.worker w apart)) ∙ held.holds)))
   ]
 
   -- a card that is filled goes where the machine says, in the table and after it too, if the step left its word
-  goes_there : (r : HasMachine plan.keys plan.last_card T) (F : Field) → IsFilled v → left ≡ found_by s c → waits (r.stages d) ≡ false → table_word r.words d F ≡ table_word before.words d F
+  goes_there : (r : HasMachine plan T) (F : Field) → IsFilled v → left ≡ found_by s c → waits (r.stages d) ≡ false → table_word r.words d F ≡ table_word before.words d F
   goes_there r F filled same calm =
       let held = (before.views id v here).hand d hand.holds hand.unflagged in
       let words : T.words ≡ s.words = ap (set s.words (word_of c)) same ∙ set-get_or s.words (word_of c) 0 in
@@ -253,17 +253,17 @@ module _ (plan : TablePlan) (s : TableState) (h : IsReached plan s) (id : ℕ) (
   born_before = (before.views id v here).entries (Met x) passed.met
 
   -- where the flag was lost and told as won, its card would have it at that node, which has it not
-  flag_before : (counts : Counts plan.keys plan.last_card T) (F : Field) (flag : ℕ) → IsFilled v → left ≡ found_by s c → waits (counts.machine.stages d) ≡ false
+  flag_before : (counts : Counts plan T) (F : Field) (flag : ℕ) → IsFilled v → left ≡ found_by s c → waits (counts.machine.stages d) ≡ false
       → table_word before.words d F ≡ x → counts.machine.words.update (table_word counts.machine.words d F) ≡ flag → before.words.update x ≡ flag
   flag_before counts F flag filled same calm goes stands =
-      sym (listed_update plan.keys plan.last_card s before x passed.inner born_before) ∙ (sym (ap (λ i. get_or s.words i 0) at)
+      sym (listed_update plan s before x passed.inner born_before) ∙ (sym (ap (λ i. get_or s.words i 0) at)
       ∙ (sym same ∙ (flag_listed counts.machine ∙ (ap counts.machine.words.update (sym (goes_there counts.machine F filled same calm ∙ goes)) ∙ stands))))
 
   -- what the pass knows after it holds of all stages that the machine may have
-  knows_then : (counts : Counts plan.keys plan.last_card T) (stages : Stages) → Invariant (machine_of_table plan.keys plan.last_card T counts.machine) stages → (f : Fact) → Knows w f
+  knows_then : (counts : Counts plan T) (stages : Stages) → Invariant (machine_of_table plan T counts.machine) stages → (f : Fact) → Knows w f
       → allows f (stages (card_of_fact f)) ≡ true
   knows_then counts stages invariant f knows =
-      (invariant.workers.each id).facts f (ap (λ (u : Worker). u.knows f) (mine_is plan.keys plan.last_card T counts.machine id w there) ∙ knows)
+      (invariant.workers.each id).facts f (ap (λ (u : Worker). u.knows f) (mine_is plan T counts.machine id w there) ∙ knows)
 
 module _ (plan : TablePlan) (s : TableState) (h : IsReached plan s) (id : ℕ) (v : View) (here : get_elem? s.views id ≡ some v) where
   abbrev Alike : Call → Type 0
@@ -324,7 +324,7 @@ module _ (plan : TablePlan) (s : TableState) (h : IsReached plan s) (id : ℕ) (
       T : TableState
       T = told_of s id v (call.Mark c p was) n
 
-      r : HasMachine plan.keys plan.last_card T
+      r : HasMachine plan T
       r = reached_kept plan T on
 
       there : get_elem? T.views id ≡ some (after (call.Mark c p was) n v)
@@ -338,7 +338,7 @@ module _ (plan : TablePlan) (s : TableState) (h : IsReached plan s) (id : ℕ) (
       stands deletes =
           let node = subst (IsInnerBorn r.stages) parent ((r.invariant.words.cards c).delete deletes).parent in
           sym (get_or-set_same s.words (update_address p) (if found == was then marked c else found) 0
-          (steps_stay_inside plan s h id v (call.Mark c p was) here may)) ∙ listed_update plan.keys plan.last_card T r p node.inner node.born
+          (steps_stay_inside plan s h id v (call.Mark c p was) here may)) ∙ listed_update plan T r p node.inner node.born
 
       knows_told : (b m : Bool) → (n == was) ≡ b → (n == marked c) ≡ m → KnowsOf (after (call.Mark c p was) n v) c (if b then true else m)
       knows_told b m e f = subst (λ (t : Bool × Bool). KnowsOf (after (call.Mark c p was) n v) c (if t.0 then true else t.1)) (λ i. (e i, f i)) (mark_teaches c p was n)
@@ -348,12 +348,12 @@ module _ (plan : TablePlan) (s : TableState) (h : IsReached plan s) (id : ℕ) (
 
       went_once : Knows (after (call.Mark c p was) found v) (fact.Marked c) → total exchange.Mark c s + one (found == was) ≡ 1
       went_once k = sym (went_total plan s h id v here (call.Mark c p was) may n on exchange.Mark c (found == was) refl)
-          ∙ known_once plan.keys plan.last_card (state_after s id v (call.Mark c p was)) (went_counts plan s h id v here (call.Mark c p was) may n on) id
+          ∙ known_once plan (state_after s id v (call.Mark c p was)) (went_counts plan s h id v here (call.Mark c p was) may n on) id
           (after (call.Mark c p was) found v) (went_there plan s h id v here (call.Mark c p was) may n on) exchange.Mark (omega arith) (fact.Marked c) (marked-once c) k
 
       told_once : Knows (after (call.Mark c p was) n v) (fact.Marked c) → total exchange.Mark c s + one (n == was) ≡ 1
       told_once k = sym (told_total plan s h id v here (call.Mark c p was) may n on exchange.Mark c (n == was) refl)
-          ∙ known_once plan.keys plan.last_card T (told_counts plan s h id v here (call.Mark c p was) may n on) id
+          ∙ known_once plan T (told_counts plan s h id v here (call.Mark c p was) may n on) id
           (after (call.Mark c p was) n v) there exchange.Mark (omega arith) (fact.Marked c) (marked-once c) k
 
       -- won, told as lost
@@ -363,7 +363,7 @@ module _ (plan : TablePlan) (s : TableState) (h : IsReached plan s) (id : ℕ) (
           let b = went_once (knows_went true (found == marked c) g refl) in
           let x = ap one e in let y = ap one g in absurd (omega arith)
       won_lost false f e g =
-          let un = known_holds plan.keys plan.last_card T r id (after (call.Mark c p was) n v) there (fact.Unmarkable c) (knows_told false false e f) in
+          let un = known_holds plan T r id (after (call.Mark c p was) n v) there (fact.Unmarkable c) (knows_told false false e f) in
           let deletes = unmarkable-delete (r.stages c) un in
           let node = subst (IsInnerBorn r.stages) parent ((r.invariant.words.cards c).delete deletes).parent in
           marked-apart (r.stages c) ((r.invariant.words.updates p node.inner node.born).marked c
@@ -376,7 +376,7 @@ module _ (plan : TablePlan) (s : TableState) (h : IsReached plan s) (id : ℕ) (
           let b = went_once (knows_went false true g f) in
           let x = ap one e in let y = ap one g in absurd (omega arith)
       lost_won false f e g =
-          let is = known_holds plan.keys plan.last_card T r id (after (call.Mark c p was) n v) there (fact.Marked c) (knows_told true (n == marked c) e refl) in
+          let is = known_holds plan T r id (after (call.Mark c p was) n v) there (fact.Marked c) (knows_told true (n == marked c) e refl) in
           let mark = ((r.invariant.words.deletes c).marked is).mark in
           false≢true (sym f ∙ eq-eqb found (marked c)
           (sym (ap (λ (b : Bool). if b then marked c else found) g) ∙ (stands (marked-delete (r.stages c) is) ∙ (ap r.words.update (sym parent) ∙ mark))))
@@ -398,7 +398,7 @@ module _ (plan : TablePlan) (s : TableState) (h : IsReached plan s) (id : ℕ) (
       passed : IsPassed v p
       passed = subst (IsPassed v) may.node ((searches_are_met plan s h id v here).parent may.parent may.behind)
 
-      r : HasMachine plan.keys plan.last_card (told_of s id v i n)
+      r : HasMachine plan (told_of s id v i n)
       r = reached_kept plan (told_of s id v i n) on
 
       won_lost : (n == packed from) ≡ false → (found_by s i == packed from) ≡ true → ⊥
@@ -410,9 +410,9 @@ module _ (plan : TablePlan) (s : TableState) (h : IsReached plan s) (id : ℕ) (
           (sym (flag_listed plan s h id v here i may n on c may.may p passed refl r) ∙ ap (λ (b : Bool). if b then iflag c else found_by s i) g)).0)
 
       -- by its search the card goes to that parent
-      goes : (q : HasMachine plan.keys plan.last_card s) → q.words.p c ≡ p
+      goes : (q : HasMachine plan s) → q.words.p c ≡ p
       goes q =
-          let same = mine_is plan.keys plan.last_card s q id v here in
+          let same = mine_is plan s q id v here in
           let says = putting_hand q.words q.stages _ may.what c may.op may.puts ((q.invariant.workers.each id).unflagged may.op c (ap (λ (u : Worker). u.operation) same ∙ may.busy)
           (ap (λ (u : Worker). u.card) same ∙ may.may.holds) (ap (λ (u : Worker). u.flagged) same ∙ may.may.unflagged)) in
           sym says.node ∙ (ap (λ (k : Seen). k.node) (some_same (sym says.behind ∙ (ap (λ (u : Worker). u.search.parent) same ∙ may.behind))) ∙ may.node)
@@ -421,7 +421,7 @@ module _ (plan : TablePlan) (s : TableState) (h : IsReached plan s) (id : ℕ) (
       lost_won e g =
           let q = reached_kept plan s h in
           let counts = told_counts plan s h id v here i may n on in
-          let won : (stages : Stages) → Invariant (machine_of_table plan.keys plan.last_card (told_of s id v i n) counts.machine) stages → insert_won (stages c) ≡ true =
+          let won : (stages : Stages) → Invariant (machine_of_table plan (told_of s id v i n) counts.machine) stages → insert_won (stages c) ≡ true =
           λ stages invariant. knows_then plan s h id v here i may n on c may.may p passed refl counts stages invariant
           (fact.IFlagged c) (flag_known (n == packed from) (fact.IFlagged c) p (unpacked n) e) in
           let opens = insert-opens (counts.stages c) (won counts.stages counts.invariant)
@@ -441,7 +441,7 @@ module _ (plan : TablePlan) (s : TableState) (h : IsReached plan s) (id : ℕ) (
       passed : IsPassed v gp
       passed = subst (IsPassed v) may.node ((searches_are_met plan s h id v here).grandparent may.grandparent may.above)
 
-      r : HasMachine plan.keys plan.last_card (told_of s id v i n)
+      r : HasMachine plan (told_of s id v i n)
       r = reached_kept plan (told_of s id v i n) on
 
       won_lost : (n == packed from) ≡ false → (found_by s i == packed from) ≡ true → ⊥
@@ -453,9 +453,9 @@ module _ (plan : TablePlan) (s : TableState) (h : IsReached plan s) (id : ℕ) (
           (sym (flag_listed plan s h id v here i may n on c may.may gp passed refl r) ∙ ap (λ (b : Bool). if b then dflag c else found_by s i) g)).0)
 
       -- by its search the card goes to that grandparent
-      goes : (q : HasMachine plan.keys plan.last_card s) → q.words.gp c ≡ gp
+      goes : (q : HasMachine plan s) → q.words.gp c ≡ gp
       goes q =
-          let same = mine_is plan.keys plan.last_card s q id v here in
+          let same = mine_is plan s q id v here in
           let says = (q.invariant.workers.each id).unflagged (Delete may.key) c (ap (λ (u : Worker). u.operation) same ∙ may.busy)
           (ap (λ (u : Worker). u.card) same ∙ may.may.holds) (ap (λ (u : Worker). u.flagged) same ∙ may.may.unflagged) in
           sym says.top_node ∙ (ap (λ (k : Seen). k.node) (some_same (sym says.above ∙ (ap (λ (u : Worker). u.search.grandparent) same ∙ may.above))) ∙ may.node)
@@ -464,7 +464,7 @@ module _ (plan : TablePlan) (s : TableState) (h : IsReached plan s) (id : ℕ) (
       lost_won e g =
           let q = reached_kept plan s h in
           let counts = told_counts plan s h id v here i may n on in
-          let won : (stages : Stages) → Invariant (machine_of_table plan.keys plan.last_card (told_of s id v i n) counts.machine) stages → delete_won (stages c) ≡ true =
+          let won : (stages : Stages) → Invariant (machine_of_table plan (told_of s id v i n) counts.machine) stages → delete_won (stages c) ≡ true =
           λ stages invariant. knows_then plan s h id v here i may n on c may.may gp passed refl counts stages invariant
           (fact.DFlagged c) (flag_known (n == packed from) (fact.DFlagged c) gp (unpacked n) e) in
           let opens = delete-opens (counts.stages c) (won counts.stages counts.invariant)

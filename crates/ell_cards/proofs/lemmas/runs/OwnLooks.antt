@@ -5,6 +5,7 @@ use Rattle.ell_core.specs.declared.view.Entry.{Entry}
 use Rattle.ell_core.specs.declared.view.Entry.TheVariants.{Present, Absent}
 use Rattle.ell_core.specs.state.Machine.{ledger_of}
 use Rattle.ell_core.specs.statements.Effects.{value_in, contents_in}
+use Rattle.ell_cards.specs.Models.{TablePlan}
 use Rattle.ell_cards.specs.declared.call.Call.TheVariants as call
 use Rattle.ell_cards.specs.declared.view.View.{View}
 use Rattle.ell_cards.specs.States.{TableState}
@@ -28,19 +29,19 @@ looks_first seat (suc n) (Splits other left ∷ ts) on = (on.0, looks_first seat
 looks_first seat (suc n) (Joins one other ∷ ts) on = (on.0, on.1, looks_first seat n ts on.2)
 
 -- what the tree has of a key of a pass with nothing in hand is what its ledger has
-by_ledger : (keys : List ℕ) (cards : ℕ) (s : TableState) → HasMachine keys cards s → (seat : ℕ) (v : View) → get_elem? s.views seat ≡ some v
+by_ledger : (plan : TablePlan) (s : TableState) → HasMachine plan s → (seat : ℕ) (v : View) → get_elem? s.views seat ≡ some v
     → v.worker.operation ≡ None → (key : ℕ) (there : Option ℕ) → ledger_of v.worker.ledger key ≢ None → HasThere key there (own_words s)
     → there ≡ contents_in (ledger_of v.worker.ledger) key
 unfolding HasThere
-by_ledger keys cards s r seat v at free key (Some value) owns so =
-    sym (ap value_in ((ledgers_tell_the_tree keys cards s r seat v at free key value owns).0 so))
-by_ledger keys cards s r seat v at free key None owns so = by (ledger_of v.worker.ledger key) refl
+by_ledger plan s r seat v at free key (Some value) owns so =
+    sym (ap value_in ((ledgers_tell_the_tree plan s r seat v at free key value owns).0 so))
+by_ledger plan s r seat v at free key None owns so = by (ledger_of v.worker.ledger key) refl
   where
     by : (o : Option Entry) → ledger_of v.worker.ledger key ≡ o → None ≡ value_in o
     by None e = refl
     by (Some Absent) e = refl
     by (Some (Present value)) e =
-        absurd (so (value, (ledgers_tell_the_tree keys cards s r seat v at free key value owns).1 e))
+        absurd (so (value, (ledgers_tell_the_tree plan s r seat v at free key value owns).1 e))
 
 -- so a pass reads its own changes: from the beginning of its look on it has its ledger, and in the state that the look is of it has
 -- the tree's part of it
@@ -58,8 +59,8 @@ looks_read_their_own plan s h seat v at key there found owns =
     let end = run_free plan.last_card b.to seat begun begun_there b.call.may turns s b.after b.on in
     let same = ap (λ (u : View). u.worker.ledger) (some-injective end.view v (sym end.there ∙ at)) in
     let ledger : mid.view.worker.ledger ≡ v.worker.ledger = mid.still.ledger ∙ (sym end.still.ledger ∙ same) in
-    let from = (runs_are_lawful plan.keys plan.last_card h.first first (take b.first h.turns) b.from b.before).kept in
-    let kept = (runs_are_lawful plan.keys plan.last_card b.from from (Makes seat call.Look ∷ take so.amid.first turns) so.state (b.to, b.call, so.amid.before)).kept in
-    by_ledger plan.keys plan.last_card so.state kept seat mid.view mid.there mid.still.free key there
+    let from = (runs_are_lawful plan h.first first (take b.first h.turns) b.from b.before).kept in
+    let kept = (runs_are_lawful plan b.from from (Makes seat call.Look ∷ take so.amid.first turns) so.state (b.to, b.call, so.amid.before)).kept in
+    by_ledger plan so.state kept seat mid.view mid.there mid.still.free key there
     (subst (λ l. ledger_of l key ≢ None) (sym ledger) owns) so.so
     ∙ ap (λ l. contents_in (ledger_of l) key) ledger

@@ -28,6 +28,7 @@ use Rattle.ell_core.proofs.lemmas.following.facts.Claimed.{not_claimed}
 use Rattle.ell_core.proofs.lemmas.stages.Waiting.{unclaimed-wins}
 use Rattle.ell_core.proofs.lemmas.stages.Order.{insert_won-insert, delete_won-delete, delete-claimed}
 use Rattle.ell_core.proofs.lemmas.stages.LaterKeys.{insert_key_later, insert_value_later, putting_later, delete_key_later}
+use Rattle.ell_cards.specs.Models.{TablePlan}
 use Rattle.ell_cards.specs.declared.call.Call.{Call}
 use Rattle.ell_cards.specs.declared.call.Call.TheVariants as call
 use Rattle.ell_cards.specs.declared.call.Call.TheVariants.{Begin}
@@ -103,26 +104,26 @@ over_delete : (s : Stage) → delete_over s ≡ true → wins_of s ≡ exchange.
 over_delete DOver h = refl
 over_delete _ h = absurd (false≢true h)
 
-module _ (keys : List ℕ) (cards : ℕ) where
+module _ (plan : TablePlan) where
   -- a turn of a run that wins this for a card
   record Found (k : Exchange) (c : ℕ) (s : TableState) (turns : List Turn) (s' : TableState) : Type 0 where
     n : ℕ
     state : TableState
-    kept : HasMachine keys cards state
+    kept : HasMachine plan state
     turn : Turn
     next : TableState
-    before : TableRun cards s (take n turns) state
-    now : TableTurns cards state turn next
-    after : TableRun cards next (drop (suc n) turns) s'
+    before : TableRun plan.last_card s (take n turns) state
+    now : TableTurns plan.last_card state turn next
+    after : TableRun plan.last_card next (drop (suc n) turns) s'
     at : drop n turns ≡ turn ∷ drop (suc n) turns
     wins : InList k (turn_wins state turn c)
 
-  find : (k : Exchange) (c : ℕ) (s : TableState) → HasMachine keys cards s → (turns : List Turn) (s' : TableState) (run : TableRun cards s turns s')
-      → InList k (run_wins cards s turns s' run c) → Found k c s turns s'
+  find : (k : Exchange) (c : ℕ) (s : TableState) → HasMachine plan s → (turns : List Turn) (s' : TableState) (run : TableRun plan.last_card s turns s')
+      → InList k (run_wins plan.last_card s turns s' run c) → Found k c s turns s'
   find k c s r [] s' run h = absurd (not_in_none k [] refl h)
-  find k c s r (t ∷ ts) s' run h = elim (in_either k (turn_wins s t c) (run_wins cards run.0 ts s' run.2 c) h) [
+  find k c s r (t ∷ ts) s' run h = elim (in_either k (turn_wins s t c) (run_wins plan.last_card run.0 ts s' run.2 c) h) [
     | inl here ↦ record { n = 0; state = s; kept = r; turn = t; next = run.0; before = refl; now = run.1; after = run.2; at = refl; wins = here }
-    | inr there ↦ (let f = find k c run.0 (turn_lawful keys cards s r t run.0 run.1).0 ts s' run.2 there in record {
+    | inr there ↦ (let f = find k c run.0 (turn_lawful plan s r t run.0 run.1).0 ts s' run.2 there in record {
       n = suc f.n;
       state = f.state;
       kept = f.kept;
@@ -195,14 +196,14 @@ module _ (keys : List ℕ) (cards : ℕ) where
   claims_or_not (call.Backtrack c gp) = inr (λ d e. cc)
 
   -- a pass has in hand no card that was claimed before its call
-  hands : (seat : ℕ) (old : Option ℕ) (low : ℕ) (s : TableState) (r : HasMachine keys cards s) → low ≤ r.words.next → (v : View) → get_elem? s.views seat ≡ some v → LateHand old low v
-      → (turns : List Turn) (s' : TableState) → TableRun cards s turns s' → KeepOn seat turns → (w : View) → get_elem? s'.views seat ≡ some w → LateHand old low w
+  hands : (seat : ℕ) (old : Option ℕ) (low : ℕ) (s : TableState) (r : HasMachine plan s) → low ≤ r.words.next → (v : View) → get_elem? s.views seat ≡ some v → LateHand old low v
+      → (turns : List Turn) (s' : TableState) → TableRun plan.last_card s turns s' → KeepOn seat turns → (w : View) → get_elem? s'.views seat ≡ some w → LateHand old low w
   hands seat old low s r least v there h [] s' run on w there' =
       subst (LateHand old low) (some-injective v w (sym there ∙ (ap (λ (t : TableState). get_elem? t.views seat) (sym run) ∙ there'))) h
   hands seat old low s r least v there h (t ∷ ts) s' run on w there' =
       let keeps = first_keeps seat t ts on in
-      let goes = turn_seat KeepsOn cards s seat v there t run.0 run.1 keeps.0 in
-      let one = run_goes keys cards s r r.stages r.invariant (t ∷ []) run.0 (run.0, run.1, refl) in
+      let goes = turn_seat KeepsOn plan.last_card s seat v there t run.0 run.1 keeps.0 in
+      let one = run_goes plan s r r.stages r.invariant (t ∷ []) run.0 (run.0, run.1, refl) in
       let rise = one.1.words.next in
       hands seat old low run.0 one.0 (omega arith) goes.view goes.there (elim goes.made [
         | inl same ↦ subst (LateHand old low) (sym same) h
@@ -287,69 +288,69 @@ deletes_by s old new c (call.DUnflag d gp) true h pairs work = absurd (let w = i
 deletes_by s old new c (call.Backtrack d gp) true h pairs work = absurd (let w = in_win exchange.DChild exchange.Backtrack d c h in let e : exchange.DChild ≡ exchange.Backtrack = w.0 in cc)
 deletes_by s old new c _ true h pairs work = absurd (not_in_none exchange.DChild [] refl h)
 
-module _ (keys : List ℕ) (cards : ℕ) where
-  inserts_turn : (s : TableState) → HasMachine keys cards s → (t : Turn) (s' : TableState) → TableTurns cards s t s' → (c : ℕ) → InList exchange.IChild (turn_wins s t c)
+module _ (plan : TablePlan) where
+  inserts_turn : (s : TableState) → HasMachine plan s → (t : Turn) (s' : TableState) → TableTurns plan.last_card s t s' → (c : ℕ) → InList exchange.IChild (turn_wins s t c)
       → Inserts s (own_words s) (own_words s') c (turn_wins s t c)
   inserts_turn s r (Makes seat y) s' h c wins =
-      inserts_by s (own_words s) (own_words s') c y (is_won (atomic_of y) (found_by s y)) wins (turn_lawful keys cards s r (Makes seat y) s' h).1.tree
-      (table_changes_are_operations keys cards s r seat h.view y h.there h.may)
+      inserts_by s (own_words s) (own_words s') c y (is_won (atomic_of y) (found_by s y)) wins (turn_lawful plan s r (Makes seat y) s' h).1.tree
+      (table_changes_are_operations plan s r seat h.view y h.there h.may)
   inserts_turn s r (Splits seat left) s' h c wins = absurd (not_in_none exchange.IChild [] refl wins)
   inserts_turn s r (Joins seat other) s' h c wins = absurd (not_in_none exchange.IChild [] refl wins)
 
-  deletes_turn : (s : TableState) → HasMachine keys cards s → (t : Turn) (s' : TableState) → TableTurns cards s t s' → (c : ℕ) → InList exchange.DChild (turn_wins s t c)
+  deletes_turn : (s : TableState) → HasMachine plan s → (t : Turn) (s' : TableState) → TableTurns plan.last_card s t s' → (c : ℕ) → InList exchange.DChild (turn_wins s t c)
       → Deletes s (own_words s) (own_words s') c (turn_wins s t c)
   deletes_turn s r (Makes seat y) s' h c wins =
-      deletes_by s (own_words s) (own_words s') c y (is_won (atomic_of y) (found_by s y)) wins (turn_lawful keys cards s r (Makes seat y) s' h).1.tree
-      (table_changes_are_operations keys cards s r seat h.view y h.there h.may)
+      deletes_by s (own_words s) (own_words s') c y (is_won (atomic_of y) (found_by s y)) wins (turn_lawful plan s r (Makes seat y) s' h).1.tree
+      (table_changes_are_operations plan s r seat h.view y h.there h.may)
   deletes_turn s r (Splits seat left) s' h c wins = absurd (not_in_none exchange.DChild [] refl wins)
   deletes_turn s r (Joins seat other) s' h c wins = absurd (not_in_none exchange.DChild [] refl wins)
 
   -- a card in hand, flagged, for an operation, by a machine of the state
-  flagged_in : (s : TableState) (r : HasMachine keys cards s) (seat : ℕ) (v : View) → get_elem? s.views seat ≡ some v → (stage : Stages)
-      → Invariant (machine_of_table keys cards s r) stage → (op : Op) (c : ℕ) → Does v op → v.worker.card ≡ Some c → v.worker.flagged ≡ true
+  flagged_in : (s : TableState) (r : HasMachine plan s) (seat : ℕ) (v : View) → get_elem? s.views seat ≡ some v → (stage : Stages)
+      → Invariant (machine_of_table plan s r) stage → (op : Op) (c : ℕ) → Does v op → v.worker.card ≡ Some c → v.worker.flagged ≡ true
       → Flagged r.words stage (worker_of v.worker) op c
   flagged_in s r seat v there stage holds op c does has flagged =
-      subst (λ (u : Worker). Flagged r.words stage u op c) (mine_is keys cards s r seat v there)
+      subst (λ (u : Worker). Flagged r.words stage u op c) (mine_is plan s r seat v there)
       ((holds.workers.each seat).flagged op c
-      (ap (λ (u : Worker). u.operation) (mine_is keys cards s r seat v there) ∙ does)
-      (ap (λ (u : Worker). u.card) (mine_is keys cards s r seat v there) ∙ has)
-      (ap (λ (u : Worker). u.flagged) (mine_is keys cards s r seat v there) ∙ flagged)).0
+      (ap (λ (u : Worker). u.operation) (mine_is plan s r seat v there) ∙ does)
+      (ap (λ (u : Worker). u.card) (mine_is plan s r seat v there) ∙ has)
+      (ap (λ (u : Worker). u.flagged) (mine_is plan s r seat v there) ∙ flagged)).0
 
   -- where a turn wins a dchild for a card, the card won its flag, and was claimed
-  pub dchild_flagged : (s : TableState) (r : HasMachine keys cards s) (t : Turn) (s' : TableState) → TableTurns cards s t s' → (c : ℕ)
+  pub dchild_flagged : (s : TableState) (r : HasMachine plan s) (t : Turn) (s' : TableState) → TableTurns plan.last_card s t s' → (c : ℕ)
       → turn_wins s t c ≡ exchange.DChild ∷ [] → delete_won (r.stages c) ≡ true
   dchild_flagged s r t s' now c wins =
       let work = (deletes_turn s r t s' now c (subst (InList exchange.DChild) (sym wins) (first exchange.DChild []))).work in
       (flagged_in s r work.seat work.view work.there r.stages r.invariant (Delete (card_key (own_words s) c)) c work.does work.holds work.flagged).0
 
-  pub dchild_claimed : (s : TableState) (r : HasMachine keys cards s) (c : ℕ) → delete_won (r.stages c) ≡ true → c < r.words.next
+  pub dchild_claimed : (s : TableState) (r : HasMachine plan s) (c : ℕ) → delete_won (r.stages c) ≡ true → c < r.words.next
   dchild_claimed s r c won = (r.invariant.words.cards c).claimed.0 (delete-claimed (r.stages c) (delete_won-delete (r.stages c) won))
 
-  knows_in : (s : TableState) (r : HasMachine keys cards s) (seat : ℕ) (v : View) → get_elem? s.views seat ≡ some v → (stage : Stages)
-      → Invariant (machine_of_table keys cards s r) stage → (f : Fact) → Knows v f → allows f (stage (card_of_fact f)) ≡ true
+  knows_in : (s : TableState) (r : HasMachine plan s) (seat : ℕ) (v : View) → get_elem? s.views seat ≡ some v → (stage : Stages)
+      → Invariant (machine_of_table plan s r) stage → (f : Fact) → Knows v f → allows f (stage (card_of_fact f)) ≡ true
   knows_in s r seat v there stage holds f knows =
-      (holds.workers.each seat).facts f (ap (λ (u : Worker). u.knows f) (mine_is keys cards s r seat v there) ∙ knows)
+      (holds.workers.each seat).facts f (ap (λ (u : Worker). u.knows f) (mine_is plan s r seat v there) ∙ knows)
 
-  module _ (begun : TableState) (r : HasMachine keys cards begun) (turns : List Turn) (s' : TableState) (run : TableRun cards begun turns s') (seat c : ℕ)
+  module _ (begun : TableState) (r : HasMachine plan begun) (turns : List Turn) (s' : TableState) (run : TableRun plan.last_card begun turns s') (seat c : ℕ)
       (late : r.words.next ≤ c) (v : View) (there : get_elem? s'.views seat ≡ some v) (has : v.worker.card ≡ Some c) (flagged : v.worker.flagged ≡ true) where
     -- nothing was won for the card before
     none_before : wins_of (r.stages c) ≡ []
     none_before = unclaimed-wins (r.stages c) (not_claimed r.words r.stages r.invariant.words c late)
 
     -- what was won for it in the run
-    won_here : (stage : Stages) (ks : List Exchange) → wins_of (stage c) ≡ wins_of (r.stages c) ++ run_wins cards begun turns s' run c → wins_of (stage c) ≡ ks
-        → run_wins cards begun turns s' run c ≡ ks
-    won_here stage ks goes is = sym (goes ∙ ap (λ l. l ++ run_wins cards begun turns s' run c) none_before) ∙ is
+    won_here : (stage : Stages) (ks : List Exchange) → wins_of (stage c) ≡ wins_of (r.stages c) ++ run_wins plan.last_card begun turns s' run c → wins_of (stage c) ≡ ks
+        → run_wins plan.last_card begun turns s' run c ≡ ks
+    won_here stage ks goes is = sym (goes ∙ ap (λ l. l ++ run_wins plan.last_card begun turns s' run c) none_before) ∙ is
 
-    put_point : (op : Op) (what : Put) → put_of op ≡ Some what → Does v op → Knows v (fact.IOver c) → TakesEffect cards op c begun turns s'
+    put_point : (op : Op) (what : Put) → put_of op ≡ Some what → Does v op → Knows v (fact.IOver c) → TakesEffect plan.last_card op c begun turns s'
     put_point op what puts does over =
-        let goes = run_goes keys cards begun r r.stages r.invariant turns s' run in
+        let goes = run_goes plan begun r r.stages r.invariant turns s' run in
         let end = over_insert (goes.1.stages c) (knows_in s' goes.0 seat v there goes.1.stages goes.1.invariant (fact.IOver c) over) in
         let won = won_here goes.1.stages _ (goes.1.wins c) end in
-        let f = find keys cards exchange.IChild c begun r turns s' run
+        let f = find plan exchange.IChild c begun r turns s' run
         (subst (InList exchange.IChild) (sym won) (later exchange.IChild exchange.IFlag _ (first exchange.IChild _))) in
         let does_it = inserts_turn f.state f.kept f.turn f.next f.now c f.wins in
-        let rest = run_goes keys cards f.state f.kept f.kept.stages f.kept.invariant (f.turn ∷ drop (suc f.n) turns) s' (f.next, f.now, f.after) in
+        let rest = run_goes plan f.state f.kept f.kept.stages f.kept.invariant (f.turn ∷ drop (suc f.n) turns) s' (f.next, f.now, f.after) in
         let work = does_it.work in
         let its = card_puts (own_words f.state) c in
         let theirs = flag_putting f.kept.words f.kept.stages (worker_of work.view.worker) its.0 c (op_of_card (own_words f.state) c) its.1
@@ -378,15 +379,15 @@ module _ (keys : List ℕ) (cards : ℕ) where
           finds = put_finds op what c (own_words f.state) puts;
         }
 
-    delete_point : (k : ℕ) → Does v (Delete k) → Knows v (fact.DOver c) → TakesEffect cards (Delete k) c begun turns s'
+    delete_point : (k : ℕ) → Does v (Delete k) → Knows v (fact.DOver c) → TakesEffect plan.last_card (Delete k) c begun turns s'
     delete_point k does over =
-        let goes = run_goes keys cards begun r r.stages r.invariant turns s' run in
+        let goes = run_goes plan begun r r.stages r.invariant turns s' run in
         let end = over_delete (goes.1.stages c) (knows_in s' goes.0 seat v there goes.1.stages goes.1.invariant (fact.DOver c) over) in
         let won = won_here goes.1.stages _ (goes.1.wins c) end in
-        let f = find keys cards exchange.DChild c begun r turns s' run
+        let f = find plan exchange.DChild c begun r turns s' run
         (subst (InList exchange.DChild) (sym won) (later exchange.DChild exchange.DFlag _ (later exchange.DChild exchange.Mark _ (first exchange.DChild _)))) in
         let does_it = deletes_turn f.state f.kept f.turn f.next f.now c f.wins in
-        let rest = run_goes keys cards f.state f.kept f.kept.stages f.kept.invariant (f.turn ∷ drop (suc f.n) turns) s' (f.next, f.now, f.after) in
+        let rest = run_goes plan f.state f.kept f.kept.stages f.kept.invariant (f.turn ∷ drop (suc f.n) turns) s' (f.next, f.now, f.after) in
         let work = does_it.work in
         let theirs = flagged_in f.state f.kept work.seat work.view work.there f.kept.stages f.kept.invariant
         (Delete (card_key (own_words f.state) c)) c work.does work.holds work.flagged in
@@ -408,7 +409,7 @@ module _ (keys : List ℕ) (cards : ℕ) where
           finds = subst (λ n. IsTreePair (own_words f.state) n (card_value (own_words f.state) c)) key does_it.takes.present;
         }
 
-    point : (op : Op) → Does v op → CardIsOver v op c → TakesEffect cards op c begun turns s'
+    point : (op : Op) → Does v op → CardIsOver v op c → TakesEffect plan.last_card op c begun turns s'
     point (Find k) does over = absurd over
     point (Insert k value) does over = put_point (Insert k value) (added k value) refl does over
     point (Swap k was value) does over = put_point (Swap k was value) (replacing k was value) refl does over
@@ -420,22 +421,22 @@ late_of (inl e) = absurd cc
 late_of (inr h) = h
 
 -- each call has its point: one that answers at a leaf a state, and one that answers by its card a turn
-pub point_of : (keys : List ℕ) (cards : ℕ) (s : TableState) → HasMachine keys cards s → (seat : ℕ) (op : Op) (begun : TableState) (turns : List Turn) (s' : TableState) (said : Reply)
-    → (called : IsCalled cards s seat op begun turns s' said)
-    → (KnowsAnswerAtLeaf called.answers.view op said × SaysWhatWas cards op begun turns s' said)
-    ⊎ ((said ≡ reply_of_change op) × ((c : ℕ) × HoldsAtEnd s' seat c × TakesEffect cards op c begun turns s'))
-point_of keys cards s r seat op begun turns s' said called =
-    let real = (mine_sound keys cards s r seat called.begins.view called.begins.there).real (key_of op) called.begins.may.1 in
+pub point_of : (plan : TablePlan) (s : TableState) → HasMachine plan s → (seat : ℕ) (op : Op) (begun : TableState) (turns : List Turn) (s' : TableState) (said : Reply)
+    → (called : IsCalled plan.last_card s seat op begun turns s' said)
+    → (KnowsAnswerAtLeaf called.answers.view op said × SaysWhatWas plan.last_card op begun turns s' said)
+    ⊎ ((said ≡ reply_of_change op) × ((c : ℕ) × HoldsAtEnd s' seat c × TakesEffect plan.last_card op c begun turns s'))
+point_of plan s r seat op begun turns s' said called =
+    let real = (mine_sound plan s r seat called.begins.view called.begins.there).real (key_of op) called.begins.may.1 in
     let v = called.answers.view in
     let there = called.answers.there in
     let may = called.answers.may in
-    let is : may.op ≡ op = still_does keys cards s r seat op real begun called.begins turns s' called.run called.on v there may.op may.busy in
+    let is : may.op ≡ op = still_does plan s r seat op real begun called.begins turns s' called.run called.on v there may.op may.busy in
     let does : Does v op = may.busy ∙ ap Some is in
-    let turn = turn_lawful keys cards s r (Makes seat (Begin op)) begun called.begins in
+    let turn = turn_lawful plan s r (Makes seat (Begin op)) begun called.begins in
     elim may.answers [
       | inl leaf ↦ inl (
         subst (λ o. KnowsAnswerAtLeaf v o said) is leaf,
-        leaf_answers_of_one_state keys cards s r seat op real begun called.begins turns s'
+        leaf_answers_of_one_state plan s r seat op real begun called.begins turns s'
             called.run called.on v there does said (subst (λ o. KnowsAnswerAtLeaf v o said) is leaf),
       )
       | inr card ↦ inr (
@@ -443,49 +444,49 @@ point_of keys cards s r seat op begun turns s' said called =
         (
           card.card,
           record { holds = λ w at. subst (λ (u : View). (u.worker.card ≡ Some card.card) × (u.worker.flagged ≡ true)) (some-injective v w (sym there ∙ at)) (card.holds, card.flagged) },
-          point keys cards begun turn.0 turns s' called.run seat card.card
-              (late_of (hands keys cards seat None turn.0.words.next begun turn.0 (omega arith) (view_after s called.begins.view (Begin op)) (now called.begins)
+          point plan begun turn.0 turns s' called.run seat card.card
+              (late_of (hands plan seat None turn.0.words.next begun turn.0 (omega arith) (view_after s called.begins.view (Begin op)) (now called.begins)
               (λ c e. absurd (some_not_none e refl)) turns s' called.run called.on v there card.card card.holds))
               v there card.holds card.flagged op does (subst (λ o. CardIsOver v o card.card) is card.over),
         ),
       )
     ]
   where
-    now : CallIsMade cards s seat (Begin op) begun → get_elem? begun.views seat ≡ some (view_after s called.begins.view (Begin op))
+    now : CallIsMade plan.last_card s seat (Begin op) begun → get_elem? begun.views seat ≡ some (view_after s called.begins.view (Begin op))
     now h = ap (λ (t : TableState). get_elem? t.views seat) called.begins.gives ∙ set_there s.views seat (view_after s called.begins.view (Begin op)) called.begins.view called.begins.there
 
 pub calls_have_their_point : CallsHaveTheirPoint
-calls_have_their_point keys cards s r seat op begun turns s' said called = elim (point_of keys cards s r seat op begun turns s' said called) [
+calls_have_their_point plan s r seat op begun turns s' said called = elim (point_of plan s r seat op begun turns s' said called) [
   | inl leaf ↦ inl leaf.1
   | inr card ↦ inr card
 ]
 
 -- a card in hand was claimed
-hand_below : (keys : List ℕ) (cards : ℕ) (s : TableState) (r : HasMachine keys cards s) (seat : ℕ) (v : View) → get_elem? s.views seat ≡ some v → (c : ℕ)
+hand_below : (plan : TablePlan) (s : TableState) (r : HasMachine plan s) (seat : ℕ) (v : View) → get_elem? s.views seat ≡ some v → (c : ℕ)
     → v.worker.card ≡ Some c → c < r.words.next
-hand_below keys cards s r seat v there c has =
-    (r.invariant.words.cards c).claimed.0 (hand_claimed r.words r.stages (worker_of v.worker) c (mine_sound keys cards s r seat v there) has)
+hand_below plan s r seat v there c has =
+    (r.invariant.words.cards c).claimed.0 (hand_claimed r.words r.stages (worker_of v.worker) c (mine_sound plan s r seat v there) has)
 
 -- so two calls have two cards
 pub calls_have_their_own_cards : CallsHaveTheirOwnCards
-calls_have_their_own_cards keys cards s r one v there c has = record {
+calls_have_their_own_cards plan s r one v there c has = record {
   beside = λ other apart turns s' run on u here w at w_has.
-      elim (hands keys cards other u.worker.card r.words.next s r (omega arith) u here (λ d e. inl e) turns s' run on w at c w_has) [
+      elim (hands plan other u.worker.card r.words.next s r (omega arith) u here (λ d e. inl e) turns s' run on w at c w_has) [
         | inl old ↦ apart (r.invariant.workers.one_hand other one c
-            (ap (λ (k : Worker). k.card) (mine_is keys cards s r other u here) ∙ old) (ap (λ (k : Worker). k.card) (mine_is keys cards s r one v there) ∙ has))
-        | inr low ↦ (let below = hand_below keys cards s r one v there c has in omega arith)
+            (ap (λ (k : Worker). k.card) (mine_is plan s r other u here) ∙ old) (ap (λ (k : Worker). k.card) (mine_is plan s r one v there) ∙ has))
+        | inr low ↦ (let below = hand_below plan s r one v there c has in omega arith)
       ];
   later = λ more s2 run other op begun turns s' said called w at w_has.
-      let goes = run_goes keys cards s r r.stages r.invariant more s2 run in
-      let turn = turn_lawful keys cards s2 goes.0 (Makes other (Begin op)) begun called.begins in
-      let one_turn = run_goes keys cards s2 goes.0 goes.0.stages goes.0.invariant (Makes other (Begin op) ∷ []) begun (begun, called.begins, refl) in
+      let goes = run_goes plan s r r.stages r.invariant more s2 run in
+      let turn = turn_lawful plan s2 goes.0 (Makes other (Begin op)) begun called.begins in
+      let one_turn = run_goes plan s2 goes.0 goes.0.stages goes.0.invariant (Makes other (Begin op) ∷ []) begun (begun, called.begins, refl) in
       let rise = goes.1.words.next in
       let rise' = one_turn.1.words.next in
       let begun_view = view_after s2 called.begins.view (Begin op) in
       let begun_there : get_elem? begun.views other ≡ some begun_view =
       ap (λ (t : TableState). get_elem? t.views other) called.begins.gives ∙ set_there s2.views other begun_view called.begins.view called.begins.there in
-      let low = late_of (hands keys cards other None one_turn.0.words.next begun one_turn.0 (omega arith) begun_view begun_there
+      let low = late_of (hands plan other None one_turn.0.words.next begun one_turn.0 (omega arith) begun_view begun_there
       (λ d e. absurd (some_not_none e refl)) turns s' called.run called.on w at c w_has) in
-      let below = hand_below keys cards s r one v there c has in
+      let below = hand_below plan s r one v there c has in
       omega arith;
 }

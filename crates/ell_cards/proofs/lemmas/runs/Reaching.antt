@@ -42,17 +42,17 @@ reached_first plan words may size are = record {
 
 -- wherever turns have led from a start, there is a machine
 pub led_kept : (plan : TablePlan) (first : TableState) → Starts plan first → (turns : List Turn) (s : TableState)
-    → TableRun plan.last_card first turns s → HasMachine plan.keys plan.last_card s
+    → TableRun plan.last_card first turns s → HasMachine plan s
 led_kept plan first starts turns s run =
-    (runs_are_lawful plan.keys plan.last_card first (starts_are_kept plan first starts).kept turns s run).kept
+    (runs_are_lawful plan first (starts_are_kept plan first starts).kept turns s run).kept
 
 module _ (plan : TablePlan) where
   module _ (s : TableState) (h : IsReached plan s) where
     -- what is reached has a machine
-    pub reached_kept : HasMachine plan.keys plan.last_card s
+    pub reached_kept : HasMachine plan s
     reached_kept =
         let first = (starts_are_kept plan h.first h.starts).kept in
-        (runs_are_lawful plan.keys plan.last_card h.first first h.turns s h.run).kept
+        (runs_are_lawful plan h.first first h.turns s h.run).kept
 
     -- and a run from a start leads there
     pub reached_ran : RunFromStart plan h.first h.turns s h.run
@@ -101,13 +101,13 @@ module _ (plan : TablePlan) where
         (
           record {
             view = refl;
-            tells = (steps_are_events plan.keys plan.last_card s (reached_kept s h) id v c here may).tells;
+            tells = (steps_are_events plan s (reached_kept s h) id v c here may).tells;
             own = looks_read_their_own plan s' on id w (set_there s.views id w v here);
             fixed = told_once s' on id w (set_there s.views id w v here);
             values = told_one_value s' on id w (set_there s.views id w v here);
             keys = keys_stay c n v;
             share = same_share c n v;
-            named = kept_named plan.keys plan.last_card s' (reached_kept s' on) id w (set_there s.views id w v here);
+            named = kept_named plan s' (reached_kept s' on) id w (set_there s.views id w v here);
           },
           refl,
         ),

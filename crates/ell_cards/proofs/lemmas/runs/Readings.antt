@@ -127,17 +127,17 @@ past_after last n m _ found v low is may h = record { next = read_rises n m v.ne
 abbrev pub AllPast : TableState → Type 0
 AllPast s = (j : ℕ) (v : View) → get_elem? s.views j ≡ some v → IsPast (get_or s.words 0 0) v
 
-module _ (keys : List ℕ) (last : ℕ) where
+module _ (plan : TablePlan) where
   -- the claim word rises
-  pub claim_word_rises : (s : TableState) → HasMachine keys last s → (t : Turn) (s' : TableState) → TableTurns last s t s' → get_or s.words 0 0 ≤ get_or s'.words 0 0
+  pub claim_word_rises : (s : TableState) → HasMachine plan s → (t : Turn) (s' : TableState) → TableTurns plan.last_card s t s' → get_or s.words 0 0 ≤ get_or s'.words 0 0
   claim_word_rises s r t s' turn =
-      let goes = run_goes keys last s r r.stages r.invariant (t ∷ []) s' (s', turn, refl) in
+      let goes = run_goes plan s r r.stages r.invariant (t ∷ []) s' (s', turn, refl) in
       let rises = goes.1.words.next in
       let here = r.next in
       let there = goes.0.next in
       omega arith
 
-  turn_past : (s : TableState) → HasMachine keys last s → (t : Turn) (s' : TableState) → TableTurns last s t s' → AllPast s → AllPast s'
+  turn_past : (s : TableState) → HasMachine plan s → (t : Turn) (s' : TableState) → TableTurns plan.last_card s t s' → AllPast s → AllPast s'
   turn_past s r (Makes id c) s' turn h = λ j u at.
       let n = get_or s.words 0 0 in
       let m = get_or s'.words 0 0 in
@@ -146,7 +146,7 @@ module _ (keys : List ℕ) (last : ℕ) where
       let there : get_elem? (set s.views id w) j ≡ some u = subst (λ (x : TableState). get_elem? x.views j ≡ some u) turn.gives at in
       ⊎_elim
       (λ (t : (j ≡ id) × (w ≡ u)). subst (IsPast m) t.1
-      (past_after last n m c (found_by s c) turn.view low (λ e. ap (λ i. get_or s.words i 0) e) turn.may (h id turn.view turn.there)))
+      (past_after plan.last_card n m c (found_by s c) turn.view low (λ e. ap (λ i. get_or s.words i 0) e) turn.may (h id turn.view turn.there)))
       (λ (t : (j ≢ id) × (get_elem? s.views j ≡ some u)). past_rises n m u low (h j u t.1))
       (at_set s.views id j w u there)
   turn_past s r (Splits id chosen) s' turn h =
@@ -166,16 +166,16 @@ module _ (keys : List ℕ) (last : ℕ) where
       (record { next = read_later n v.next w.next a.next b.next; claims = below_both n v.hindrances w.hindrances a.claims b.claims })
       (record { next = tt; claims = tt }) h)
 
-  run_past : (s : TableState) → HasMachine keys last s → (turns : List Turn) (s' : TableState) → TableRun last s turns s' → AllPast s → AllPast s'
+  run_past : (s : TableState) → HasMachine plan s → (turns : List Turn) (s' : TableState) → TableRun plan.last_card s turns s' → AllPast s → AllPast s'
   run_past s r [] s' run h = subst AllPast (sym run) h
   run_past s r (t ∷ ts) s' run h =
-      run_past run.0 (turn_lawful keys last s r t run.0 run.1).0 ts s' run.2 (turn_past s r t run.0 run.1 h)
+      run_past run.0 (turn_lawful plan s r t run.0 run.1).0 ts s' run.2 (turn_past s r t run.0 run.1 h)
 
 -- so it is wherever turns have led a table
 reached_past : (plan : TablePlan) (s : TableState) → IsReached plan s → AllPast s
 reached_past plan s h =
     let first = (starts_are_kept plan h.first h.starts).kept in
-    run_past plan.keys plan.last_card h.first first h.turns s h.run
+    run_past plan h.first first h.turns s h.run
     (subst AllPast (sym h.starts.is) (each_first (first_of plan) (IsPast (get_or h.first.words 0 0)) (record { next = tt; claims = tt })))
 
 pub readings_are_past : ReadingsArePast

@@ -184,10 +184,10 @@ delete_flags_asks =
     (refl, (refl, inl (some_not_none refl)))
     ▸ (refl, record { stands = refl; inner = refl; unread = refl })
     ▸ (refl, told_at 0 _ _ refl)
-    ▸ (refl, record { op = Delete 5; word = 3; key = infinity2; busy = refl; stands = refl; inner = refl; read = refl; told = refl; side = refl })
+    ▸ (refl, record { op = Delete 5; word = 3; key = infinity2; busy = refl; stands = refl; inner = refl; read = refl; told = refl; side = refl; no_card = refl })
     ▸ (refl, record { stands = refl; inner = refl; unread = refl })
     ▸ (refl, told_at 0 _ _ refl)
-    ▸ (refl, record { op = Delete 5; word = 3; key = infinity1; busy = refl; stands = refl; inner = refl; read = refl; told = refl; side = refl })
+    ▸ (refl, record { op = Delete 5; word = 3; key = infinity1; busy = refl; stands = refl; inner = refl; read = refl; told = refl; side = refl; no_card = refl })
     ▸ (refl, told_at 0 _ _ refl)
     ▸ (refl, tt)
     ▸ (refl, (record { op = Delete 5; leaf = 5; key = 5; parent = record { node = 4; word = 3; tag = 0 }; read = refl; no_card = refl; busy = refl; stands = refl; outer = leaf_5; told = refl; behind = refl; calm = refl; wants = (refl, (record { node = 0; word = 3; tag = 0 }, refl, refl)) }, omega arith))
@@ -207,10 +207,10 @@ insert_claims_asks =
     (refl, (refl, inl (some_not_none refl)))
     ▸ (refl, record { stands = refl; inner = refl; unread = refl })
     ▸ (refl, told_at 1 _ _ refl)
-    ▸ (refl, record { op = Insert 7 70; word = 9; key = infinity2; busy = refl; stands = refl; inner = refl; read = refl; told = refl; side = refl })
+    ▸ (refl, record { op = Insert 7 70; word = 9; key = infinity2; busy = refl; stands = refl; inner = refl; read = refl; told = refl; side = refl; no_card = refl })
     ▸ (refl, record { stands = refl; inner = refl; unread = refl })
     ▸ (refl, told_at 0 _ _ refl)
-    ▸ (refl, record { op = Insert 7 70; word = 3; key = infinity1; busy = refl; stands = refl; inner = refl; read = refl; told = refl; side = refl })
+    ▸ (refl, record { op = Insert 7 70; word = 3; key = infinity1; busy = refl; stands = refl; inner = refl; read = refl; told = refl; side = refl; no_card = refl })
     ▸ (refl, told_at 0 _ _ refl)
     ▸ (refl, (told_at 1 _ _ refl, leaf_5))
     ▸ (refl, tt)
@@ -246,9 +246,9 @@ mark_is_lost_asks =
     ▸ (refl, (inl refl, refl))
     ▸ (refl, (inl refl, refl))
     ▸ (refl, (inl refl, refl))
-    ▸ (refl, record { parent_key = infinity1; card_key = 7; left_key = 5; knows = refl; parent = told_at 5 _ _ refl; leaf = told_at 2 _ _ refl; expects = told_at 3 _ _ refl; told_parent = told_at 13 _ _ refl; told_card = told_at 1 _ _ refl; told_left = told_at 0 _ _ refl; brings = refl; side = refl })
-    ▸ (refl, record { knows = refl; place = told_at 5 _ _ refl })
-    ▸ (refl, record { knows = refl; place = told_at 7 _ _ refl })
+    ▸ (refl, record { parent_key = infinity1; right_key = 7; left_key = 5; knows = refl; parent = told_at 6 _ _ refl; leaf = told_at 2 _ _ refl; expects = told_at 3 _ _ refl; told_parent = told_at 15 _ _ refl; told_right = told_at 1 _ _ refl; told_left = told_at 0 _ _ refl; brings = refl; side = refl })
+    ▸ (refl, record { knows = refl; place = told_at 6 _ _ refl })
+    ▸ (refl, record { knows = refl; place = told_at 8 _ _ refl })
     ▸ tt
 
 abbrev at_5 : TableState
@@ -257,7 +257,7 @@ at_5 = run_leads at_4 mark_is_lost
 -- seat 1 finds that its insert was made, and answers
 insert_ends_asks : RunAsks 4 at_5 insert_ends
 insert_ends_asks =
-    (refl, record { parent_key = infinity1; card_key = 7; left_key = 5; knows = refl; parent = told_at 1 _ _ refl; leaf = told_at 2 _ _ refl; expects = told_at 0 _ _ refl; told_parent = told_at 11 _ _ refl; told_card = told_at 3 _ _ refl; told_left = told_at 4 _ _ refl; brings = refl; side = refl })
+    (refl, record { parent_key = infinity1; right_key = 7; left_key = 5; knows = refl; parent = told_at 1 _ _ refl; leaf = told_at 2 _ _ refl; expects = told_at 0 _ _ refl; told_parent = told_at 12 _ _ refl; told_right = told_at 5 _ _ refl; told_left = told_at 4 _ _ refl; brings = refl; side = refl })
     ▸ (refl, record { knows = refl; place = told_at 1 _ _ refl })
     ▸ (refl, record { op = Insert 7 70; busy = refl; answers = inr (record { card = 3; holds = refl; flagged = refl; over = refl; says = refl }) })
     ▸ tt
@@ -271,13 +271,13 @@ delete_begins_anew_asks =
     (refl, record { op = Delete 5; busy = refl; backed = λ c is flagged. of_card (λ d. Knows (view_at at_6 0) (Backed d)) 2 c is refl })
     ▸ (refl, record { stands = refl; inner = refl; unread = refl })
     ▸ (refl, told_at 0 _ _ refl)
-    ▸ (refl, record { op = Delete 5; word = 11; key = infinity2; busy = refl; stands = refl; inner = refl; read = refl; told = refl; side = refl })
+    ▸ (refl, record { op = Delete 5; word = 11; key = infinity2; busy = refl; stands = refl; inner = refl; read = refl; told = refl; side = refl; no_card = refl })
     ▸ (refl, record { stands = refl; inner = refl; unread = refl })
     ▸ (refl, told_at 0 _ _ refl)
-    ▸ (refl, record { op = Delete 5; word = 15; key = infinity1; busy = refl; stands = refl; inner = refl; read = refl; told = refl; side = refl })
+    ▸ (refl, record { op = Delete 5; word = 15; key = infinity1; busy = refl; stands = refl; inner = refl; read = refl; told = refl; side = refl; no_card = refl })
     ▸ (refl, record { stands = refl; inner = refl; unread = refl })
     ▸ (refl, told_at 0 _ _ refl)
-    ▸ (refl, record { op = Delete 5; word = 3; key = 7; busy = refl; stands = refl; inner = refl; read = refl; told = refl; side = refl })
+    ▸ (refl, record { op = Delete 5; word = 3; key = 7; busy = refl; stands = refl; inner = refl; read = refl; told = refl; side = refl; no_card = refl })
     ▸ (refl, told_at 0 _ _ refl)
     ▸ (refl, tt)
     ▸ (refl, (record { op = Delete 5; leaf = 13; key = 5; parent = record { node = 12; word = 3; tag = 0 }; read = refl; no_card = refl; busy = refl; stands = refl; outer = leaf_13; told = refl; behind = refl; calm = refl; wants = (refl, (record { node = 4; word = 15; tag = 1 }, refl, refl)) }, omega arith))
@@ -297,8 +297,8 @@ delete_ends_asks =
     ▸ (refl, (record { knows = refl; place = told_at 2 _ _ refl }, told_at 4 _ _ refl))
     ▸ (refl, record { knows = refl; place = told_at 2 _ _ refl })
     ▸ (refl, told_at 1 _ _ refl)
-    ▸ (refl, record { leaf = 13; grandparent_key = infinity1; sibling_key = 7; knows = refl; grandparent = told_at 4 _ _ refl; parent = told_at 5 _ _ refl; expects = told_at 3 _ _ refl; below = told_at 6 _ _ refl; sibling = inl (told_at 1 _ _ refl, λ e. let h : ◌≡◌ {A = ℕ} 14 13 = e in omega arith); told_grandparent = told_at 12 _ _ refl; told_sibling = told_at 0 _ _ refl; side = refl })
-    ▸ (refl, record { knows = refl; place = told_at 4 _ _ refl })
+    ▸ (refl, record { leaf = 13; grandparent_key = infinity1; sibling_key = 7; knows = refl; grandparent = told_at 5 _ _ refl; parent = told_at 6 _ _ refl; expects = told_at 4 _ _ refl; below = told_at 7 _ _ refl; sibling = inl (told_at 1 _ _ refl, λ e. let h : ◌≡◌ {A = ℕ} 14 13 = e in omega arith); told_grandparent = told_at 15 _ _ refl; told_sibling = told_at 0 _ _ refl; side = refl })
+    ▸ (refl, record { knows = refl; place = told_at 5 _ _ refl })
     ▸ (refl, record { op = Delete 5; busy = refl; answers = inr (record { card = 4; holds = refl; flagged = refl; over = refl; says = refl }) })
     ▸ tt
 
@@ -309,7 +309,7 @@ at_8 = run_leads at_7 delete_ends
 look_asks : RunAsks 4 at_8 look
 look_asks =
     (refl, refl)
-    ▸ (refl, record { come = record { glance = record { node = 4; low = 0; high = greatest_key + 1 }; among = latest _ _; there = refl; from = omega arith; upto = omega arith }; met = told_at 0 _ _ refl; inner = refl; told = told_at 12 _ _ refl })
+    ▸ (refl, record { come = record { glance = record { node = 4; low = 0; high = greatest_key + 1 }; among = latest _ _; there = refl; from = omega arith; upto = omega arith }; met = told_at 0 _ _ refl; inner = refl; told = told_at 14 _ _ refl })
     ▸ (refl, told_at 0 _ _ refl)
     ▸ (refl, (told_at 1 _ _ refl, leaf_14))
     ▸ tt

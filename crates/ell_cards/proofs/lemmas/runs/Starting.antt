@@ -1,4 +1,4 @@
-use Rattle.std.proofs.Common.{◌≡◌, ◌↔◌, ℕ, ◌++◌, Some, List, [], ◌∷◌, refl, sym, subst, inl, inr}
+use Rattle.std.proofs.Common.{false, ◌≡◌, ◌↔◌, ◌++◌, Some, List, [], ◌∷◌, refl, sym, subst, inl, inr}
 use Rattle.std.specs.Prelude.{Contains}
 use Rattle.ell_ops.specs.Contents.{contents_of}
 use Rattle.ell_ops.specs.Meaning.{key_of}
@@ -6,6 +6,7 @@ use Rattle.ell_core.specs.tree.Tree.{IsTreePair}
 use Rattle.ell_core.specs.acts.Wins.{InOrder}
 use Rattle.ell_core.specs.state.Opening.{keys_at_start}
 use Rattle.atomic_table.specs.Table.{opening}
+use Rattle.ell_cards.specs.Models.{TablePlan}
 use Rattle.ell_cards.specs.declared.call.Call.TheVariants as call
 use Rattle.ell_cards.specs.Changes.{ledger_keys, first_of}
 use Rattle.ell_cards.specs.States.{TableState}
@@ -40,7 +41,7 @@ starts_are_kept plan s starts = subst (StartIsKept plan) (sym starts.is) (openin
 pub starts_have_their_keys : StartsHaveTheirKeys
 starts_have_their_keys plan s starts k value =
     subst (λ w. IsTreePair w k value ↔ (contents_of plan.start k ≡ Some value)) (sym starts.words.are)
-    (start_pairs plan.start starts.may.start_ascending (start_real plan starts.may) k value)
+    (start_pairs plan.start starts.may.start_ascending (start_real plan starts.may) false k value)
 
 -- nothing is in hand, and the key is owned or shared
 pub first_pass_may_begin : FirstPassMayBegin
@@ -63,21 +64,21 @@ first_pass_may_begin plan s starts op has =
       };
     })
 
-module _ (keys : List ℕ) (cards : ℕ) where
+module _ (plan : TablePlan) where
   -- a lawful turn does as turns do
-  turn_does : (s : TableState) (r : HasMachine keys cards s) (t : Turn) (s' : TableState) (r' : HasMachine keys cards s') (turn : TableTurns cards s t s')
-      → TurnIsLawful keys cards s r t s' r' → TurnDoes cards s t s' turn
+  turn_does : (s : TableState) (r : HasMachine plan s) (t : Turn) (s' : TableState) (r' : HasMachine plan s') (turn : TableTurns plan.last_card s t s')
+      → TurnIsLawful plan s r t s' r' → TurnDoes plan.last_card s t s' turn
   turn_does s r (Makes seat c) s' r' turn lawful = record {
     pairs = lawful.tree;
-    won = table_changes_are_operations keys cards s r seat turn.view c turn.there turn.may;
-    ledger = table_answers_are_the_maps keys cards s r seat turn.view c turn.there turn.may;
+    won = table_changes_are_operations plan s r seat turn.view c turn.there turn.may;
+    ledger = table_answers_are_the_maps plan s r seat turn.view c turn.there turn.may;
     sound = lawful.sound;
   }
   turn_does s r (Splits seat left) s' r' turn lawful = record { pairs = lawful.tree; won = tt; ledger = tt; sound = lawful.sound }
   turn_does s r (Joins seat other) s' r' turn lawful = record { pairs = lawful.tree; won = tt; ledger = tt; sound = lawful.sound }
 
-  turns_do : (s : TableState) (r : HasMachine keys cards s) (turns : List Turn) (s' : TableState) (r' : HasMachine keys cards s')
-      (run : TableRun cards s turns s') → TurnsAreLawful keys cards s r turns s' r' run → TurnsDo cards s turns s' run
+  turns_do : (s : TableState) (r : HasMachine plan s) (turns : List Turn) (s' : TableState) (r' : HasMachine plan s')
+      (run : TableRun plan.last_card s turns s') → TurnsAreLawful plan s r turns s' r' run → TurnsDo plan.last_card s turns s' run
   turns_do s r [] s' r' run lawful = tt
   turns_do s r (t ∷ ts) s' r' run lawful =
       (turn_does s r t run.0 lawful.0 run.1 lawful.1, turns_do run.0 lawful.0 ts s' r' run.2 lawful.2)
@@ -87,11 +88,11 @@ pub runs_from_starts : RunsFromStarts
 runs_from_starts plan s starts turns s' run =
     let last = plan.last_card in
     let first = starts_are_kept plan s starts in
-    let lawful = runs_are_lawful plan.keys plan.last_card s first.kept turns s' run in
-    let wins = table_wins_are_in_order plan.keys plan.last_card s first.kept in
+    let lawful = runs_are_lawful plan s first.kept turns s' run in
+    let wins = table_wins_are_in_order plan s first.kept in
     record {
       opens = starts_have_their_keys plan s starts;
-      turns_do = turns_do plan.keys plan.last_card s first.kept turns s' lawful.kept run lawful.lawful;
-      sound = own_words_are_sound plan.keys plan.last_card s' lawful.kept;
+      turns_do = turns_do plan s first.kept turns s' lawful.kept run lawful.lawful;
+      sound = own_words_are_sound plan s' lawful.kept;
       wins = λ c. subst (λ ks. InOrder (ks ++ run_wins plan.last_card s turns s' run c)) (first.unwon c) (wins.order turns s' run c);
     }

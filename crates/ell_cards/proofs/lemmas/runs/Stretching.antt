@@ -16,6 +16,7 @@ use Rattle.ell_core.proofs.lemmas.stages.Flags.{was_flagged, flagged_cases, inse
 use Rattle.ell_core.proofs.lemmas.stages.Waiting.{start-born}
 use Rattle.ell_core.proofs.lemmas.following.Backtracks.{Backtracks, IsTakenBack, Keeps, none_back}
 use Rattle.ell_core.proofs.lemmas.following.SetSince.{IsSetSince, insert_flag, delete_flag, mark, set_since}
+use Rattle.ell_cards.specs.Models.{TablePlan}
 use Rattle.ell_cards.specs.Contention.{how_many}
 use Rattle.ell_cards.specs.States.{TableState}
 use Rattle.ell_cards.specs.Machines.{HasMachine}
@@ -27,7 +28,7 @@ use Rattle.ell_cards.proofs.lemmas.runs.GoingOn.{Went, went_still, went_after, T
 use Rattle.ell_cards.proofs.lemmas.runs.EarlySums.{early_sum}
 use Rattle.ell_cards.proofs.lemmas.runs.HowMany.{many_where, many_most}
 use Rattle.ell_cards.proofs.lemmas.runs.FlagTurns.{turn_unchanged, turn_flags}
-use Rattle.ell_core.proofs.lemmas.tree.Ranks.{rank_least, ranked_apart}
+use Rattle.ell_core.proofs.lemmas.tree.Ranks.{rank_root, ranked_apart}
 
 -- whether a card's flag was won since
 abbrev pub flag_since : Stages → Stages → ℕ → Bool
@@ -87,37 +88,37 @@ quiet_run cards s (t ∷ ts) s' run none d =
     let parts = sum_append child_changes (turn_wins s t d) (run_wins cards run.0 ts s' run.2 d) in
     omega arith
 
-module _ (keys : List ℕ) (cards : ℕ) (s0 : TableState) (r0 : HasMachine keys cards s0) (first : Stages)
-    (before : Invariant (machine_of_table keys cards s0 r0) first) where
+module _ (plan : TablePlan) (s0 : TableState) (r0 : HasMachine plan s0) (first : Stages)
+    (before : Invariant (machine_of_table plan s0 r0) first) where
   abbrev pub m0 : Machine
-  m0 = machine_of_table keys cards s0 r0
+  m0 = machine_of_table plan s0 r0
 
   -- where a run leads in which so far this was won, and so many flags
   pub record Amid (s : TableState) (won : ℕ → List Exchange) (flags : ℕ) : Type 0 where
-    pub kept : HasMachine keys cards s
-    pub went : Went m0.words first won (machine_of_table keys cards s kept)
+    pub kept : HasMachine plan s
+    pub went : Went m0.words first won (machine_of_table plan s kept)
     pub children : (x : ℕ) (right : Bool) → card x < m0.words.next → kept.words.child x right ≡ m0.words.child x right
-    pub back : Backtracks first kept.words went.stages (machine_of_table keys cards s kept).worker
+    pub back : Backtracks first kept.words went.stages (machine_of_table plan s kept).worker
     pub set : (c : ℕ) → IsTakenBack first went.stages c → m0.words.update (kept.words.p c) ≤ kept.words.was c
         → IsSetSince first kept.words went.stages (unpacked (back.least c)).card (kept.words.p c)
     pub placed : (c : ℕ) → IsTakenBack first went.stages c → Places m0.words (kept.words.gp c) (kept.words.p c)
-    pub early : (n : ℕ) → early_sum n m0.words first kept.words went.stages (length s.views) (machine_of_table keys cards s kept).worker
+    pub early : (n : ℕ) → early_sum n m0.words first kept.words went.stages (length s.views) (machine_of_table plan s kept).worker
         ≤ early_sum n m0.words first m0.words first (length s0.views) m0.worker
-    pub flagged : flags ≤ how_many (cards + 1) (flag_since first went.stages)
+    pub flagged : flags ≤ how_many (plan.last_card + 1) (flag_since first went.stages)
 
-  module _ (s : TableState) (won : ℕ → List Exchange) (flags : ℕ) (at : Amid s won flags) (t : Turn) (s' : TableState) (turn : TableTurns cards s t s')
+  module _ (s : TableState) (won : ℕ → List Exchange) (flags : ℕ) (at : Amid s won flags) (t : Turn) (s' : TableState) (turn : TableTurns plan.last_card s t s')
       (quiet : (d : ℕ) → sum_by child_changes (won d) ≡ 0) (quiet_turn : (d : ℕ) → sum_by child_changes (turn_wins s t d) ≡ 0) where
     abbrev m : Machine
-    m = machine_of_table keys cards s at.kept
+    m = machine_of_table plan s at.kept
 
     abbrev stage : Stages
     stage = at.went.stages
 
-    turned : (k : HasMachine keys cards s') × Turned m stage (turn_wins s t) (machine_of_table keys cards s' k)
-    turned = let made = turn_turns keys cards s at.kept stage at.went.invariant t s' turn in (made.0, made.1)
+    turned : (k : HasMachine plan s') × Turned m stage (turn_wins s t) (machine_of_table plan s' k)
+    turned = let made = turn_turns plan s at.kept stage at.went.invariant t s' turn in (made.0, made.1)
 
     abbrev m' : Machine
-    m' = machine_of_table keys cards s' turned.0
+    m' = machine_of_table plan s' turned.0
 
     abbrev stages : Stages
     stages = turned.1.went.stages
@@ -159,8 +160,7 @@ module _ (keys : List ℕ) (cards : ℕ) (s0 : TableState) (r0 : HasMachine keys
     set_now c taken is late =
         let says = (goes.invariant.words.cards c).delete (backed-delete (stages c) taken.1) in
         let rose = (keeps.backtracks.rose c taken).0 in
-        let least = rank_least (m'.words.gp c) in
-        let below = ranked_apart 0 (m'.words.p c) (let first = says.first in omega arith) in
+        let below = ranked_apart m'.words 0 (m'.words.p c) (let first = says.first in let least = rank_root m'.words in omega arith) in
         subst (λ k. IsSetSince first m'.words stages (unpacked k).card (m'.words.p c)) (sym is)
         (set_since m0 first before m' stages goes.invariant goes.words goes.later goes.cleans unchanged_now (m'.words.p c) (m'.words.was c)
         says.parent.inner says.parent.born (omega arith) says.calm late (omega arith))
@@ -213,9 +213,9 @@ module _ (keys : List ℕ) (cards : ℕ) (s0 : TableState) (r0 : HasMachine keys
         by true h = h
         by false h = flagged_later stage stages turned.1.went.later c h
 
-    flags_on : (b : Bool) → wins is_flag s t ≡ b → flags + (if b then 1 else 0) ≤ how_many (cards + 1) (flag_since first stages)
+    flags_on : (b : Bool) → wins is_flag s t ≡ b → flags + (if b then 1 else 0) ≤ how_many (plan.last_card + 1) (flag_since first stages)
     flags_on false e =
-        let more = many_where (cards + 1) (flag_since first stage) (flag_since first stages) (λ c low. flag_still c) in
+        let more = many_where (plan.last_card + 1) (flag_since first stage) (flag_since first stages) (λ c low. flag_still c) in
         let was = at.flagged in
         omega arith
     flags_on true e =
@@ -229,7 +229,7 @@ module _ (keys : List ℕ) (cards : ℕ) (s0 : TableState) (r0 : HasMachine keys
         let low = (goes.invariant.words.cards c).claimed.0 (flagged-claimed (stages c) is) in
         let limit = goes.invariant.limit in
         let fresh = false_from_ne_true (was_flagged (first c)) (λ old. false≢true (sym unflagged ∙ flagged_later first stage at.went.later c old)) in
-        let most = many_most (cards + 1) (cards + 1) (flag_since first stage) (flag_since first stages) (omega arith) (λ d less. flag_still d) c (omega arith)
+        let most = many_most (plan.last_card + 1) (plan.last_card + 1) (flag_since first stage) (flag_since first stages) (omega arith) (λ d less. flag_still d) c (omega arith)
         (and_from (not (was_flagged (first c))) (was_flagged (stages c)) (not_from_false (was_flagged (first c)) fresh) is)
         (λ less. and_right (not (was_flagged (first c))) (was_flagged (stage c)) unflagged) in
         let was = at.flagged in
@@ -277,20 +277,20 @@ module _ (keys : List ℕ) (cards : ℕ) (s0 : TableState) (r0 : HasMachine keys
 
   -- and where it leads
   pub run_amid : (s : TableState) (won : ℕ → List Exchange) (flags : ℕ) → Amid s won flags → ((d : ℕ) → sum_by child_changes (won d) ≡ 0) → (turns : List Turn) (s' : TableState)
-      → (run : TableRun cards s turns s') → won_in is_change cards s turns s' run ≡ 0
-      → Amid s' (λ d. won d ++ run_wins cards s turns s' run d) (flags + won_in is_flag cards s turns s' run)
+      → (run : TableRun plan.last_card s turns s') → won_in is_change plan.last_card s turns s' run ≡ 0
+      → Amid s' (λ d. won d ++ run_wins plan.last_card s turns s' run d) (flags + won_in is_flag plan.last_card s turns s' run)
   run_amid s won flags at quiet [] s' run none =
       let same : flags ≡ flags + 0 = omega arith in
       subst (λ x. Amid x (λ d. won d ++ []) (flags + 0)) (sym run)
       (subst (Amid s (λ d. won d ++ [])) same (subst (λ (w : ℕ → List Exchange). Amid s w flags) (λ i d. sym (append-nil (won d)) i) at))
   run_amid s won flags at quiet (t ∷ ts) s' run none =
-      let still = unless_both (wins is_change s t) (won_in is_change cards run.0 ts s' run.2) none in
+      let still = unless_both (wins is_change s t) (won_in is_change plan.last_card run.0 ts s' run.2) none in
       let quiet_turn = turn_unchanged s t still.0 in
       let one = turn_amid s won flags at t run.0 run.1 quiet quiet_turn in
-      let sum : (flags + (if wins is_flag s t then 1 else 0)) + won_in is_flag cards run.0 ts s' run.2
-      ≡ flags + ((if wins is_flag s t then 1 else 0) + won_in is_flag cards run.0 ts s' run.2) = omega arith in
-      subst (Amid s' (λ d. won d ++ (turn_wins s t d ++ run_wins cards run.0 ts s' run.2 d))) sum
-      (subst (λ (w : ℕ → List Exchange). Amid s' w ((flags + (if wins is_flag s t then 1 else 0)) + won_in is_flag cards run.0 ts s' run.2))
-      (λ i d. append_assoc (won d) (turn_wins s t d) (run_wins cards run.0 ts s' run.2 d) i)
+      let sum : (flags + (if wins is_flag s t then 1 else 0)) + won_in is_flag plan.last_card run.0 ts s' run.2
+      ≡ flags + ((if wins is_flag s t then 1 else 0) + won_in is_flag plan.last_card run.0 ts s' run.2) = omega arith in
+      subst (Amid s' (λ d. won d ++ (turn_wins s t d ++ run_wins plan.last_card run.0 ts s' run.2 d))) sum
+      (subst (λ (w : ℕ → List Exchange). Amid s' w ((flags + (if wins is_flag s t then 1 else 0)) + won_in is_flag plan.last_card run.0 ts s' run.2))
+      (λ i d. append_assoc (won d) (turn_wins s t d) (run_wins plan.last_card run.0 ts s' run.2 d) i)
       (run_amid run.0 (λ d. won d ++ turn_wins s t d) (flags + (if wins is_flag s t then 1 else 0)) one
       (quiet_both s won flags at t run.0 run.1 quiet quiet_turn) ts s' run.2 still.1))

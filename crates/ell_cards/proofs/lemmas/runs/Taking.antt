@@ -13,6 +13,7 @@ use Rattle.ell_layout.specs.Cards.{card_value}
 use Rattle.ell_core.proofs.lemmas.stages.Order.{delete_won-delete}
 use Rattle.ell_core.proofs.lemmas.stages.LaterKeys.{value_later}
 use Rattle.ell_core.proofs.lemmas.words.Sides.{card_value-delete}
+use Rattle.ell_cards.specs.Models.{TablePlan}
 use Rattle.ell_cards.specs.declared.call.Call.TheVariants as call
 use Rattle.ell_cards.specs.declared.view.Told.TheVariants.{Info, Value}
 use Rattle.ell_cards.specs.declared.view.View.{View}
@@ -31,20 +32,20 @@ use Rattle.ell_cards.proofs.lemmas.runs.AsMap.{trees_are_of_one_thread, runs_on,
 use Rattle.ell_cards.proofs.lemmas.runs.Answering.{answers_with_card}
 
 -- the value that goes with a delete's card before its child exchange is the one that a pass is told of the card's leaf later
-pub told_is_value : (keys : List ℕ) (cards : ℕ) (s : TableState) (r : HasMachine keys cards s) (t : Turn) (next : TableState) → TableTurns cards s t next → (c : ℕ)
-    → turn_wins s t c ≡ exchange.DChild ∷ [] → (turns : List Turn) (s' : TableState) → TableRun cards s turns s' → (seat : ℕ) (v : View) → get_elem? s'.views seat ≡ some v
+pub told_is_value : (plan : TablePlan) (s : TableState) (r : HasMachine plan s) (t : Turn) (next : TableState) → TableTurns plan.last_card s t next → (c : ℕ)
+    → turn_wins s t c ≡ exchange.DChild ∷ [] → (turns : List Turn) (s' : TableState) → TableRun plan.last_card s turns s' → (seat : ℕ) (v : View) → get_elem? s'.views seat ≡ some v
     → (leaf value : ℕ) → IsTold v (Info c field.L leaf) → IsTold v (Value leaf value) → card_value (own_words s) c ≡ value
-told_is_value keys cards s r t next now c wins turns s' run seat v there leaf value told_leaf told_value =
-    let won = dchild_flagged keys cards s r t next now c wins in
+told_is_value plan s r t next now c wins turns s' run seat v there leaf value told_leaf told_value =
+    let won = dchild_flagged plan s r t next now c wins in
     let deletes = delete_won-delete (r.stages c) won in
     let said = (r.invariant.words.cards c).delete deletes in
-    let goes = run_goes keys cards s r r.stages r.invariant turns s' run in
+    let goes = run_goes plan s r r.stages r.invariant turns s' run in
     let entries = (goes.0.views seat v there).entries in
     let at_leaf = entries (Info c field.L leaf) told_leaf in
     let at_value = entries (Value leaf value) told_value in
     let same = value_later r.words goes.0.words r.stages r.invariant.words goes.1.words (r.words.l c) leaf
-    (sym at_leaf.2 ∙ (goes.1.words.info c (dchild_claimed keys cards s r c won)).l) said.leaf.born in
-    own_taken_value keys cards s r c won ∙ (card_value-delete r.words c (eq-eqb _ 0 said.no_left_child) ∙ (sym same ∙ at_value.1))
+    (sym at_leaf.2 ∙ (goes.1.words.info c (dchild_claimed plan s r c won)).l) said.leaf.born in
+    own_taken_value plan s r c won ∙ (card_value-delete r.words c (eq-eqb _ 0 said.no_left_child) ∙ (sym same ∙ at_value.1))
 
 -- a delete that says yes does not leave a map
 says_no : (there : Contents) (key : ℕ) → Yes ≡ reply_of (Delete key) there → (if key == key then None else there key) ≡ there key → ⊥
@@ -60,7 +61,7 @@ deletes_take_the_told_value plan v key c leaf value last told_leaf told_value s 
     let p = did.point in
     let had = final (contents_of plan.start) (run_effects plan.last_card s p.all p.state p.led) in
     let map = trees_are_of_one_thread plan s starts p.all p.state p.led in
-    let kept = run_kept plan.keys plan.last_card s (starts_are_kept plan s starts).kept p.all p.state p.led in
+    let kept = run_kept plan s (starts_are_kept plan s starts).kept p.all p.state p.led in
     let rest = runs_on plan.last_card p.state (drop p.first did.during) did.at (Makes seat (call.Answer Yes) ∷ did.later) s' p.after
     (did.called.ended, did.called.answers, did.since) in
     record {
@@ -70,7 +71,7 @@ deletes_take_the_told_value plan v key c leaf value last told_leaf told_value s 
         | inr next ↦
             let card : next.card ≡ c = same_Some next.card c (sym (next.hand.holds did.called.answers.view did.called.answers.there).0 ∙ a.1) in
             (map key (card_value (own_words p.state) next.card)).0 next.finds
-            ∙ ap (λ n. Some n) (told_is_value plan.keys plan.last_card p.state kept next.turn next.next next.now next.card next.own
+            ∙ ap (λ n. Some n) (told_is_value plan p.state kept next.turn next.next next.now next.card next.own
             (drop p.first did.during ++ Makes seat (call.Answer Yes) ∷ did.later) s' rest seat v there leaf value
             (subst (λ d. IsTold v (Info d field.L leaf)) (sym card) told_leaf) told_value)
       ];

@@ -42,10 +42,10 @@ no_greater_update plan s h id v here x may n greater on =
     let s' = told_of s id v (call.Upd x) n in
     let r = reached_kept plan s' on in
     let there = set_there s.views id w v here in
-    let sound = mine_sound plan.keys plan.last_card s' r id w there in
+    let sound = mine_sound plan s' r id w there in
     let met = (searches_are_met plan s h id v here).node x may.stands in
     let born = (r.views id w there).entries (Met x) (places_more x u.state u.card v.told (Met x) met) in
-    let same = listed_update plan.keys plan.last_card s' r x may.inner born in
+    let same = listed_update plan s' r x may.inner born in
     let was = still s.words (update_address x) in
     elim (cases_option v.worker.operation) [
       | inl op ↦ (let low = (sound.stands op.0 x op.1 may.stands).read (packed u) refl in let is = packed_again n in omega arith)

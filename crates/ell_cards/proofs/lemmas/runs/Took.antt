@@ -135,11 +135,11 @@ module _ (plan : TablePlan) (opened : TableState) (starts : Starts plan opened) 
         | inr held ↦ same_Some c.card told.c (sym held.holds ∙ told.holds)
       ] in
       let now = made plan opened starts turns s' run q c.turn c.at in
-      let lawful = turn_lawful plan.keys plan.last_card (state q) (kept plan opened starts turns s' run q) c.turn (state (suc q)) now in
+      let lawful = turn_lawful plan (state q) (kept plan opened starts turns s' run q) c.turn (state (suc q)) now in
       let mine : c.changes.card ≡ told.c = sym c.same ∙ card in
       let wins : turn_wins (state q) c.turn told.c ≡ exchange.DChild ∷ [] =
       c.changes.own told.c ∙ ap (λ b. if b then exchange.DChild ∷ [] else []) (eq-eqb told.c c.changes.card (sym mine)) in
-      let same = told_is_value plan.keys plan.last_card (state q) (kept plan opened starts turns s' run q) c.turn (state (suc q)) now told.c wins (slice plan opened starts turns s' run q p) (state p)
+      let same = told_is_value plan (state q) (kept plan opened starts turns s' run q) c.turn (state (suc q)) now told.c wins (slice plan opened starts turns s' run q p) (state p)
       (run_slice plan opened starts turns s' run q p (omega arith)) h.seat v there told.leaf value told.at_leaf told.at_value in
       let finds : FindsItsValue (Delete key) c.changes.card (own_words (state q)) = c.changes.finds (state (suc q)) lawful.1.tree in
       record {

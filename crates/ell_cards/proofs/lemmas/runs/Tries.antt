@@ -126,7 +126,7 @@ module _ (plan : TablePlan) where
   turn_grows : (s : TableState) → IsReached plan s → (seat : ℕ) (v : View) → get_elem? s.views seat ≡ some v → (t : Turn) (s' : TableState) (turn : TableTurns plan.last_card s t s')
       → (goes : SeatGoesOn KeepsOn plan.last_card s seat v t s') → Grows s v s' goes.view
   turn_grows s reached seat v there t s' turn goes = record {
-    next = claim_word_rises plan.keys plan.last_card s (reached_kept plan s reached) t s' turn;
+    next = claim_word_rises plan s (reached_kept plan s reached) t s' turn;
     ended = λ c. let rise = ends_rise c plan.last_card s t s' turn in omega arith;
     own = λ c low. elim goes.made [
       | inl same ↦ ap (λ (u : View). times exchange.Claim c u.won) same

@@ -1,4 +1,5 @@
 use Rattle.std.proofs.Common.{◌≡◌, ℕ, ◌<◌, List, [], ◌∷◌, ◌++◌, refl, sym, subst}
+use Rattle.ell_cards.specs.Models.{TablePlan}
 use Rattle.ell_cards.specs.States.{TableState}
 use Rattle.ell_cards.specs.Machines.{HasMachine}
 use Rattle.ell_cards.specs.Calls.{word_of}
@@ -28,53 +29,53 @@ one_more_turn last s (u ∷ us) s' t s'' run turn = (run.0, run.1, one_more_turn
 
 -- the word that a step call touches is in the table
 pub steps_stay_inside : InsideByMachine
-steps_stay_inside keys cards s r id v c here may =
-    subst (λ n. word_of c < n) (sym r.size) (word_fits cards c v (kept_named keys cards s r id v here) may)
+steps_stay_inside plan s r id v c here may =
+    subst (λ n. word_of c < n) (sym r.size) (word_fits plan.last_card c v (kept_named plan s r id v here) may)
 
-module _ (keys : List ℕ) (cards : ℕ) where
+module _ (plan : TablePlan) where
   -- one turn
-  pub turn_lawful : (s : TableState) (r : HasMachine keys cards s) (t : Turn) (s' : TableState) → TableTurns cards s t s'
-      → (k : HasMachine keys cards s') × TurnIsLawful keys cards s r t s' k
+  pub turn_lawful : (s : TableState) (r : HasMachine plan s) (t : Turn) (s' : TableState) → TableTurns plan.last_card s t s'
+      → (k : HasMachine plan s') × TurnIsLawful plan s r t s' k
   turn_lawful s r (Makes seat c) s' h =
-      let step = steps_are_events keys cards s r seat h.view c h.there h.may in
-      subst (λ x. (k : HasMachine keys cards x) × TurnIsLawful keys cards s r (Makes seat c) x k) (sym h.gives) (
+      let step = steps_are_events plan s r seat h.view c h.there h.may in
+      subst (λ x. (k : HasMachine plan x) × TurnIsLawful plan s r (Makes seat c) x k) (sym h.gives) (
         step.kept,
         record {
           machine = step.event;
           later = step.later;
-          tree = table_pairs_change_at_wins keys cards s r seat h.view c h.there h.may;
-          sound = own_words_are_sound keys cards (state_after s seat h.view c) step.kept;
+          tree = table_pairs_change_at_wins plan s r seat h.view c h.there h.may;
+          sound = own_words_are_sound plan (state_after s seat h.view c) step.kept;
         },
       )
   turn_lawful s r (Splits seat left) s' h =
-      let step = splits_are_handovers keys cards s r seat h.view left h.there h.free in
-      subst (λ x. (k : HasMachine keys cards x) × TurnIsLawful keys cards s r (Splits seat left) x k) (sym h.gives) (
+      let step = splits_are_handovers plan s r seat h.view left h.there h.free in
+      subst (λ x. (k : HasMachine plan x) × TurnIsLawful plan s r (Splits seat left) x k) (sym h.gives) (
         step.kept,
         record {
           machine = step.split;
           later = step.later;
           tree = λ k value. (λ x. x, λ x. x);
-          sound = own_words_are_sound keys cards (state_split s seat h.view left) step.kept;
+          sound = own_words_are_sound plan (state_split s seat h.view left) step.kept;
         },
       )
   turn_lawful s r (Joins seat other) s' h =
-      let step = joins_are_handovers keys cards s r seat other h.view h.view' h.there h.there' h.apart h.free h.free' in
-      subst (λ x. (k : HasMachine keys cards x) × TurnIsLawful keys cards s r (Joins seat other) x k) (sym h.gives) (
+      let step = joins_are_handovers plan s r seat other h.view h.view' h.there h.there' h.apart h.free h.free' in
+      subst (λ x. (k : HasMachine plan x) × TurnIsLawful plan s r (Joins seat other) x k) (sym h.gives) (
         step.kept,
         record {
           machine = step.join;
           later = step.later;
           tree = λ k value. (λ x. x, λ x. x);
-          sound = own_words_are_sound keys cards (state_joined s seat other h.view h.view') step.kept;
+          sound = own_words_are_sound plan (state_joined s seat other h.view h.view') step.kept;
         },
       )
 
 -- turn by turn
 pub runs_are_lawful : RunsAreLawful
-runs_are_lawful keys cards s r [] s' run =
-    let end = subst (λ x. (k : HasMachine keys cards x) × (machine_of_table keys cards x k ≡ machine_of_table keys cards s r)) (sym run) (r, refl) in
+runs_are_lawful plan s r [] s' run =
+    let end = subst (λ x. (k : HasMachine plan x) × (machine_of_table plan x k ≡ machine_of_table plan s r)) (sym run) (r, refl) in
     record { kept = end.0; lawful = end.1 }
-runs_are_lawful keys cards s r (t ∷ ts) s' run =
-    let turn = turn_lawful keys cards s r t run.0 run.1 in
-    let rest = runs_are_lawful keys cards run.0 turn.0 ts s' run.2 in
+runs_are_lawful plan s r (t ∷ ts) s' run =
+    let turn = turn_lawful plan s r t run.0 run.1 in
+    let rest = runs_are_lawful plan run.0 turn.0 ts s' run.2 in
     record { kept = rest.kept; lawful = (turn.0, turn.1, rest.lawful) }

@@ -25,20 +25,20 @@ after seat None said m between es xs m' is run = subst (λ n. Run n es xs m') is
 after seat (Some a) said m between es xs m' steps run = (between, steps, run)
 
 pub runs_are_schedules : RunsAreSchedules
-runs_are_schedules keys cards s r [] s' r' run calls lawful = lawful
-runs_are_schedules keys cards s r (Makes seat c ∷ ts) s' r' run calls lawful =
-    after seat (act_of c (found_by s c)) (said_of c (found_by s c)) (machine_of_table keys cards s r) (machine_of_table keys cards run.0 lawful.0)
-    (events_in cards run.0 ts s' run.2) (shown_in cards run.0 ts s' run.2) (machine_of_table keys cards s' r') lawful.1.machine
-    (runs_are_schedules keys cards run.0 lawful.0 ts s' r' run.2 calls lawful.2)
-runs_are_schedules keys cards s r (Splits seat left ∷ ts) s' r' run calls lawful = absurd calls
-runs_are_schedules keys cards s r (Joins seat other ∷ ts) s' r' run calls lawful = absurd calls
+runs_are_schedules plan s r [] s' r' run calls lawful = lawful
+runs_are_schedules plan s r (Makes seat c ∷ ts) s' r' run calls lawful =
+    after seat (act_of c (found_by s c)) (said_of c (found_by s c)) (machine_of_table plan s r) (machine_of_table plan run.0 lawful.0)
+    (events_in plan.last_card run.0 ts s' run.2) (shown_in plan.last_card run.0 ts s' run.2) (machine_of_table plan s' r') lawful.1.machine
+    (runs_are_schedules plan run.0 lawful.0 ts s' r' run.2 calls lawful.2)
+runs_are_schedules plan s r (Splits seat left ∷ ts) s' r' run calls lawful = absurd calls
+runs_are_schedules plan s r (Joins seat other ∷ ts) s' r' run calls lawful = absurd calls
 
 -- the wins up to any stage are in order
 pub table_wins_are_in_order : TableWinsAreInOrder
-table_wins_are_in_order keys cards s r = record {
+table_wins_are_in_order plan s r = record {
   first = λ c e. ap (λ d. wins_of (r.stages d)) e ∙ ap wins_of r.invariant.words.opening;
   fresh = λ c past. unclaimed-wins (r.stages c)
       (not_claimed r.words r.stages r.invariant.words c (subst (λ n. n ≤ c) (listed_next s.words ∙ r.next) past));
   order = λ turns s' run c.
-      let goes = (run_goes keys cards s r r.stages r.invariant turns s' run).1 in subst InOrder (goes.wins c) (stage_wins (goes.stages c));
+      let goes = (run_goes plan s r r.stages r.invariant turns s' run).1 in subst InOrder (goes.wins c) (stage_wins (goes.stages c));
 }

@@ -1,5 +1,5 @@
-use Rattle.std.proofs.Common.{◌≡◌, ◌≢◌, refl, ℕ, ◌+◌, ◌*◌, ◌<◌, ◌++◌, ap, ◌⊎◌, ◌==◌, if◌then◌else◌, eq-eqb, eqb-true, Bool, true, false, List, [], ◌∷◌, sym, ◌∙◌, inl, inr, arith, true≢false}
-use Rattle.ell_word.specs.Node.{card}
+use Rattle.std.proofs.Common.{◌≡◌, ◌≢◌, refl, ℕ, ◌≤◌, ◌+◌, ◌*◌, ◌<◌, ◌++◌, ap, ◌⊎◌, ◌==◌, if◌then◌else◌, eq-eqb, eqb-true, Bool, true, false, List, [], ◌∷◌, sym, ◌∙◌, inl, inr, arith, true≢false}
+use Rattle.ell_word.specs.Node.{card, IsInternal}
 use Rattle.ell_word.specs.declared.update.State.{State}
 use Rattle.ell_word.specs.declared.update.State.TheVariants as state
 use Rattle.ell_core.specs.declared.fact.Fact.{Fact}
@@ -8,11 +8,15 @@ use Rattle.ell_layout.specs.declared.field.Field.TheVariants as field
 use Rattle.ell_layout.specs.Words.{Words, word}
 use Rattle.ell_core.specs.state.Facts.{known_of, learned_any, told_by_state}
 use Rattle.ell_core.specs.soundness.Sound.{flags_at}
-use Rattle.ell_core.specs.history.Stages.{Stages}
+use Rattle.ell_core.specs.history.Stages.{Stages, Born}
+use Rattle.ell_cards.proofs.lemmas.views.Depths.{depth_at_most}
+use Rattle.ell_cards.proofs.lemmas.Ranks.{level_same, level_rises}
+use Rattle.ell_core.specs.tree.Rank.{rank}
 use Rattle.ell_core.specs.history.Later.{WordsLater, StagesLater}
 use Rattle.ell_cards.specs.declared.view.Told.{Told}
-use Rattle.ell_cards.specs.declared.view.Told.TheVariants.{Met, Key, Value, Info, Frozen, Expects}
+use Rattle.ell_cards.specs.declared.view.Told.TheVariants.{Met, Depth, Key, Value, Info, Frozen, Expects}
 use Rattle.ell_cards.specs.Models.{Has, latest, earlier}
+use Rattle.ell_cards.specs.Depths.{depth_told, met_at, level}
 use Rattle.ell_cards.specs.Changes.{facts_by, places_by, told_value}
 use Rattle.ell_cards.specs.Machines.{EntryHolds}
 use Rattle.ell_core.specs.statements.Told.{is_fixed}
@@ -42,6 +46,9 @@ fixed_word old new c words low f fixed = by f fixed
 pub entry_lasts : (old new : Words) (before after : Stages) (e : Told) → WordsLater old new → StagesLater before after → ((x : ℕ) → EntryHolds old before (Met x) → card x < old.next)
     → EntryHolds old before e → EntryHolds new after e
 entry_lasts old new before after (Met x) words stages claimed h = stages.born x h
+entry_lasts old new before after (Depth x d) words stages claimed h =
+    let same = level_same old new x words.flat (words.key x (claimed x h.0)) in
+    (stages.born x h.0, (let room = h.1 in omega arith))
 entry_lasts old new before after (Key x key) words stages claimed h =
     (stages.born x h.0, words.key x (claimed x h.0) ∙ h.1)
 entry_lasts old new before after (Value x value) words stages claimed h =
@@ -76,6 +83,7 @@ told_value_is w stage (d ∷ es) x value old (earlier _ _ _ h) = by d old (told_
         at true same = sym (holds (Value y n) (latest (Value y n) es)).1 ∙ ap w.value (eqb-true y x same)
         at false other = rest
     by (Met y) holds rest = rest
+    by (Depth y d) holds rest = rest
     by (Key y n) holds rest = rest
     by (Info c f n) holds rest = rest
     by (Expects c tag) holds rest = rest
@@ -107,3 +115,22 @@ facts_known state.IFlag c facts = refl
 facts_known state.DFlag c facts = refl
 facts_known state.Mark c facts = refl
 facts_known state.Clean c facts = refl
+
+-- no depth that was told of a node is more than its level
+pub told_within : (w : Words) (stage : Stages) (told : List Told) → ((e : Told) → Has told e → EntryHolds w stage e) → (x : ℕ)
+    → depth_told told x ≤ level w x
+told_within w stage told old x = depth_at_most told x (level w x) (λ d h. (old (Depth x d) h).1)
+
+-- a node that came into the tree is met, at no more than its level
+pub met_holds : (w : Words) (stage : Stages) (depth x : ℕ) (told : List Told) → Born stage x → depth ≤ level w x
+    → ((e : Told) → Has told e → EntryHolds w stage e) → (e : Told) → Has (met_at depth x told) e → EntryHolds w stage e
+met_holds w stage depth x told born room old =
+    with_entry (EntryHolds w stage) (Met x) (Depth x depth ∷ told) born (with_entry (EntryHolds w stage) (Depth x depth) told (born, room) old)
+
+-- so it is below an internal node of a lesser rank
+pub below_holds : (w : Words) (stage : Stages) (above x : ℕ) (told : List Told) → Born stage x → IsInternal above → rank w above < rank w x
+    → ((e : Told) → Has told e → EntryHolds w stage e)
+    → (e : Told) → Has (met_at (depth_told told above + 1) x told) e → EntryHolds w stage e
+below_holds w stage above x told born inner deeper old =
+    met_holds w stage (depth_told told above + 1) x told born
+    (let at = told_within w stage told old above in let rises = level_rises w above x inner deeper in omega arith) old

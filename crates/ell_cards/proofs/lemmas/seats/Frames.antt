@@ -26,6 +26,7 @@ use Rattle.ell_ops.specs.Meaning.{key_of}
 use Rattle.ell_core.specs.declared.fact.Fact.{Fact}
 use Rattle.ell_core.specs.declared.fact.Fact.TheVariants.{DOver}
 use Rattle.ell_core.specs.statements.Walks.{Avoids}
+use Rattle.ell_cards.specs.Models.{TablePlan}
 use Rattle.ell_cards.specs.declared.call.Call.{Call}
 use Rattle.ell_cards.specs.declared.view.Told.{Told}
 use Rattle.ell_cards.specs.declared.view.Told.TheVariants.{Key}
@@ -38,7 +39,7 @@ use Rattle.ell_cards.specs.Turns.{found_by, view_after, state_after}
 use Rattle.ell_cards.specs.Laws.{IsEvent}
 use Rattle.ell_core.proofs.lemmas.stages.Waiting.{waits-kind, waits-wins, kind-waits}
 use Rattle.ell_core.proofs.lemmas.following.waiting.Cards.{hand_waits}
-use Rattle.ell_cards.proofs.lemmas.words.Fields.{listed_else, listed_next}
+use Rattle.ell_cards.proofs.lemmas.words.Fields.{listed_else, listed_next, listed_flat}
 use Rattle.ell_cards.proofs.lemmas.seats.Seats.{IsKept, Leads, Moves, leads, kept_event, entries_on, walk_on, machine, mine, becomes, mine_sound, set_there}
 use Rattle.ell_core.proofs.lemmas.stages.Ended.{over-cut}
 
@@ -57,15 +58,15 @@ pub record Onward (w : Words) (stage : Stages) (v after : View) : Type 0 where
   pub walk : (op : Op) (x : ℕ) → after.worker.operation ≡ Some op → after.worker.search.node ≡ Some x
       → Born stage x × Avoids w (over_before after) (key_of op) x
 
-module _ (keys : List ℕ) (cards : ℕ) (s : TableState) (r : HasMachine keys cards s) (id : ℕ) (v : View) (here : get_elem? s.views id ≡ some v) where
+module _ (plan : TablePlan) (s : TableState) (r : HasMachine plan s) (id : ℕ) (v : View) (here : get_elem? s.views id ≡ some v) where
   -- a state that an event leads to has a machine
   pub record IsReached (list : List ℕ) (new : Words) (after : View) (a : core.Act) (said : Stepped) : Type 0 where
-    pub kept : IsKept keys cards (record { words = list; homes = s.homes; views = set s.views id after }) new r.stages
-    pub steps : Steps (machine keys cards s r id v here) (record { worker = id; act = a }) said (seated new (set s.views id after) cards)
+    pub kept : IsKept plan (record { words = list; homes = s.homes; views = set s.views id after }) new r.stages
+    pub steps : Steps (machine plan s r id v here) (record { worker = id; act = a }) said (seated new (set s.views id after) plan.last_card)
 
   -- a card that waits goes on to, where the event wins nothing for it
   pub waits_on : (a : core.Act) (said : Stepped) (new : Words) (after : View) (stages : Stages)
-      → Leads keys cards s r id v here a said new after stages
+      → Leads plan s r id v here a said new after stages
       → (c : ℕ) → wins_by a v.worker.card said c ≡ [] → waits (r.stages c) ≡ true → waits (stages c) ≡ true
   waits_on a said new after stages led c none wait = kind-waits (stages c)
       (elim (waits-kind (r.stages c) wait) [ inl e ↦ inl (led.later.insert c e) | inr e ↦ inr (led.later.delete c e) ])
@@ -74,7 +75,7 @@ module _ (keys : List ℕ) (cards : ℕ) (s : TableState) (r : HasMachine keys c
 
   -- the view after an event
   pub view_on : (a : core.Act) (said : Stepped) (new : Words) (after : View) (list : List ℕ) (stages : Stages)
-      → Leads keys cards s r id v here a said new after stages → Moves keys cards s r id v here list new stages
+      → Leads plan s r id v here a said new after stages → Moves plan s r id v here list new stages
       → ((e : Told) → IsTold after e → EntryHolds new stages e) → Onward r.words r.stages v after
       → ViewHolds list new stages after
   view_on a said new after list stages led moves entries on = record {
@@ -85,12 +86,12 @@ module _ (keys : List ℕ) (cards : ℕ) (s : TableState) (r : HasMachine keys c
     knew = on.knew;
     walk = λ op x busy at.
         let on_it = on.walk op x busy at in
-        walk_on keys cards s r id v here a said new after stages led after
-        (λ c has. over-cut (r.stages c) ((mine_sound keys cards s r id v here).facts (DOver c) (on.before (DOver c) has)))
+        walk_on plan s r id v here a said new after stages led after
+        (λ c has. over-cut (r.stages c) ((mine_sound plan s r id v here).facts (DOver c) (on.before (DOver c) has)))
         (key_of op) x on_it.0 on_it.1;
     hand = λ c has un.
         let was = on.hand c has un in
-        let wait = hand_waits r.words r.stages (worker_of v.worker) c (mine_sound keys cards s r id v here) was.0 was.1 in
+        let wait = hand_waits r.words r.stages (worker_of v.worker) c (mine_sound plan s r id v here) was.0 was.1 in
         let held = (r.views id v here).hand c was.0 was.1 in record {
           machine = λ f. (moves.apart c f wait).1 ∙ (held.machine f ∙ ap (λ es. stored es f 0) (sym was.2));
           table = λ f. (moves.apart c f wait).0 ∙ (held.table f ∙ ap (λ es. stored_at es f) (sym was.3));
@@ -99,11 +100,12 @@ module _ (keys : List ℕ) (cards : ℕ) (s : TableState) (r : HasMachine keys c
 
   -- the words where an event changes none and wins nothing
   pub moves_none : (a : core.Act) (said : Stepped) (after : View) (stages : Stages)
-      → Leads keys cards s r id v here a said r.words after stages
-      → ((c : ℕ) → wins_by a v.worker.card said c ≡ []) → Moves keys cards s r id v here s.words r.words stages
+      → Leads plan s r id v here a said r.words after stages
+      → ((c : ℕ) → wins_by a v.worker.card said c ≡ []) → Moves plan s r id v here s.words r.words stages
   moves_none a said after stages led none = record {
     size = refl;
     next = r.next;
+    flat = refl;
     same = λ c f calm still e. e;
     flags = λ c f wait calm. absurd (true≢false (sym (waits_on a said r.words after stages led c (none c) wait) ∙ calm));
     apart = λ c f wait. (refl, refl);
@@ -112,10 +114,11 @@ module _ (keys : List ℕ) (cards : ℕ) (s : TableState) (r : HasMachine keys c
   -- the words where an event writes a field of a card that does not wait
   pub moves_write : (d : ℕ) (g : Field) (x : ℕ) (stages : Stages) → address d g < length s.words → waits (r.stages d) ≡ false
       → ((c : ℕ) (f : Field) → waits (r.stages c) ≡ true → waits (stages c) ≡ false → listed s.words c f ≡ table_word r.words c f)
-      → Moves keys cards s r id v here (set s.words (address d g) x) (table_written r.words d g x) stages
+      → Moves plan s r id v here (set s.words (address d g) x) (table_written r.words d g x) stages
   moves_write d g x stages fits calm flags = record {
     size = length-set s.words (address d g) x;
     next = listed_next s.words d g x ∙ (r.next ∙ sym (table_written_next r.words d g x));
+    flat = listed_flat s.words d g x;
     same = λ c f one two e. same_after_same_write s.words r.words c f d g x fits e;
     flags = λ c f wait still. let n = other c wait in
         listed_else s.words d g x c f (apart c f d g n)
@@ -129,29 +132,29 @@ module _ (keys : List ℕ) (cards : ℕ) (s : TableState) (r : HasMachine keys c
 
   -- the machine after an event that changes no word and wins nothing
   pub looks : (a : core.Act) (said : Stepped) (after : View)
-      → (h : Happens cards a (mine keys cards s r id v here) said (becomes keys cards s r id v here r.words after))
+      → (h : Happens plan.last_card a (mine plan s r id v here) said (becomes plan s r id v here r.words after))
       → ((c : ℕ) → wins_by a v.worker.card said c ≡ [])
       → ((e : Told) → IsTold after e → EntryHolds r.words r.stages e)
       → Onward r.words r.stages v after
       → (i : ℕ) → IsReached (set s.words i (get_or s.words i 0)) r.words after a said
   looks a said after h none entries on i =
-      let l = leads keys cards s r id v here a said r.words after h in
+      let l = leads plan s r id v here a said r.words after h in
       let moves = moves_none a said after l.0 l.1 none in record {
-        kept = subst (λ ws. IsKept keys cards (record { words = ws; homes = s.homes; views = set s.views id after }) r.words r.stages)
+        kept = subst (λ ws. IsKept plan (record { words = ws; homes = s.homes; views = set s.views id after }) r.words r.stages)
             (sym (set-get_or s.words i 0))
-            (kept_event keys cards s r id v here a said r.words after s.words l.0 l.1 moves
+            (kept_event plan s r id v here a said r.words after s.words l.0 l.1 moves
             (view_on a said r.words after s.words l.0 l.1 moves
-            (λ e told. entries_on keys cards s r id v here a said r.words after l.0 l.1 e (entries e told)) on) on.owns on.list);
+            (λ e told. entries_on plan s r id v here a said r.words after l.0 l.1 e (entries e told)) on) on.owns on.list);
         steps = l.1.steps;
       }
 
   -- the machine is the same where a pass learns something beside its worker
-  pub same_machine : (after : View) → after.worker ≡ v.worker → machine keys cards s r id v here ≡ seated r.words (set s.views id after) cards
+  pub same_machine : (after : View) → after.worker ≡ v.worker → machine plan s r id v here ≡ seated r.words (set s.views id after) plan.last_card
   same_machine after same = λ t. record {
     words = r.words;
     worker = λ j. at j t;
     count = sym (length-set s.views id after) t;
-    last_card = cards;
+    last_card = plan.last_card;
   }
     where
       at : (j : ℕ) → seat_worker (get_elem? s.views j) ≡ seat_worker (get_elem? (set s.views id after) j)
@@ -163,12 +166,12 @@ module _ (keys : List ℕ) (cards : ℕ) (s : TableState) (r : HasMachine keys c
 
   -- the machine where a pass alone learns something, and the list changes at a card that waits or not at all
   pub kept_note : (after : View) (list : List ℕ) → after.worker ≡ v.worker → length list ≡ length s.words
-      → get_or list 0 0 ≡ get_or s.words 0 0
+      → get_or list 0 0 ≡ get_or s.words 0 0 → get_or list 1 0 ≡ get_or s.words 1 0
       → ((c : ℕ) (f : Field) → waits (r.stages c) ≡ false → listed list c f ≡ listed s.words c f)
       → ViewHolds list r.words r.stages after
       → ((j : ℕ) (u : View) → j ≢ id → get_elem? s.views j ≡ some u → ViewHolds list r.words r.stages u)
-      → IsKept keys cards (record { words = list; homes = s.homes; views = set s.views id after }) r.words r.stages
-  kept_note after list same size next calm own others = record {
+      → IsKept plan (record { words = list; homes = s.homes; views = set s.views id after }) r.words r.stages
+  kept_note after list same size next flat calm own others = record {
     kept = record {
       words = r.words;
       stages = r.stages;
@@ -176,6 +179,8 @@ module _ (keys : List ℕ) (cards : ℕ) (s : TableState) (r : HasMachine keys c
       limit = r.limit;
       size = size ∙ r.size;
       next = next ∙ r.next;
+      flat = flat ∙ r.flat;
+      plain = r.plain;
       settled = λ c f still. calm c f still ∙ r.settled c f still;
       views = λ j u e. ⊎_elim
           (λ (t : (j ≡ id) × (after ≡ u)). subst (ViewHolds list r.words r.stages) t.1 own)
@@ -197,35 +202,35 @@ module _ (keys : List ℕ) (cards : ℕ) (s : TableState) (r : HasMachine keys c
 
   -- the same where the list does not change
   pub kept_told : (after : View) → after.worker ≡ v.worker → ViewHolds s.words r.words r.stages after
-      → (i : ℕ) → IsKept keys cards (record { words = set s.words i (get_or s.words i 0); homes = s.homes; views = set s.views id after }) r.words r.stages
+      → (i : ℕ) → IsKept plan (record { words = set s.words i (get_or s.words i 0); homes = s.homes; views = set s.views id after }) r.words r.stages
   kept_told after same own i =
-      subst (λ ws. IsKept keys cards (record { words = ws; homes = s.homes; views = set s.views id after }) r.words r.stages)
+      subst (λ ws. IsKept plan (record { words = ws; homes = s.homes; views = set s.views id after }) r.words r.stages)
       (sym (set-get_or s.words i 0))
-      (kept_note after s.words same refl refl (λ c f still. refl) own (λ j u n e. r.views j u e))
+      (kept_note after s.words same refl refl refl (λ c f still. refl) own (λ j u n e. r.views j u e))
 
   -- a step call that is an event
   pub is_event : (c : Call) (a : core.Act) (said : Stepped) (new : Words)
       → IsReached (set s.words (word_of c) (left_by (atomic_of c) (found_by s c))) new (view_after s v c) a said
-      → act_of c (found_by s c) ≡ Some a → said_of c (found_by s c) ≡ said → Tells cards c v (found_by s c) → IsEvent keys cards s r id v c
+      → act_of c (found_by s c) ≡ Some a → said_of c (found_by s c) ≡ said → Tells plan.last_card c v (found_by s c) → IsEvent plan s r id v c
   is_event c a said new at acts says tells = record {
     kept = at.kept.kept;
     later = at.kept.later;
-    event = subst (λ w. Becomes id (act_of c (found_by s c)) (said_of c (found_by s c)) (machine keys cards s r id v here)
-        (seated w (set s.views id (view_after s v c)) cards)) (sym at.kept.words)
-        (subst (λ b. Becomes id (act_of c (found_by s c)) b (machine keys cards s r id v here) (seated new (set s.views id (view_after s v c)) cards)) (sym says)
-        (subst (λ o. Becomes id o said (machine keys cards s r id v here) (seated new (set s.views id (view_after s v c)) cards)) (sym acts) at.steps));
+    event = subst (λ w. Becomes id (act_of c (found_by s c)) (said_of c (found_by s c)) (machine plan s r id v here)
+        (seated w (set s.views id (view_after s v c)) plan.last_card)) (sym at.kept.words)
+        (subst (λ b. Becomes id (act_of c (found_by s c)) b (machine plan s r id v here) (seated new (set s.views id (view_after s v c)) plan.last_card)) (sym says)
+        (subst (λ o. Becomes id o said (machine plan s r id v here) (seated new (set s.views id (view_after s v c)) plan.last_card)) (sym acts) at.steps));
     tells = tells;
   }
 
   -- a step call that leaves the machine
   pub is_no_event : (c : Call)
-      → IsKept keys cards (state_after s id v c) r.words r.stages → (view_after s v c).worker ≡ v.worker
-      → act_of c (found_by s c) ≡ None → Tells cards c v (found_by s c) → IsEvent keys cards s r id v c
+      → IsKept plan (state_after s id v c) r.words r.stages → (view_after s v c).worker ≡ v.worker
+      → act_of c (found_by s c) ≡ None → Tells plan.last_card c v (found_by s c) → IsEvent plan s r id v c
   is_no_event c at same none tells = record {
     kept = at.kept;
     later = at.later;
-    event = subst (λ o. Becomes id o (said_of c (found_by s c)) (machine keys cards s r id v here)
-        (seated at.kept.words (set s.views id (view_after s v c)) cards)) (sym none)
-        (sym (same_machine (view_after s v c) same ∙ ap (λ w. seated w (set s.views id (view_after s v c)) cards) (sym at.words)));
+    event = subst (λ o. Becomes id o (said_of c (found_by s c)) (machine plan s r id v here)
+        (seated at.kept.words (set s.views id (view_after s v c)) plan.last_card)) (sym none)
+        (sym (same_machine (view_after s v c) same ∙ ap (λ w. seated w (set s.views id (view_after s v c)) plan.last_card) (sym at.words)));
     tells = tells;
   }

@@ -1,4 +1,4 @@
-use Rattle.std.proofs.Common.{◌≡◌, ℕ, ◌<◌, ◌≤◌, List, ap, ◌∙◌, subst, arith, inl, inr}
+use Rattle.std.proofs.Common.{◌≡◌, ℕ, ◌<◌, ◌≤◌, ap, ◌∙◌, subst, arith, inl, inr}
 use mathlib.Core.Option.{some}
 use lib.ListN.{get_elem?}
 use Rattle.ell_word.specs.Node.{card}
@@ -11,33 +11,35 @@ use Rattle.ell_core.specs.state.Facts.{card_of_fact}
 use Rattle.ell_core.specs.state.Machine.{Worker}
 use Rattle.ell_core.specs.history.Stages.{Born, is_start}
 use Rattle.ell_core.specs.statements.StepLaws.{HasSeen}
+use Rattle.ell_cards.specs.Models.{TablePlan}
 use Rattle.ell_cards.specs.declared.view.Told.{Told}
-use Rattle.ell_cards.specs.declared.view.Told.TheVariants.{Met, Key, Value, Info, Frozen, Expects}
+use Rattle.ell_cards.specs.declared.view.Told.TheVariants.{Met, Depth, Key, Value, Info, Frozen, Expects}
 use Rattle.ell_cards.specs.declared.view.View.{View}
 use Rattle.ell_cards.specs.Naming.{InfoIsNamed, EntryIsNamed, SeenIsNamed, IsNamed}
 use Rattle.ell_cards.specs.States.{TableState}
 use Rattle.ell_cards.specs.Machines.{EntryHolds, HasMachine}
+use Rattle.ell_cards.proofs.lemmas.Ranks.{level_within}
 use Rattle.ell_cards.proofs.lemmas.seats.Seats.{mine_is, relies, stands_born, born_claimed}
 use Rattle.std.proofs.lemmas.Bool.{cases_Bool}
 
-module _ (keys : List ℕ) (cards : ℕ) (s : TableState) (r : HasMachine keys cards s) (id : ℕ) (v : View) (here : get_elem? s.views id ≡ some v) where
+module _ (plan : TablePlan) (s : TableState) (r : HasMachine plan s) (id : ℕ) (v : View) (here : get_elem? s.views id ≡ some v) where
   -- a claimed card is one of the table
-  claimed_fits : (c : ℕ) → c < r.words.next → c ≤ cards
+  claimed_fits : (c : ℕ) → c < r.words.next → c ≤ plan.last_card
   claimed_fits c low = let room = r.invariant.limit in omega arith
 
   -- so is a node that came into the tree
-  born_fits : (x : ℕ) → Born r.stages x → card x ≤ cards
-  born_fits x born = claimed_fits (card x) (born_claimed keys cards s r id v here x born)
+  born_fits : (x : ℕ) → Born r.stages x → card x ≤ plan.last_card
+  born_fits x born = claimed_fits (card x) (born_claimed plan s r id v here x born)
 
   -- a node that a search has seen
-  seen_fits : (seen : Seen) (x : ℕ) → HasSeen r.words r.stages seen x → SeenIsNamed cards seen
+  seen_fits : (seen : Seen) (x : ℕ) → HasSeen r.words r.stages seen x → SeenIsNamed plan.last_card seen
   seen_fits seen x h = record { node = born_fits seen.node h.node.born; word = claimed_fits (unpacked seen.word).card h.names; tag = claimed_fits seen.tag h.tag }
 
   -- a word of a claimed card that is a node
-  info_fits : (c : ℕ) (f : Field) (x : ℕ) → c < r.words.next → word r.words c f ≡ x → InfoIsNamed cards f x
-  info_fits c field.Gp x low is = subst (λ y. card y ≤ cards) is (born_fits (r.words.gp c) ((relies keys cards s r id v here).goes c low).grandparent.born)
-  info_fits c field.P x low is = subst (λ y. card y ≤ cards) is (born_fits (r.words.p c) ((relies keys cards s r id v here).goes c low).parent.born)
-  info_fits c field.L x low is = subst (λ y. card y ≤ cards) is (born_fits (r.words.l c) ((relies keys cards s r id v here).goes c low).leaf)
+  info_fits : (c : ℕ) (f : Field) (x : ℕ) → c < r.words.next → word r.words c f ≡ x → InfoIsNamed plan.last_card f x
+  info_fits c field.Gp x low is = subst (λ y. card y ≤ plan.last_card) is (born_fits (r.words.gp c) ((relies plan s r id v here).goes c low).grandparent.born)
+  info_fits c field.P x low is = subst (λ y. card y ≤ plan.last_card) is (born_fits (r.words.p c) ((relies plan s r id v here).goes c low).parent.born)
+  info_fits c field.L x low is = subst (λ y. card y ≤ plan.last_card) is (born_fits (r.words.l c) ((relies plan s r id v here).goes c low).leaf)
   info_fits c _ x low is = tt
 
   -- the tag that a claimed card expects is at most its own number
@@ -51,8 +53,9 @@ module _ (keys : List ℕ) (cards : ℕ) (s : TableState) (r : HasMachine keys c
   ]
 
   -- what was told
-  entry_fits : (e : Told) → EntryHolds r.words r.stages e → EntryIsNamed cards e
+  entry_fits : (e : Told) → EntryHolds r.words r.stages e → EntryIsNamed plan.last_card e
   entry_fits (Met x) h = born_fits x h
+  entry_fits (Depth x d) h = (let room = level_within r.words r.plain plan.last_card x (born_fits x h.0) in let at = h.1 in omega arith)
   entry_fits (Key x key) h = born_fits x h.0
   entry_fits (Value x value) h = born_fits x h.0
   entry_fits (Info c f x) h = (claimed_fits c h.0, info_fits c f x h.0 h.2)
@@ -60,11 +63,11 @@ module _ (keys : List ℕ) (cards : ℕ) (s : TableState) (r : HasMachine keys c
   entry_fits (Frozen c right x) h = (claimed_fits c h.0, born_fits x h.3)
 
   -- all that the pass names
-  pub kept_named : IsNamed cards v
+  pub kept_named : IsNamed plan.last_card v
   kept_named =
-      let same = mine_is keys cards s r id v here in
-      let rely = relies keys cards s r id v here in record {
-        node = λ x at. born_fits x (stands_born keys cards s r id v here x at);
+      let same = mine_is plan s r id v here in
+      let rely = relies plan s r id v here in record {
+        node = λ x at. born_fits x (stands_born plan s r id v here x at);
         parent = λ x seen at behind. seen_fits seen x
             (rely.parent x seen (ap (λ (u : Worker). u.search.node) same ∙ at) (ap (λ (u : Worker). u.search.parent) same ∙ behind));
         grandparent = λ x seen above at behind up. seen_fits above seen.node

@@ -22,6 +22,7 @@ use Rattle.ell_core.specs.statements.StepLaws.{Reliance}
 use Rattle.ell_layout.proofs.lemmas.Writes.{put_same, put_other}
 use Rattle.ell_core.proofs.lemmas.following.Lawful.{events_lawful}
 use Rattle.ell_core.proofs.lemmas.following.Reliance.{may_rely}
+use Rattle.ell_cards.specs.Models.{TablePlan}
 use Rattle.ell_cards.specs.declared.view.Told.{Told}
 use Rattle.ell_ops.specs.Meaning.{key_of}
 use Rattle.ell_core.specs.declared.fact.Fact.{Fact}
@@ -71,15 +72,15 @@ module _ (views : List View) (id : ℕ) (v : View) (here : get_elem? views id �
   }
 
 -- a state has a machine, of these words
-pub record IsKept (keys : List ℕ) (cards : ℕ) (s : TableState) (w : Words) (stage : Stages) : Type 0 where
-  pub kept : HasMachine keys cards s
+pub record IsKept (plan : TablePlan) (s : TableState) (w : Words) (stage : Stages) : Type 0 where
+  pub kept : HasMachine plan s
   pub words : kept.words ≡ w
   pub later : StagesLater stage kept.stages
 
-module _ (keys : List ℕ) (cards : ℕ) (s : TableState) (r : HasMachine keys cards s) (id : ℕ) (v : View) (here : get_elem? s.views id ≡ some v) where
+module _ (plan : TablePlan) (s : TableState) (r : HasMachine plan s) (id : ℕ) (v : View) (here : get_elem? s.views id ≡ some v) where
   -- the machine
   abbrev pub machine : Machine
-  machine = seated r.words s.views cards
+  machine = seated r.words s.views plan.last_card
 
   -- the worker of the seat
   pub mine_is : machine.worker id ≡ worker_of v.worker
@@ -106,23 +107,23 @@ module _ (keys : List ℕ) (cards : ℕ) (s : TableState) (r : HasMachine keys c
 
   -- where an event leads
   pub record Leads (a : Act) (said : Stepped) (new : Words) (after : View) (stages : Stages) : Type 0 where
-    pub steps : Steps machine (record { worker = id; act = a }) said (seated new (set s.views id after) cards)
-    pub invariant : Invariant (seated new (set s.views id after) cards) stages
+    pub steps : Steps machine (record { worker = id; act = a }) said (seated new (set s.views id after) plan.last_card)
+    pub invariant : Invariant (seated new (set s.views id after) plan.last_card) stages
     pub words : WordsLater r.words new
     pub later : StagesLater r.stages stages
     pub wins : (c : ℕ) → wins_of (stages c) ≡ wins_of (r.stages c) ++ wins_by a v.worker.card said c
 
   -- an event of the seat leads on
-  pub leads : (a : Act) (said : Stepped) (new : Words) (after : View) → Happens cards a mine said (becomes new after)
+  pub leads : (a : Act) (said : Stepped) (new : Words) (after : View) → Happens plan.last_card a mine said (becomes new after)
       → (stages : Stages) × Leads a said new after stages
   leads a said new after h =
       let e : Event = record { worker = id; act = a } in
       let next = with_scene machine id (becomes new after) in
-      let h' : Happens cards a (scene machine id) said (becomes new after) =
-      subst (λ (u : Worker). Happens cards a (record { words = r.words; worker = u }) said (becomes new after)) (sym mine_is) h in
+      let h' : Happens plan.last_card a (scene machine id) said (becomes new after) =
+      subst (λ (u : Worker). Happens plan.last_card a (record { words = r.words; worker = u }) said (becomes new after)) (sym mine_is) h in
       let steps : Steps machine e said next = record { there = inside s.views id v here; becomes = becomes new after; happens = h'; gives = refl } in
       let follows = (events_lawful machine r.stages e said next r.invariant steps).follows in
-      let same = seated_event s.views id v here after r.words new cards in (
+      let same = seated_event s.views id v here after r.words new plan.last_card in (
         follows.stages,
         record {
           steps = subst (λ (n : Machine). Steps machine e said n) same steps;
@@ -137,6 +138,7 @@ module _ (keys : List ℕ) (cards : ℕ) (s : TableState) (r : HasMachine keys c
   pub record Moves (list : List ℕ) (new : Words) (stages : Stages) : Type 0 where
     pub size : length list ≡ length s.words
     pub next : get_or list 0 0 ≡ new.next
+    pub flat : get_or list 1 0 ≡ get_or s.words 1 0
     pub same : (c : ℕ) (f : Field) → waits (r.stages c) ≡ false → waits (stages c) ≡ false → listed s.words c f ≡ table_word r.words c f
         → listed list c f ≡ table_word new c f
     pub flags : (c : ℕ) (f : Field) → waits (r.stages c) ≡ true → waits (stages c) ≡ false → listed list c f ≡ table_word new c f
@@ -166,7 +168,7 @@ module _ (keys : List ℕ) (cards : ℕ) (s : TableState) (r : HasMachine keys c
   pub walk_on : (a : Act) (said : Stepped) (new : Words) (after : View) (stages : Stages) → Leads a said new after stages
       → (u : View) → HaveCut r.stages (over_before u) → (key x : ℕ) → Born r.stages x → Avoids r.words (over_before u) key x → Avoids new (over_before u) key x
   walk_on a said new after stages led u cut key x born avoids =
-      events_keep_avoiding machine r.stages (record { worker = id; act = a }) said (seated new (set s.views id after) cards) r.invariant led.steps
+      events_keep_avoiding machine r.stages (record { worker = id; act = a }) said (seated new (set s.views id after) plan.last_card) r.invariant led.steps
       (over_before u) cut key x born avoids
 
   -- the machine after an event
@@ -174,7 +176,7 @@ module _ (keys : List ℕ) (cards : ℕ) (s : TableState) (r : HasMachine keys c
       → Leads a said new after stages → Moves list new stages → ViewHolds list new stages after
       → ((k : ℕ) → WorkerOwns (worker_of after.worker) k → WorkerOwns (worker_of v.worker) k)
       → after.worker.shared ≡ v.worker.shared
-      → IsKept keys cards (record { words = list; homes = s.homes; views = set s.views id after }) new r.stages
+      → IsKept plan (record { words = list; homes = s.homes; views = set s.views id after }) new r.stages
   kept_event a said new after list stages led moves own owns same_list = record {
     kept = record {
       words = new;
@@ -183,6 +185,8 @@ module _ (keys : List ℕ) (cards : ℕ) (s : TableState) (r : HasMachine keys c
       limit = r.limit;
       size = moves.size ∙ r.size;
       next = moves.next;
+      flat = moves.flat ∙ (r.flat ∙ sym led.words.flat);
+      plain = led.words.flat ∙ r.plain;
       settled = λ c f calm. by c f calm (waits (r.stages c)) refl;
       views = λ j u e. ⊎_elim
           (λ (t : (j ≡ id) × (after ≡ u)). subst (ViewHolds list new stages) t.1 own)

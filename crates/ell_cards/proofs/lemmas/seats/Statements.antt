@@ -5,6 +5,7 @@ use Rattle.ell_core.specs.declared.view.Entry.TheVariants.{Present}
 use Rattle.ell_core.specs.state.Machine.{ledger_of}
 use Rattle.ell_core.specs.soundness.Sound.{IsSound}
 use Rattle.ell_core.specs.tree.Tree.{Reached, IsTreeKey, IsTreePair}
+use Rattle.ell_cards.specs.Models.{TablePlan}
 use Rattle.ell_cards.specs.declared.call.Call.{Call}
 use Rattle.ell_cards.specs.declared.view.View.{View}
 use Rattle.ell_cards.specs.Models.{IsFree}
@@ -17,34 +18,34 @@ use Rattle.ell_cards.specs.OwnWords.{IsOwnedKey, NodeGoesOn}
 
 -- of each state that has a machine, what the laws of OwnWords say of each that turns have led to
 abbrev pub SoundByMachine : Type 0
-SoundByMachine = (keys : List ℕ) (cards : ℕ) (s : TableState) → HasMachine keys cards s → IsSound (own_machine cards s)
+SoundByMachine = (plan : TablePlan) (s : TableState) → HasMachine plan s → IsSound (own_machine plan.last_card s)
 
 abbrev pub InsideByMachine : Type 0
-InsideByMachine = (keys : List ℕ) (cards : ℕ) (s : TableState) → HasMachine keys cards s → (id : ℕ) (v : View) (c : Call)
-    → get_elem? s.views id ≡ some v → May cards c v → word_of c < length s.words
+InsideByMachine = (plan : TablePlan) (s : TableState) → HasMachine plan s → (id : ℕ) (v : View) (c : Call)
+    → get_elem? s.views id ≡ some v → May plan.last_card c v → word_of c < length s.words
 
 abbrev pub PairsByMachine : Type 0
-PairsByMachine = (keys : List ℕ) (cards : ℕ) (s : TableState) → HasMachine keys cards s → (id : ℕ) (v : View) (c : Call)
-    → get_elem? s.views id ≡ some v → May cards c v
+PairsByMachine = (plan : TablePlan) (s : TableState) → HasMachine plan s → (id : ℕ) (v : View) (c : Call)
+    → get_elem? s.views id ≡ some v → May plan.last_card c v
     → PairsChangeBy c (is_won (atomic_of c) (found_by s c)) (own_words s) (own_words (state_after s id v c))
 
 abbrev pub OperationsByMachine : Type 0
-OperationsByMachine = (keys : List ℕ) (cards : ℕ) (s : TableState) → HasMachine keys cards s → (id : ℕ) (v : View) (c : Call)
-    → get_elem? s.views id ≡ some v → May cards c v → ChangeIsOf c (is_won (atomic_of c) (found_by s c)) s
+OperationsByMachine = (plan : TablePlan) (s : TableState) → HasMachine plan s → (id : ℕ) (v : View) (c : Call)
+    → get_elem? s.views id ≡ some v → May plan.last_card c v → ChangeIsOf c (is_won (atomic_of c) (found_by s c)) s
 
 abbrev pub AnswersByMachine : Type 0
-AnswersByMachine = (keys : List ℕ) (cards : ℕ) (s : TableState) → HasMachine keys cards s → (id : ℕ) (v : View) (c : Call)
-    → get_elem? s.views id ≡ some v → May cards c v → LedgerChangesBy c v (view_after s v c)
+AnswersByMachine = (plan : TablePlan) (s : TableState) → HasMachine plan s → (id : ℕ) (v : View) (c : Call)
+    → get_elem? s.views id ≡ some v → May plan.last_card c v → LedgerChangesBy c v (view_after s v c)
 
 abbrev pub LedgersByMachine : Type 0
-LedgersByMachine = (keys : List ℕ) (cards : ℕ) (s : TableState) → HasMachine keys cards s → (id : ℕ) (v : View)
+LedgersByMachine = (plan : TablePlan) (s : TableState) → HasMachine plan s → (id : ℕ) (v : View)
     → get_elem? s.views id ≡ some v → IsFree v → (key value : ℕ) → ledger_of v.worker.ledger key ≢ None
     → IsTreePair (own_words s) key value ↔ (ledger_of v.worker.ledger key ≡ Some (Present value))
 
 abbrev pub OwnedByMachine : Type 0
-OwnedByMachine = (keys : List ℕ) (cards : ℕ) (s : TableState) → HasMachine keys cards s → (key : ℕ)
+OwnedByMachine = (plan : TablePlan) (s : TableState) → HasMachine plan s → (key : ℕ)
     → ((i : ℕ) → (seat_worker (get_elem? s.views i)).shared key ≡ false) → IsTreeKey (own_words s) key → IsOwnedKey s key
 
 abbrev pub NodesByMachine : Type 0
-NodesByMachine = (keys : List ℕ) (cards : ℕ) (s : TableState) → HasMachine keys cards s → (turns : List Turn) (s' : TableState)
-    → TableRun cards s turns s' → (x : ℕ) → Reached (own_words s) x → NodeGoesOn (own_words s) (own_words s') x
+NodesByMachine = (plan : TablePlan) (s : TableState) → HasMachine plan s → (turns : List Turn) (s' : TableState)
+    → TableRun plan.last_card s turns s' → (x : ℕ) → Reached (own_words s) x → NodeGoesOn (own_words s) (own_words s') x

@@ -15,6 +15,7 @@ use Rattle.ell_core.specs.acts.Events.{Happens}
 use Rattle.ell_core.specs.statements.Effects.{reply_of_change, AnswersAsMap}
 use Rattle.ell_core.proofs.lemmas.outcomes.Decide.{some_not_none}
 use Rattle.ell_core.proofs.lemmas.following.Lawful.{events_lawful}
+use Rattle.ell_cards.specs.Models.{TablePlan}
 use Rattle.ell_cards.specs.declared.call.Call.TheVariants as call
 use Rattle.ell_cards.specs.declared.view.Told.{Told}
 use Rattle.ell_cards.specs.declared.view.Told.TheVariants.{Met, Value}
@@ -64,7 +65,7 @@ bare w stage v after no_key no_card owns list read least before knew walk = reco
   walk = walk;
 }
 
-module _ (keys : List ℕ) (cards : ℕ) (s : TableState) (r : HasMachine keys cards s) (id : ℕ) (v : View) (here : get_elem? s.views id ≡ some v) where
+module _ (plan : TablePlan) (s : TableState) (r : HasMachine plan s) (id : ℕ) (v : View) (here : get_elem? s.views id ≡ some v) where
   -- what a pass that stands at the root was told
   root_entries : (e : Told) → Has (Met 0 ∷ v.told) e → EntryHolds r.words r.stages e
   root_entries = with_entry (EntryHolds r.words r.stages) (Met 0) v.told (start_there r.words r.stages r.invariant.words 0 (omega arith) refl) (r.views id v here).entries
@@ -73,49 +74,49 @@ module _ (keys : List ℕ) (cards : ℕ) (s : TableState) (r : HasMachine keys c
   root_walk : (op : Op) (x : ℕ) → Some 0 ≡ Some x → Born r.stages x × Avoids r.words (λ c. known_of v.worker.knows (DOver c)) (key_of op) x
   root_walk op x at = subst (λ y. Born r.stages y × Avoids r.words (λ c. known_of v.worker.knows (DOver c)) (key_of op) y) (same_Some 0 x at) (
     start_there r.words r.stages r.invariant.words 0 (omega arith) refl,
-    roots_avoid (machine keys cards s r id v here) r.stages (λ c. known_of v.worker.knows (DOver c)) (key_of op) r.invariant
-        (λ c has. over-cut (r.stages c) ((mine_sound keys cards s r id v here).facts (DOver c) has)),
+    roots_avoid (machine plan s r id v here) r.stages (λ c. known_of v.worker.knows (DOver c)) (key_of op) r.invariant
+        (λ c has. over-cut (r.stages c) ((mine_sound plan s r id v here).facts (DOver c) has)),
   )
 
   -- begin
-  pub keeps_begin : (op : Op) → MayBegin v op → IsEvent keys cards s r id v (call.Begin op)
+  pub keeps_begin : (op : Op) → MayBegin v op → IsEvent plan s r id v (call.Begin op)
   keeps_begin op may =
       let after = after_begin (Some op) v in
-      let happens : Happens cards (act.Begin op) (mine keys cards s r id v here) Moved (becomes keys cards s r id v here r.words after) = record {
+      let happens : Happens plan.last_card (act.Begin op) (mine plan s r id v here) Moved (becomes plan s r id v here r.words after) = record {
         owned = λ lacks. elim may.1 [ inl owns ↦ owns lacks.0 | inr shared ↦ false≢true (sym lacks.1 ∙ shared) ];
         row = record { free = may.0; says = refl; gives = refl };
         room = λ h. h;
       } in
-      is_event keys cards s r id v here (call.Begin op) (act.Begin op) Moved r.words
-      (looks keys cards s r id v here (act.Begin op) Moved after happens (λ c. refl) root_entries
+      is_event plan s r id v here (call.Begin op) (act.Begin op) Moved r.words
+      (looks plan s r id v here (act.Begin op) Moved after happens (λ c. refl) root_entries
       (bare r.words r.stages v after refl refl (λ k h. h) refl (λ n at. absurd (some_not_none at refl)) refl (λ f k. k) (λ f k. k) (λ o x busy at. root_walk o x at)) (key_address 0))
       refl refl tt
 
   -- again
-  pub keeps_again : MayStop (worker_of v.worker) → IsEvent keys cards s r id v call.Again
+  pub keeps_again : MayStop (worker_of v.worker) → IsEvent plan s r id v call.Again
   keeps_again may =
       let after = after_again v in
-      let happens : Happens cards act.Again (mine keys cards s r id v here) Moved (becomes keys cards s r id v here r.words after) = record {
+      let happens : Happens plan.last_card act.Again (mine plan s r id v here) Moved (becomes plan s r id v here r.words after) = record {
         owned = λ h. h;
         row = record { may = record { op = may.op; busy = may.busy; backed = may.backed }; says = refl; gives = refl };
         room = λ h. h;
       } in
-      is_event keys cards s r id v here call.Again act.Again Moved r.words
-      (looks keys cards s r id v here act.Again Moved after happens (λ c. refl) root_entries
+      is_event plan s r id v here call.Again act.Again Moved r.words
+      (looks plan s r id v here act.Again Moved after happens (λ c. refl) root_entries
       (bare r.words r.stages v after refl refl (λ k h. h) refl (λ n at. absurd (some_not_none at refl)) refl (λ f k. k) (λ f k. k) (λ o x busy at. root_walk o x at)) (key_address 0))
       refl refl tt
 
   -- leave
-  pub keeps_leave : MayStop (worker_of v.worker) → IsEvent keys cards s r id v call.Leave
+  pub keeps_leave : MayStop (worker_of v.worker) → IsEvent plan s r id v call.Leave
   keeps_leave may =
       let after = after_leave v in
-      let happens : Happens cards act.Leave (mine keys cards s r id v here) Moved (becomes keys cards s r id v here r.words after) = record {
+      let happens : Happens plan.last_card act.Leave (mine plan s r id v here) Moved (becomes plan s r id v here r.words after) = record {
         owned = λ h. h;
         row = record { may = record { op = may.op; busy = may.busy; backed = may.backed }; says = refl; gives = refl };
         room = λ h. h;
       } in
-      is_event keys cards s r id v here call.Leave act.Leave Moved r.words
-      (looks keys cards s r id v here act.Leave Moved after happens (λ c. refl)
+      is_event plan s r id v here call.Leave act.Leave Moved r.words
+      (looks plan s r id v here act.Leave Moved after happens (λ c. refl)
       (r.views id v here).entries
       (bare r.words r.stages v after refl refl (λ k h. h) refl (λ n at. at) refl (r.views id v here).knew (r.views id v here).knew (λ o x busy at. absurd (some_not_none at refl))) (key_address 0))
       refl refl (let low = (r.views id v here).least in let room = r.invariant.limit in omega arith)
@@ -152,7 +153,7 @@ over_answers v (Insert k value) c said over e = ap (λ b. if b then Some Yes els
 over_answers v (Swap k was value) c said over e = ap (λ b. if b then Some (Found was) else None) over ∙ ap Some (sym e)
 over_answers v (Delete k) c said over e = ap (λ b. if b then Some Yes else None) over ∙ ap Some (sym e)
 
-module _ (keys : List ℕ) (cards : ℕ) (s : TableState) (r : HasMachine keys cards s) (id : ℕ) (v : View) (here : get_elem? s.views id ≡ some v) where
+module _ (plan : TablePlan) (s : TableState) (r : HasMachine plan s) (id : ℕ) (v : View) (here : get_elem? s.views id ≡ some v) where
   -- what the leaf has of a key, by what the pass was told of it
   leaf_has : (leaf key k : ℕ) (there : Option ℕ) → r.words.key leaf ≡ key → TellsOf v leaf key k there → value_at r.words leaf k ≡ there
   leaf_has leaf key k None is other =
@@ -163,27 +164,27 @@ module _ (keys : List ℕ) (cards : ℕ) (s : TableState) (r : HasMachine keys c
 
   -- the machine's answer
   answers_now : (op : Op) (said : Reply) → v.worker.operation ≡ Some op → KnowsAnswerAtLeaf v op said ⊎ KnowsAnswerByCard v op said
-      → HasAnswer (mine keys cards s r id v here) op said
+      → HasAnswer (mine plan s r id v here) op said
   answers_now op said busy (inl a) = inl (record {
     leaf = a.leaf;
     stands = a.stands;
     outer = a.outer;
-    answers = ap (leaf_answer op) (leaf_has a.leaf a.key (key_of op) a.there (here_key keys cards s r id v here a.leaf a.key a.stands a.told) a.tells) ∙ a.says;
+    answers = ap (leaf_answer op) (leaf_has a.leaf a.key (key_of op) a.there (here_key plan s r id v here a.leaf a.key a.stands a.told) a.tells) ∙ a.says;
   })
   answers_now op said busy (inr a) = inr (
     record { card = a.card; holds = a.holds; flagged = a.flagged; answers = over_answers v op a.card said a.over a.says },
-    λ b h. some_not_none h.stands ((mine_sound keys cards s r id v here).flagged op a.card busy a.holds a.flagged).1,
+    λ b h. some_not_none h.stands ((mine_sound plan s r id v here).flagged op a.card busy a.holds a.flagged).1,
   )
 
   -- answer
-  pub keeps_answer : (said : Reply) → MayAnswer v said → IsEvent keys cards s r id v (call.Answer said)
+  pub keeps_answer : (said : Reply) → MayAnswer v said → IsEvent plan s r id v (call.Answer said)
   keeps_answer said may =
       let after = after_answer said v in
-      let same = mine_is keys cards s r id v here in
-      let sound = mine_sound keys cards s r id v here in
+      let same = mine_is plan s r id v here in
+      let sound = mine_sound plan s r id v here in
       let ledger : (key : ℕ) → ledger_of after.worker.ledger key ≡ ledger_after may.op said (ledger_of v.worker.ledger) key =
       λ key. ap (λ o. ledger_of (answered_ledger o said v.worker.ledger) key) may.busy ∙ answered may.op said v.worker.ledger key in
-      let happens : Happens cards act.Answer (mine keys cards s r id v here) (Answered said) (becomes keys cards s r id v here r.words after) = record {
+      let happens : Happens plan.last_card act.Answer (mine plan s r id v here) (Answered said) (becomes plan s r id v here r.words after) = record {
         owned = λ h. h;
         row = record {
           op = may.op;
@@ -195,17 +196,17 @@ module _ (keys : List ℕ) (cards : ℕ) (s : TableState) (r : HasMachine keys c
         };
         room = λ h. h;
       } in
-      let m = machine keys cards s r id v here in
-      let l = leads keys cards s r id v here act.Answer (Answered said) r.words after happens in
+      let m = machine plan s r id v here in
+      let l = leads plan s r id v here act.Answer (Answered said) r.words after happens in
       let e : Event = record { worker = id; act = act.Answer } in
-      let told = (events_lawful m r.stages e (Answered said) (seated r.words (set s.views id after) cards) r.invariant l.1.steps).ledgers.0 in
+      let told = (events_lawful m r.stages e (Answered said) (seated r.words (set s.views id after) plan.last_card) r.invariant l.1.steps).ledgers.0 in
       let now : (seat_worker (get_elem? (set s.views id after) id)).ledger ≡ ledger_of after.worker.ledger =
       ap (λ o. (seat_worker o).ledger) (set_there s.views id after v here) in
       let set_now : AnswersAsMap (worker_of v.worker) (ledger_of after.worker.ledger) said =
       subst (λ (l : Ledger). AnswersAsMap (worker_of v.worker) l said) now
       (subst (λ (u : Worker). AnswersAsMap u (seat_worker (get_elem? (set s.views id after) id)).ledger said) same told) in
-      is_event keys cards s r id v here (call.Answer said) act.Answer (Answered said) r.words
-      (looks keys cards s r id v here act.Answer (Answered said) after happens (λ c. refl)
+      is_event plan s r id v here (call.Answer said) act.Answer (Answered said) r.words
+      (looks plan s r id v here act.Answer (Answered said) after happens (λ c. refl)
       (r.views id v here).entries
       (bare r.words r.stages v after refl refl (λ k has none. has ((set_now.owned k).1 none)) refl (λ n at. at) refl (r.views id v here).knew (r.views id v here).knew
       (λ o x busy at. absurd (some_not_none at refl))) (key_address 0))

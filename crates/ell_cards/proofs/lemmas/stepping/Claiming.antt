@@ -1,4 +1,4 @@
-use Rattle.std.proofs.Common.{◌≡◌, ◌≢◌, ◌==◌, ℕ, ◌+◌, ◌<◌, ◌≤◌, if◌then◌else◌, Bool, true, false, List, [], ◌∷◌, ◌++◌, length, get_or, set, Some, None, refl, sym, ap, ◌∙◌, subst, inl, inr, arith, eqb-true, true≢false, length-set, get_or-set_same, get_or-set_other, eq-eqb}
+use Rattle.std.proofs.Common.{◌≡◌, ◌≢◌, ◌==◌, ℕ, ◌+◌, ◌<◌, ◌≤◌, if◌then◌else◌, max, Bool, true, false, List, [], ◌∷◌, ◌++◌, length, get_or, set, Some, None, refl, sym, ap, ◌∙◌, subst, inl, inr, arith, eqb-true, true≢false, length-set, get_or-set_same, get_or-set_other, eq-eqb}
 use Rattle.ell_core.specs.history.Later.{StagesLater}
 use Rattle.std.specs.Prelude.{unwrap_or, Option}
 use Rattle.std.proofs.lemmas.Option.{same_Some}
@@ -7,6 +7,7 @@ use Rattle.ell_core.specs.declared.view.Seen.{Seen}
 use Rattle.ell_core.specs.acts.Searching.{put_of, TakesPut}
 use Rattle.ell_core.proofs.lemmas.keeping.Puts.{added, replacing}
 use Rattle.ell_core.specs.statements.Told.{is_fixed}
+use Rattle.ell_cards.specs.Models.{TablePlan}
 use Rattle.ell_cards.specs.Models.{IsTold, earlier}
 use mathlib.Core.Option.{some}
 use lib.ListN.{get_elem?}
@@ -22,7 +23,10 @@ use Rattle.ell_layout.specs.declared.field.Field.TheVariants as field
 use Rattle.ell_layout.specs.Layout.{address, listed}
 use Rattle.ell_layout.specs.Words.{Words, word, table_word}
 use Rattle.ell_core.specs.state.Machine.{worker_of}
-use Rattle.ell_layout.specs.Cards.{insert_filling, delete_filling, claimed, stored, tagged_for}
+use Rattle.ell_layout.specs.Cards as layout
+use Rattle.ell_layout.specs.Cards.{insert_filling, value_below, delete_filling, claimed, stored, tagged_for}
+use Rattle.ell_layout.proofs.lemmas.Puts.{put_filling-leaf, value_below-leaf}
+use Rattle.ell_core.proofs.lemmas.tree.Blocks.{no_block-plain}
 use Rattle.ell_core.specs.acts.Events.{Row, Happens}
 use Rattle.ell_core.specs.history.Stages.{Stages, is_claimed, waits}
 use Rattle.ell_core.proofs.lemmas.stages.Waiting.{kind-waits, unclaimed-no_start, unclaimed-wins, unclaimed-settled, waits-claimed}
@@ -131,7 +135,7 @@ delete_tagged tag gp parent leaf was field.RightLeafKey = refl
 delete_tagged tag gp parent leaf was field.LeftValue = refl
 delete_tagged tag gp parent leaf was field.RightValue = refl
 
-module _ (keys : List ℕ) (cards : ℕ) (s : TableState) (r : HasMachine keys cards s) (id : ℕ) (v : View) (here : get_elem? s.views id ≡ some v) where
+module _ (plan : TablePlan) (s : TableState) (r : HasMachine plan s) (id : ℕ) (v : View) (here : get_elem? s.views id ≡ some v) where
   -- the next card
   abbrev next : ℕ
   next = r.words.next
@@ -144,20 +148,20 @@ module _ (keys : List ℕ) (cards : ℕ) (s : TableState) (r : HasMachine keys c
   other_card c wait e = true≢false (sym (waits-claimed (r.stages c) wait) ∙ (ap (λ n. is_claimed (r.stages n)) e ∙ fresh))
 
   -- the machine after a won claim
-  takes : (tag : ℕ) (es : List (Field × ℕ)) → IsTagged tag es → next ≤ cards
-      → Row act.Claim (mine keys cards s r id v here) Moved (becomes keys cards s r id v here (claimed r.words tag es) (taking next tag es v))
+  takes : (tag : ℕ) (es : List (Field × ℕ)) → IsTagged tag es → next ≤ plan.last_card
+      → Row act.Claim (mine plan s r id v here) Moved (becomes plan s r id v here (claimed r.words tag es) (taking next tag es v))
       → Says (claimed r.words tag es) next es
-      → IsReached keys cards s r id v here (set s.words 0 (next + 1)) (claimed r.words tag es) (taking next tag es v) act.Claim Moved
+      → IsReached plan s r id v here (set s.words 0 (next + 1)) (claimed r.words tag es) (taking next tag es v) act.Claim Moved
   takes tag es is_tagged room row says =
       let new = claimed r.words tag es in
       let after = taking next tag es v in
       let list = set s.words 0 (next + 1) in
-      let happens : Happens cards act.Claim (mine keys cards s r id v here) Moved (becomes keys cards s r id v here new after) = record {
+      let happens : Happens plan.last_card act.Claim (mine plan s r id v here) Moved (becomes plan s r id v here new after) = record {
         owned = λ h. h;
         row = row;
         room = λ h. omega arith;
       } in
-      let l = leads keys cards s r id v here act.Claim Moved new after happens in
+      let l = leads plan s r id v here act.Claim Moved new after happens in
       let some_word : 0 < length s.words = (let e = r.size in omega arith) in
       let first = r.invariant.kinds.some in
       let wait_now : waits (l.0 next) ≡ true = kind-waits (l.0 next)
@@ -168,28 +172,29 @@ module _ (keys : List ℕ) (cards : ℕ) (s : TableState) (r : HasMachine keys c
       let word_same : (c : ℕ) (f : Field) → c ≢ next → table_word new c f ≡ table_word r.words c f =
       λ c f n. table_says r.words new c (others_say r.words new next (claimed_claims r.words tag es).others c n) f in
       let blank = (r.invariant.words.cards next).blank fresh in record {
-        kept = kept_event keys cards s r id v here act.Claim Moved new after list l.0 l.1 (record {
+        kept = kept_event plan s r id v here act.Claim Moved new after list l.0 l.1 (record {
           size = length-set s.words 0 (next + 1);
           next = get_or-set_same s.words 0 (next + 1) 0 some_word;
+          flat = get_or-set_other s.words 0 1 (next + 1) 0 (omega arith);
           same = λ c f one two e. listed_same c f
               ∙ (e ∙ sym (word_same c f (λ q. true≢false (sym wait_now ∙ (ap (λ n. waits (l.0 n)) (sym q) ∙ two)))));
-          flags = λ c f wait calm. absurd (true≢false (sym (waits_on keys cards s r id v here act.Claim Moved new after l.0 l.1 c refl wait) ∙ calm));
+          flags = λ c f wait calm. absurd (true≢false (sym (waits_on plan s r id v here act.Claim Moved new after l.0 l.1 c refl wait) ∙ calm));
           apart = λ c f wait. (listed_same c f, word_same c f (other_card c wait));
         }) (record {
           entries = with_entry (EntryHolds new l.0) (Expects next tag) (told_filling next es v.told)
               (omega arith, put_same r.words.expects next tag)
               (filling_holds new l.0 next es v.told (omega arith) says
-              (λ e told. entries_on keys cards s r id v here act.Claim Moved new after l.0 l.1 e ((r.views id v here).entries e told)));
+              (λ e told. entries_on plan s r id v here act.Claim Moved new after l.0 l.1 e ((r.views id v here).entries e told)));
           here = λ x key at told. earlier _ _ _ (filling_more next es v.told (Key x key) ((r.views id v here).here x key at told));
           read = λ n at. (let low = (r.views id v here).read n at in omega arith);
           least = omega arith;
           knew = (r.views id v here).knew;
-          walk = λ op x busy at. walk_on keys cards s r id v here act.Claim Moved new after l.0 l.1 v
-              (over_cut keys cards s r id v here v (mine_sound keys cards s r id v here) (r.views id v here).knew)
-              (key_of op) x (stands_born keys cards s r id v here x at) ((r.views id v here).walk op x busy at);
+          walk = λ op x busy at. walk_on plan s r id v here act.Claim Moved new after l.0 l.1 v
+              (over_cut plan s r id v here v (mine_sound plan s r id v here) (r.views id v here).knew)
+              (key_of op) x (stands_born plan s r id v here x at) ((r.views id v here).walk op x busy at);
           hand = λ c has un. let q : next ≡ c = cc in record {
             machine = λ f. subst (λ d. table_word new d f ≡ stored (tagged tag es) f 0) q
-                (claimed_cards_say (machine keys cards s r id v here) r.stages tag es f r.invariant ∙ is_tagged f);
+                (claimed_cards_say (machine plan s r id v here) r.stages tag es f r.invariant ∙ is_tagged f);
             table = λ f. subst (λ d. listed list d f ≡ 0) q
                 (listed_same next f ∙ (r.settled next f (unclaimed-settled (r.stages next) fresh) ∙ table_blank r.words next blank f));
           };
@@ -203,28 +208,32 @@ module _ (keys : List ℕ) (cards : ℕ) (s : TableState) (r : HasMachine keys c
 
   -- a claim with these is one with the same
   as_known : (tag other : ℕ) (es fields : List (Field × ℕ)) → tag ≡ other → es ≡ fields
-      → IsReached keys cards s r id v here (set s.words 0 (next + 1)) (claimed r.words tag es) (taking next tag es v) act.Claim Moved
-      → IsReached keys cards s r id v here (set s.words 0 (next + 1)) (claimed r.words other fields) (taking next other fields v) act.Claim Moved
+      → IsReached plan s r id v here (set s.words 0 (next + 1)) (claimed r.words tag es) (taking next tag es v) act.Claim Moved
+      → IsReached plan s r id v here (set s.words 0 (next + 1)) (claimed r.words other fields) (taking next other fields v) act.Claim Moved
   as_known tag other es fields e g at =
-      subst (λ h. IsReached keys cards s r id v here (set s.words 0 (next + 1)) (claimed r.words other h) (taking next other h v) act.Claim Moved) g
-      (subst (λ n. IsReached keys cards s r id v here (set s.words 0 (next + 1)) (claimed r.words n es) (taking next n es v) act.Claim Moved) e at)
+      subst (λ h. IsReached plan s r id v here (set s.words 0 (next + 1)) (claimed r.words other h) (taking next other h v) act.Claim Moved) g
+      (subst (λ n. IsReached plan s r id v here (set s.words 0 (next + 1)) (claimed r.words n es) (taking next n es v) act.Claim Moved) e at)
 
   -- what a claim needs of the word that it found: a won one is of the next card
-  claims : (c : ℕ) → MayClaim v c → c ≤ cards → c ≡ next
-      → IsReached keys cards s r id v here (set s.words 0 (c + 1)) (claimed r.words (expected_tag v) (filling_of next v)) (after_claim true c v) act.Claim Moved
-  claims c may room same = subst (λ d. IsReached keys cards s r id v here (set s.words 0 (d + 1)) (claimed r.words (expected_tag v) (filling_of next v)) (after_claim true d v) act.Claim Moved)
+  claims : (c : ℕ) → MayClaim v c → c ≤ plan.last_card → c ≡ next
+      → IsReached plan s r id v here (set s.words 0 (c + 1)) (claimed r.words (expected_tag v) (filling_of next v)) (after_claim true c v) act.Claim Moved
+  claims c may room same = subst (λ d. IsReached plan s r id v here (set s.words 0 (d + 1)) (claimed r.words (expected_tag v) (filling_of next v)) (after_claim true d v) act.Claim Moved)
       (sym same) (by may.op may.busy may.wants)
     where
       key_is : r.words.key may.leaf ≡ may.key
-      key_is = here_key keys cards s r id v here may.leaf may.key may.stands may.told
+      key_is = here_key plan s r id v here may.leaf may.key may.stands may.told
 
       puts : (op : Op) (what : Put) → put_of op ≡ Some what → v.worker.operation ≡ Some op → (had : ℕ) → IsTold v (Value may.leaf had)
           → TakesPut what (r.words.key may.leaf) (r.words.value may.leaf)
-          → IsReached keys cards s r id v here (set s.words 0 (next + 1)) (claimed r.words (expected_tag v) (filling_of next v)) (after_claim true next v) act.Claim Moved
+          → IsReached plan s r id v here (set s.words 0 (next + 1)) (claimed r.words (expected_tag v) (filling_of next v)) (after_claim true next v) act.Claim Moved
       puts op what is_put busy had told takes_it =
           let leaf_value = told_value v.told may.leaf in
           let value_is = told_value_is r.words r.stages v.told may.leaf had (r.views id v here).entries told in
           let es = insert_filling next what.key what.value may.parent.node may.leaf may.key leaf_value in
+          let filled_as : es ≡ layout.put_filling next what.key what.value (max what.key (r.words.key may.leaf)) may.parent.node may.leaf (r.words.key may.leaf) (value_below r.words may.leaf) =
+          (λ t. insert_filling next what.key what.value may.parent.node may.leaf (sym key_is t) (value_is t))
+          ∙ (sym (put_filling-leaf next what.key what.value may.parent.node may.leaf (r.words.key may.leaf) (r.words.value may.leaf) may.outer)
+          ∙ ap (layout.put_filling next what.key what.value (max what.key (r.words.key may.leaf)) may.parent.node may.leaf (r.words.key may.leaf)) (sym (value_below-leaf r.words may.leaf may.outer))) in
           let is : es ≡ filling_of next v =
           put_filling op what is_put next may.leaf may.parent v.worker.search.grandparent may.key (told_value v.told)
           ∙ (λ t. filling_for next (sym busy t) (sym may.stands t) (sym may.behind t) v.worker.search.grandparent (unwrap_or (sym may.told t) 0) (told_value v.told)) in
@@ -236,15 +245,18 @@ module _ (keys : List ℕ) (cards : ℕ) (s : TableState) (r : HasMachine keys c
           (takes may.parent.tag es (insert_tagged may.parent.tag next what.key what.value may.parent.node may.leaf may.key leaf_value) (omega arith) (inl (record {
             op = op;
             what = what;
-            leaf = may.leaf;
+            below = may.leaf;
             parent = may.parent;
+            node_key = max what.key (r.words.key may.leaf);
             busy = busy;
             puts = is_put;
-            at = record { stands = may.stands; outer = may.outer; behind = may.behind; calm = may.calm; no_card = may.no_card };
-            takes = takes_it;
+            at = record { stands = may.stands; behind = may.behind; calm = may.calm; no_card = may.no_card };
+            takes = record { leaf = λ outer. takes_it; edge = λ inner. absurd (may.outer inner) };
+            fits = λ none. no_block-plain r.words may.parent.node what.key r.plain;
+            named = record { greater = λ plain. refl; branch = λ some two. absurd (let none = r.plain in omega arith) };
             says = refl;
             gives = λ t. record {
-              words = claimed r.words may.parent.tag (insert_filling next what.key what.value may.parent.node may.leaf (sym key_is t) (value_is t));
+              words = claimed r.words may.parent.tag (filled_as t);
               worker = record (worker_of v.worker) { card = Some next; flagged = false };
             };
           })) (
@@ -271,7 +283,7 @@ module _ (keys : List ℕ) (cards : ℕ) (s : TableState) (r : HasMachine keys c
           ))
 
       by : (op : Op) → v.worker.operation ≡ Some op → Wants v op may.leaf may.key
-          → IsReached keys cards s r id v here (set s.words 0 (next + 1)) (claimed r.words (expected_tag v) (filling_of next v)) (after_claim true next v) act.Claim Moved
+          → IsReached plan s r id v here (set s.words 0 (next + 1)) (claimed r.words (expected_tag v) (filling_of next v)) (after_claim true next v) act.Claim Moved
       by (Find k) busy wants = absurd wants
       by (Insert k value) busy wants = puts (Insert k value) (added k value) refl busy wants.1.0 wants.1.1 (λ e. wants.0 (sym key_is ∙ e))
       by (Swap k was value) busy wants = puts (Swap k was value) (replacing k was value) refl busy was wants.1
@@ -300,29 +312,29 @@ module _ (keys : List ℕ) (cards : ℕ) (s : TableState) (r : HasMachine keys c
 
   -- the event of a claim by whether it was won
   record ClaimAt (c : ℕ) (b : Bool) : Type 0 where
-    kept : HasMachine keys cards (record { words = set s.words 0 (if b then c + 1 else get_or s.words 0 0); homes = s.homes; views = set s.views id (after_claim b c v) })
+    kept : HasMachine plan (record { words = set s.words 0 (if b then c + 1 else get_or s.words 0 0); homes = s.homes; views = set s.views id (after_claim b c v) })
     later : StagesLater r.stages kept.stages
-    event : Becomes id (if b then Some act.Claim else None) Moved (machine keys cards s r id v here)
-        (seated kept.words (set s.views id (after_claim b c v)) cards)
+    event : Becomes id (if b then Some act.Claim else None) Moved (machine plan s r id v here)
+        (seated kept.words (set s.views id (after_claim b c v)) plan.last_card)
 
-  claim_at : (c : ℕ) → MayClaim v c → c ≤ cards → (b : Bool) → (get_or s.words 0 0 == c) ≡ b → ClaimAt c b
+  claim_at : (c : ℕ) → MayClaim v c → c ≤ plan.last_card → (b : Bool) → (get_or s.words 0 0 == c) ≡ b → ClaimAt c b
   claim_at c may room true e =
       let reached = claims c may room (sym (eqb-true (get_or s.words 0 0) c e) ∙ r.next) in record {
         kept = reached.kept.kept;
         later = reached.kept.later;
-        event = subst (λ w. Becomes id (Some act.Claim) Moved (machine keys cards s r id v here) (seated w (set s.views id (after_claim true c v)) cards))
+        event = subst (λ w. Becomes id (Some act.Claim) Moved (machine plan s r id v here) (seated w (set s.views id (after_claim true c v)) plan.last_card))
             (sym reached.kept.words) reached.steps;
       }
   claim_at c may room false e =
       let h = r.views id v here in
-      let kept = kept_told keys cards s r id v here (after_claim false c v) refl (record { entries = h.entries; here = h.here; hand = h.hand; read = h.read; least = (let low = h.read c may.read in let is = r.next in let other : get_or s.words 0 0 ≢ c = (λ q. true≢false (sym (eq-eqb (get_or s.words 0 0) c q) ∙ e)) in omega arith); knew = h.knew; walk = h.walk }) 0 in record {
+      let kept = kept_told plan s r id v here (after_claim false c v) refl (record { entries = h.entries; here = h.here; hand = h.hand; read = h.read; least = (let low = h.read c may.read in let is = r.next in let other : get_or s.words 0 0 ≢ c = (λ q. true≢false (sym (eq-eqb (get_or s.words 0 0) c q) ∙ e)) in omega arith); knew = h.knew; walk = h.walk }) 0 in record {
         kept = kept.kept;
         later = kept.later;
-        event = sym (same_machine keys cards s r id v here (after_claim false c v) refl
-            ∙ ap (λ w. seated w (set s.views id (after_claim false c v)) cards) (sym kept.words));
+        event = sym (same_machine plan s r id v here (after_claim false c v) refl
+            ∙ ap (λ w. seated w (set s.views id (after_claim false c v)) plan.last_card) (sym kept.words));
       }
 
   -- claim
-  pub keeps_claim : (c : ℕ) → MayClaim v c → c ≤ cards → IsEvent keys cards s r id v (call.Claim c)
+  pub keeps_claim : (c : ℕ) → MayClaim v c → c ≤ plan.last_card → IsEvent plan s r id v (call.Claim c)
   keeps_claim c may room =
       let h = claim_at c may room (get_or s.words 0 0 == c) refl in record { kept = h.kept; later = h.later; event = h.event; tells = tt }

@@ -1,4 +1,4 @@
-use Rattle.std.proofs.Common.{◌≡◌, ◌%◌, ◌==◌, ℕ, Bool, true, false, List, [], ◌∷◌, if◌then◌else◌, nat_le, refl, sym, ap, ◌∙◌, subst, inl, inr, eq-eqb, ne_eqb, ◌<◌}
+use Rattle.std.proofs.Common.{◌≡◌, ◌%◌, ◌==◌, ℕ, Bool, true, false, [], ◌∷◌, if◌then◌else◌, nat_le, refl, sym, ap, ◌∙◌, subst, inl, inr, eq-eqb, ne_eqb, ◌<◌}
 use mathlib.Core.Option.{some}
 use lib.ListN.{get_elem?}
 use Rattle.ell_word.specs.Node.{card}
@@ -16,6 +16,7 @@ use Rattle.ell_core.specs.acts.Exchanges.{won_or_lost, exchanged_child, knowing,
 use Rattle.ell_core.specs.acts.Events.{Happens}
 use Rattle.ell_core.specs.history.Stages.{Born}
 use Rattle.ell_core.specs.statements.StepLaws.{IsReadable}
+use Rattle.ell_cards.specs.Models.{TablePlan}
 use Rattle.ell_cards.specs.declared.call.Call.TheVariants as call
 use Rattle.ell_cards.specs.declared.view.Told.{Told}
 use Rattle.ell_cards.specs.declared.view.Told.TheVariants.{Key, Frozen}
@@ -58,14 +59,14 @@ marking_worker v c x n false = by (is_mark_of c (unpacked n).state (unpacked n).
         ∙ ap (λ b. knowing (worker_of v.worker) (if b then learned (known_of v.worker.knows) (Marked c)
         else learned_any (learned (known_of v.worker.knows) (Unmarkable c)) (told_by n))) e
 
-module _ (keys : List ℕ) (cards : ℕ) (s : TableState) (r : HasMachine keys cards s) (id : ℕ) (v : View) (here : get_elem? s.views id ≡ some v) where
+module _ (plan : TablePlan) (s : TableState) (r : HasMachine plan s) (id : ℕ) (v : View) (here : get_elem? s.views id ≡ some v) where
   -- what is so of a pass after a mark
   mark_on : (c x n : ℕ) (b : Bool) → Onward r.words r.stages v (exchanged (if_won b exchange.Mark c) n (after_mark b c x (unpacked n) v))
-  mark_on c x n true = learning_on keys cards s r id v here (Marked c) (if_won true exchange.Mark c) n
+  mark_on c x n true = learning_on plan s r id v here (Marked c) (if_won true exchange.Mark c) n
   mark_on c x n false = by (is_mark_of c (unpacked n).state (unpacked n).card)
     where
       by : (m : Bool) → Onward r.words r.stages v (exchanged [] n (if m then with_fact (Marked c) v else unmarking c x (unpacked n) v))
-      by true = learning_on keys cards s r id v here (Marked c) [] n
+      by true = learning_on plan s r id v here (Marked c) [] n
       by false = record {
         here = λ y key at told. places_more x (unpacked n).state (unpacked n).card v.told (Key y key) ((r.views id v here).here y key at told);
         hand = λ d has un. (has, un, refl, refl);
@@ -76,7 +77,7 @@ module _ (keys : List ℕ) (cards : ℕ) (s : TableState) (r : HasMachine keys c
         before = (r.views id v here).knew;
         knew = λ f k. facts_by_more (unpacked n).state (unpacked n).card (Unmarkable c ∷ v.worker.knows) f
             (knows_more (Unmarkable c) f v.worker.knows ((r.views id v here).knew f k));
-        walk = λ op y busy at. (stands_born keys cards s r id v here y at, (r.views id v here).walk op y busy at);
+        walk = λ op y busy at. (stands_born plan s r id v here y at, (r.views id v here).walk op y busy at);
       }
 
   -- what it was told
@@ -87,32 +88,32 @@ module _ (keys : List ℕ) (cards : ℕ) (s : TableState) (r : HasMachine keys c
     where
       by : (m : Bool) (e : Told) → IsTold (if m then with_fact (Marked c) v else unmarking c x (unpacked n) v) e → EntryHolds r.words r.stages e
       by true = (r.views id v here).entries
-      by false = found_entries keys cards s r id v here x n v.told reads is (r.views id v here).entries
+      by false = found_entries plan s r id v here x n v.told reads is (r.views id v here).entries
 
   -- mark
-  pub keeps_mark : (c p was : ℕ) → MayMark v c p was → IsEvent keys cards s r id v (call.Mark c p was)
+  pub keeps_mark : (c p was : ℕ) → MayMark v c p was → IsEvent plan s r id v (call.Mark c p was)
   keeps_mark c p was may =
       let w = r.words in
       let a = act.Mark c in
       let u = worker_of v.worker in
-      let n = found_at keys cards s r id v here (card p) field.Update in
-      let said = known_delete keys cards s r id v here c (inl may.0.knows) in
-      let p_is : w.p c ≡ p = told_is keys cards s r id v here c field.P p may.0.place in
-      let was_is : w.was c ≡ was = told_is keys cards s r id v here c field.Was was may.1 in
+      let n = found_at plan s r id v here (card p) field.Update in
+      let said = known_delete plan s r id v here c (inl may.0.knows) in
+      let p_is : w.p c ≡ p = told_is plan s r id v here c field.P p may.0.place in
+      let was_is : w.was c ≡ was = told_is plan s r id v here c field.Was was may.1 in
       let born = subst (Born r.stages) p_is said.parent.born in
-      let is = update_found keys cards s r id v here (w.p c) p p_is said.parent.inner said.parent.born in
+      let is = update_found plan s r id v here (w.p c) p p_is said.parent.inner said.parent.born in
       let reads : IsReadable w r.stages p = subst (IsReadable w r.stages) p_is
-      ((relies keys cards s r id v here).delete (DFlagged c) (ap (λ (z : Worker). z.knows (DFlagged c)) (mine_is keys cards s r id v here) ∙ may.0.knows) refl).parent in
+      ((relies plan s r id v here).delete (DFlagged c) (ap (λ (z : Worker). z.knows (DFlagged c)) (mine_is plan s r id v here) ∙ may.0.knows) refl).parent in
       let is_p : w.update p ≡ n = ap w.update (sym p_is) ∙ is in
-      let happens : Happens cards a (mine keys cards s r id v here) (won_or_lost (n == was))
-      (becomes keys cards s r id v here (exchanged_words keys cards s r id v here (card p) field.Update (marked c) (n == was))
+      let happens : Happens plan.last_card a (mine plan s r id v here) (won_or_lost (n == was))
+      (becomes plan s r id v here (exchanged_words plan s r id v here (card p) field.Update (marked c) (n == was))
       (after_mark (n == was) c p (unpacked n) v)) = record {
         owned = λ h. h;
         row = record {
           may = may.0.knows;
           says = ap (λ z. won_or_lost (n == z)) (sym was_is) ∙ update_says w (w.p c) p (w.was c) (marked c) n p_is said.parent.inner is;
           gives = λ t. record {
-            words = (ap (λ z. exchanged_words keys cards s r id v here (card p) field.Update (marked c) (n == z)) (sym was_is)
+            words = (ap (λ z. exchanged_words plan s r id v here (card p) field.Update (marked c) (n == z)) (sym was_is)
                 ∙ update_exchanged w (w.p c) p (w.was c) (marked c) n p_is said.parent.inner is) t;
             worker = (marking_worker v c p n (n == was) ∙ (ap (λ z. knowing u (mark_teaches u.knows c (n == z) n)) (sym was_is)
                 ∙ ap (λ m. knowing u (mark_teaches u.knows c (m == w.was c) m)) (sym is))) t;
@@ -120,13 +121,13 @@ module _ (keys : List ℕ) (cards : ℕ) (s : TableState) (r : HasMachine keys c
         };
         room = λ h. h;
       } in
-      is_event keys cards s r id v here (call.Mark c p was) a _ _
-      (exchange_leads keys cards s r id v here a (card p) field.Update was (marked c) (λ b. exchanged (if_won b exchange.Mark c) n (after_mark b c p (unpacked n) v))
-      (in_list keys cards s r id v here p field.Update born) (born-settled (r.stages (card p)) (p % 4) born) happens
-      (λ stages led d f wait still. absurd (flags_never keys cards s r id v here a Won (table_written w (card p) field.Update (marked c))
+      is_event plan s r id v here (call.Mark c p was) a _ _
+      (exchange_leads plan s r id v here a (card p) field.Update was (marked c) (λ b. exchanged (if_won b exchange.Mark c) n (after_mark b c p (unpacked n) v))
+      (in_list plan s r id v here p field.Update born) (born-settled (r.stages (card p)) (p % 4) born) happens
+      (λ stages led d f wait still. absurd (flags_never plan s r id v here a Won (table_written w (card p) field.Update (marked c))
       (exchanged (if_won true exchange.Mark c) n (after_mark true c p (unpacked n) v)) stages led exchange.Mark c (λ e. (cc)) (λ e. (cc)) (λ d. refl) d wait still))
       (λ d. refl) (mark_entries c p n reads is_p) (mark_on c p n))
-      refl refl (names_card keys cards s r id v here p n reads is_p)
+      refl refl (names_card plan s r id v here p n reads is_p)
 
   -- the sibling of the leaf, as it was told
   sibling_told : (c p l y : ℕ) → r.words.p c ≡ p → r.words.l c ≡ l → IsSibling v c l y → sibling r.words c ≡ y
@@ -142,40 +143,40 @@ module _ (keys : List ℕ) (cards : ℕ) (s : TableState) (r : HasMachine keys c
   -- its number is small
   sibling_small : (c : ℕ) → DeleteCard r.words r.stages c → sibling r.words c < tag_unit
   sibling_small c said =
-      let child = λ (right : Bool). born_small keys cards s r id v here (r.words.child (r.words.p c) right)
-      (child_born keys cards s r id v here (r.words.p c) right said.parent.inner said.parent.born) in
+      let child = λ (right : Bool). born_small plan s r id v here (r.words.child (r.words.p c) right)
+      (child_born plan s r id v here (r.words.p c) right said.parent.inner said.parent.born) in
       elim (sibling_cases r.words c) [
         | inl e ↦ subst (λ z. z < tag_unit) (sym e) (child false)
         | inr e ↦ subst (λ z. z < tag_unit) (sym e) (child true)
       ]
 
   -- dchild
-  pub keeps_dchild : (c gp : ℕ) (p : Link) (y : ℕ) (right : Bool) → MayDChild v c gp p y right → IsEvent keys cards s r id v (call.DChild c gp p y right)
+  pub keeps_dchild : (c gp : ℕ) (p : Link) (y : ℕ) (right : Bool) → MayDChild v c gp p y right → IsEvent plan s r id v (call.DChild c gp p y right)
   keeps_dchild c gp p y right may =
       let w = r.words in
       let a = act.DChild c in
       let g = child_field right in
-      let n = found_at keys cards s r id v here (card gp) g in
-      let said = known_delete keys cards s r id v here c (inr may.knows) in
-      let gp_is : w.gp c ≡ gp = told_is keys cards s r id v here c field.Gp gp may.grandparent in
-      let p_is : w.p c ≡ p.node = told_is keys cards s r id v here c field.P p.node may.parent in
-      let tag_is : w.expects c ≡ p.tag = told_tag keys cards s r id v here c p.tag may.expects in
+      let n = found_at plan s r id v here (card gp) g in
+      let said = known_delete plan s r id v here c (inr may.knows) in
+      let gp_is : w.gp c ≡ gp = told_is plan s r id v here c field.Gp gp may.grandparent in
+      let p_is : w.p c ≡ p.node = told_is plan s r id v here c field.P p.node may.parent in
+      let tag_is : w.expects c ≡ p.tag = told_tag plan s r id v here c p.tag may.expects in
       let link_is : p ≡ expected w c (w.p c) = λ t. record { node = sym p_is t; tag = sym tag_is t } in
-      let l_is : w.l c ≡ may.leaf = told_is keys cards s r id v here c field.L may.leaf may.below in
+      let l_is : w.l c ≡ may.leaf = told_is plan s r id v here c field.L may.leaf may.below in
       let y_is : sibling w c ≡ y = sibling_told c p.node may.leaf y p_is l_is may.sibling in
       let side : exchange_side w (w.gp c) y ≡ right =
-      ap (λ k. nat_le k (w.key y)) (ap w.key gp_is ∙ told_key keys cards s r id v here gp may.grandparent_key may.told_grandparent)
-      ∙ (ap (nat_le may.grandparent_key) (told_key keys cards s r id v here y may.sibling_key may.told_sibling) ∙ sym may.side) in
+      ap (λ k. nat_le k (w.key y)) (ap w.key gp_is ∙ told_key plan s r id v here gp may.grandparent_key may.told_grandparent)
+      ∙ (ap (nat_le may.grandparent_key) (told_key plan s r id v here y may.sibling_key may.told_sibling) ∙ sym may.side) in
       let born = subst (Born r.stages) gp_is said.grandparent.born in
       let inner = said.grandparent.inner in
-      let is = child_found keys cards s r id v here (w.gp c) gp right gp_is inner said.grandparent.born in
-      let child_small = born_small keys cards s r id v here (w.child (w.gp c) right) (child_born keys cards s r id v here (w.gp c) right inner said.grandparent.born) in
-      let parent_small : p.node < tag_unit = subst (λ z. z < tag_unit) p_is (born_small keys cards s r id v here (w.p c) said.parent.born) in
+      let is = child_found plan s r id v here (w.gp c) gp right gp_is inner said.grandparent.born in
+      let child_small = born_small plan s r id v here (w.child (w.gp c) right) (child_born plan s r id v here (w.gp c) right inner said.grandparent.born) in
+      let parent_small : p.node < tag_unit = subst (λ z. z < tag_unit) p_is (born_small plan s r id v here (w.p c) said.parent.born) in
       let new_small : y < tag_unit = subst (λ z. z < tag_unit) y_is (sibling_small c said) in
       let exchanged = child_exchanged w (w.gp c) gp p y n right gp_is inner side is child_small parent_small new_small in
-      is_event keys cards s r id v here (call.DChild c gp p y right) a _ _
-      (teaches keys cards s r id v here a (card gp) g (linked p) (linked (next_link p y)) (Cut c) exchange.DChild c
-      (in_list keys cards s r id v here gp g born) (born-settled (r.stages (card gp)) (gp % 4) born)
+      is_event plan s r id v here (call.DChild c gp p y right) a _ _
+      (teaches plan s r id v here a (card gp) g (linked p) (linked (next_link p y)) (Cut c) exchange.DChild c
+      (in_list plan s r id v here gp g born) (born-settled (r.stages (card gp)) (gp % 4) born)
       (λ e. (cc)) (λ e. (cc)) (λ e. refl) (λ e. refl) (record {
         owned = λ h. h;
         row = record {
@@ -192,21 +193,21 @@ module _ (keys : List ℕ) (cards : ℕ) (s : TableState) (r : HasMachine keys c
       refl refl tt
 
   -- dunflag
-  pub keeps_dunflag : (c gp : ℕ) → KnowsPlace v (Cut c) c field.Gp gp → IsEvent keys cards s r id v (call.DUnflag c gp)
+  pub keeps_dunflag : (c gp : ℕ) → KnowsPlace v (Cut c) c field.Gp gp → IsEvent plan s r id v (call.DUnflag c gp)
   keeps_dunflag c gp may =
-      is_event keys cards s r id v here (call.DUnflag c gp) (act.DUnflag c) _ _
-      (unflags keys cards s r id v here (act.DUnflag c) c (r.words.gp c) gp (dflag c) (DOver c) exchange.DUnflag
-      (told_is keys cards s r id v here c field.Gp gp may.place) (delete_cut keys cards s r id v here c may.knows).grandparent
+      is_event plan s r id v here (call.DUnflag c gp) (act.DUnflag c) _ _
+      (unflags plan s r id v here (act.DUnflag c) c (r.words.gp c) gp (dflag c) (DOver c) exchange.DUnflag
+      (told_is plan s r id v here c field.Gp gp may.place) (delete_cut plan s r id v here c may.knows).grandparent
       (λ e. (cc)) (λ e. (cc)) (λ e. refl) (λ e. refl)
       (λ says gives. record { owned = λ h. h; row = record { may = may.knows; does = record { says = says; gives = gives } }; room = λ h. h }))
       refl refl tt
 
   -- backtrack
-  pub keeps_backtrack : (c gp : ℕ) → KnowsPlace v (Unmarkable c) c field.Gp gp → IsEvent keys cards s r id v (call.Backtrack c gp)
+  pub keeps_backtrack : (c gp : ℕ) → KnowsPlace v (Unmarkable c) c field.Gp gp → IsEvent plan s r id v (call.Backtrack c gp)
   keeps_backtrack c gp may =
-      is_event keys cards s r id v here (call.Backtrack c gp) (act.Backtrack c) _ _
-      (unflags keys cards s r id v here (act.Backtrack c) c (r.words.gp c) gp (dflag c) (Backed c) exchange.Backtrack
-      (told_is keys cards s r id v here c field.Gp gp may.place) (delete_unmarkable keys cards s r id v here c may.knows).grandparent
+      is_event plan s r id v here (call.Backtrack c gp) (act.Backtrack c) _ _
+      (unflags plan s r id v here (act.Backtrack c) c (r.words.gp c) gp (dflag c) (Backed c) exchange.Backtrack
+      (told_is plan s r id v here c field.Gp gp may.place) (delete_unmarkable plan s r id v here c may.knows).grandparent
       (λ e. (cc)) (λ e. (cc)) (λ e. refl) (λ e. refl)
       (λ says gives. record { owned = λ h. h; row = record { may = may.knows; does = record { says = says; gives = gives } }; room = λ h. h }))
       refl refl tt

@@ -22,6 +22,7 @@ use Rattle.ell_core.specs.history.Stages.{Stages, Born, waits}
 use Rattle.ell_core.specs.history.Invariant.{IsInnerBorn}
 use Rattle.ell_core.specs.acts.Wins.{wins_by, win_for}
 use Rattle.ell_layout.proofs.lemmas.Listed.{address_inside}
+use Rattle.ell_cards.specs.Models.{TablePlan}
 use Rattle.ell_cards.specs.declared.view.Told.{Told}
 use Rattle.ell_cards.specs.declared.view.Told.TheVariants.{Info, Key, Expects}
 use Rattle.ell_cards.specs.declared.view.View.{View}
@@ -41,13 +42,13 @@ use Rattle.ell_word.specs.Link.{linked, tag_unit}
 use Rattle.ell_word.specs.declared.link.Link.{Link}
 use Rattle.ell_layout.proofs.lemmas.Writes.{same_links, child_written}
 
-module _ (keys : List ℕ) (cards : ℕ) (s : TableState) (r : HasMachine keys cards s) (id : ℕ) (v : View) (here : get_elem? s.views id ≡ some v) where
+module _ (plan : TablePlan) (s : TableState) (r : HasMachine plan s) (id : ℕ) (v : View) (here : get_elem? s.views id ≡ some v) where
   -- a field of a node that came into the tree has an address in the table
   pub in_list : (x : ℕ) (f : Field) → Born r.stages x → address (card x) f < length s.words
   in_list x f born =
-      let below = born_claimed keys cards s r id v here x born in
+      let below = born_claimed plan s r id v here x born in
       let room = r.invariant.limit in
-      address_inside s.words cards (card x) f r.size (omega arith)
+      address_inside s.words plan.last_card (card x) f r.size (omega arith)
 
   -- a word of a card that was told
   pub told_is : (c : ℕ) (f : Field) (x : ℕ) → IsTold v (Info c f x) → word r.words c f ≡ x
@@ -62,13 +63,13 @@ module _ (keys : List ℕ) (cards : ℕ) (s : TableState) (r : HasMachine keys c
   told_key x key told = ((r.views id v here).entries (Key x key) told).1
 
   -- an event that wins no flag takes no card out of waiting
-  pub flags_never : (a : Act) (said : Stepped) (new : Words) (after : View) (stages : Stages) → Leads keys cards s r id v here a said new after stages
+  pub flags_never : (a : Act) (said : Stepped) (new : Words) (after : View) (stages : Stages) → Leads plan s r id v here a said new after stages
       → (k : Exchange) (d : ℕ) → k ≢ exchange.IFlag → k ≢ exchange.DFlag → ((c : ℕ) → wins_by a v.worker.card said c ≡ win_for (Some d) k c)
       → (c : ℕ) → waits (r.stages c) ≡ true → waits (stages c) ≡ false → ⊥
   flags_never a said new after stages led k d not_i not_d wins c wait calm = by (c == d) refl
     where
       by : (b : Bool) → (c == d) ≡ b → ⊥
-      by false e = true≢false (sym (waits_on keys cards s r id v here a said new after stages led c
+      by false e = true≢false (sym (waits_on plan s r id v here a said new after stages led c
           (wins c ∙ ap (λ (b : Bool). if b then k ∷ [] else []) e) wait) ∙ calm)
       by true e = elim (first_win (stages c) k (led.wins c ∙ (ap (λ (ks : List Exchange). ks ++ wins_by a v.worker.card said c) (waits-wins (r.stages c) wait)
           ∙ (wins c ∙ ap (λ (b : Bool). if b then k ∷ [] else []) e)))) [ inl i ↦ not_i i | inr i ↦ not_d i ]
@@ -83,32 +84,32 @@ module _ (keys : List ℕ) (cards : ℕ) (s : TableState) (r : HasMachine keys c
 
   -- the words that are to be in the list where a win takes a card out of waiting
   abbrev pub Settles : Act → Words → View → Type 0
-  Settles a new after = (stages : Stages) → Leads keys cards s r id v here a Won new after stages
+  Settles a new after = (stages : Stages) → Leads plan s r id v here a Won new after stages
       → (c : ℕ) (f : Field) → waits (r.stages c) ≡ true → waits (stages c) ≡ false → listed s.words c f ≡ table_word r.words c f
 
   -- the machine after such an exchange
   pub exchange_leads : (a : Act) (d : ℕ) (g : Field) (expected value : ℕ) (view : Bool → View)
       → address d g < length s.words → waits (r.stages d) ≡ false
-      → Happens cards a (mine keys cards s r id v here) (won_or_lost (found_at d g == expected))
-      (becomes keys cards s r id v here (exchanged_words d g value (found_at d g == expected)) (view (found_at d g == expected)))
+      → Happens plan.last_card a (mine plan s r id v here) (won_or_lost (found_at d g == expected))
+      (becomes plan s r id v here (exchanged_words d g value (found_at d g == expected)) (view (found_at d g == expected)))
       → Settles a (table_written r.words d g value) (view true)
       → ((c : ℕ) → wins_by a v.worker.card Lost c ≡ [])
       → ((b : Bool) (e : Told) → IsTold (view b) e → EntryHolds r.words r.stages e)
       → ((b : Bool) → Onward r.words r.stages v (view b))
-      → IsReached keys cards s r id v here (set s.words (address d g) (if found_at d g == expected then value else found_at d g))
+      → IsReached plan s r id v here (set s.words (address d g) (if found_at d g == expected then value else found_at d g))
       (exchanged_words d g value (found_at d g == expected)) (view (found_at d g == expected)) a (won_or_lost (found_at d g == expected))
   exchange_leads a d g expected value view fits calm happens settles none entries on = by (found_at d g == expected) happens
     where
-      by : (b : Bool) → Happens cards a (mine keys cards s r id v here) (won_or_lost b) (becomes keys cards s r id v here (exchanged_words d g value b) (view b))
-          → IsReached keys cards s r id v here (set s.words (address d g) (if b then value else found_at d g)) (exchanged_words d g value b) (view b) a (won_or_lost b)
-      by false h = looks keys cards s r id v here a Lost (view false) h none (entries false) (on false) (address d g)
+      by : (b : Bool) → Happens plan.last_card a (mine plan s r id v here) (won_or_lost b) (becomes plan s r id v here (exchanged_words d g value b) (view b))
+          → IsReached plan s r id v here (set s.words (address d g) (if b then value else found_at d g)) (exchanged_words d g value b) (view b) a (won_or_lost b)
+      by false h = looks plan s r id v here a Lost (view false) h none (entries false) (on false) (address d g)
       by true h =
           let new = table_written r.words d g value in
-          let l = leads keys cards s r id v here a Won new (view true) h in
-          let moves = moves_write keys cards s r id v here d g value l.0 fits calm (settles l.0 l.1) in record {
-            kept = kept_event keys cards s r id v here a Won new (view true) (set s.words (address d g) value) l.0 l.1 moves
-                (view_on keys cards s r id v here a Won new (view true) (set s.words (address d g) value) l.0 l.1 moves
-                (λ e told. entries_on keys cards s r id v here a Won new (view true) l.0 l.1 e (entries true e told)) (on true)) (on true).owns (on true).list;
+          let l = leads plan s r id v here a Won new (view true) h in
+          let moves = moves_write plan s r id v here d g value l.0 fits calm (settles l.0 l.1) in record {
+            kept = kept_event plan s r id v here a Won new (view true) (set s.words (address d g) value) l.0 l.1 moves
+                (view_on plan s r id v here a Won new (view true) (set s.words (address d g) value) l.0 l.1 moves
+                (λ e told. entries_on plan s r id v here a Won new (view true) l.0 l.1 e (entries true e told)) (on true)) (on true).owns (on true).list;
             steps = l.1.steps;
           }
 
@@ -123,16 +124,16 @@ module _ (keys : List ℕ) (cards : ℕ) (s : TableState) (r : HasMachine keys c
     least = refl;
     before = (r.views id v here).knew;
     knew = λ f k. knows_more new f v.worker.knows ((r.views id v here).knew f k);
-    walk = λ op x busy at. (stands_born keys cards s r id v here x at, (r.views id v here).walk op x busy at);
+    walk = λ op x busy at. (stands_born plan s r id v here x at, (r.views id v here).walk op x busy at);
   }
 
   -- an exchange that teaches one fact, and wins no flag
   pub teaches : (a : Act) (d : ℕ) (g : Field) (expected value : ℕ) (new : Fact) (k : Exchange) (c : ℕ)
       → address d g < length s.words → waits (r.stages d) ≡ false → k ≢ exchange.IFlag → k ≢ exchange.DFlag
       → ((e : ℕ) → wins_by a v.worker.card Won e ≡ win_for (Some c) k e) → ((e : ℕ) → wins_by a v.worker.card Lost e ≡ [])
-      → Happens cards a (mine keys cards s r id v here) (won_or_lost (found_at d g == expected))
-      (becomes keys cards s r id v here (exchanged_words d g value (found_at d g == expected)) (with_fact new v))
-      → IsReached keys cards s r id v here (set s.words (address d g) (if found_at d g == expected then value else found_at d g))
+      → Happens plan.last_card a (mine plan s r id v here) (won_or_lost (found_at d g == expected))
+      (becomes plan s r id v here (exchanged_words d g value (found_at d g == expected)) (with_fact new v))
+      → IsReached plan s r id v here (set s.words (address d g) (if found_at d g == expected then value else found_at d g))
       (exchanged_words d g value (found_at d g == expected)) (exchanged (if_won (found_at d g == expected) k c) (found_at d g) (with_fact new v)) a (won_or_lost (found_at d g == expected))
   teaches a d g expected value new k c fits calm not_i not_d wins none happens =
       exchange_leads a d g expected value (λ b. exchanged (if_won b k c) (found_at d g) (with_fact new v)) fits calm happens
@@ -190,25 +191,25 @@ module _ (w : Words) (x y : ℕ) (expected : Link) (q n : ℕ) (right : Bool) (s
   pub child_says : won_or_lost (n == linked expected) ≡ won_or_lost (finds_link w x expected q)
   child_says = ap won_or_lost finds_is
 
-module _ (keys : List ℕ) (cards : ℕ) (s : TableState) (r : HasMachine keys cards s) (id : ℕ) (v : View) (here : get_elem? s.views id ≡ some v) where
+module _ (plan : TablePlan) (s : TableState) (r : HasMachine plan s) (id : ℕ) (v : View) (here : get_elem? s.views id ≡ some v) where
   -- an exchange of a flag of card c for a clean word, at node x, which was told to be y: it teaches one fact, and its row follows from
   -- what it says and gives
   pub unflags : (a : Act) (c x y flag : ℕ) (new : Fact) (k : Exchange) → x ≡ y → IsInnerBorn r.stages x → k ≢ exchange.IFlag → k ≢ exchange.DFlag
       → ((e : ℕ) → wins_by a v.worker.card Won e ≡ win_for (Some c) k e) → ((e : ℕ) → wins_by a v.worker.card Lost e ≡ [])
-      → (won_or_lost (found_at keys cards s r id v here (card y) field.Update == flag) ≡ won_or_lost (r.words.update x == flag)
-      → becomes keys cards s r id v here (exchanged_words keys cards s r id v here (card y) field.Update (clean c) (found_at keys cards s r id v here (card y) field.Update == flag)) (with_fact new v)
+      → (won_or_lost (found_at plan s r id v here (card y) field.Update == flag) ≡ won_or_lost (r.words.update x == flag)
+      → becomes plan s r id v here (exchanged_words plan s r id v here (card y) field.Update (clean c) (found_at plan s r id v here (card y) field.Update == flag)) (with_fact new v)
       ≡ record { words = exchanged_update r.words x flag (clean c); worker = knowing (worker_of v.worker) (learned (worker_of v.worker).knows new) }
-      → Happens cards a (mine keys cards s r id v here) (won_or_lost (found_at keys cards s r id v here (card y) field.Update == flag))
-      (becomes keys cards s r id v here (exchanged_words keys cards s r id v here (card y) field.Update (clean c) (found_at keys cards s r id v here (card y) field.Update == flag)) (with_fact new v)))
-      → IsReached keys cards s r id v here
-      (set s.words (address (card y) field.Update) (if found_at keys cards s r id v here (card y) field.Update == flag then clean c else found_at keys cards s r id v here (card y) field.Update))
-      (exchanged_words keys cards s r id v here (card y) field.Update (clean c) (found_at keys cards s r id v here (card y) field.Update == flag))
-      (exchanged (if_won (found_at keys cards s r id v here (card y) field.Update == flag) k c) (found_at keys cards s r id v here (card y) field.Update) (with_fact new v)) a (won_or_lost (found_at keys cards s r id v here (card y) field.Update == flag))
+      → Happens plan.last_card a (mine plan s r id v here) (won_or_lost (found_at plan s r id v here (card y) field.Update == flag))
+      (becomes plan s r id v here (exchanged_words plan s r id v here (card y) field.Update (clean c) (found_at plan s r id v here (card y) field.Update == flag)) (with_fact new v)))
+      → IsReached plan s r id v here
+      (set s.words (address (card y) field.Update) (if found_at plan s r id v here (card y) field.Update == flag then clean c else found_at plan s r id v here (card y) field.Update))
+      (exchanged_words plan s r id v here (card y) field.Update (clean c) (found_at plan s r id v here (card y) field.Update == flag))
+      (exchanged (if_won (found_at plan s r id v here (card y) field.Update == flag) k c) (found_at plan s r id v here (card y) field.Update) (with_fact new v)) a (won_or_lost (found_at plan s r id v here (card y) field.Update == flag))
   unflags a c x y flag new k same node not_i not_d wins none happens =
-      let n = found_at keys cards s r id v here (card y) field.Update in
+      let n = found_at plan s r id v here (card y) field.Update in
       let born = subst (Born r.stages) same node.born in
-      let is = update_found keys cards s r id v here x y same node.inner node.born in
-      teaches keys cards s r id v here a (card y) field.Update flag (clean c) new k c
-      (in_list keys cards s r id v here y field.Update born) (born-settled (r.stages (card y)) (y % 4) born) not_i not_d wins none
+      let is = update_found plan s r id v here x y same node.inner node.born in
+      teaches plan s r id v here a (card y) field.Update flag (clean c) new k c
+      (in_list plan s r id v here y field.Update born) (born-settled (r.stages (card y)) (y % 4) born) not_i not_d wins none
       (happens (update_says r.words x y flag (clean c) n same node.inner is)
       (λ t. record { words = update_exchanged r.words x y flag (clean c) n same node.inner is t; worker = worker_of (with_fact new v).worker }))

@@ -1,4 +1,4 @@
-use Rattle.std.proofs.Common.{◌≡◌, ◌%◌, ◌==◌, ℕ, Bool, true, false, List, ◌∷◌, [], set, if◌then◌else◌, Some, None, refl, sym, ap, ◌∙◌, inl, inr, ne_eqb, true≢false, subst}
+use Rattle.std.proofs.Common.{◌≡◌, ◌%◌, ◌==◌, ℕ, Bool, true, false, ◌∷◌, [], set, if◌then◌else◌, Some, None, refl, sym, ap, ◌∙◌, inl, inr, ne_eqb, true≢false, subst}
 use Rattle.std.proofs.lemmas.Bool.{cases_eq}
 use mathlib.Core.Option.{some}
 use lib.ListN.{get_elem?}
@@ -22,6 +22,7 @@ use Rattle.ell_core.specs.acts.Events.{Happens}
 use Rattle.ell_core.specs.acts.Wins.{wins_by, win_for}
 use Rattle.ell_core.specs.statements.StepLaws.{IsReadable}
 use Rattle.ell_core.proofs.lemmas.outcomes.Decide.{some_not_none}
+use Rattle.ell_cards.specs.Models.{TablePlan}
 use Rattle.ell_cards.specs.declared.call.Call.TheVariants as call
 use Rattle.ell_cards.specs.declared.view.Told.{Told}
 use Rattle.ell_cards.specs.declared.view.View.{View}
@@ -51,10 +52,10 @@ flagging_worker v new x n false = λ t. record (worker_of v.worker) {
   knows = facts_known (unpacked n).state (unpacked n).card v.worker.knows t;
 }
 
-module _ (keys : List ℕ) (cards : ℕ) (s : TableState) (r : HasMachine keys cards s) (id : ℕ) (v : View) (here : get_elem? s.views id ≡ some v) where
+module _ (plan : TablePlan) (s : TableState) (r : HasMachine plan s) (id : ℕ) (v : View) (here : get_elem? s.views id ≡ some v) where
   -- the view after a flag exchange at node x from a word
   abbrev flag_view : Fact → Exchange → ℕ → ℕ → Bool → View
-  flag_view new k c x b = let n = found_at keys cards s r id v here (card x) field.Update in exchanged (if_won b k c) n (after_flag b new x (unpacked n) v)
+  flag_view new k c x b = let n = found_at plan s r id v here (card x) field.Update in exchanged (if_won b k c) n (after_flag b new x (unpacked n) v)
 
   -- what is so of it
   flag_on : (new : Fact) (k : Exchange) (c x : ℕ) (b : Bool) → Onward r.words r.stages v (flag_view new k c x b)
@@ -70,7 +71,7 @@ module _ (keys : List ℕ) (cards : ℕ) (s : TableState) (r : HasMachine keys c
     walk = λ op y busy at. absurd (some_not_none at refl);
   }
   flag_on new k c x false =
-      let u = unpacked (found_at keys cards s r id v here (card x) field.Update) in record {
+      let u = unpacked (found_at plan s r id v here (card x) field.Update) in record {
         here = λ y key a e. absurd (some_not_none e refl);
         hand = λ d has un. absurd (some_not_none has refl);
         owns = λ key h. h;
@@ -84,18 +85,18 @@ module _ (keys : List ℕ) (cards : ℕ) (s : TableState) (r : HasMachine keys c
 
   flag_entries : (new : Fact) (k : Exchange) (c x : ℕ) → IsReadable r.words r.stages x → (b : Bool) (e : Told) → IsTold (flag_view new k c x b) e → EntryHolds r.words r.stages e
   flag_entries new k c x reads true = (r.views id v here).entries
-  flag_entries new k c x reads false = found_entries keys cards s r id v here x (found_at keys cards s r id v here (card x) field.Update) v.told reads
-      (update_listed keys cards s r id v here x reads.inner reads.born) (r.views id v here).entries
+  flag_entries new k c x reads false = found_entries plan s r id v here x (found_at plan s r id v here (card x) field.Update) v.told reads
+      (update_listed plan s r id v here x reads.inner reads.born) (r.views id v here).entries
 
   -- the scene after it
   flag_scene : (new : Fact) (k : Exchange) (c x update value : ℕ) (seen : Seen) → seen.node ≡ x → seen.word ≡ update → IsReadable r.words r.stages x →
-      becomes keys cards s r id v here (exchanged_words keys cards s r id v here (card x) field.Update value (found_at keys cards s r id v here (card x) field.Update == update))
-      (flag_view new k c x (found_at keys cards s r id v here (card x) field.Update == update))
-      ≡ flags (mine keys cards s r id v here) seen value new
+      becomes plan s r id v here (exchanged_words plan s r id v here (card x) field.Update value (found_at plan s r id v here (card x) field.Update == update))
+      (flag_view new k c x (found_at plan s r id v here (card x) field.Update == update))
+      ≡ flags (mine plan s r id v here) seen value new
   flag_scene new k c x update value seen node word reads =
       let w = r.words in
-      let n = found_at keys cards s r id v here (card x) field.Update in
-      let is = update_listed keys cards s r id v here x reads.inner reads.born in λ t. record {
+      let n = found_at plan s r id v here (card x) field.Update in
+      let is = update_listed plan s r id v here x reads.inner reads.born in λ t. record {
         words = (update_exchanged w x x update value n refl reads.inner is
             ∙ λ i. exchanged_update w (sym node i) (sym word i) value) t;
         worker = (flagging_worker v new x n (n == update) ∙ (ap (λ m. flagged_worker (worker_of v.worker) (m == update) new m) (sym is)
@@ -105,38 +106,38 @@ module _ (keys : List ℕ) (cards : ℕ) (s : TableState) (r : HasMachine keys c
   -- a flag exchange of the card in hand, which is filled: a win takes that card out of waiting alone
   flag_leads : (a : Act) (x update value c : ℕ) (new : Fact) (k : Exchange) → IsReadable r.words r.stages x → MayFill v c → IsFilled v
       → ((d : ℕ) → wins_by a v.worker.card Won d ≡ win_for v.worker.card k d) → ((d : ℕ) → wins_by a v.worker.card Lost d ≡ [])
-      → Happens cards a (mine keys cards s r id v here) (won_or_lost (found_at keys cards s r id v here (card x) field.Update == update))
-      (becomes keys cards s r id v here (exchanged_words keys cards s r id v here (card x) field.Update value (found_at keys cards s r id v here (card x) field.Update == update))
-      (flag_view new k c x (found_at keys cards s r id v here (card x) field.Update == update)))
-      → IsReached keys cards s r id v here
-      (set s.words (update_address x) (if found_at keys cards s r id v here (card x) field.Update == update then value else found_at keys cards s r id v here (card x) field.Update))
-      (exchanged_words keys cards s r id v here (card x) field.Update value (found_at keys cards s r id v here (card x) field.Update == update))
-      (flag_view new k c x (found_at keys cards s r id v here (card x) field.Update == update)) a
-      (won_or_lost (found_at keys cards s r id v here (card x) field.Update == update))
+      → Happens plan.last_card a (mine plan s r id v here) (won_or_lost (found_at plan s r id v here (card x) field.Update == update))
+      (becomes plan s r id v here (exchanged_words plan s r id v here (card x) field.Update value (found_at plan s r id v here (card x) field.Update == update))
+      (flag_view new k c x (found_at plan s r id v here (card x) field.Update == update)))
+      → IsReached plan s r id v here
+      (set s.words (update_address x) (if found_at plan s r id v here (card x) field.Update == update then value else found_at plan s r id v here (card x) field.Update))
+      (exchanged_words plan s r id v here (card x) field.Update value (found_at plan s r id v here (card x) field.Update == update))
+      (flag_view new k c x (found_at plan s r id v here (card x) field.Update == update)) a
+      (won_or_lost (found_at plan s r id v here (card x) field.Update == update))
   flag_leads a x update value c new k reads may filled wins none happens =
-      exchange_leads keys cards s r id v here a (card x) field.Update update value (flag_view new k c x)
-      (in_list keys cards s r id v here x field.Update reads.born) (born-settled (r.stages (card x)) (x % 4) reads.born)
+      exchange_leads plan s r id v here a (card x) field.Update update value (flag_view new k c x)
+      (in_list plan s r id v here x field.Update reads.born) (born-settled (r.stages (card x)) (x % 4) reads.born)
       happens settles none (flag_entries new k c x reads) (flag_on new k c x)
     where
-      settles : Settles keys cards s r id v here a (table_written r.words (card x) field.Update value) (flag_view new k c x true)
+      settles : Settles plan s r id v here a (table_written r.words (card x) field.Update value) (flag_view new k c x true)
       settles stages led d f wait still = elim (cases_eq d c) [
         | inl e ↦ (let held = (r.views id v here).hand d (may.holds ∙ ap Some (sym e)) may.unflagged in
             held.table f ∙ (filled f ∙ sym (held.machine f)))
-        | inr m ↦ absurd (true≢false (sym (waits_on keys cards s r id v here a Won (table_written r.words (card x) field.Update value) (flag_view new k c x true) stages led d
+        | inr m ↦ absurd (true≢false (sym (waits_on plan s r id v here a Won (table_written r.words (card x) field.Update value) (flag_view new k c x true) stages led d
             (wins d ∙ (ap (λ o. win_for o k d) may.holds ∙ ap (λ (b : Bool). if b then k ∷ [] else []) (ne_eqb d c m))) wait) ∙ still))
       ]
 
   -- iflag
-  pub keeps_iflag : (c p : ℕ) (from : Update) → MayIFlag v c p from → IsEvent keys cards s r id v (call.IFlag c p from)
+  pub keeps_iflag : (c p : ℕ) (from : Update) → MayIFlag v c p from → IsEvent plan s r id v (call.IFlag c p from)
   keeps_iflag c p from may =
-      let n = found_at keys cards s r id v here (card p) field.Update in
-      let same = mine_is keys cards s r id v here in
+      let n = found_at plan s r id v here (card p) field.Update in
+      let same = mine_is plan s r id v here in
       let seen = may.parent in
       let reads : IsReadable r.words r.stages p = subst (IsReadable r.words r.stages) may.node
-      ((relies keys cards s r id v here).parent may.leaf seen (ap (λ (z : Worker). z.search.node) same ∙ may.stands)
+      ((relies plan s r id v here).parent may.leaf seen (ap (λ (z : Worker). z.search.node) same ∙ may.stands)
       (ap (λ (z : Worker). z.search.parent) same ∙ may.behind)).node in
-      let is = update_listed keys cards s r id v here p reads.inner reads.born in
-      is_event keys cards s r id v here (call.IFlag c p from) act.IFlag _ _
+      let is = update_listed plan s r id v here p reads.inner reads.born in
+      is_event plan s r id v here (call.IFlag c p from) act.IFlag _ _
       (flag_leads act.IFlag p (packed from) (iflag c) c (IFlagged c) exchange.IFlag reads may.may may.filled (λ d. refl) (λ d. refl) (record {
         owned = λ h. h;
         row = record {
@@ -155,19 +156,19 @@ module _ (keys : List ℕ) (cards : ℕ) (s : TableState) (r : HasMachine keys c
         };
         room = λ h. h;
       }))
-      refl refl (names_card keys cards s r id v here p n reads is)
+      refl refl (names_card plan s r id v here p n reads is)
 
   -- dflag
-  pub keeps_dflag : (c gp : ℕ) (from : Update) → MayDFlag v c gp from → IsEvent keys cards s r id v (call.DFlag c gp from)
+  pub keeps_dflag : (c gp : ℕ) (from : Update) → MayDFlag v c gp from → IsEvent plan s r id v (call.DFlag c gp from)
   keeps_dflag c gp from may =
-      let n = found_at keys cards s r id v here (card gp) field.Update in
-      let same = mine_is keys cards s r id v here in
+      let n = found_at plan s r id v here (card gp) field.Update in
+      let same = mine_is plan s r id v here in
       let seen = may.grandparent in
       let reads : IsReadable r.words r.stages gp = subst (IsReadable r.words r.stages) may.node
-      ((relies keys cards s r id v here).grandparent may.leaf may.parent seen (ap (λ (z : Worker). z.search.node) same ∙ may.stands)
+      ((relies plan s r id v here).grandparent may.leaf may.parent seen (ap (λ (z : Worker). z.search.node) same ∙ may.stands)
       (ap (λ (z : Worker). z.search.parent) same ∙ may.behind) (ap (λ (z : Worker). z.search.grandparent) same ∙ may.above)).node in
-      let is = update_listed keys cards s r id v here gp reads.inner reads.born in
-      is_event keys cards s r id v here (call.DFlag c gp from) act.DFlag _ _
+      let is = update_listed plan s r id v here gp reads.inner reads.born in
+      is_event plan s r id v here (call.DFlag c gp from) act.DFlag _ _
       (flag_leads act.DFlag gp (packed from) (dflag c) c (DFlagged c) exchange.DFlag reads may.may may.filled (λ d. refl) (λ d. refl) (record {
         owned = λ h. h;
         row = record {
@@ -184,4 +185,4 @@ module _ (keys : List ℕ) (cards : ℕ) (s : TableState) (r : HasMachine keys c
         };
         room = λ h. h;
       }))
-      refl refl (names_card keys cards s r id v here gp n reads is)
+      refl refl (names_card plan s r id v here gp n reads is)

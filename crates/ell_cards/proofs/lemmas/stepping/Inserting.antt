@@ -1,8 +1,8 @@
-use Rattle.std.proofs.Common.{◌≡◌, ◌%◌, ◌==◌, ℕ, Bool, List, nat_le, refl, sym, ap, ◌∙◌, subst, ◌<◌, ◌≤◌, true, false, arith}
+use Rattle.std.proofs.Common.{inl, inr, ◌⊎◌, if◌then◌else◌, eq-eqb, ◌≡◌, ◌%◌, ◌==◌, ℕ, Bool, nat_le, refl, sym, ap, ◌∙◌, subst, ◌<◌, ◌≤◌, true, false, arith}
 use Rattle.ell_core.proofs.lemmas.keeping.insert_child.IChild.{brought_side}
 use mathlib.Core.Option.{some}
 use lib.ListN.{get_elem?}
-use Rattle.ell_word.specs.Node.{card, internal, left_leaf, right_leaf, greatest_card}
+use Rattle.ell_word.specs.Node.{card, left_leaf, right_leaf, greatest_card}
 use Rattle.ell_core.specs.declared.exchange.Exchange.TheVariants as exchange
 use Rattle.ell_core.specs.declared.event.Act.TheVariants as act
 use Rattle.ell_core.specs.declared.fact.Fact.TheVariants.{IChanged, IOver, IFlagged}
@@ -11,7 +11,12 @@ use Rattle.ell_layout.specs.Words.{child_field}
 use Rattle.ell_core.specs.state.Machine.{worker_of}
 use Rattle.ell_layout.specs.Cards.{iflag, exchange_side, brought, brought_by}
 use Rattle.ell_core.specs.acts.Exchanges.{won_or_lost, exchanged_child, finds_link, expected}
-use Rattle.ell_core.specs.history.Stages.{Born}
+use Rattle.ell_core.specs.history.Stages.{Born, Stages}
+use Rattle.ell_core.proofs.lemmas.words.Sides.{insert_key-side}
+use Rattle.ell_core.specs.history.Invariant.{InsertCard, IsCopy, insert_side}
+use Rattle.ell_layout.specs.Words.{Words}
+use Rattle.ell_layout.specs.Cards.{is_right}
+use Rattle.ell_cards.specs.Models.{TablePlan}
 use Rattle.ell_cards.specs.declared.call.Call.TheVariants as call
 use Rattle.ell_cards.specs.declared.view.View.{View}
 use Rattle.ell_cards.specs.Changes.{with_fact}
@@ -35,36 +40,44 @@ brought_small : (c last q : ℕ) (replaces : Bool) → q ≡ brought_by c replac
 brought_small c last q true e low room = omega arith
 brought_small c last q false e low room = omega arith
 
-module _ (keys : List ℕ) (cards : ℕ) (s : TableState) (r : HasMachine keys cards s) (id : ℕ) (v : View) (here : get_elem? s.views id ≡ some v) where
+-- the key of the right leaf of an insert's card lies on the side of the parent on which its node goes
+right_side : (w : Words) (stage : Stages) (c : ℕ) → InsertCard w stage c → is_right w (w.p c) (w.key (right_leaf c)) ≡ insert_side w c
+right_side w stage c said = by said.copy
+  where
+    by : IsCopy w c (left_leaf c) ⊎ IsCopy w c (right_leaf c) → is_right w (w.p c) (w.key (right_leaf c)) ≡ insert_side w c
+    by (inl left) = subst (λ k. is_right w (w.p c) k ≡ insert_side w c)
+        (ap (λ b. if b then w.key (right_leaf c) else w.key (left_leaf c)) (eq-eqb (w.key (left_leaf c)) (w.key (w.l c)) left.key)) (insert_key-side w stage c said)
+    by (inr right) = ap (is_right w (w.p c)) right.key ∙ (sym said.side ∙ insert_key-side w stage c said)
+
+module _ (plan : TablePlan) (s : TableState) (r : HasMachine plan s) (id : ℕ) (v : View) (here : get_elem? s.views id ≡ some v) where
   -- ichild
-  pub keeps_ichild : (c p : ℕ) (l : Link) (q : ℕ) (right : Bool) → MayIChild v c p l q right → IsEvent keys cards s r id v (call.IChild c p l q right)
+  pub keeps_ichild : (c p : ℕ) (l : Link) (q : ℕ) (right : Bool) → MayIChild v c p l q right → IsEvent plan s r id v (call.IChild c p l q right)
   keeps_ichild c p l q right may =
       let w = r.words in
       let a = act.IChild c in
       let g = child_field right in
-      let n = found_at keys cards s r id v here (card p) g in
-      let said = insert_flagged keys cards s r id v here c may.knows in
-      let p_is : w.p c ≡ p = told_is keys cards s r id v here c field.P p may.parent in
-      let l_is : w.l c ≡ l.node = told_is keys cards s r id v here c field.L l.node may.leaf in
-      let tag_is : w.expects c ≡ l.tag = told_tag keys cards s r id v here c l.tag may.expects in
+      let n = found_at plan s r id v here (card p) g in
+      let said = insert_flagged plan s r id v here c may.knows in
+      let p_is : w.p c ≡ p = told_is plan s r id v here c field.P p may.parent in
+      let l_is : w.l c ≡ l.node = told_is plan s r id v here c field.L l.node may.leaf in
+      let tag_is : w.expects c ≡ l.tag = told_tag plan s r id v here c l.tag may.expects in
       let link_is : l ≡ expected w c (w.l c) = λ t. record { node = sym l_is t; tag = sym tag_is t } in
-      let key_is : w.key (internal c) ≡ may.card_key = told_is keys cards s r id v here c field.Key may.card_key may.told_card in
-      let left_is : w.key (left_leaf c) ≡ may.left_key = told_is keys cards s r id v here c field.LeftLeafKey may.left_key may.told_left in
-      let right_is : w.key (right_leaf c) ≡ may.card_key = sym said.node_key ∙ key_is in
+      let left_is : w.key (left_leaf c) ≡ may.left_key = told_is plan s r id v here c field.LeftLeafKey may.left_key may.told_left in
+      let right_is : w.key (right_leaf c) ≡ may.right_key = told_is plan s r id v here c field.RightLeafKey may.right_key may.told_right in
       let brought_is : brought w c ≡ q = (λ t. brought_by c (left_is t == right_is t)) ∙ sym may.brings in
       let side : exchange_side w (w.p c) q ≡ right =
-      ap (exchange_side w (w.p c)) (sym brought_is) ∙ (brought_side w r.stages c said ∙ (ap (λ k. nat_le k (w.key (internal c))) (ap w.key p_is ∙ told_key keys cards s r id v here p may.parent_key may.told_parent)
-      ∙ (ap (nat_le may.parent_key) key_is ∙ sym may.side))) in
-      let is = child_found keys cards s r id v here (w.p c) p right p_is said.parent.inner said.parent.born in
-      let child_small = born_small keys cards s r id v here (w.child (w.p c) right) (child_born keys cards s r id v here (w.p c) right said.parent.inner said.parent.born) in
-      let leaf_small : l.node < tag_unit = subst (λ y. y < tag_unit) l_is (born_small keys cards s r id v here (w.l c) said.leaf.born) in
-      let claimed = (r.invariant.words.cards c).claimed.0 (insert-claimed (r.stages c) (insert_won-insert (r.stages c) ((mine_sound keys cards s r id v here).facts (IFlagged c) may.knows))) in
-      let new_small : q < tag_unit = brought_small c cards q (may.left_key == may.card_key) may.brings (let room = r.invariant.limit in omega arith) r.limit in
+      ap (exchange_side w (w.p c)) (sym brought_is) ∙ (brought_side w r.stages c said ∙ (sym (right_side w r.stages c said) ∙ (ap (λ k. nat_le k (w.key (right_leaf c))) (ap w.key p_is ∙ told_key plan s r id v here p may.parent_key may.told_parent)
+      ∙ (ap (nat_le may.parent_key) right_is ∙ sym may.side)))) in
+      let is = child_found plan s r id v here (w.p c) p right p_is said.parent.inner said.parent.born in
+      let child_small = born_small plan s r id v here (w.child (w.p c) right) (child_born plan s r id v here (w.p c) right said.parent.inner said.parent.born) in
+      let leaf_small : l.node < tag_unit = subst (λ y. y < tag_unit) l_is (born_small plan s r id v here (w.l c) said.lower) in
+      let claimed = (r.invariant.words.cards c).claimed.0 (insert-claimed (r.stages c) (insert_won-insert (r.stages c) ((mine_sound plan s r id v here).facts (IFlagged c) may.knows))) in
+      let new_small : q < tag_unit = brought_small c plan.last_card q (may.left_key == may.right_key) may.brings (let room = r.invariant.limit in omega arith) r.limit in
       let exchanged = child_exchanged w (w.p c) p l q n right p_is said.parent.inner side is child_small leaf_small new_small in
       let born = subst (Born r.stages) p_is said.parent.born in
-      is_event keys cards s r id v here (call.IChild c p l q right) a _ _
-      (teaches keys cards s r id v here a (card p) g (linked l) (linked (next_link l q)) (IChanged c) exchange.IChild c
-      (in_list keys cards s r id v here p g born) (born-settled (r.stages (card p)) (p % 4) born)
+      is_event plan s r id v here (call.IChild c p l q right) a _ _
+      (teaches plan s r id v here a (card p) g (linked l) (linked (next_link l q)) (IChanged c) exchange.IChild c
+      (in_list plan s r id v here p g born) (born-settled (r.stages (card p)) (p % 4) born)
       (λ e. (cc)) (λ e. (cc)) (λ e. refl) (λ e. refl) (record {
         owned = λ h. h;
         row = record {
@@ -81,11 +94,11 @@ module _ (keys : List ℕ) (cards : ℕ) (s : TableState) (r : HasMachine keys c
       refl refl tt
 
   -- iunflag
-  pub keeps_iunflag : (c p : ℕ) → KnowsPlace v (IChanged c) c field.P p → IsEvent keys cards s r id v (call.IUnflag c p)
+  pub keeps_iunflag : (c p : ℕ) → KnowsPlace v (IChanged c) c field.P p → IsEvent plan s r id v (call.IUnflag c p)
   keeps_iunflag c p may =
-      is_event keys cards s r id v here (call.IUnflag c p) (act.IUnflag c) _ _
-      (unflags keys cards s r id v here (act.IUnflag c) c (r.words.p c) p (iflag c) (IOver c) exchange.IUnflag
-      (told_is keys cards s r id v here c field.P p may.place) (insert_changed keys cards s r id v here c may.knows).parent
+      is_event plan s r id v here (call.IUnflag c p) (act.IUnflag c) _ _
+      (unflags plan s r id v here (act.IUnflag c) c (r.words.p c) p (iflag c) (IOver c) exchange.IUnflag
+      (told_is plan s r id v here c field.P p may.place) (insert_changed plan s r id v here c may.knows).parent
       (λ e. (cc)) (λ e. (cc)) (λ e. refl) (λ e. refl)
       (λ says gives. record { owned = λ h. h; row = record { may = may.knows; says = says; gives = gives }; room = λ h. h }))
       refl refl tt

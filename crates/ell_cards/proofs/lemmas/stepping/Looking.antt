@@ -1,68 +1,72 @@
-use Rattle.std.proofs.Common.{◌≡◌, List, ℕ, ◌<◌, Bool, false, get_or, refl, subst, ap, sym}
+use Rattle.std.proofs.Common.{◌+◌, arith, ◌≡◌, ℕ, ◌<◌, Bool, false, get_or, refl, subst, ap, sym}
 use mathlib.Core.Option.{some}
 use lib.ListN.{get_elem?}
 use Rattle.ell_word.specs.Node.{IsInternal}
 use Rattle.ell_core.specs.history.Stages.{Born}
 use Rattle.ell_core.proofs.lemmas.stages.LaterKeys.{root_born}
+use Rattle.ell_cards.specs.Models.{TablePlan}
 use Rattle.ell_cards.specs.declared.call.Call.TheVariants as call
 use Rattle.ell_cards.specs.declared.view.Told.TheVariants.{Met, Key}
 use Rattle.ell_cards.specs.declared.glance.Glance.{Glance}
 use Rattle.ell_cards.specs.declared.view.View.{View}
-use Rattle.ell_cards.specs.Models.{IsFree, earlier}
+use Rattle.ell_cards.specs.Models.{IsFree}
 use Rattle.ell_cards.proofs.lemmas.views.Afters.{after_look, after_look_down}
 use Rattle.ell_cards.specs.Guards.{MayLookDown}
 use Rattle.ell_cards.specs.Calls.{child_address}
 use Rattle.ell_cards.specs.States.{TableState}
-use Rattle.ell_cards.specs.Machines.{EntryHolds, HasMachine}
+use Rattle.ell_cards.specs.Machines.{HasMachine}
 use Rattle.ell_cards.specs.Laws.{IsEvent}
-use Rattle.ell_cards.proofs.lemmas.seats.Entries.{with_entry}
+use Rattle.ell_cards.proofs.lemmas.seats.Entries.{below_holds}
 use Rattle.ell_cards.proofs.lemmas.seats.Frames.{kept_told, is_no_event}
 use Rattle.ell_cards.proofs.lemmas.stepping.Looks.{born_in_table, child_read}
+use Rattle.ell_cards.specs.Depths.{depth_told}
 use Rattle.ell_core.specs.tree.Rank.{rank}
+use Rattle.ell_core.proofs.lemmas.tree.Ranks.{rank_root, ranked_apart}
+use Rattle.ell_cards.proofs.lemmas.views.Depths.{met_more}
 use Rattle.ell_word.specs.Link.{link_in}
 use Rattle.ell_word.specs.declared.link.Link.{Link}
 
-module _ (keys : List ℕ) (cards : ℕ) (s : TableState) (r : HasMachine keys cards s) (id : ℕ) (v : View) (here : get_elem? s.views id ≡ some v) where
+module _ (plan : TablePlan) (s : TableState) (r : HasMachine plan s) (id : ℕ) (v : View) (here : get_elem? s.views id ≡ some v) where
   -- the child of an internal node that came into the tree, as it stands in the table
   child_there : (x : ℕ) (right : Bool) → IsInternal x → Born r.stages x
-      → Born r.stages (link_in (get_or s.words (child_address x right) 0)).node × (rank x < rank (link_in (get_or s.words (child_address x right) 0)).node)
+      → Born r.stages (link_in (get_or s.words (child_address x right) 0)).node × (rank r.words x < rank r.words (link_in (get_or s.words (child_address x right) 0)).node)
   child_there x right inner born =
       let children = r.invariant.words.children x inner born in
-      subst (λ n. Born r.stages n × (rank x < rank n)) (ap (λ (l : Link). l.node) (sym (child_read keys cards s r id v here x right inner born)))
+      subst (λ n. Born r.stages n × (rank r.words x < rank r.words n)) (ap (λ (l : Link). l.node) (sym (child_read plan s r id v here x right inner born)))
       (children.born right, children.rising right)
 
   -- look
-  pub keeps_look : IsFree v → IsEvent keys cards s r id v call.Look
+  pub keeps_look : IsFree v → IsEvent plan s r id v call.Look
   keeps_look may =
       let n = get_or s.words (child_address 0 false) 0 in
       let h = r.views id v here in
       let child = child_there 0 false refl (root_born r.words r.stages r.invariant.words) in
-      is_no_event keys cards s r id v here call.Look
-      (kept_told keys cards s r id v here (after_look n v) refl (record {
-        entries = with_entry (EntryHolds r.words r.stages) (Met (link_in n).node) v.told child.0 h.entries;
-        here = λ y k at told. earlier (Key y k) (Met (link_in n).node) v.told (h.here y k at told);
+      is_no_event plan s r id v here call.Look
+      (kept_told plan s r id v here (after_look n v) refl (record {
+        entries = below_holds r.words r.stages 0 (link_in n).node v.told child.0 refl child.1 h.entries;
+        here = λ y k at told. met_more (depth_told v.told 0 + 1) (link_in n).node v.told (Key y k) (h.here y k at told);
         hand = h.hand;
         read = h.read;
         least = h.least;
         knew = h.knew;
         walk = h.walk;
       }) (child_address 0 false))
-      refl refl (child.1, born_in_table keys cards s r id v here (link_in n).node child.0)
+      refl refl ((let other = ranked_apart r.words 0 (link_in n).node (let deeper = child.1 in let root = rank_root r.words in omega arith) in omega arith), born_in_table plan s r id v here (link_in n).node child.0)
 
   -- look_down
-  pub keeps_look_down : (from : Glance) (key : ℕ) (right : Bool) → MayLookDown v from key → IsEvent keys cards s r id v (call.LookDown from key right)
+  pub keeps_look_down : (from : Glance) (key : ℕ) (right : Bool) → MayLookDown v from key → IsEvent plan s r id v (call.LookDown from key right)
   keeps_look_down from key right may =
       let n = get_or s.words (child_address from.node right) 0 in
       let h = r.views id v here in
       let child = child_there from.node right may.inner (h.entries (Met from.node) may.met) in
-      is_no_event keys cards s r id v here (call.LookDown from key right)
-      (kept_told keys cards s r id v here (after_look_down from key right n v) refl (record {
-        entries = with_entry (EntryHolds r.words r.stages) (Met (link_in n).node) v.told child.0 h.entries;
-        here = λ y k at told. earlier (Key y k) (Met (link_in n).node) v.told (h.here y k at told);
+      is_no_event plan s r id v here (call.LookDown from key right)
+      (kept_told plan s r id v here (after_look_down from key right n v) refl (record {
+        entries = below_holds r.words r.stages from.node (link_in n).node v.told child.0 may.inner child.1 h.entries;
+        here = λ y k at told. met_more (depth_told v.told from.node + 1) (link_in n).node v.told (Key y k) (h.here y k at told);
         hand = h.hand;
         read = h.read;
         least = h.least;
         knew = h.knew;
         walk = h.walk;
       }) (child_address from.node right))
-      refl refl (child.1, born_in_table keys cards s r id v here (link_in n).node child.0)
+      refl refl ((let other = ranked_apart r.words 0 (link_in n).node (let deeper = child.1 in let root = rank_root r.words in omega arith) in omega arith), born_in_table plan s r id v here (link_in n).node child.0)

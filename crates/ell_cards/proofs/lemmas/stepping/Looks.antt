@@ -35,6 +35,7 @@ use Rattle.ell_core.specs.statements.Effects.{value_in, contents_in}
 use Rattle.ell_core.proofs.lemmas.outcomes.Decide.{some_not_none}
 use Rattle.ell_core.proofs.lemmas.stages.Order.{born_is_node}
 use Rattle.ell_layout.proofs.lemmas.Writes.{update_at_node, key_at_node, value_at_leaf, child_word_at_node, link_back, key_in_table, value_in_table}
+use Rattle.ell_cards.specs.Models.{TablePlan}
 use Rattle.ell_cards.specs.declared.call.Call.TheVariants as call
 use Rattle.ell_cards.specs.declared.view.Told.{Told}
 use Rattle.ell_cards.specs.declared.view.Told.TheVariants.{Met, Key, Value}
@@ -51,7 +52,7 @@ use Rattle.ell_cards.specs.Laws.{IsEvent}
 use Rattle.ell_core.proofs.lemmas.words.Packed.{packed_again}
 use Rattle.ell_core.proofs.lemmas.stages.Waiting.{born-settled}
 use Rattle.ell_cards.proofs.lemmas.views.Entries.{places_more}
-use Rattle.ell_cards.proofs.lemmas.seats.Entries.{with_entry, places_hold, facts_known}
+use Rattle.ell_cards.proofs.lemmas.seats.Entries.{with_entry, below_holds, places_hold, facts_known}
 use Rattle.ell_cards.proofs.lemmas.seats.Seats.{mine, becomes, mine_is, mine_sound, relies, stands_born, born_claimed}
 use Rattle.ell_cards.proofs.lemmas.seats.Frames.{looks, kept_told, is_event, is_no_event}
 use Rattle.ell_core.specs.tree.Rank.{rank}
@@ -77,7 +78,7 @@ some_if : (b : Bool) (value : ℕ) → is_some (if b then Some value else None) 
 some_if true value = refl
 some_if false value = refl
 
-module _ (keys : List ℕ) (cards : ℕ) (s : TableState) (r : HasMachine keys cards s) (id : ℕ) (v : View) (here : get_elem? s.views id ≡ some v) where
+module _ (plan : TablePlan) (s : TableState) (r : HasMachine plan s) (id : ℕ) (v : View) (here : get_elem? s.views id ≡ some v) where
   -- a node that came into the tree has its key in the table
   pub key_listed : (x : ℕ) → Born r.stages x → r.words.key x ≡ get_or s.words (key_address x) 0
   key_listed x born = key_at_node r.words x (born_is_node r.stages x born) ∙ (key_in_table r.words (card x) (x % 4) ∙ sym (r.settled (card x) (key_field (x % 4)) (born-settled (r.stages (card x)) (x % 4) born)))
@@ -99,8 +100,8 @@ module _ (keys : List ℕ) (cards : ℕ) (s : TableState) (r : HasMachine keys c
       update_at_node r.words x inner ∙ sym (r.settled (card x) field.Update (born-settled (r.stages (card x)) (x % 4) born))
 
   -- a node that came into the tree is one of the table
-  pub born_in_table : (x : ℕ) → Born r.stages x → InTable cards x
-  born_in_table x born = let below = born_claimed keys cards s r id v here x born in let room = r.invariant.limit in
+  pub born_in_table : (x : ℕ) → Born r.stages x → InTable plan.last_card x
+  born_in_table x born = let below = born_claimed plan s r id v here x born in let room = r.invariant.limit in
       let node = born_is_node r.stages x born in omega (arith, node)
 
   -- so its number is small
@@ -125,16 +126,16 @@ module _ (keys : List ℕ) (cards : ℕ) (s : TableState) (r : HasMachine keys c
   leaf_contents : (op : Op) (x : ℕ) → Does v op → StandsAt v x → IsLeaf x → ledger_of v.worker.ledger (key_of op) ≢ None
       → contents_in (ledger_of v.worker.ledger) (key_of op) ≡ value_there r.words x (key_of op)
   leaf_contents op x busy stands outer owns =
-      let same = mine_is keys cards s r id v here in
+      let same = mine_is plan s r id v here in
       same_value (ledger_of v.worker.ledger (key_of op)) (r.words.key x) (key_of op) (r.words.value x)
       (subst (λ (u : Worker). (n : ℕ) → ((r.words.key x ≡ key_of op) × (r.words.value x ≡ n)) ↔ (u.ledger (key_of op) ≡ Some (Present n))) same
-      ((relies keys cards s r id v here).leaf_key op x (ap (λ (u : Worker). u.operation) same ∙ busy)
+      ((relies plan s r id v here).leaf_key op x (ap (λ (u : Worker). u.operation) same ∙ busy)
       (subst (λ (u : Worker). u.ledger (key_of op) ≢ None) (sym same) owns)
       (ap (λ (u : Worker). u.search.node) same ∙ stands) outer))
 
   -- an update word that was found at a node names a card of the table
-  pub names_card : (x n : ℕ) → IsReadable r.words r.stages x → r.words.update x ≡ n → (unpacked n).card ≤ cards
-  names_card x n reads is = subst (λ m. (unpacked m).card ≤ cards) is
+  pub names_card : (x n : ℕ) → IsReadable r.words r.stages x → r.words.update x ≡ n → (unpacked n).card ≤ plan.last_card
+  names_card x n reads is = subst (λ m. (unpacked m).card ≤ plan.last_card) is
       (let low = reads.names.claimed in let room = r.invariant.limit in omega arith)
 
   -- what was told with what an update tells at a node
@@ -155,25 +156,25 @@ module _ (keys : List ℕ) (cards : ℕ) (s : TableState) (r : HasMachine keys c
 
   -- a card whose end the pass knew has ended
   ended_by : (c : ℕ) → EndedBy v.knew_before c → has_ended (r.stages c) ≡ true
-  ended_by c (inl k) = insert_over-ended (r.stages c) ((mine_sound keys cards s r id v here).facts (IOver c) ((r.views id v here).knew (IOver c) k))
-  ended_by c (inr (inl k)) = delete_over-ended (r.stages c) ((mine_sound keys cards s r id v here).facts (DOver c) ((r.views id v here).knew (DOver c) k))
-  ended_by c (inr (inr k)) = backed-ended (r.stages c) ((mine_sound keys cards s r id v here).facts (Backed c) ((r.views id v here).knew (Backed c) k))
+  ended_by c (inl k) = insert_over-ended (r.stages c) ((mine_sound plan s r id v here).facts (IOver c) ((r.views id v here).knew (IOver c) k))
+  ended_by c (inr (inl k)) = delete_over-ended (r.stages c) ((mine_sound plan s r id v here).facts (DOver c) ((r.views id v here).knew (DOver c) k))
+  ended_by c (inr (inr k)) = backed-ended (r.stages c) ((mine_sound plan s r id v here).facts (Backed c) ((r.views id v here).knew (Backed c) k))
 
   -- where the pass stands it does not stand at a parent that was cut out when its search began
   not_gone : (x c : ℕ) → StandsAt v x → r.words.p c ≡ x → ¬ KnewBefore v (DOver c)
   not_gone x c stands at has = by v.worker.operation refl
     where
       by : (o : Option Op) → v.worker.operation ≡ o → ⊥
-      by None e = some_not_none stands (ap (λ (u : Worker). u.search.node) ((mine_sound keys cards s r id v here).free e))
+      by None e = some_not_none stands (ap (λ (u : Worker). u.search.node) ((mine_sound plan s r id v here).free e))
       by (Some op) e = (r.views id v here).walk op x e stands c has (on_walk.here at)
 
   -- a card that is marked where the pass stands was not known to have ended when its search began
   mark_unknown : (x c : ℕ) → StandsAt v x → is_marked (r.stages c) ≡ true → r.words.p c ≡ x → ¬ EndedBy v.knew_before c
   mark_unknown x c stands marked at (inl k) =
-      insert_over_not_marked (r.stages c) ((mine_sound keys cards s r id v here).facts (IOver c) ((r.views id v here).knew (IOver c) k)) marked
+      insert_over_not_marked (r.stages c) ((mine_sound plan s r id v here).facts (IOver c) ((r.views id v here).knew (IOver c) k)) marked
   mark_unknown x c stands marked at (inr (inl k)) = not_gone x c stands at k
   mark_unknown x c stands marked at (inr (inr k)) =
-      backed_not_marked (r.stages c) ((mine_sound keys cards s r id v here).facts (Backed c) ((r.views id v here).knew (Backed c) k)) marked
+      backed_not_marked (r.stages c) ((mine_sound plan s r id v here).facts (Backed c) ((r.views id v here).knew (Backed c) k)) marked
 
   -- nor was the card of any update word that is read there, unless it is clean
   unknown_by : (x : ℕ) → StandsAt v x → IsInternal x → Born r.stages x → (st : State) (c : ℕ) → r.words.update x ≡ packed (record { state = st; card = c })
@@ -193,13 +194,13 @@ module _ (keys : List ℕ) (cards : ℕ) (s : TableState) (r : HasMachine keys c
   read_unknown x n stands inner born is = unknown_by x stands inner born (unpacked n).state (unpacked n).card (is ∙ sym (packed_again n))
 
   -- upd
-  pub keeps_upd : (x : ℕ) → MayUpd v x → IsEvent keys cards s r id v (call.Upd x)
+  pub keeps_upd : (x : ℕ) → MayUpd v x → IsEvent plan s r id v (call.Upd x)
   keeps_upd x may =
       let n = get_or s.words (update_address x) 0 in
       let after = after_upd x (unpacked n) v in
-      let reads = (relies keys cards s r id v here).reads x (ap (λ (u : Worker). u.search.node) (mine_is keys cards s r id v here) ∙ may.stands) may.inner in
+      let reads = (relies plan s r id v here).reads x (ap (λ (u : Worker). u.search.node) (mine_is plan s r id v here) ∙ may.stands) may.inner in
       let is = update_listed x may.inner reads.born in
-      let happens : Happens cards act.Upd (mine keys cards s r id v here) Moved (becomes keys cards s r id v here r.words after) = record {
+      let happens : Happens plan.last_card act.Upd (mine plan s r id v here) Moved (becomes plan s r id v here r.words after) = record {
         owned = λ h. h;
         row = record {
           node = x;
@@ -218,8 +219,8 @@ module _ (keys : List ℕ) (cards : ℕ) (s : TableState) (r : HasMachine keys c
         };
         room = λ h. h;
       } in
-      is_event keys cards s r id v here (call.Upd x) act.Upd Moved r.words
-      (looks keys cards s r id v here act.Upd Moved after happens (λ c. refl)
+      is_event plan s r id v here (call.Upd x) act.Upd Moved r.words
+      (looks plan s r id v here act.Upd Moved after happens (λ c. refl)
       (found_entries x n v.told reads is (r.views id v here).entries)
       (record {
         here = λ y key at told. places_more x (unpacked n).state (unpacked n).card v.told (Key y key) ((r.views id v here).here y key at told);
@@ -230,17 +231,17 @@ module _ (keys : List ℕ) (cards : ℕ) (s : TableState) (r : HasMachine keys c
         least = refl;
         before = (r.views id v here).knew;
         knew = λ f k. facts_by_more (unpacked n).state (unpacked n).card v.worker.knows f ((r.views id v here).knew f k);
-        walk = λ op y busy at. (stands_born keys cards s r id v here y at, (r.views id v here).walk op y busy at);
+        walk = λ op y busy at. (stands_born plan s r id v here y at, (r.views id v here).walk op y busy at);
       })
       (update_address x))
       refl refl (names_card x n reads is, read_unknown x n may.stands may.inner reads.born is)
 
   -- down
-  pub keeps_down : (x : ℕ) (right : Bool) → MayGoDown v x right → IsEvent keys cards s r id v (call.Down x right)
+  pub keeps_down : (x : ℕ) (right : Bool) → MayGoDown v x right → IsEvent plan s r id v (call.Down x right)
   keeps_down x right may =
       let n = get_or s.words (child_address x right) 0 in
       let after = after_down x n v in
-      let born = stands_born keys cards s r id v here x may.stands in
+      let born = stands_born plan s r id v here x may.stands in
       let link = link_in n in
       let seen : Seen = record { node = x; word = may.word; tag = link.tag } in
       let side : right ≡ is_right r.words x (key_of may.op) =
@@ -251,7 +252,7 @@ module _ (keys : List ℕ) (cards : ℕ) (s : TableState) (r : HasMachine keys c
       let behind : seen_at x v.worker.search.read link.tag ≡ Some seen = ap (λ o. seen_at x o link.tag) may.read in
       let children = r.invariant.words.children x may.inner born in
       let born_there : Born r.stages link.node = subst (Born r.stages) is (children.born (is_right r.words x (key_of may.op))) in
-      let happens : Happens cards act.Down (mine keys cards s r id v here) Moved (becomes keys cards s r id v here r.words after) = record {
+      let happens : Happens plan.last_card act.Down (mine plan s r id v here) Moved (becomes plan s r id v here r.words after) = record {
         owned = λ h. h;
         row = record {
           op = may.op;
@@ -260,6 +261,7 @@ module _ (keys : List ℕ) (cards : ℕ) (s : TableState) (r : HasMachine keys c
           stands = may.stands;
           internal = may.inner;
           read = may.read;
+          no_card = may.no_card;
           tagged = tag_is;
           says = refl;
           gives = λ t. record {
@@ -271,9 +273,11 @@ module _ (keys : List ℕ) (cards : ℕ) (s : TableState) (r : HasMachine keys c
         };
         room = λ h. h;
       } in
-      is_event keys cards s r id v here (call.Down x right) act.Down Moved r.words
-      (looks keys cards s r id v here act.Down Moved after happens (λ c. refl)
-      (with_entry (EntryHolds r.words r.stages) (Met link.node) v.told born_there (r.views id v here).entries)
+      is_event plan s r id v here (call.Down x right) act.Down Moved r.words
+      (looks plan s r id v here act.Down Moved after happens (λ c. refl)
+      (below_holds r.words r.stages x link.node v.told born_there may.inner
+      (subst (λ y. rank r.words x < rank r.words y) is (children.rising (is_right r.words x (key_of may.op))))
+      (r.views id v here).entries)
       (record {
         here = λ y key at told. absurd (some_not_none told refl);
         hand = λ c has un. (has, un, refl, refl);
@@ -293,29 +297,29 @@ module _ (keys : List ℕ) (cards : ℕ) (s : TableState) (r : HasMachine keys c
             );
       })
       (child_address x right))
-      refl refl (subst (λ y. rank x < rank y) is (children.rising (is_right r.words x (key_of may.op))), born_in_table link.node born_there)
+      refl refl (born_in_table link.node born_there)
 
   -- next
-  pub keeps_next : IsEvent keys cards s r id v call.Next
+  pub keeps_next : IsEvent plan s r id v call.Next
   keeps_next =
       let n = get_or s.words 0 0 in
       let h = r.views id v here in
       let some_card = r.invariant.kinds.some in
       let room = r.invariant.limit in
       let is = r.next in
-      is_no_event keys cards s r id v here call.Next
-      (kept_told keys cards s r id v here (after_next n v) refl (record { entries = h.entries; here = h.here; hand = h.hand; read = λ m at. (let same : n ≡ m = same_Some n m at in omega arith); least = h.least; knew = h.knew; walk = h.walk }) 0)
+      is_no_event plan s r id v here call.Next
+      (kept_told plan s r id v here (after_next n v) refl (record { entries = h.entries; here = h.here; hand = h.hand; read = λ m at. (let same : n ≡ m = same_Some n m at in omega arith); least = h.least; knew = h.knew; walk = h.walk }) 0)
       refl refl (omega arith, omega arith, (let low = h.least in omega arith))
 
   -- key_of
-  pub keeps_key_of : (x : ℕ) → IsTold v (Met x) → IsEvent keys cards s r id v (call.KeyOf x)
+  pub keeps_key_of : (x : ℕ) → IsTold v (Met x) → IsEvent plan s r id v (call.KeyOf x)
   keeps_key_of x met =
       let n = get_or s.words (key_address x) 0 in
       let h = r.views id v here in
       let born = h.entries (Met x) met in
       let is = key_listed x born in
-      is_no_event keys cards s r id v here (call.KeyOf x)
-      (kept_told keys cards s r id v here (after_key_of x n v) refl (record {
+      is_no_event plan s r id v here (call.KeyOf x)
+      (kept_told plan s r id v here (after_key_of x n v) refl (record {
         entries = with_entry (EntryHolds r.words r.stages) (Key x n) v.told (born, is) h.entries;
         here = λ y key at told. tells n y key at (is_this v.worker.search.node x) refl told (h.here y key at);
         hand = h.hand;
@@ -339,20 +343,20 @@ module _ (keys : List ℕ) (cards : ℕ) (s : TableState) (r : HasMachine keys c
         present = λ op busy stands outer owns.
             ap is_some (leaf_contents op x busy stands outer owns) ∙ (some_if (r.words.key x == key_of op) (r.words.value x) ∙ ap (λ k. k == key_of op) is);
         deep = λ op busy stands outer e.
-            let sound = mine_sound keys cards s r id v here in
+            let sound = mine_sound plan s r id v here in
             let real = sound.real (key_of op) (sound.owned op busy) in
             (sound.stands op x busy stands).deep outer (subst (λ z. z ≤ greatest_key) (sym (is ∙ e)) real);
       }
 
   -- value_of
-  pub keeps_value_of : (x : ℕ) → IsTold v (Met x) → IsLeaf x → IsEvent keys cards s r id v (call.ValueOf x)
+  pub keeps_value_of : (x : ℕ) → IsTold v (Met x) → IsLeaf x → IsEvent plan s r id v (call.ValueOf x)
   keeps_value_of x met outer =
       let n = get_or s.words (value_address x) 0 in
       let h = r.views id v here in
       let born = h.entries (Met x) met in
       let is = value_listed x outer born in
-      is_no_event keys cards s r id v here (call.ValueOf x)
-      (kept_told keys cards s r id v here (after_value_of x n v) refl (record {
+      is_no_event plan s r id v here (call.ValueOf x)
+      (kept_told plan s r id v here (after_value_of x n v) refl (record {
         entries = with_entry (EntryHolds r.words r.stages) (Value x n) v.told (born, is) h.entries;
         here = λ y key at told. earlier (Key y key) (Value x n) v.told (h.here y key at told);
         hand = h.hand;

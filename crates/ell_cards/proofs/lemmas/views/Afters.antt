@@ -18,8 +18,8 @@ after_value_of x value v = after (call.ValueOf x) value v
 abbrev pub after_info : ℕ → Field → ℕ → View → View
 after_info c f x v = after (call.Info c f) x v
 
-abbrev pub after_frozen_child : ℕ → Bool → ℕ → View → View
-after_frozen_child c right x v = after (call.FrozenChild c 0 right) x v
+abbrev pub after_frozen_child : ℕ → ℕ → Bool → ℕ → View → View
+after_frozen_child c p right x v = after (call.FrozenChild c p right) x v
 
 abbrev pub after_look : ℕ → View → View
 after_look child v = after call.Look child v

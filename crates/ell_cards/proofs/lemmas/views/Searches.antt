@@ -26,8 +26,8 @@ told_here (Some y) here x key e =
 
 -- update word and key were read where the pass stands, and it may go down
 pub may_go_down : (a b d : PassModel) (op : Op) (x : ℕ) (u : Update) (key k : ℕ) → Sees a b (after_upd x u a.view) → Sees b d (after_key_of x key b.view)
-    → k ≡ key_of op → Does a.view op → StandsAt a.view x → IsInternal x → MayGoDown d.view x (nat_le key k)
-may_go_down a b d op x u key k s s' same busy stands inner =
+    → k ≡ key_of op → Does a.view op → StandsAt a.view x → IsInternal x → a.view.worker.card ≡ None → MayGoDown d.view x (nat_le key k)
+may_go_down a b d op x u key k s s' same busy stands inner no_card =
     subst (λ (w : View). MayGoDown w x (nat_le key k))
     (sym (view_seen b d (after_key_of x key b.view) s' ∙ ap (after_key_of x key) (view_seen a b (after_upd x u a.view) s)))
     (record {
@@ -40,6 +40,7 @@ may_go_down a b d op x u key k s s' same busy stands inner =
       read = refl;
       told = told_here a.view.worker.search.node a.view.here x key stands;
       side = ap (nat_le key) same;
+      no_card = no_card;
     })
 
 -- the claim word was read where a search ended at a leaf, behind a parent that was read clean, and a claim may be made

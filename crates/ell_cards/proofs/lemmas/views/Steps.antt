@@ -1,4 +1,4 @@
-use Rattle.std.proofs.Common.{◌≡◌, ℕ, Bool, sym, ap, subst}
+use Rattle.std.proofs.Common.{◌+◌, ◌≤◌, arith, ◌≡◌, ℕ, Bool, sym, ap, subst}
 use Rattle.ell_layout.specs.declared.field.Field.{Field}
 use Rattle.ell_layout.specs.declared.field.Field.TheVariants as field
 use Rattle.ell_cards.specs.declared.view.Told.TheVariants.{Met, Key, Info, Frozen, Expects}
@@ -6,6 +6,9 @@ use Rattle.ell_cards.specs.declared.view.View.{View}
 use Rattle.ell_cards.specs.Models.{PassModel, Sees, Steps, latest, earlier, IsTold}
 use Rattle.ell_cards.proofs.lemmas.views.Afters.{after_key_of, after_info, after_frozen_child}
 use Rattle.ell_cards.specs.Guards.{NamesNode}
+use Rattle.ell_cards.specs.Depths.{depth_told, depth_of}
+use Rattle.ell_cards.specs.Changes.{depth_there}
+use Rattle.ell_cards.proofs.lemmas.views.Depths.{met_deep, met_there}
 use Rattle.ell_cards.proofs.lemmas.views.Entries.{info_latest, info_node, info_tag}
 use Rattle.ell_word.specs.Link.{link_in}
 use Rattle.ell_layout.specs.Cards.{says_by}
@@ -24,21 +27,30 @@ key_told old new x key s = subst (λ (w : View). IsTold w (Key x key)) (sym (vie
 
 -- so is a word of a card, and a node that it names is met
 pub info_told : (old new : PassModel) (c : ℕ) (f : Field) (x : ℕ) → Steps old new (after_info c f x old.view) → IsTold new.view (Info c f (says_by f x))
-info_told old new c f x s = subst (λ (w : View). IsTold w (Info c f (says_by f x))) (sym (view_after old new (after_info c f x old.view) s)) (info_latest c f x old.view.told)
+info_told old new c f x s = subst (λ (w : View). IsTold w (Info c f (says_by f x))) (sym (view_after old new (after_info c f x old.view) s)) (info_latest (depth_there old.view c f) c f x old.view.told)
 
 pub info_met : (old new : PassModel) (c : ℕ) (f : Field) (x : ℕ) → Steps old new (after_info c f x old.view) → NamesNode f → IsTold new.view (Met (says_by f x))
-info_met old new c f x s h = subst (λ (w : View). IsTold w (Met (says_by f x))) (sym (view_after old new (after_info c f x old.view) s)) (info_node c f x old.view.told h)
+info_met old new c f x s h = subst (λ (w : View). IsTold w (Met (says_by f x))) (sym (view_after old new (after_info c f x old.view) s)) (info_node (depth_there old.view c f) c f x old.view.told h)
 
 -- with the leaf's word the tag that the card expects is told
 pub tag_told : (old new : PassModel) (c x : ℕ) → Steps old new (after_info c field.L x old.view) → IsTold new.view (Expects c (link_in x).tag)
 tag_told old new c x s =
-    subst (λ (w : View). IsTold w (Expects c (link_in x).tag)) (sym (view_after old new (after_info c field.L x old.view) s)) (info_tag c x old.view.told)
+    subst (λ (w : View). IsTold w (Expects c (link_in x).tag)) (sym (view_after old new (after_info c field.L x old.view) s)) (info_tag (depth_there old.view c field.L) c x old.view.told)
 
 -- a child of a marked parent is told, and met
-pub frozen_told : (old new : PassModel) (c : ℕ) (right : Bool) (x : ℕ) → Steps old new (after_frozen_child c right x old.view) → IsTold new.view (Frozen c right (link_in x).node)
-frozen_told old new c right x s =
-    subst (λ (w : View). IsTold w (Frozen c right (link_in x).node)) (sym (view_after old new (after_frozen_child c right x old.view) s)) (latest _ _)
+pub frozen_told : (old new : PassModel) (c p : ℕ) (right : Bool) (x : ℕ) → Steps old new (after_frozen_child c p right x old.view) → IsTold new.view (Frozen c right (link_in x).node)
+frozen_told old new c p right x s =
+    subst (λ (w : View). IsTold w (Frozen c right (link_in x).node)) (sym (view_after old new (after_frozen_child c p right x old.view) s)) (latest _ _)
 
-pub frozen_met : (old new : PassModel) (c : ℕ) (right : Bool) (x : ℕ) → Steps old new (after_frozen_child c right x old.view) → IsTold new.view (Met (link_in x).node)
-frozen_met old new c right x s =
-    subst (λ (w : View). IsTold w (Met (link_in x).node)) (sym (view_after old new (after_frozen_child c right x old.view) s)) (earlier _ _ _ (latest _ _))
+pub frozen_met : (old new : PassModel) (c p : ℕ) (right : Bool) (x : ℕ) → Steps old new (after_frozen_child c p right x old.view) → IsTold new.view (Met (link_in x).node)
+frozen_met old new c p right x s =
+    subst (λ (w : View). IsTold w (Met (link_in x).node)) (sym (view_after old new (after_frozen_child c p right x old.view) s)) (earlier _ _ _ (met_there (depth_told old.view.told p + 1) (link_in x).node old.view.told))
+
+-- a card's node is as deep as a pass knows it to be
+pub info_deep : (old new : PassModel) (c : ℕ) (f : Field) (x : ℕ) → Steps old new (after_info c f x old.view) → depth_there old.view c f ≤ depth_of new.view (says_by f x)
+info_deep old new c f x s = subst (λ (w : View). depth_there old.view c f ≤ depth_of w (says_by f x)) (sym (view_after old new (after_info c f x old.view) s)) (by f)
+  where
+    by : (g : Field) → depth_there old.view c g ≤ depth_of (after_info c g x old.view) (says_by g x)
+    by field.P = met_deep (depth_there old.view c field.P) x old.view.told
+    by field.L = met_deep (depth_there old.view c field.L) (link_in x).node old.view.told
+    by _ = omega arith

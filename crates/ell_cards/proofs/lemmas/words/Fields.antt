@@ -27,6 +27,10 @@ module _ (words : List ℕ) (d : ℕ) (g : Field) (x : ℕ) where
   pub listed_next : get_or (set words (address d g) x) 0 0 ≡ get_or words 0 0
   listed_next = get_or-set_other words (address d g) 0 x 0 (omega arith)
 
+  -- and so does the word that says from where on the tree is flat
+  pub listed_flat : get_or (set words (address d g) x) 1 0 ≡ get_or words 1 0
+  listed_flat = get_or-set_other words (address d g) 1 x 0 (omega arith)
+
   -- a field of the same card
   pub listed_there : (f : Field) → address d g < length words
       → listed (set words (address d g) x) d f ≡ (if place g == place f then x else listed words d f)

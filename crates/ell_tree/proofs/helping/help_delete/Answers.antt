@@ -9,8 +9,7 @@ use Rattle.ell_tree.specs.Keeping.{KeepsAllButMet}
 use Rattle.ell_tree.proofs.lemmas.Keeping.{keeps_but_met_trans}
 use Rattle.ell_tree.proofs.lemmas.Meeting.{delete_ended_still, up_to_none, up_to_trans, up_to_end}
 use Rattle.ell_tree.proofs.helping.help_delete.Goals as goal
-use Rattle.ell_tree.proofs.lemmas.Levels.{level_rises, rank_within}
-use Rattle.ell_tree.specs.Levels.{level}
+use Rattle.ell_cards.specs.Depths.{depth_of}
 
 pub loop-next-init : goal.loop-next-init
 loop-next-init g c = record {
@@ -35,23 +34,23 @@ loop-next-preserved g c =
     record {
       same = i.same;
       flag = h.2;
-      down = omega (arith, i.down, h.3);
-      ended = inr (still_ended c.args.flag c.loop-next.flag c.loop-next.pass c.help_one_delete.new.pass 4 h.0 i.ended (inr h.4));
+      down = omega (arith, i.down, h.4);
+      ended = inr (still_ended c.args.flag c.loop-next.flag c.loop-next.pass c.help_one_delete.new.pass 4 h.0 i.ended (inr h.5));
       meets = up_to_trans c.loop-next.flag.card c.in-Behind.next.card c.args.pass.now.view c.loop-next.pass.view c.help_one_delete.new.pass.view i.meets h.1
-          (inr h.4);
-      keeps_but_met = keeps_but_met_trans c.args.pass.now c.loop-next.pass c.help_one_delete.new.pass (4 * (level c.loop-next.flag.grandparent - level c.args.flag.grandparent)) 4
-          (4 * (level c.in-Behind.next.grandparent - level c.args.flag.grandparent)) i.keeps_but_met h.0
-          (omega (arith, i.down, level_rises c.loop-next.flag.grandparent c.in-Behind.next.grandparent i.flag.node.inner h.2.node.inner h.3));
+          (inr h.5);
+      keeps_but_met = keeps_but_met_trans c.args.pass.now c.loop-next.pass c.help_one_delete.new.pass (4 * (depth_of c.loop-next.pass.view c.loop-next.flag.grandparent - depth_of c.args.pass.now.view c.args.flag.grandparent)) 4
+          (4 * (depth_of c.help_one_delete.new.pass.view c.in-Behind.next.grandparent - depth_of c.args.pass.now.view c.args.flag.grandparent)) i.keeps_but_met h.0
+          (omega (arith, i.down, h.4));
     }
 
 pub loop-next-smaller : goal.loop-next-smaller
 loop-next-smaller g c =
     let h = c.in-Behind.ensures in
-    omega (arith, h.3, rank_within c.args.table.now.plan.last_card c.in-Behind.next.grandparent h.2.node.there)
+    omega (arith, h.3, h.4)
 
 -- the last delete of a chain
 last_ends : (cards : ℕ) (flag : DeleteFlag) (old new : PassModel) (r : Ending) → HelpEnds cards flag old new r → ((next : DeleteFlag) → r ≡ Behind next → ⊥)
-    → KeepsAllButMet old new 12 × Meets old.view new.view × (level flag.grandparent + 1 ≤ cards) × IsDeleteEnded new.view flag.card
+    → KeepsAllButMet old new 12 × Meets old.view new.view × (depth_of old.view flag.grandparent + 1 ≤ cards) × IsDeleteEnded new.view flag.card
 last_ends cards flag old new Done h last = (h.0, h.1, h.2, inl h.3)
 last_ends cards flag old new Backed h last = (h.0, h.1, h.2, inr h.3)
 last_ends cards flag old new (Behind next) h last = absurd (last next refl)
@@ -62,8 +61,8 @@ returns g c =
     let new = c.help_one_delete.new.pass in
     let last = last_ends c.args.table.now.plan.last_card c.loop-next.flag c.loop-next.pass new c.help_one_delete.result c.help_one_delete.ensures c.in_default.not-Behind in
     record {
-      keeps_but_met = keeps_but_met_trans c.args.pass.now c.loop-next.pass new (4 * (level c.loop-next.flag.grandparent - level c.args.flag.grandparent)) 12
-          (chain_steps c.args.table.now.plan.last_card c.args.flag.grandparent) i.keeps_but_met last.0 (omega (arith, i.down, last.2));
+      keeps_but_met = keeps_but_met_trans c.args.pass.now c.loop-next.pass new (4 * (depth_of c.loop-next.pass.view c.loop-next.flag.grandparent - depth_of c.args.pass.now.view c.args.flag.grandparent)) 12
+          (chain_steps c.args.table.now.plan.last_card (depth_of c.args.pass.now.view c.args.flag.grandparent)) i.keeps_but_met last.0 (omega (arith, i.down, last.2));
       meets = up_to_end c.loop-next.flag.card c.args.pass.now.view c.loop-next.pass.view new.view i.meets last.1 last.3;
       ended = still_ended c.args.flag c.loop-next.flag c.loop-next.pass new 12 last.0 i.ended last.3;
     }

@@ -1,21 +1,20 @@
-use Rattle.std.proofs.Common.{◌⊎◌, ◌≡◌, ◌+◌, ◌*◌, ◌-◌, ◌≤◌}
+use Rattle.std.proofs.Common.{◌⊎◌, ◌≡◌, ◌*◌, ◌-◌, ◌≤◌}
 use Rattle.ell_tree.specs.Keeping.{KeepsAllButMet}
 use Rattle.ell_tree.specs.Helps.{IsFlag}
 use Rattle.ell_tree.specs.Hindrances.{IsDeleteEnded, MeetsUpTo}
 use Rattle.ell_tree.proofs.helping.help_delete.Given as goal
-use Rattle.ell_tree.specs.Levels.{level}
-use Rattle.ell_core.specs.tree.Rank.{rank}
+use Rattle.ell_cards.specs.Depths.{depth_of}
 
 -- the steps so far are four for each internal node that the chain went down; the first delete has ended once another is at hand
 abbrev pub invariant-loop-next : goal.invariant-loop-next
 invariant-loop-next g l = record {
   same : l.table ≡ l.fn.table;
   flag : IsFlag l.table.plan.last_card l.pass.view l.flag;
-  down : level l.fn.flag.grandparent ≤ level l.flag.grandparent;
+  down : depth_of l.fn.pass.view l.fn.flag.grandparent ≤ depth_of l.pass.view l.flag.grandparent;
   ended : (l.flag ≡ l.fn.flag) ⊎ IsDeleteEnded l.pass.view l.fn.flag.card;
   meets : MeetsUpTo l.flag.card l.fn.pass.view l.pass.view;
-  keeps_but_met : KeepsAllButMet l.fn.pass l.pass (4 * (level l.flag.grandparent - level l.fn.flag.grandparent));
+  keeps_but_met : KeepsAllButMet l.fn.pass l.pass (4 * (depth_of l.pass.view l.flag.grandparent - depth_of l.fn.pass.view l.fn.flag.grandparent));
 }
 
 abbrev pub decreases-loop-next : goal.decreases-loop-next
-decreases-loop-next g l = 4 * l.table.plan.last_card + 4 - rank l.flag.grandparent
+decreases-loop-next g l = l.table.plan.last_card - depth_of l.pass.view l.flag.grandparent

@@ -1,21 +1,20 @@
 use Rattle.std.proofs.Common.{◌≡◌, ◌+◌, ◌<◌, ◌≤◌, ◌++◌, ℕ, inl, ap, ◌∙◌, arith}
-use Rattle.ell_core.specs.tree.Rank.{rank}
+use Rattle.ell_cards.specs.Depths.{depth_of}
+use Rattle.ell_cards.proofs.lemmas.views.Depths.{depth_more, parent_deeper}
 use Rattle.ell_tree.specs.declared.helping.DeleteFlag.{DeleteFlag}
 use Rattle.ell_tree.specs.declared.helping.Ending.{Ending}
 use Rattle.ell_tree.specs.declared.helping.Ending.TheVariants.{Done, Backed, Behind}
 use Rattle.ell_tree.specs.Ledgers.{PassModel}
-use Rattle.ell_tree.specs.Levels.{level}
 use Rattle.ell_tree.specs.Helps.{DeleteEnds, HelpEnds}
 use Rattle.ell_tree.specs.Hindrances.{StillKnows}
 use Rattle.ell_tree.specs.Keeping.{KeepsAllButMet}
 use Rattle.ell_tree.proofs.lemmas.Keeping.{keeps_but_met_more, keeps_but_met_of, keeps_but_met_trans}
-use Rattle.ell_tree.proofs.lemmas.Levels.{level_rises, level_within}
 use Rattle.ell_tree.proofs.lemmas.Meeting.{meets_none, meets_trans}
 use Rattle.ell_tree.proofs.helping.help_one_delete.Goals as goal
 
 -- how a delete ends after words of its card were read, which say that its parent is below its grandparent
 help_ends : (last : ℕ) (flag : DeleteFlag) (p : ℕ) (a b d : PassModel) (r : Ending) → KeepsAllButMet a b 2 → b.view.hindrances ≡ a.view.hindrances
-    → StillKnows a.view b.view → level flag.grandparent + 1 ≤ last → rank flag.grandparent < rank p → DeleteEnds last flag.card p b d r → HelpEnds last flag a d r
+    → StillKnows a.view b.view → depth_of a.view flag.grandparent + 1 ≤ last → depth_of a.view flag.grandparent < depth_of b.view p → DeleteEnds last flag.card p b d r → HelpEnds last flag a d r
 help_ends last flag p a b d Done reads quiet still low deeper h = (
   keeps_but_met_trans a b d 2 8 12 reads h.0 (omega arith),
   meets_trans a.view b.view d.view (meets_none a.view b.view quiet still) h.1,
@@ -37,7 +36,8 @@ help_ends last flag p a b d (Behind next) reads quiet still low deeper h = (
     knows = λ f k. h.1.knows f (still f k);
   },
   h.3,
-  (let same = ap rank h.4 in omega arith),
+  low,
+  (let same = ap (depth_of d.view) h.4 in let more = depth_more b.view.told d.view.told h.0.keeps.view.told p in omega arith),
   h.2.knows,
 )
 
@@ -50,11 +50,12 @@ returns g c =
     let a = c.args.pass.now in
     let b = second.new.pass in
     let p = first.result in
-    let deeper : rank flag.grandparent < rank p = first.ensures.depth.0 (inl c.requires.flag.knows) flag.grandparent c.requires.flag.told in
-    let up = level_rises flag.grandparent p c.requires.flag.node.inner first.ensures.node.1 deeper in
-    let low = level_within last p first.ensures.node.0 in
+    let under = parent_deeper a.view flag.card flag.grandparent (inl c.requires.flag.knows) c.requires.flag.told in
+    let there = first.ensures.deeper in
+    let more = depth_more first.new.pass.view.told b.view.told second.ensures.keeps_all.keeps.view.told p in
+    let room = first.ensures.shallow.inner first.ensures.node.1 in
     help_ends last flag p a b c.finish_delete.new.pass c.finish_delete.result
     (keeps_but_met_more a first.new.pass b 1 1 2 (keeps_but_met_of a first.new.pass 1 first.ensures.keeps_all) second.ensures.keeps_all (omega arith))
     (second.ensures.keeps_all.hindrances ∙ first.ensures.keeps_all.hindrances)
     (λ f h. second.ensures.keeps_all.keeps.view.knows f (first.ensures.keeps_all.keeps.view.knows f h))
-    (omega arith) deeper c.finish_delete.ensures
+    (omega arith) (omega arith) c.finish_delete.ensures

@@ -55,7 +55,7 @@ finish_insert-requires-clause-insert g c =
     let ends = s.ensures.ends in
     let card = put_card s.new.pass.view c.take_card.new.pass.view c.in-Card.card c.args.op c.args.what place c.requires.puts
     (s.ensures.keeps_but_search.keeps.view.operation ∙ c.requires.root.busy) ends.at c.in-Card.ensures.claims.0 in
-    rw c.max-card_key.ensures
+    rw c.max-right_key.ensures
     rw c.min-left_key.ensures
     rw c.leaf_with-leaf.ensures
     (is_insert c.take_card.new.pass.view c.flag_insert.new.pass.view c.in-Card.card place c.flag_insert.ensures.keeps.view c.args.op c.args.what card

@@ -4,17 +4,16 @@ use Rattle.ell_word.specs.Node.{IsInternal}
 use Rattle.ell_layout.specs.Words.{IsLeaf}
 use Rattle.ell_cards.proofs.lemmas.views.Afters.{after_look, after_key_of, after_value_of}
 use Rattle.ell_tree.proofs.lemmas.Counts.{uncounted_one, uncounted_trans}
-use Rattle.ell_tree.proofs.lemmas.Looks.{comes_first, met_still, may_down, comes_down, found_none, only_none, found_some, only_some, one_none, one_some, key_only, reads_mine}
+use Rattle.ell_tree.proofs.lemmas.Looks.{comes_first, met_still, may_down, comes_down, down_deeper, found_none, only_none, found_some, only_some, one_none, one_some, key_only, reads_mine}
 use Rattle.ell_tree.proofs.lemmas.Links.{child_same}
 use Rattle.ell_tree.proofs.reading.walk.Goals as goal
-use Rattle.ell_tree.proofs.lemmas.Levels.{above_within, rank_within}
 
 pub loop-pass-init : goal.loop-pass-init
 loop-pass-init g c =
     let f = c.look-first in
     record {
       comes = comes_first c.args.table.now.plan.last_card c.args.pass.now f.new.pass c.args.key (linked f.result) f.result.node
-          (child_same c.args.table.now.plan.last_card f.result f.ensures.there c.facts_stay_inside.ensures.room) c.requires.real f.ensures.step f.ensures.greater f.ensures.there;
+          (child_same c.args.table.now.plan.last_card f.result f.ensures.there c.facts_stay_inside.ensures.room) c.requires.real f.ensures.step f.ensures.shallow f.ensures.there;
       uncounted = uncounted_one c.args.pass.now f.new.pass (after_look (linked f.result) c.args.pass.now.view) f.ensures.step refl;
     }
 
@@ -40,8 +39,13 @@ look_down-child-requires-clause-may g c =
 pub loop-pass-smaller : goal.loop-pass-smaller
 loop-pass-smaller g c =
     let d = c.look_down-child in
-    let deeper = d.ensures.greater in
-    let room = rank_within c.args.table.now.plan.last_card d.result.node d.ensures.there in
+    let l = c.loop-pass in
+    let k = c.key_of-node_key in
+    let inner : IsInternal l.node = search rules in
+    let room = l.invariant.comes.shallow.inner inner in
+    let says = child_same c.args.table.now.plan.last_card d.result d.ensures.there c.facts_stay_inside.ensures.room in
+    let deeper = down_deeper c.args.table.now.plan.last_card c.args.pass.now l.pass k.new.pass c.args.key l.node k.result l.invariant.comes k.ensures.step
+    d.new.pass (linked d.result) d.result.node says d.ensures.step in
     omega arith
 
 pub loop-pass-preserved : goal.loop-pass-preserved
@@ -52,7 +56,7 @@ loop-pass-preserved g c =
     let inner : IsInternal l.node = search rules in
     record {
       comes = comes_down c.args.table.now.plan.last_card c.args.pass.now l.pass k.new.pass c.args.key l.node k.result l.invariant.comes k.ensures.step
-          d.new.pass (linked d.result) d.result.node (child_same c.args.table.now.plan.last_card d.result d.ensures.there c.facts_stay_inside.ensures.room) d.ensures.step inner d.ensures.greater d.ensures.there;
+          d.new.pass (linked d.result) d.result.node (child_same c.args.table.now.plan.last_card d.result d.ensures.there c.facts_stay_inside.ensures.room) d.ensures.step inner d.ensures.shallow d.ensures.there;
       uncounted = uncounted_trans c.args.pass.now l.pass d.new.pass l.steps 2 l.invariant.uncounted
           (uncounted_trans l.pass k.new.pass d.new.pass 1 1 (uncounted_one l.pass k.new.pass (after_key_of l.node k.result l.pass.view) k.ensures.step refl)
           (uncounted_one k.new.pass d.new.pass _ d.ensures.step refl));
@@ -165,16 +169,16 @@ pub overflow_add-result : goal.overflow_add-result
 overflow_add-result g c =
     let i = c.loop-pass.invariant in
     let room = c.facts_stay_inside.ensures.room in
-    omega (arith, i.uncounted.made, i.comes.only.made, i.comes.few, above_within c.args.table.now.plan.last_card c.loop-pass.node i.comes.there, room)
+    omega (arith, i.uncounted.made, i.comes.only.made, i.comes.few, i.comes.shallow.any, room)
 
 pub overflow_add-result-2 : goal.overflow_add-result-2
 overflow_add-result-2 g c =
     let i = c.loop-pass.invariant in
     let room = c.facts_stay_inside.ensures.room in
-    omega (arith, i.uncounted.made, i.comes.only.made, i.comes.few, above_within c.args.table.now.plan.last_card c.loop-pass.node i.comes.there, room)
+    omega (arith, i.uncounted.made, i.comes.only.made, i.comes.few, i.comes.shallow.any, room)
 
 pub overflow_add-steps : goal.overflow_add-steps
 overflow_add-steps g c =
     let i = c.loop-pass.invariant in
     let room = c.facts_stay_inside.ensures.room in
-    omega (arith, i.uncounted.made, i.comes.only.made, i.comes.few, above_within c.args.table.now.plan.last_card c.loop-pass.node i.comes.there, room)
+    omega (arith, i.uncounted.made, i.comes.only.made, i.comes.few, i.comes.shallow.any, room)

@@ -1,8 +1,8 @@
-use Rattle.std.proofs.Common.{◌+◌, ◌*◌, ◌-◌}
+use Rattle.std.proofs.Common.{◌+◌, ◌-◌}
 use Rattle.ell_tree.specs.Counts.{HasUncounted}
 use Rattle.ell_tree.proofs.lemmas.Looks.{Comes}
 use Rattle.ell_tree.proofs.reading.walk.Given as goal
-use Rattle.ell_core.specs.tree.Rank.{rank}
+use Rattle.ell_cards.specs.Depths.{depth_of}
 
 abbrev pub invariant-loop-pass : goal.invariant-loop-pass
 invariant-loop-pass g l = record {
@@ -11,4 +11,4 @@ invariant-loop-pass g l = record {
 }
 
 abbrev pub decreases-loop-pass : goal.decreases-loop-pass
-decreases-loop-pass g l = 4 * l.table.plan.last_card + 4 - rank l.node
+decreases-loop-pass g l = l.table.plan.last_card + 2 - depth_of l.pass.view l.node

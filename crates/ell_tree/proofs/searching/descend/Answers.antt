@@ -1,7 +1,7 @@
 use Rattle.std.proofs.Common.{refl}
 use Rattle.ell_cards.specs.declared.view.Told.TheVariants.{Met}
 use Rattle.ell_cards.proofs.lemmas.views.Searches.{may_go_down}
-use Rattle.ell_tree.proofs.lemmas.Searches.{upd_seeks, descend_seeks, descend_uncounted, descend_search, descend_met, descend_passed, descend_unknown}
+use Rattle.ell_tree.proofs.lemmas.Searches.{upd_seeks, descend_seeks, descend_uncounted, descend_search, descend_met, descend_passed, descend_unknown, descend_deeper}
 use Rattle.ell_tree.proofs.searching.descend.Goals as goal
 
 pub key_of-node_key-requires-clause-met : goal.key_of-node_key-requires-clause-met
@@ -12,7 +12,7 @@ key_of-node_key-requires-clause-met g c =
 pub down-child-requires-clause-may : goal.down-child-requires-clause-may
 down-child-requires-clause-may g c =
     may_go_down c.args.pass.now c.upd-update.new.pass c.key_of-node_key.new.pass c.args.op c.args.node c.upd-update.result c.key_of-node_key.result c.key.result
-    c.upd-update.ensures.step c.key_of-node_key.ensures.step c.key.ensures c.requires.busy c.requires.stands c.requires.node.inner
+    c.upd-update.ensures.step c.key_of-node_key.ensures.step c.key.ensures c.requires.busy c.requires.stands c.requires.node.inner c.requires.no_card
 
 pub returns : goal.returns
 returns g c =
@@ -32,7 +32,8 @@ returns g c =
       keeps_but_search = descend_seeks a b d e x u key l read asked gone;
       uncounted = descend_uncounted a b d e x u key l read asked gone;
       here = refl;
-      deeper = c.down-child.ensures.greater;
+      deeper = descend_deeper a b d e x u key l read asked gone small;
+      shallow = c.down-child.ensures.shallow;
       there = c.down-child.ensures.there;
       search = descend_search a b d e x u key l read asked gone small;
       met = descend_met a b d e x u key l read asked gone small;

@@ -12,9 +12,9 @@ returns g c =
     let f = c.frozen_child-child in
     let says = child_same c.args.table.now.plan.last_card f.result f.ensures.there c.facts_stay_inside.ensures.room in
     record {
-      keeps_all = child_walks c.args.pass.now f.new.pass c.args.card c.args.right (linked f.result) f.ensures.step;
+      keeps_all = child_walks c.args.pass.now f.new.pass c.args.card c.args.parent c.args.right (linked f.result) f.ensures.step;
       told = subst (λ x. IsTold f.new.pass.view (Frozen c.args.card c.args.right x)) says
-          (frozen_told c.args.pass.now f.new.pass c.args.card c.args.right (linked f.result) f.ensures.step);
+          (frozen_told c.args.pass.now f.new.pass c.args.card c.args.parent c.args.right (linked f.result) f.ensures.step);
       met = subst (λ x. IsTold f.new.pass.view (Met x)) says
-          (frozen_met c.args.pass.now f.new.pass c.args.card c.args.right (linked f.result) f.ensures.step);
+          (frozen_met c.args.pass.now f.new.pass c.args.card c.args.parent c.args.right (linked f.result) f.ensures.step);
     }

@@ -1,4 +1,4 @@
-use Rattle.ell_cards.proofs.lemmas.views.Steps.{info_told, info_met}
+use Rattle.ell_cards.proofs.lemmas.views.Steps.{info_told, info_met, info_deep}
 use Rattle.ell_tree.proofs.lemmas.Reading.{info_walks}
 use Rattle.ell_tree.proofs.steps.read_info.Goals as goal
 
@@ -8,5 +8,6 @@ returns g c = record {
   told = info_told c.args.pass.now c.info.new.pass c.args.card c.args.field c.info.result c.info.ensures.step;
   met = info_met c.args.pass.now c.info.new.pass c.args.card c.args.field c.info.result c.info.ensures.step;
   node = c.info.ensures.node;
-  depth = c.info.ensures.depth;
+  shallow = c.info.ensures.shallow;
+  deeper = info_deep c.args.pass.now c.info.new.pass c.args.card c.args.field c.info.result c.info.ensures.step;
 }

@@ -28,3 +28,6 @@ returns-clause-fixed g c = c.load_as.ensures.told.fixed
 
 pub returns-clause-values : goal.returns-clause-values
 returns-clause-values g c = c.load_as.ensures.told.values
+
+pub returns-clause-named : goal.returns-clause-named
+returns-clause-named g c = c.load_as.ensures.told.named

@@ -8,19 +8,18 @@ use Rattle.ell_cards.specs.declared.view.View.{View}
 use Rattle.ell_tree.specs.Cursors.{AreKept, FindsAbout}
 use Rattle.ell_tree.specs.Looks.{stretch_steps}
 use Rattle.ell_tree.proofs.lemmas.Counts.{counted_all, uncounted_none, uncounted_one, uncounted_trans}
-use Rattle.ell_tree.proofs.lemmas.Cursors.{GoesDown, all_on, keeps_first, goes_down, keeps_found, on_counted, key_on, kept_still, may_go_down, one_kept, stands_still}
+use Rattle.ell_tree.proofs.lemmas.Cursors.{GoesDown, all_on, keeps_first, goes_down, child_deeper, keeps_found, on_counted, key_on, kept_still, may_go_down, one_kept, stands_still}
 use Rattle.ell_tree.proofs.lemmas.Links.{child_same}
 use Rattle.ell_tree.proofs.cursor.Cursor.about.Goals as goal
 use Rattle.ell_tree.proofs.cursor.Cursor.about.Goals.{then-not-right, else-not-right}
-use Rattle.ell_tree.proofs.lemmas.Levels.{above_within, rank_within}
-use Rattle.ell_core.specs.tree.Rank.{rank}
+use Rattle.ell_cards.specs.Depths.{depth_of}
 
 pub loop-pass-init : goal.loop-pass-init
 loop-pass-init g c =
     let s = c.start-here in
     record {
       keeps = keeps_first c.args.table.now.plan.last_card c.args.pass.now c.args.key s.result c.args.self.now s.new.self c.requires.kept s.ensures.among s.ensures.from s.ensures.upto
-          s.ensures.first s.ensures.kept;
+          s.ensures.first s.ensures.kept c.facts_stay_inside.ensures.shallow;
       uncounted = uncounted_none c.args.pass.now;
     }
 
@@ -49,7 +48,7 @@ loop-pass-preserved g c =
     record {
       keeps = subst (λ h. GoesDown cards c.args.pass.now d.new.pass c.args.key h c.if-not-right.self) (sym c.down-here.ensures)
           (goes_down cards c.args.pass.now l.pass k.new.pass c.args.key l.here l.self k.result l.invariant.keeps k.ensures.step d.new.pass (nat_le k.result c.args.key)
-          (linked d.result) d.result.node c.if-not-right.self (child_same cards d.result d.ensures.there c.facts_stay_inside.ensures.room) d.ensures.step inner d.ensures.greater d.ensures.there refl kept);
+          (linked d.result) d.result.node c.if-not-right.self (child_same cards d.result d.ensures.there c.facts_stay_inside.ensures.room) d.ensures.step inner d.ensures.below d.ensures.shallow d.ensures.there refl kept);
       uncounted = uncounted_trans c.args.pass.now l.pass d.new.pass l.steps 2 l.invariant.uncounted
           (uncounted_trans l.pass k.new.pass d.new.pass 1 1 (uncounted_one l.pass k.new.pass _ k.ensures.step refl) (uncounted_one k.new.pass d.new.pass _ d.ensures.step refl));
     }
@@ -57,9 +56,14 @@ loop-pass-preserved g c =
 pub loop-pass-smaller : goal.loop-pass-smaller
 loop-pass-smaller g c =
     let d = c.look_down-child in
-    let deeper = d.ensures.greater in
-    let room = rank_within c.args.table.now.plan.last_card d.result.node d.ensures.there in
-    let is = ap (λ (h : Glance). rank h.node) c.down-here.ensures in
+    let l = c.loop-pass in
+    let k = c.key_of-node_key in
+    let cards = c.args.table.now.plan.last_card in
+    let inner : IsInternal l.here.node = search rules in
+    let room = l.invariant.keeps.shallow.inner inner in
+    let deeper = child_deeper cards c.args.pass.now l.pass k.new.pass c.args.key l.here l.self k.result l.invariant.keeps k.ensures.step d.new.pass (nat_le k.result c.args.key)
+    (linked d.result) d.result.node (child_same cards d.result d.ensures.there c.facts_stay_inside.ensures.room) d.ensures.step in
+    let is = ap (λ (h : Glance). depth_of d.new.pass.view h.node) c.down-here.ensures in
     omega arith
 
 pub key_of-node_key-requires-clause-own : goal.key_of-node_key-requires-clause-own
@@ -95,10 +99,10 @@ pub overflow_add-steps-2 : goal.overflow_add-steps-2
 overflow_add-steps-2 g c =
     let i = c.loop-pass.invariant in
     let room = c.facts_stay_inside.ensures.room in
-    omega (arith, i.uncounted.made, i.keeps.on.only.made, i.keeps.few, above_within c.args.table.now.plan.last_card c.loop-pass.here.node i.keeps.stands.there, c.found_at-at_the_leaf.ensures.few, room)
+    omega (arith, i.uncounted.made, i.keeps.on.only.made, i.keeps.few, i.keeps.shallow.any, c.found_at-at_the_leaf.ensures.few, room)
 
 pub overflow_add-steps : goal.overflow_add-steps
 overflow_add-steps g c =
     let i = c.loop-pass.invariant in
     let room = c.facts_stay_inside.ensures.room in
-    omega (arith, i.uncounted.made, i.keeps.on.only.made, i.keeps.few, above_within c.args.table.now.plan.last_card c.loop-pass.here.node i.keeps.stands.there, room)
+    omega (arith, i.uncounted.made, i.keeps.on.only.made, i.keeps.few, i.keeps.shallow.any, room)

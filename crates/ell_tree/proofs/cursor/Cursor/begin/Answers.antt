@@ -19,4 +19,4 @@ returns-clause-kept g c =
     begin_kept cards c.count.new.self.view _ _ refl refl refl refl
     (subst (λ (v : View). MayGoOnFrom cards v (record { node = l.result.node; low = 0; high = greatest_key + 1 })) (sym (ap (λ (m : PassModel). m.view) c.count.ensures))
     (first_kept cards c.args.pass.now l.new.pass (linked l.result) l.result.node (child_same cards l.result l.ensures.there c.facts_stay_inside.ensures.room)
-    l.ensures.step l.ensures.greater l.ensures.there))
+    l.ensures.step l.ensures.below l.ensures.there))
