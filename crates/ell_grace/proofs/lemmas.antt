@@ -1,0 +1,12 @@
+-- What was taken out of the tree is out of it, and one card took it.
+pub mod outs
+-- What was not gone when an operation began.
+pub mod since
+-- So it is in every run.
+pub mod Runs
+-- Grace periods.
+pub mod Grace
+-- The premises of the laws can be met.
+pub mod Premises
+-- A run in which the node that an edge insert names is gone.
+pub mod edge

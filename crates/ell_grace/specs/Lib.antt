@@ -1,0 +1,16 @@
+-- What was taken out of the tree, and what is gone for good.
+pub mod Gone
+-- What cards name that had not ended at an earlier state.
+pub mod Cards
+-- What a worker comes to know in one operation.
+pub mod Operations
+-- What a reader comes to, who only loads.
+pub mod Looks
+-- An insert's card may name a node that is gone.
+pub mod Edges
+-- The state that grace periods are about, and its steps.
+pub mod Grace
+-- What its steps keep, and what was gone when a slot is taken.
+pub mod Periods
+-- The premises of the laws can be met.
+pub mod Premises

@@ -1,0 +1,50 @@
+//! Laws of grace periods. Each is the contract of a function that does nothing.
+ghost use Rattle.ell_grace.specs.Gone.{EveryStateHasOuts};
+ghost use Rattle.ell_grace.specs.Operations.{OperationsMeetNothingGone};
+ghost use Rattle.ell_grace.specs.Looks.{LooksMeetNothingGone};
+ghost use Rattle.ell_grace.specs.Edges.{EdgeNodeIsGone};
+ghost use Rattle.ell_grace.specs.Periods.{GraceStarts, GraceGoesOn, TakenCardsWereGone};
+ghost use Rattle.ell_grace.specs.Premises.{BeginsWhenGone, TakesWhenBusy};
+
+/// A node is gone for good once a card that took it out of the tree has ended. A worker that begins an operation at the root
+/// and goes on with it, and acts only for cards that had not ended when it began, comes to know no node that was gone then,
+/// and of no card that had ended then, in every run.
+pub fn operations_meet_nothing_gone()
+    // In every state of every run what was taken out is not in the tree, and one card has taken it out. While a delete that
+    // has cut has its flag, the sibling of its leaf stands under the grandparent.
+    ensures outs { EveryStateHasOuts }
+    // In every run in which a worker begins at the root and goes on with one operation: it comes to no node that was gone
+    // when it began, and none lies on its walk; it learns of no card that had ended then; and where such a card goes was not
+    // gone then, but for the internal node above which an insert had put its own.
+    ensures operations { OperationsMeetNothingGone }
+    // No look from node 0 comes to a node that was gone when it began.
+    ensures looks { LooksMeetNothingGone }
+{}
+
+/// Why the law leaves out the internal node above which an insert has put its own: that node is in the tree still, and a delete
+/// may take it out while the insert goes on.
+pub fn edge_nodes_may_be_gone()
+    // There is a state of a run in which the node that an insert's card names is gone, although the card has won its flag and
+    // has not ended.
+    ensures { EdgeNodeIsGone }
+{}
+
+/// Grace periods: whoever takes the slot of a card that was set free, each pass that is in an operation began that when the
+/// card was gone.
+pub fn taken_cards_were_gone()
+    // A state in which nothing has begun has what the protocol rests on.
+    ensures starts { GraceStarts }
+    // Each step of the protocol keeps it.
+    ensures steps { GraceGoesOn }
+    // Where it holds, and a free card's stamp is below a safe number, each pass that is in an operation began that when the
+    // card was gone.
+    ensures taken { TakenCardsWereGone }
+{}
+
+/// The premises of these laws can be met.
+pub fn grace_premises_can_be_met()
+    // There is a state of a run in which a worker begins at the root when a node is gone.
+    ensures begins { BeginsWhenGone }
+    // There is a state of the protocol in which a pass may take the slot of a free card while a pass is in an operation.
+    ensures takes { TakesWhenBusy 1 }
+{}

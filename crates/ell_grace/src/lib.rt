@@ -1,0 +1,11 @@
+//! Laws of grace periods over the abstract machine: when the cards of nodes that were taken out of the tree may be used anew.
+//! What an operation comes to know was not gone when it began; and a card whose slot is taken was gone when each operation
+//! began that goes on.
+#![tactic(auto)]
+
+mod laws;
+
+pub use laws::{
+    edge_nodes_may_be_gone, grace_premises_can_be_met, operations_meet_nothing_gone,
+    taken_cards_were_gone,
+};
