@@ -1,4 +1,4 @@
--- What is known of the ranks of nodes.
+-- What is known of the ranks and the levels of nodes.
 pub mod Ranks
 -- words of updates, of fields, and lists of keys
 pub mod words

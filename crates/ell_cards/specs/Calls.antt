@@ -129,7 +129,10 @@ after (call.KeyOf x) n v =
 after (call.ValueOf x) n v = record v { told = Value x n ∷ v.told; made = v.made + 1 }
 after (call.Info c f) n v = record v { told = told_info (depth_there v c f) c f n v.told; made = v.made + 1 }
 after (call.FrozenChild c p right) n v =
-    record v { told = Frozen c right (link_in n).node ∷ met_at (depth_told v.told p + 1) (link_in n).node v.told; made = v.made + 1 }
+    record v {
+      told = Frozen c right (link_in n).node ∷ met_at (depth_told v.told p + 1) (link_in n).node v.told;
+      made = v.made + 1;
+    }
 after call.Look n v = counted (record v {
   told = met_at (depth_told v.told 0 + 1) (link_in n).node v.told;
   glances = record { node = (link_in n).node; low = 0; high = greatest_key + 1 } ∷ [];

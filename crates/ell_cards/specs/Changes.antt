@@ -255,14 +255,15 @@ is_this (Some y) x = y == x
 abbrev pub knows_delete : List Fact → ℕ → Bool
 knows_delete facts c = known_of facts (fact.DFlagged c) || known_of facts (fact.Marked c)
 
--- the depth of a card's node, as far as a pass knows what is above it: a delete's parent is below its grandparent, and the
--- leaf below the parent
+-- the depth of a card's node, as far as a pass knows what is above it: a delete's parent is below its grandparent,
+-- and the leaf below the parent
 abbrev pub depth_there : View → ℕ → Field → ℕ
 depth_there v c P = if knows_delete v.worker.knows c then depth_under (tells_grandparent_of c) v.told v.told else 0
 depth_there v c L = depth_under (tells_parent_of c) v.told v.told
 depth_there v c _ = 0
 
--- what was told with a word of a card; a node of this depth is met, and the leaf's word has the tag that the card expects
+-- what was told with a word of a card; a node of this depth is met, and the leaf's word has the tag that the card
+-- expects
 abbrev pub told_info : ℕ → ℕ → Field → ℕ → List Told → List Told
 told_info depth c Gp x told = Info c Gp x ∷ Met x ∷ told
 told_info depth c P x told = Info c P x ∷ met_at depth x told

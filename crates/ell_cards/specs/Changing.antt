@@ -84,7 +84,8 @@ CallsHaveTheirPoint = (plan : TablePlan) (s : TableState) → HasMachine plan s
     → (seat : ℕ) (op : Op) (begun : TableState) (turns : List Turn)
     (s' : TableState) (said : Reply) → IsCalled plan.last_card s seat op begun turns s' said
     → SaysWhatWas plan.last_card op begun turns s' said
-    ⊎ ((said ≡ reply_of_change op) × ((c : ℕ) × HoldsAtEnd s' seat c × TakesEffect plan.last_card op c begun turns s'))
+    ⊎ ((said ≡ reply_of_change op)
+    × ((c : ℕ) × HoldsAtEnd s' seat c × TakesEffect plan.last_card op c begun turns s'))
 
 -- a map is what the tree of these words has: just its keys, with their values
 abbrev pub HasMap : Words → Contents → Type 0

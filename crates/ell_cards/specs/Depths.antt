@@ -7,7 +7,7 @@ use Rattle.ell_cards.specs.declared.view.Told.{Told}
 use Rattle.ell_cards.specs.declared.view.Told.TheVariants.{Met, Depth, Info}
 use Rattle.ell_cards.specs.declared.view.View.{View}
 
--- how deep a node is, as a pass was told: the most internal nodes by which a way led it there. The root's depth is 0
+-- how deep a node is, as a pass was told: the most internal nodes by which a way led it there, and 0 for the root
 abbrev pub depth_told : List Told → ℕ → ℕ
 depth_told [] x = 0
 depth_told (Depth y d ∷ told) x = if y == x then max d (depth_told told x) else depth_told told x
@@ -40,8 +40,8 @@ depth_under such told (e ∷ es) = max (depth_below told (such e)) (depth_under 
 abbrev pub most_depth : ℕ → ℕ → ℕ
 most_depth deepest x = deepest + (x % 4 + 3) / 4
 
--- the level of a node: no way comes by more internal nodes to it, as ranks rise along each, and so do cards in a tree that is
--- not flat
+-- the level of a node: no way comes by more internal nodes to it, as ranks rise along each, and so do cards in a tree
+-- that is not flat
 abbrev pub level : Words → ℕ → ℕ
 level w x = if w.flat_from == 0 then most_depth (card x) x else rank w x
 

@@ -25,10 +25,9 @@ use Rattle.ell_cards.specs.Models.{IsTold, Knows, KnewBefore, stored_at}
 use Rattle.ell_cards.specs.States.{TableState, seated}
 use Rattle.ell_word.specs.Node.{greatest_card}
 
--- what was told holds of the machine's words: a node that was met came into the tree, and has a level that a way to it may
--- have come by; a key, a value, or what a fixed
--- field of a claimed card says, with the tag that the card expects, is what was told; and so is a child of a parent that
--- stays marked
+-- what was told holds of the machine's words: a node that was met came into the tree, and a depth that was told of it is
+-- at most its level; a key, a value, or what a fixed field of a claimed card says, with the tag that the card expects, is
+-- what was told; and so is a child of a parent that stays marked
 abbrev pub EntryHolds : Words → Stages → Told → Type 0
 EntryHolds w stage (Met x) = Born stage x
 EntryHolds w stage (Depth x d) = Born stage x × (d ≤ level w x)
@@ -84,6 +83,7 @@ pub record HasMachine (plan : TablePlan) (s : TableState) : Type 0 where
   pub plain : words.flat_from ≡ 0
   pub settled : (c : ℕ) (f : Field) → waits (stages c) ≡ false → listed s.words c f ≡ table_word words c f
   pub views : (j : ℕ) (v : View) → get_elem? s.views j ≡ some v → ViewHolds s.words words stages v
-  pub owned : (j k : ℕ) (v : View) → get_elem? s.views j ≡ some v → WorkerOwns (worker_of v.worker) k → Contains plan.keys k
+  pub owned : (j k : ℕ) (v : View) → get_elem? s.views j ≡ some v → WorkerOwns (worker_of v.worker) k
+      → Contains plan.keys k
   pub listed : (j : ℕ) (v : View) (list : List ℕ) → get_elem? s.views j ≡ some v → v.worker.shared ≡ Some list
       → list ≡ plan.keys

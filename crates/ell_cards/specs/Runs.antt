@@ -94,5 +94,6 @@ abbrev pub RunsAreSchedules : Type 0
 RunsAreSchedules = (plan : TablePlan) (s : TableState) (r : HasMachine plan s) (turns : List Turn)
     (s' : TableState) (r' : HasMachine plan s')
     (run : TableRun plan.last_card s turns s') → AreCalls turns → TurnsAreLawful plan s r turns s' r' run
-    → Run (machine_of_table plan s r) (events_in plan.last_card s turns s' run) (shown_in plan.last_card s turns s' run)
+    → Run (machine_of_table plan s r) (events_in plan.last_card s turns s' run)
+    (shown_in plan.last_card s turns s' run)
     (machine_of_table plan s' r')

@@ -47,7 +47,8 @@ impl<A: Allocator + Copy> CardTable<A> {
         requires may { MayAsk pass.old.view card field }
         // It makes one step and counts it. The pass then knows exactly what this call tells.
         ensures step { Steps pass.old pass.new (after (call.Info card field) result pass.old.view) }
-        // A node that the card names is one of the table, and no deeper than such a node may be: grandparent, parent, leaf.
+        // A node that the card names is one of the table, and no deeper than such a node may be: grandparent, parent,
+        // leaf.
         ensures node { TellsNode self.now.plan.last_card field result }
         ensures shallow { IsShallow self.now.plan.last_card pass.new.view (says_by field result) }
     {
