@@ -22,15 +22,15 @@ pub record AnsweredInRun (plan : TablePlan) (s : TableState) (turns : List Turn)
   pub from : TableState
   pub begun : TableState
   pub at : TableState
-  pub led : TableRun plan.last_card s earlier from
-  pub called : IsCalled plan.last_card from seat op begun during at said
-  pub since : TableRun plan.last_card called.ended later s'
+  pub led : TableRun plan s earlier from
+  pub called : IsCalled plan from seat op begun during at said
+  pub since : TableRun plan called.ended later s'
   pub point : RepliesAsOneThread plan s seat op begun during at said
 
 -- so it is in every run of a table with this plan, from its start to a state in which a pass knows this
 abbrev pub IsAnsweredInRuns : TablePlan → View → Op → Reply → Type 0
 IsAnsweredInRuns plan v op said =
-    (s : TableState) → Starts plan s → (turns : List Turn) (s' : TableState) → TableRun plan.last_card s turns s'
+    (s : TableState) → Starts plan s → (turns : List Turn) (s' : TableState) → TableRun plan s turns s'
     → (seat : ℕ) → get_elem? s'.views seat ≡ some v → AnsweredInRun plan s turns s' seat op said
 
 -- what a pass answered last had its point, whoever may change the key, whatever turns of whatever passes came meanwhile

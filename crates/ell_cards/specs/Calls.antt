@@ -30,6 +30,7 @@ use Rattle.ell_cards.specs.Depths.{met_at, depth_told}
 use Rattle.ell_word.specs.declared.link.Link.{Link}
 use Rattle.ell_word.specs.Link.{linked, link_in}
 use Rattle.ell_core.specs.declared.view.Seen.{Seen}
+use Rattle.ell_cards.specs.Models.{TablePlan}
 
 -- the address of the update word of a node
 abbrev pub update_address : ℕ → ℕ
@@ -161,30 +162,30 @@ after (call.DUnflag c gp) n v = exchanged (if_won (n == dflag c) exchange.DUnfla
 after (call.Backtrack c gp) n v = exchanged (if_won (n == dflag c) exchange.Backtrack c) n (with_fact (fact.Backed c) v)
 
 -- what a call asks of what the pass knows
-abbrev pub May : ℕ → Call → View → Type 0
-May last (call.Begin op) v = MayBegin v op
-May last call.Again v = MayStop (worker_of v.worker)
-May last call.Leave v = MayStop (worker_of v.worker)
-May last (call.Answer said) v = MayAnswer v said
-May last (call.Upd x) v = MayRead v x
-May last (call.Down x right) v = MayGoDown v x right
-May last call.Next v = Unit {0}
-May last (call.KeyOf x) v = IsTold v (Met x)
-May last (call.ValueOf x) v = IsTold v (Met x) × IsLeaf x
-May last (call.Info c f) v = MayAsk v c f
-May last (call.FrozenChild c p right) v = KnowsPlace v (fact.Marked c) c field.P p
-May last call.Look v = IsFree v
-May last (call.LookDown from key right) v = MayLookDown v from key
-May last (call.Claim c) v = MayClaim v c × (c ≤ last)
-May last (call.Fill c f value) v = MayFill v c
-May last (call.IFlag c p from) v = MayIFlag v c p from
-May last (call.IChild c p l q right) v = MayIChild v c p l q right
-May last (call.IUnflag c p) v = KnowsPlace v (fact.IChanged c) c field.P p
-May last (call.DFlag c gp from) v = MayDFlag v c gp from
-May last (call.Mark c p was) v = MayMark v c p was
-May last (call.DChild c gp p s right) v = MayDChild v c gp p s right
-May last (call.DUnflag c gp) v = KnowsPlace v (fact.Cut c) c field.Gp gp
-May last (call.Backtrack c gp) v = KnowsPlace v (fact.Unmarkable c) c field.Gp gp
+abbrev pub May : TablePlan → Call → View → Type 0
+May plan (call.Begin op) v = MayBegin v op
+May plan call.Again v = MayStop (worker_of v.worker)
+May plan call.Leave v = MayStop (worker_of v.worker)
+May plan (call.Answer said) v = MayAnswer v said
+May plan (call.Upd x) v = MayRead v x
+May plan (call.Down x right) v = MayGoDown v x right
+May plan call.Next v = Unit {0}
+May plan (call.KeyOf x) v = IsTold v (Met x)
+May plan (call.ValueOf x) v = IsTold v (Met x) × IsLeaf x
+May plan (call.Info c f) v = MayAsk v c f
+May plan (call.FrozenChild c p right) v = KnowsPlace v (fact.Marked c) c field.P p
+May plan call.Look v = IsFree v
+May plan (call.LookDown from key right) v = MayLookDown v from key
+May plan (call.Claim c) v = MayClaim v c × (c ≤ plan.last_card)
+May plan (call.Fill c f value) v = MayFill v c
+May plan (call.IFlag c p from) v = MayIFlag v c p from
+May plan (call.IChild c p l q right) v = MayIChild v c p l q right
+May plan (call.IUnflag c p) v = KnowsPlace v (fact.IChanged c) c field.P p
+May plan (call.DFlag c gp from) v = MayDFlag v c gp from
+May plan (call.Mark c p was) v = MayMark v c p was
+May plan (call.DChild c gp p s right) v = MayDChild v c gp p s right
+May plan (call.DUnflag c gp) v = KnowsPlace v (fact.Cut c) c field.Gp gp
+May plan (call.Backtrack c gp) v = KnowsPlace v (fact.Unmarkable c) c field.Gp gp
 
 -- the act of the machine that a call which found this word is, or none
 abbrev pub act_of : Call → ℕ → Option Act
@@ -243,21 +244,21 @@ TellsNode last field.L x = InTable last (link_in x).node
 TellsNode last _ x = Unit {0}
 
 -- what a call tells of the word that it found
-abbrev pub Tells : ℕ → Call → View → ℕ → Type 0
-Tells last (call.Answer said) v n =
+abbrev pub Tells : TablePlan → Call → View → ℕ → Type 0
+Tells plan (call.Answer said) v n =
     AnswersAsMap (worker_of v.worker) (ledger_of (after (call.Answer said) n v).worker.ledger) said
-    × (v.next_at_least ≤ last + 1)
-Tells last call.Leave v n = v.next_at_least ≤ last + 1
-Tells last (call.Upd x) v n = ((unpacked n).card ≤ last) × EndWasUnknown v (unpacked n).state (unpacked n).card
-Tells last (call.Down x right) v n = InTable last (link_in n).node
-Tells last call.Next v n = (1 ≤ n) × (n ≤ last + 1) × (v.next_at_least ≤ n)
-Tells last (call.KeyOf x) v n = TellsLeaf v x n
-Tells last (call.ValueOf x) v n = TellsLedgerValue v x n
-Tells last (call.Info c f) v n = TellsNode last f n
-Tells last (call.FrozenChild c p right) v n = InTable last (link_in n).node
-Tells last call.Look v n = (0 < (link_in n).node) × InTable last (link_in n).node
-Tells last (call.LookDown from key right) v n = (0 < (link_in n).node) × InTable last (link_in n).node
-Tells last (call.IFlag c p from) v n = (unpacked n).card ≤ last
-Tells last (call.DFlag c gp from) v n = (unpacked n).card ≤ last
-Tells last (call.Mark c p was) v n = (unpacked n).card ≤ last
-Tells last _ v n = Unit {0}
+    × (v.next_at_least ≤ plan.last_card + 1)
+Tells plan call.Leave v n = v.next_at_least ≤ plan.last_card + 1
+Tells plan (call.Upd x) v n = ((unpacked n).card ≤ plan.last_card) × EndWasUnknown v (unpacked n).state (unpacked n).card
+Tells plan (call.Down x right) v n = InTable plan.last_card (link_in n).node
+Tells plan call.Next v n = (1 ≤ n) × (n ≤ plan.last_card + 1) × (v.next_at_least ≤ n)
+Tells plan (call.KeyOf x) v n = TellsLeaf v x n
+Tells plan (call.ValueOf x) v n = TellsLedgerValue v x n
+Tells plan (call.Info c f) v n = TellsNode plan.last_card f n
+Tells plan (call.FrozenChild c p right) v n = InTable plan.last_card (link_in n).node
+Tells plan call.Look v n = (0 < (link_in n).node) × InTable plan.last_card (link_in n).node
+Tells plan (call.LookDown from key right) v n = (0 < (link_in n).node) × InTable plan.last_card (link_in n).node
+Tells plan (call.IFlag c p from) v n = (unpacked n).card ≤ plan.last_card
+Tells plan (call.DFlag c gp from) v n = (unpacked n).card ≤ plan.last_card
+Tells plan (call.Mark c p was) v n = (unpacked n).card ≤ plan.last_card
+Tells plan _ v n = Unit {0}

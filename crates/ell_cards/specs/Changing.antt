@@ -28,20 +28,20 @@ use Rattle.ell_cards.specs.Models.{TablePlan}
 
 -- a call of the pass in a seat: it begins an operation here, on a key of its own or on a shared one, begins no other in
 -- these turns of any passes, and answers at their end
-pub record IsCalled (last : ℕ) (s : TableState) (seat : ℕ) (op : Op) (begun : TableState) (turns : List Turn)
+pub record IsCalled (plan : TablePlan) (s : TableState) (seat : ℕ) (op : Op) (begun : TableState) (turns : List Turn)
     (s' : TableState) (said : Reply) : Type 0 where
   pub ended : TableState
-  pub begins : CallIsMade last s seat (call.Begin op) begun
-  pub run : TableRun last begun turns s'
+  pub begins : CallIsMade plan s seat (call.Begin op) begun
+  pub run : TableRun plan begun turns s'
   pub on : KeepOn seat turns
-  pub answers : CallIsMade last s' seat (call.Answer said) ended
+  pub answers : CallIsMade plan s' seat (call.Answer said) ended
 
 -- the answer is that on what the tree had of the key in one state of the call; no other is an insert's or a delete's no
-pub record SaysWhatWas (last : ℕ) (op : Op) (begun : TableState) (turns : List Turn) (s' : TableState)
+pub record SaysWhatWas (plan : TablePlan) (op : Op) (begun : TableState) (turns : List Turn) (s' : TableState)
     (said : Reply) : Type 0 where
   pub there : Option ℕ
   pub says : leaf_answer op there ≡ Some said
-  pub so : WasSo last begun turns s' (HasThere (key_of op) there)
+  pub so : WasSo plan begun turns s' (HasThere (key_of op) there)
 
 -- the win by which a card's operation changes the tree
 abbrev pub change_of : Op → List Exchange
@@ -59,15 +59,15 @@ FindsItsValue (Swap key was value) c w = Unit {0}
 
 -- in one turn of the call, of whatever pass, the child exchange of its own card was won, and changed the tree as the
 -- operation says
-pub record TakesEffect (last : ℕ) (op : Op) (c : ℕ) (begun : TableState) (turns : List Turn)
+pub record TakesEffect (plan : TablePlan) (op : Op) (c : ℕ) (begun : TableState) (turns : List Turn)
     (s' : TableState) : Type 0 where
   pub first : ℕ
   pub state : TableState
   pub turn : Turn
   pub next : TableState
-  pub before : TableRun last begun (take first turns) state
-  pub now : TableTurns last state turn next
-  pub after : TableRun last next (drop (suc first) turns) s'
+  pub before : TableRun plan begun (take first turns) state
+  pub now : TableTurns plan state turn next
+  pub after : TableRun plan next (drop (suc first) turns) s'
   pub at : drop first turns ≡ turn ∷ drop (suc first) turns
   pub own : turn_wins state turn c ≡ change_of op
   pub changes : MakesChange op (own_words state) (own_words next)
@@ -82,10 +82,10 @@ pub record HoldsAtEnd (s' : TableState) (seat c : ℕ) : Type 0 where
 abbrev pub CallsHaveTheirPoint : Type 0
 CallsHaveTheirPoint = (plan : TablePlan) (s : TableState) → HasMachine plan s
     → (seat : ℕ) (op : Op) (begun : TableState) (turns : List Turn)
-    (s' : TableState) (said : Reply) → IsCalled plan.last_card s seat op begun turns s' said
-    → SaysWhatWas plan.last_card op begun turns s' said
+    (s' : TableState) (said : Reply) → IsCalled plan s seat op begun turns s' said
+    → SaysWhatWas plan op begun turns s' said
     ⊎ ((said ≡ reply_of_change op)
-    × ((c : ℕ) × HoldsAtEnd s' seat c × TakesEffect plan.last_card op c begun turns s'))
+    × ((c : ℕ) × HoldsAtEnd s' seat c × TakesEffect plan op c begun turns s'))
 
 -- a map is what the tree of these words has: just its keys, with their values
 abbrev pub HasMap : Words → Contents → Type 0
@@ -98,7 +98,7 @@ Leaves op w = (there : Contents) → HasMap w there → (key : ℕ) → after op
 -- the point of a call is the next turn, in which its card's exchange is won, and the tree's map becomes the one after
 -- the operation; it is the card that the pass in the seat has in hand at the end, and a delete finds its key there with
 -- the card's value
-pub record ChangesNext (last seat : ℕ) (op : Op) (state : TableState) (turns : List Turn)
+pub record ChangesNext (plan : TablePlan) (seat : ℕ) (op : Op) (state : TableState) (turns : List Turn)
     (s' : TableState) : Type 0 where
   pub card : ℕ
   pub hand : HoldsAtEnd s' seat card
@@ -107,38 +107,38 @@ pub record ChangesNext (last seat : ℕ) (op : Op) (state : TableState) (turns :
   pub rest : List Turn
   pub next : TableState
   pub is : turns ≡ turn ∷ rest
-  pub now : TableTurns last state turn next
+  pub now : TableTurns plan state turn next
   pub own : turn_wins state turn card ≡ change_of op
   pub map : (there : Contents) → HasMap (own_words state) there → HasMap (own_words next) (after op there)
 
 -- a call answers as a map at one point of its span: where some first turns have led from its begin, its answer is the
 -- reply on the map that the tree is there; and the operation leaves that map, or the next turn makes it the map after
 -- the operation
-pub record AnswersAt (last seat : ℕ) (op : Op) (begun : TableState) (turns : List Turn) (s' : TableState)
+pub record AnswersAt (plan : TablePlan) (seat : ℕ) (op : Op) (begun : TableState) (turns : List Turn) (s' : TableState)
     (said : Reply) : Type 0 where
   pub first : ℕ
   pub state : TableState
-  pub before : TableRun last begun (take first turns) state
-  pub after : TableRun last state (drop first turns) s'
+  pub before : TableRun plan begun (take first turns) state
+  pub after : TableRun plan state (drop first turns) s'
   pub says : (there : Contents) → HasMap (own_words state) there → said ≡ reply_of op there
-  pub goes : Leaves op (own_words state) ⊎ ChangesNext last seat op state (drop first turns) s'
+  pub goes : Leaves op (own_words state) ⊎ ChangesNext plan seat op state (drop first turns) s'
 
 -- so does each call of each pass in each run, on a key of its own or on a shared one
 abbrev pub CallsAnswerAsAMap : Type 0
 CallsAnswerAsAMap = (plan : TablePlan) (s : TableState) → HasMachine plan s
     → (seat : ℕ) (op : Op) (begun : TableState) (turns : List Turn)
-    (s' : TableState) (said : Reply) → IsCalled plan.last_card s seat op begun turns s' said
-    → AnswersAt plan.last_card seat op begun turns s' said
+    (s' : TableState) (said : Reply) → IsCalled plan s seat op begun turns s' said
+    → AnswersAt plan seat op begun turns s' said
 
 -- a card that a pass has in hand in a state is in no other call's hand later: not in that of another pass whose call
 -- goes on, nor of a call that begins later
 pub record HasItAlone (plan : TablePlan) (s : TableState) (seat c : ℕ) : Type 0 where
-  pub beside : (other : ℕ) → other ≢ seat → (turns : List Turn) (s' : TableState) → TableRun plan.last_card s turns s'
+  pub beside : (other : ℕ) → other ≢ seat → (turns : List Turn) (s' : TableState) → TableRun plan s turns s'
       → KeepOn other turns → (u : View)
       → get_elem? s.views other ≡ some u → (w : View) → get_elem? s'.views other ≡ some w → w.worker.card ≢ Some c
-  pub later : (more : List Turn) (s2 : TableState) → TableRun plan.last_card s more s2
+  pub later : (more : List Turn) (s2 : TableState) → TableRun plan s more s2
       → (other : ℕ) (op : Op) (begun : TableState) (turns : List Turn) (s' : TableState) (said : Reply)
-      → IsCalled plan.last_card s2 other op begun turns s' said → (w : View) → get_elem? s'.views other ≡ some w
+      → IsCalled plan s2 other op begun turns s' said → (w : View) → get_elem? s'.views other ≡ some w
       → w.worker.card ≢ Some c
 
 -- so no two calls have one card, and each point that changes the tree is one call's
@@ -154,7 +154,7 @@ pub record IsAMap (s : TableState) : Type 0 where
 
 abbrev pub TreesAreMaps : Type 0
 TreesAreMaps = (plan : TablePlan) (s : TableState) → Starts plan s → (turns : List Turn) (s' : TableState)
-    → TableRun plan.last_card s turns s' → IsAMap s'
+    → TableRun plan s turns s' → IsAMap s'
 
 -- the operation by which a call changes the tree, if it does: a won ichild's insert or swap, a won dchild's delete
 abbrev pub effect_of : Call → Bool → Words → List Op
@@ -167,17 +167,17 @@ turn_effect s (Makes seat c) = effect_of c (is_won (atomic_of c) (found_by s c))
 turn_effect s _ = []
 
 -- those of a run, in their order
-abbrev pub run_effects : (last : ℕ) (s : TableState) (turns : List Turn) (s' : TableState) → TableRun last s turns s'
+abbrev pub run_effects : (plan : TablePlan) (s : TableState) (turns : List Turn) (s' : TableState) → TableRun plan s turns s'
     → List Op
-run_effects last s [] s' run = []
-run_effects last s (t ∷ ts) s' run = turn_effect s t ++ run_effects last run.0 ts s' run.2
+run_effects plan s [] s' run = []
+run_effects plan s (t ∷ ts) s' run = turn_effect s t ++ run_effects plan run.0 ts s' run.2
 
 -- wherever turns lead from a start, the tree is the map that one thread leaves which makes these operations in this
 -- order
 abbrev pub TreesAreOfOneThread : Type 0
 TreesAreOfOneThread = (plan : TablePlan) (s : TableState) → Starts plan s → (turns : List Turn) (s' : TableState)
-    (run : TableRun plan.last_card s turns s')
-    → HasMap (own_words s') (final (contents_of plan.start) (run_effects plan.last_card s turns s' run))
+    (run : TableRun plan s turns s')
+    → HasMap (own_words s') (final (contents_of plan.start) (run_effects plan s turns s' run))
 
 -- the point of a call in a run from a start: turns have led there from the start, some of them of the call's span; its
 -- answer is the reply of one thread that has made all operations by which the tree was changed till then, in their
@@ -186,17 +186,17 @@ pub record RepliesAsOneThread (plan : TablePlan) (opened : TableState) (seat : �
     (turns : List Turn) (s' : TableState) (said : Reply) : Type 0 where
   pub first : ℕ
   pub state : TableState
-  pub before : TableRun plan.last_card begun (take first turns) state
-  pub after : TableRun plan.last_card state (drop first turns) s'
+  pub before : TableRun plan begun (take first turns) state
+  pub after : TableRun plan state (drop first turns) s'
   pub all : List Turn
-  pub led : TableRun plan.last_card opened all state
-  pub says : said ≡ reply_of op (final (contents_of plan.start) (run_effects plan.last_card opened all state led))
-  pub goes : Leaves op (own_words state) ⊎ ChangesNext plan.last_card seat op state (drop first turns) s'
+  pub led : TableRun plan opened all state
+  pub says : said ≡ reply_of op (final (contents_of plan.start) (run_effects plan opened all state led))
+  pub goes : Leaves op (own_words state) ⊎ ChangesNext plan seat op state (drop first turns) s'
 
 -- so each call does in each run from a start
 abbrev pub CallsReplyAsOneThread : Type 0
 CallsReplyAsOneThread =
     (plan : TablePlan) (opened : TableState) → Starts plan opened → (earlier : List Turn) (s : TableState)
-    → TableRun plan.last_card opened earlier s
+    → TableRun plan opened earlier s
     → (seat : ℕ) (op : Op) (begun : TableState) (turns : List Turn) (s' : TableState) (said : Reply)
-    → IsCalled plan.last_card s seat op begun turns s' said → RepliesAsOneThread plan opened seat op begun turns s' said
+    → IsCalled plan s seat op begun turns s' said → RepliesAsOneThread plan opened seat op begun turns s' said

@@ -69,5 +69,5 @@ pub record HasHistory (start : Contents) (history : List Event) (s' : TableState
 -- so it is of each run from a start, by any passes in any order
 abbrev pub HistoriesAreLinearizable : Type 0
 HistoriesAreLinearizable = (plan : TablePlan) (opened : TableState) → Starts plan opened → (turns : List Turn)
-    (s' : TableState) → TableRun plan.last_card opened turns s'
+    (s' : TableState) → TableRun plan opened turns s'
     → HasHistory (contents_of plan.start) (history_of turns) s'

@@ -33,12 +33,12 @@ pub record IsEvent (plan : TablePlan) (s : TableState) (r : HasMachine plan s) (
   pub later : StagesLater r.stages kept.stages
   pub event : Becomes id (act_of c (found_by s c)) (said_of c (found_by s c)) (machine_of_table plan s r)
       (machine_of_table plan (state_after s id v c) kept)
-  pub tells : Tells plan.last_card c v (found_by s c)
+  pub tells : Tells plan c v (found_by s c)
 
 -- each step call is one event of the machine, or leaves it
 abbrev pub StepsAreEvents : Type 0
 StepsAreEvents = (plan : TablePlan) (s : TableState) (r : HasMachine plan s) (id : ℕ) (v : View) (c : Call)
-    → get_elem? s.views id ≡ some v → May plan.last_card c v → IsEvent plan s r id v c
+    → get_elem? s.views id ≡ some v → May plan c v → IsEvent plan s r id v c
 
 -- the state after a split has a machine again: the one before, after a split of that worker
 pub record SplitIsKept (plan : TablePlan) (s : TableState) (r : HasMachine plan s) (id : ℕ) (v : View)

@@ -19,26 +19,26 @@ pub record IsLaidDown (turns : List Turn) (seat begin end : ℕ) (op : Op) : Typ
   pub leaves : get_elem? turns end ≡ some (Makes seat call.Leave)
 
 -- no turn of a run changes the tree by the call that began in this one
-abbrev pub ChangesNothing : ℕ → TableState → List Turn → ℕ → Type 0
-ChangesNothing last s turns begin = (change : ℕ) (op : Op) → ¬ ChangesAt last s turns begin change op
+abbrev pub ChangesNothing : TablePlan → TableState → List Turn → ℕ → Type 0
+ChangesNothing plan s turns begin = (change : ℕ) (op : Op) → ¬ ChangesAt plan s turns begin change op
 
 -- so it is of each call that was laid down, before that and after it, in each run from a start
 abbrev pub LaidDownCallsChangeNothing : Type 0
 LaidDownCallsChangeNothing = (plan : TablePlan) (s : TableState) → Starts plan s → (turns : List Turn) (s' : TableState)
-    → TableRun plan.last_card s turns s'
-    → (seat begin end : ℕ) (op : Op) → IsLaidDown turns seat begin end op → ChangesNothing plan.last_card s turns begin
+    → TableRun plan s turns s'
+    → (seat begin end : ℕ) (op : Op) → IsLaidDown turns seat begin end op → ChangesNothing plan s turns begin
 
 -- the pass in a seat laid a call down in a run, and the call changes nothing
 pub record IsLaidDownInRun (plan : TablePlan) (s : TableState) (turns : List Turn) (seat : ℕ) (op : Op) : Type 0 where
   pub begin : ℕ
   pub end : ℕ
   pub laid : IsLaidDown turns seat begin end op
-  pub nothing : ChangesNothing plan.last_card s turns begin
+  pub nothing : ChangesNothing plan s turns begin
 
 -- so it is in every run of a table with this plan, from its start to a state in which a pass knows this
 abbrev pub IsLaidDownInRuns : TablePlan → View → Op → Type 0
 IsLaidDownInRuns plan v op =
-    (s : TableState) → Starts plan s → (turns : List Turn) (s' : TableState) → TableRun plan.last_card s turns s'
+    (s : TableState) → Starts plan s → (turns : List Turn) (s' : TableState) → TableRun plan s turns s'
     → (seat : ℕ) → get_elem? s'.views seat ≡ some v → IsLaidDownInRun plan s turns seat op
 
 -- what a pass laid down last changes nothing, whoever may change the key, whatever turns of whatever passes came

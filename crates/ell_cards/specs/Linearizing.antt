@@ -32,17 +32,17 @@ pub record IsAnswered (turns : List Turn) (begin end : ℕ) (op : Op) (said : Re
   pub answers : get_elem? turns end ≡ some (Makes seat (call.Answer said))
 
 -- after so many turns of a run the table is in this state, and this is its next turn
-pub record IsTurn (last : ℕ) (s : TableState) (turns : List Turn) (k : ℕ) (state : TableState)
+pub record IsTurn (plan : TablePlan) (s : TableState) (turns : List Turn) (k : ℕ) (state : TableState)
     (turn : Turn) : Type 0 where
-  pub led : TableRun last s (take k turns) state
+  pub led : TableRun plan s (take k turns) state
   pub at : get_elem? turns k ≡ some turn
 
 -- a turn of a run changes the tree by an operation: in it, by whichever pass, the child exchange of a card is won that
 -- a pass has in hand for that operation
-pub record ChangesBy (last : ℕ) (s : TableState) (turns : List Turn) (change : ℕ) (op : Op) : Type 0 where
+pub record ChangesBy (plan : TablePlan) (s : TableState) (turns : List Turn) (change : ℕ) (op : Op) : Type 0 where
   pub state : TableState
   pub turn : Turn
-  pub is : IsTurn last s turns change state turn
+  pub is : IsTurn plan s turns change state turn
   pub effect : turn_effect state turn ≡ op ∷ []
   pub card : ℕ
   pub own : turn_wins state turn card ≡ change_of op
@@ -50,8 +50,8 @@ pub record ChangesBy (last : ℕ) (s : TableState) (turns : List Turn) (change :
 
 -- a call that changes the tree, whether it has ended or not: in one turn a pass begins the operation, and while the
 -- pass goes on with it, a later one changes the tree by it, for the card that the pass has in hand
-pub record ChangesAt (last : ℕ) (s : TableState) (turns : List Turn) (begin change : ℕ) (op : Op) : Type 0 where
-  pub by : ChangesBy last s turns change op
+pub record ChangesAt (plan : TablePlan) (s : TableState) (turns : List Turn) (begin change : ℕ) (op : Op) : Type 0 where
+  pub by : ChangesBy plan s turns change op
   pub begins : get_elem? turns begin ≡ some (Makes by.work.seat (call.Begin op))
   pub later : begin < change
   pub on : KeepsOnBetween by.work.seat turns begin change
@@ -81,25 +81,25 @@ abbrev pub HasItem : List Item → Item → Type 0
 HasItem order item = (i : ℕ) × StandsIn order i item
 
 -- an item is a call that has changed the tree and has not ended, with the answer of a change
-pub record IsPending (last : ℕ) (s : TableState) (turns : List Turn) (item : Item) : Type 0 where
+pub record IsPending (plan : TablePlan) (s : TableState) (turns : List Turn) (item : Item) : Type 0 where
   pub change : ℕ
-  pub changes : ChangesAt last s turns item.begin change item.op
+  pub changes : ChangesAt plan s turns item.begin change item.op
   pub unended : (end : ℕ) (op : Op) (said : Reply) → ¬ IsAnswered turns item.begin end op said
   pub says : item.reply ≡ reply_of_change item.op
 
 -- an item may be in the sequence of a run: it is a call that has ended, with its answer, or such a one
-abbrev pub IsMade : ℕ → TableState → List Turn → Item → Type 0
-IsMade last s turns item =
-    ((end : ℕ) × IsAnswered turns item.begin end item.op item.reply) ⊎ IsPending last s turns item
+abbrev pub IsMade : TablePlan → TableState → List Turn → Item → Type 0
+IsMade plan s turns item =
+    ((end : ℕ) × IsAnswered turns item.begin end item.op item.reply) ⊎ IsPending plan s turns item
 
 -- which calls the sequence of a run has: each that has ended, with its answer; each that has changed the tree, with the
 -- answer of a change; no other; and each once
-pub record HasTheCalls (last : ℕ) (s : TableState) (turns : List Turn) (order : List Item) : Type 0 where
+pub record HasTheCalls (plan : TablePlan) (s : TableState) (turns : List Turn) (order : List Item) : Type 0 where
   pub ended : (begin end : ℕ) (op : Op) (said : Reply) → IsAnswered turns begin end op said
       → HasItem order (record { begin = begin; op = op; reply = said })
-  pub changed : (begin change : ℕ) (op : Op) → ChangesAt last s turns begin change op
+  pub changed : (begin change : ℕ) (op : Op) → ChangesAt plan s turns begin change op
       → HasItem order (record { begin = begin; op = op; reply = reply_of_change op })
-  pub other : (item : Item) → HasItem order item → IsMade last s turns item
+  pub other : (item : Item) → HasItem order item → IsMade plan s turns item
   pub once : (i j : ℕ) (x y : Item) → StandsIn order i x → StandsIn order j y → x.begin ≡ y.begin → i ≡ j
 
 -- a call that ended before another began stands before it
@@ -119,20 +119,20 @@ AnswersEndCalls turns = (seat end : ℕ) (said : Reply) → get_elem? turns end 
     → EndsACall turns end said
 
 -- a change of the tree is that of a call which began in an earlier turn
-pub record IsOfACall (last : ℕ) (s : TableState) (turns : List Turn) (change : ℕ) (op : Op) : Type 0 where
+pub record IsOfACall (plan : TablePlan) (s : TableState) (turns : List Turn) (change : ℕ) (op : Op) : Type 0 where
   pub begin : ℕ
-  pub changes : ChangesAt last s turns begin change op
+  pub changes : ChangesAt plan s turns begin change op
 
 -- so is each turn by which the tree changes
-abbrev pub ChangesAreOfCalls : ℕ → TableState → List Turn → Type 0
-ChangesAreOfCalls last s turns = (k : ℕ) (state : TableState) (turn : Turn) (op : Op) → IsTurn last s turns k state turn
+abbrev pub ChangesAreOfCalls : TablePlan → TableState → List Turn → Type 0
+ChangesAreOfCalls plan s turns = (k : ℕ) (state : TableState) (turn : Turn) (op : Op) → IsTurn plan s turns k state turn
     → turn_effect state turn ≡ op ∷ []
-    → IsOfACall last s turns k op
+    → IsOfACall plan s turns k op
 
 -- no call changes the tree twice
-abbrev pub CallsChangeOnce : ℕ → TableState → List Turn → Type 0
-CallsChangeOnce last s turns =
-    (begin change again : ℕ) (op o : Op) → ChangesAt last s turns begin change op → ChangesAt last s turns begin again o
+abbrev pub CallsChangeOnce : TablePlan → TableState → List Turn → Type 0
+CallsChangeOnce plan s turns =
+    (begin change again : ℕ) (op o : Op) → ChangesAt plan s turns begin change op → ChangesAt plan s turns begin again o
     → change ≡ again
 
 -- A run of a table is linearizable, as Herlihy and Wing define it in "Linearizability: a correctness condition for
@@ -144,19 +144,19 @@ CallsChangeOnce last s turns =
 -- its calls, and so is each change of the tree; and no call changes it twice.
 pub record IsLinearized (plan : TablePlan) (opened : TableState) (turns : List Turn) (s' : TableState) : Type 0 where
   pub order : List Item
-  pub calls : HasTheCalls plan.last_card opened turns order
+  pub calls : HasTheCalls plan opened turns order
   pub keeps : KeepsTheOrder turns order
   pub replies : replies_of order ≡ replies (contents_of plan.start) (ops_of order)
   pub leaves : HasMap (own_words s') (final (contents_of plan.start) (ops_of order))
   pub answers : AnswersEndCalls turns
-  pub changes : ChangesAreOfCalls plan.last_card opened turns
-  pub single : CallsChangeOnce plan.last_card opened turns
+  pub changes : ChangesAreOfCalls plan opened turns
+  pub single : CallsChangeOnce plan opened turns
 
 -- so is each run from a start, by any passes in any order
 abbrev pub RunsAreLinearizable : Type 0
 RunsAreLinearizable =
     (plan : TablePlan) (opened : TableState) → Starts plan opened → (turns : List Turn) (s' : TableState)
-    → TableRun plan.last_card opened turns s' → IsLinearized plan opened turns s'
+    → TableRun plan opened turns s' → IsLinearized plan opened turns s'
 
 -- a call of the pass in a seat that it answered so
 pub record IsItsCall (turns : List Turn) (seat : ℕ) (op : Op) (said : Reply) : Type 0 where
@@ -170,5 +170,5 @@ abbrev pub LastAnswersAreOfCalls : Type 0
 LastAnswersAreOfCalls = (plan : TablePlan) (v : View) (op : Op) (said : Reply) (card : Option ℕ)
     → v.answered ≡ Some (record { op = op; said = said; card = card })
     → (opened : TableState) → Starts plan opened → (turns : List Turn) (s' : TableState)
-    → TableRun plan.last_card opened turns s'
+    → TableRun plan opened turns s'
     → (seat : ℕ) → get_elem? s'.views seat ≡ some v → IsItsCall turns seat op said

@@ -19,10 +19,10 @@ use Rattle.ell_cards.specs.Starts.{Starts, IsReached}
 
 -- a state of a run of a table, its first and its last among them: some first turns lead to it, and the others from it
 -- to the end
-pub record IsAmid (last : ℕ) (s : TableState) (turns : List Turn) (s' state : TableState) : Type 0 where
+pub record IsAmid (plan : TablePlan) (s : TableState) (turns : List Turn) (s' state : TableState) : Type 0 where
   pub first : ℕ
-  pub before : TableRun last s (take first turns) state
-  pub after : TableRun last state (drop first turns) s'
+  pub before : TableRun plan s (take first turns) state
+  pub after : TableRun plan state (drop first turns) s'
 
 -- the tree of these words has a key with this value, or it has the key not at all
 unfoldable pub HasThere : ℕ → Option ℕ → Words → Type 0
@@ -36,10 +36,10 @@ HasBetween low high (Some pair) w = (low ≤ pair.0) × (pair.0 < high) × IsTre
     × ((key : ℕ) → low ≤ key → key < high → pair.0 ≢ key → ¬ IsTreeKey w key)
 
 -- this was so of the table's own words in ONE state of a run
-pub record WasSo (last : ℕ) (s : TableState) (turns : List Turn) (s' : TableState) (what : Words → Type 0)
+pub record WasSo (plan : TablePlan) (s : TableState) (turns : List Turn) (s' : TableState) (what : Words → Type 0)
     : Type 0 where
   pub state : TableState
-  pub amid : IsAmid last s turns s' state
+  pub amid : IsAmid plan s turns s' state
   pub so : what (own_words state)
 
 -- what a pass has found of a key by its look: the look has come to a leaf by the key, maybe with others, and the pass
@@ -66,27 +66,27 @@ LooksOn seat (Splits other left ∷ ts) = (other ≢ seat) × LooksOn seat ts
 LooksOn seat (Joins one other ∷ ts) = (one ≢ seat) × (other ≢ seat) × LooksOn seat ts
 
 -- the last look of the pass in a seat began here in a run: the pass made its call, and has begun nothing since
-pub record Began (last : ℕ) (s : TableState) (turns : List Turn) (s' : TableState) (seat : ℕ) : Type 0 where
+pub record Began (plan : TablePlan) (s : TableState) (turns : List Turn) (s' : TableState) (seat : ℕ) : Type 0 where
   pub first : ℕ
   pub from : TableState
   pub to : TableState
   pub at : get_elem? turns first ≡ some (Makes seat call.Look)
-  pub before : TableRun last s (take first turns) from
-  pub call : CallIsMade last from seat call.Look to
-  pub after : TableRun last to (drop (suc first) turns) s'
+  pub before : TableRun plan s (take first turns) from
+  pub call : CallIsMade plan from seat call.Look to
+  pub after : TableRun plan to (drop (suc first) turns) s'
   pub on : LooksOn seat (drop (suc first) turns)
 
 -- and this was so in one state of the run since
-pub record FoundInRun (last : ℕ) (s : TableState) (turns : List Turn) (s' : TableState) (seat : ℕ)
+pub record FoundInRun (plan : TablePlan) (s : TableState) (turns : List Turn) (s' : TableState) (seat : ℕ)
     (what : Words → Type 0) : Type 0 where
-  pub began : Began last s turns s' seat
-  pub so : WasSo last began.to (drop (suc began.first) turns) s' what
+  pub began : Began plan s turns s' seat
+  pub so : WasSo plan began.to (drop (suc began.first) turns) s' what
 
 -- so it is in every run of a table with this plan, from its start to a state in which a pass knows this
 abbrev pub IsFoundInRuns : TablePlan → View → (Words → Type 0) → Type 0
 IsFoundInRuns plan v what = (s : TableState) → Starts plan s → (turns : List Turn) (s' : TableState)
-    → TableRun plan.last_card s turns s' → (seat : ℕ) → get_elem? s'.views seat ≡ some v
-    → FoundInRun plan.last_card s turns s' seat what
+    → TableRun plan s turns s' → (seat : ℕ) → get_elem? s'.views seat ≡ some v
+    → FoundInRun plan s turns s' seat what
 
 -- what any pass has found of any key by its last look, whoever owns it, whatever turns of whatever passes came
 -- meanwhile
@@ -119,12 +119,12 @@ StretchesAreOfOneState = (plan : TablePlan) (v : View) (low high : ℕ) (there :
 -- found was so before the second began, and what the second has found was so since
 abbrev pub ComeInOrder : {A : Type 0} → (View → A → Type 0) → (A → Words → Type 0) → Type 0
 ComeInOrder {A = A} finds what = (plan : TablePlan) (s : TableState) → Starts plan s
-    → (turns : List Turn) (ended : TableState) → TableRun plan.last_card s turns ended
+    → (turns : List Turn) (ended : TableState) → TableRun plan s turns ended
     → (seat : ℕ) (v : View) → get_elem? ended.views seat ≡ some v → (first : A) → finds v first
-    → (other : ℕ) (begun : TableState) → CallIsMade plan.last_card ended other call.Look begun
-    → (more : List Turn) (s' : TableState) → TableRun plan.last_card begun more s' → LooksOn other more
+    → (other : ℕ) (begun : TableState) → CallIsMade plan ended other call.Look begun
+    → (more : List Turn) (s' : TableState) → TableRun plan begun more s' → LooksOn other more
     → (w : View) → get_elem? s'.views other ≡ some w → (second : A) → finds w second
-    → FoundInRun plan.last_card s turns ended seat (what first) × WasSo plan.last_card begun more s' (what second)
+    → FoundInRun plan s turns ended seat (what first) × WasSo plan begun more s' (what second)
 
 -- so it is of two looks of one key or of two
 abbrev pub LooksAreInOrder : Type 0

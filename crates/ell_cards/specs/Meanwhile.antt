@@ -60,7 +60,7 @@ IsBeginning _ = ⊥
 
 -- after it a search begins there
 abbrev pub SearchesBeginThere : Type 0
-SearchesBeginThere = (last : ℕ) (s : TableState) (seat : ℕ) (c : Call) (s' : TableState) → CallIsMade last s seat c s'
+SearchesBeginThere = (plan : TablePlan) (s : TableState) (seat : ℕ) (c : Call) (s' : TableState) → CallIsMade plan s seat c s'
     → IsBeginning c → BeginsHere s' seat
 
 -- a run of a table from its start: it leads to a state where the pass in a seat begins a search, and then goes on by
@@ -71,23 +71,23 @@ pub record SearchRun (plan : TablePlan) : Type 0 where
   pub starts : Starts plan opened
   pub before : List Turn
   pub begun : TableState
-  pub led : TableRun plan.last_card opened before begun
+  pub led : TableRun plan opened before begun
   pub seat : ℕ
   pub begins : BeginsHere begun seat
   pub meanwhile : List Turn
   pub now : TableState
-  pub run : TableRun plan.last_card begun meanwhile now
+  pub run : TableRun plan begun meanwhile now
   pub keeps : KeepOn seat meanwhile
   pub view : View
   pub there : get_elem? now.views seat ≡ some view
 
 -- whether what a card was for had come to its end when the search began
 abbrev pub ended_before : (plan : TablePlan) → SearchRun plan → ℕ → Bool
-ended_before plan r c = has_end (run_wins plan.last_card r.opened r.before r.begun r.led c)
+ended_before plan r c = has_end (run_wins plan r.opened r.before r.begun r.led c)
 
 -- whether it has come to its end since
 abbrev pub ended_since : (plan : TablePlan) → SearchRun plan → ℕ → Bool
-ended_since plan r c = has_end (run_wins plan.last_card r.begun r.meanwhile r.now r.run c)
+ended_since plan r c = has_end (run_wins plan r.begun r.meanwhile r.now r.run c)
 
 -- a card had not ended when the search began; and if the pass knows now that it has, then that was since
 pub record EndsMeanwhile (plan : TablePlan) (r : SearchRun plan) (c : ℕ) : Type 0 where
@@ -147,14 +147,14 @@ SearchesMeetMeanwhile = (plan : TablePlan) (r : SearchRun plan) → MetMeanwhile
 
 -- the milestones of which a pass knows were reached in a run: the cards that its claims have shown to be given out are,
 -- and each card that it knows to have come to its end did so
-pub record KnowsWhatIsReached (last : ℕ) (first : TableState) (turns : List Turn) (s : TableState)
-    (run : TableRun last first turns s) (v : View) : Type 0 where
+pub record KnowsWhatIsReached (plan : TablePlan) (first : TableState) (turns : List Turn) (s : TableState)
+    (run : TableRun plan first turns s) (v : View) : Type 0 where
   pub given_out : v.next_at_least ≤ (own_words s).next
-  pub ended : (c : ℕ) → EndedBy v.worker.knows c → has_end (run_wins last first turns s run c) ≡ true
+  pub ended : (c : ℕ) → EndedBy v.worker.knows c → has_end (run_wins plan first turns s run c) ≡ true
 
 -- so it is of each pass after every run from a start
 abbrev pub KnownMilestonesWereReached : Type 0
 KnownMilestonesWereReached =
     (plan : TablePlan) (first : TableState) → Starts plan first → (turns : List Turn) (s : TableState)
-    (run : TableRun plan.last_card first turns s) (seat : ℕ) (v : View) → get_elem? s.views seat ≡ some v
-    → KnowsWhatIsReached plan.last_card first turns s run v
+    (run : TableRun plan first turns s) (seat : ℕ) (v : View) → get_elem? s.views seat ≡ some v
+    → KnowsWhatIsReached plan first turns s run v

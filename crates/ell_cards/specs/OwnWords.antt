@@ -26,23 +26,23 @@ OwnWordsAreSound = (plan : TablePlan) (s : TableState) → IsReached plan s → 
 -- the word that a step call touches is one of the table
 abbrev pub StepsStayInside : Type 0
 StepsStayInside = (plan : TablePlan) (s : TableState) → IsReached plan s → (id : ℕ) (v : View) (c : Call)
-    → get_elem? s.views id ≡ some v → May plan.last_card c v → word_of c < length s.words
+    → get_elem? s.views id ≡ some v → May plan c v → word_of c < length s.words
 
 -- each step call of each pass changes the pairs of the tree that the table's own words make as that call does
 abbrev pub TablePairsChangeAtWins : Type 0
 TablePairsChangeAtWins = (plan : TablePlan) (s : TableState) → IsReached plan s → (id : ℕ) (v : View) (c : Call)
-    → get_elem? s.views id ≡ some v → May plan.last_card c v
+    → get_elem? s.views id ≡ some v → May plan c v
     → PairsChangeBy c (is_won (atomic_of c) (found_by s c)) (own_words s) (own_words (state_after s id v c))
 
 -- a won child exchange of each pass, which may be another's helper, is of an operation that some pass has in hand
 abbrev pub TableChangesAreOperations : Type 0
 TableChangesAreOperations = (plan : TablePlan) (s : TableState) → IsReached plan s → (id : ℕ) (v : View) (c : Call)
-    → get_elem? s.views id ≡ some v → May plan.last_card c v → ChangeIsOf c (is_won (atomic_of c) (found_by s c)) s
+    → get_elem? s.views id ≡ some v → May plan c v → ChangeIsOf c (is_won (atomic_of c) (found_by s c)) s
 
 -- each step call of each pass changes its ledger as that call does
 abbrev pub TableAnswersAreTheMaps : Type 0
 TableAnswersAreTheMaps = (plan : TablePlan) (s : TableState) → IsReached plan s → (id : ℕ) (v : View) (c : Call)
-    → get_elem? s.views id ≡ some v → May plan.last_card c v → LedgerChangesBy c v (view_after s v c)
+    → get_elem? s.views id ≡ some v → May plan c v → LedgerChangesBy c v (view_after s v c)
 
 -- a pass with nothing in hand has each of its keys in its ledger as the tree has it that the table's own words make,
 -- with its value
@@ -75,5 +75,5 @@ pub record NodeGoesOn (old new : Words) (x : ℕ) : Type 0 where
 -- so does each node that was reached once, in every run, by the table's own words
 abbrev pub TableNodesGoOn : Type 0
 TableNodesGoOn = (plan : TablePlan) (s : TableState) → IsReached plan s
-    → (turns : List Turn) (s' : TableState) → TableRun plan.last_card s turns s' → (x : ℕ) → Reached (own_words s) x
+    → (turns : List Turn) (s' : TableState) → TableRun plan s turns s' → (x : ℕ) → Reached (own_words s) x
     → NodeGoesOn (own_words s) (own_words s') x

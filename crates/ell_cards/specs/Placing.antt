@@ -10,16 +10,16 @@ use Rattle.ell_cards.specs.Linearizing.{IsAnswered, Item, ops_of, StandsIn, IsLi
 
 -- after so many turns of a run the pass in a seat has found this of a key, by a look or by a scan: it was so in one
 -- state since the look or the scan began
-pub record IsLook (last : ℕ) (s : TableState) (turns : List Turn) (ended key : ℕ) (there : Option ℕ) : Type 0 where
+pub record IsLook (plan : TablePlan) (s : TableState) (turns : List Turn) (ended key : ℕ) (there : Option ℕ) : Type 0 where
   pub inside : ended ≤ length turns
   pub seat : ℕ
   pub state : TableState
-  pub found : FoundInRun last s (take ended turns) state seat (HasThere key there)
+  pub found : FoundInRun plan s (take ended turns) state seat (HasThere key there)
 
 -- the turn in which it began
-abbrev pub began : (last : ℕ) (s : TableState) (turns : List Turn) (ended key : ℕ) (there : Option ℕ)
-    → IsLook last s turns ended key there → ℕ
-began last s turns ended key there look = look.found.began.first
+abbrev pub began : (plan : TablePlan) (s : TableState) (turns : List Turn) (ended key : ℕ) (there : Option ℕ)
+    → IsLook plan s turns ended key there → ℕ
+began plan s turns ended key there look = look.found.began.first
 
 -- a look that began in one turn and had ended before another has a place in a sequence of calls: behind the first so
 -- many of them it finds what one thread finds there that has made these. What ended before the look began is among
@@ -37,13 +37,13 @@ pub record HasPlace (start : Contents) (turns : List Turn) (order : List Item) (
 pub record IsLinearizedWithLooks (plan : TablePlan) (opened : TableState) (turns : List Turn)
     (s' : TableState) : Type 0 where
   pub calls : IsLinearized plan opened turns s'
-  pub looks : (ended key : ℕ) (there : Option ℕ) (look : IsLook plan.last_card opened turns ended key there)
-      → HasPlace (contents_of plan.start) turns calls.order (began plan.last_card opened turns ended key there look) ended key there
-  pub keeps : (ended key : ℕ) (there : Option ℕ) (look : IsLook plan.last_card opened turns ended key there)
-      → (ended' key' : ℕ) (there' : Option ℕ) (later : IsLook plan.last_card opened turns ended' key' there')
-      → ended ≤ began plan.last_card opened turns ended' key' there' later
+  pub looks : (ended key : ℕ) (there : Option ℕ) (look : IsLook plan opened turns ended key there)
+      → HasPlace (contents_of plan.start) turns calls.order (began plan opened turns ended key there look) ended key there
+  pub keeps : (ended key : ℕ) (there : Option ℕ) (look : IsLook plan opened turns ended key there)
+      → (ended' key' : ℕ) (there' : Option ℕ) (later : IsLook plan opened turns ended' key' there')
+      → ended ≤ began plan opened turns ended' key' there' later
       → (looks ended key there look).place ≤ (looks ended' key' there' later).place
 
 abbrev pub LooksHavePlaces : Type 0
 LooksHavePlaces = (plan : TablePlan) (opened : TableState) → Starts plan opened → (turns : List Turn) (s' : TableState)
-    → TableRun plan.last_card opened turns s' → IsLinearizedWithLooks plan opened turns s'
+    → TableRun plan opened turns s' → IsLinearizedWithLooks plan opened turns s'

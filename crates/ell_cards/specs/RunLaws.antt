@@ -21,8 +21,8 @@ won_before plan s r c = wins_of (r.stages c)
 pub record WinsGoOn (plan : TablePlan) (s : TableState) (r : HasMachine plan s) : Type 0 where
   pub first : (c : ℕ) → c ≡ 0 → won_before plan s r c ≡ []
   pub fresh : (c : ℕ) → (own_words s).next ≤ c → won_before plan s r c ≡ []
-  pub order : (turns : List Turn) (s' : TableState) (run : TableRun plan.last_card s turns s') (c : ℕ)
-      → InOrder (won_before plan s r c ++ run_wins plan.last_card s turns s' run c)
+  pub order : (turns : List Turn) (s' : TableState) (run : TableRun plan s turns s') (c : ℕ)
+      → InOrder (won_before plan s r c ++ run_wins plan s turns s' run c)
 
 -- so it does from every state that has a machine
 abbrev pub TableWinsAreInOrder : Type 0

@@ -36,7 +36,7 @@ pub record TurnIsLawful (plan : TablePlan) (s : TableState) (r : HasMachine plan
 -- the turns of a run from a state that has a machine, each to one that has
 abbrev pub TurnsAreLawful : (plan : TablePlan) (s : TableState) (r : HasMachine plan s) (turns : List Turn)
     (s' : TableState) (r' : HasMachine plan s')
-    → TableRun plan.last_card s turns s' → Type 0
+    → TableRun plan s turns s' → Type 0
 TurnsAreLawful plan s r [] s' r' run = machine_of_table plan s' r' ≡ machine_of_table plan s r
 TurnsAreLawful plan s r (t ∷ ts) s' r' run =
     (between : HasMachine plan run.0) × TurnIsLawful plan s r t run.0 between
@@ -44,7 +44,7 @@ TurnsAreLawful plan s r (t ∷ ts) s' r' run =
 
 -- a run leads from a state that has a machine to one that has, by such turns
 pub record RunIsLawful (plan : TablePlan) (s : TableState) (r : HasMachine plan s) (turns : List Turn)
-    (s' : TableState) (run : TableRun plan.last_card s turns s') : Type 0 where
+    (s' : TableState) (run : TableRun plan s turns s') : Type 0 where
   pub kept : HasMachine plan s'
   pub lawful : TurnsAreLawful plan s r turns s' kept run
 
@@ -52,7 +52,7 @@ pub record RunIsLawful (plan : TablePlan) (s : TableState) (r : HasMachine plan 
 abbrev pub RunsAreLawful : Type 0
 RunsAreLawful =
     (plan : TablePlan) (s : TableState) (r : HasMachine plan s) (turns : List Turn) (s' : TableState)
-    (run : TableRun plan.last_card s turns s') → RunIsLawful plan s r turns s' run
+    (run : TableRun plan s turns s') → RunIsLawful plan s r turns s' run
 
 -- the event of a call, if it is one, and what the machine shows of it
 abbrev pub event_of : ℕ → Option Act → List Event
@@ -73,15 +73,15 @@ turn_shown s (Makes seat c) = shown_of (act_of c (found_by s c)) (said_of c (fou
 turn_shown s _ = []
 
 -- those of a run
-abbrev pub events_in : (last : ℕ) (s : TableState) (turns : List Turn) (s' : TableState) → TableRun last s turns s'
+abbrev pub events_in : (plan : TablePlan) (s : TableState) (turns : List Turn) (s' : TableState) → TableRun plan s turns s'
     → List Event
-events_in last s [] s' run = []
-events_in last s (t ∷ ts) s' run = turn_events s t ++ events_in last run.0 ts s' run.2
+events_in plan s [] s' run = []
+events_in plan s (t ∷ ts) s' run = turn_events s t ++ events_in plan run.0 ts s' run.2
 
-abbrev pub shown_in : (last : ℕ) (s : TableState) (turns : List Turn) (s' : TableState) → TableRun last s turns s'
+abbrev pub shown_in : (plan : TablePlan) (s : TableState) (turns : List Turn) (s' : TableState) → TableRun plan s turns s'
     → List Shown
-shown_in last s [] s' run = []
-shown_in last s (t ∷ ts) s' run = turn_shown s t ++ shown_in last run.0 ts s' run.2
+shown_in plan s [] s' run = []
+shown_in plan s (t ∷ ts) s' run = turn_shown s t ++ shown_in plan run.0 ts s' run.2
 
 -- all turns are step calls
 abbrev pub AreCalls : List Turn → Type 0
@@ -93,7 +93,7 @@ AreCalls (_ ∷ ts) = ⊥
 abbrev pub RunsAreSchedules : Type 0
 RunsAreSchedules = (plan : TablePlan) (s : TableState) (r : HasMachine plan s) (turns : List Turn)
     (s' : TableState) (r' : HasMachine plan s')
-    (run : TableRun plan.last_card s turns s') → AreCalls turns → TurnsAreLawful plan s r turns s' r' run
-    → Run (machine_of_table plan s r) (events_in plan.last_card s turns s' run)
-    (shown_in plan.last_card s turns s' run)
+    (run : TableRun plan s turns s') → AreCalls turns → TurnsAreLawful plan s r turns s' r' run
+    → Run (machine_of_table plan s r) (events_in plan s turns s' run)
+    (shown_in plan s turns s' run)
     (machine_of_table plan s' r')

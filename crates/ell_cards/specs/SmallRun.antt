@@ -112,14 +112,14 @@ pub record SmallRunIsMade : Type 0 where
   pub first : TableState
   pub starts : Starts small_plan first
   pub last : TableState
-  pub run : TableRun small_plan.last_card first small_run last
+  pub run : TableRun small_plan first small_run last
   pub delete_lost :
-      run_wins small_plan.last_card first small_run last run 2 ≡ exchange.DFlag ∷ exchange.Backtrack ∷ []
+      run_wins small_plan first small_run last run 2 ≡ exchange.DFlag ∷ exchange.Backtrack ∷ []
   pub insert_made :
-      run_wins small_plan.last_card first small_run last run 3
+      run_wins small_plan first small_run last run 3
       ≡ exchange.IFlag ∷ exchange.IChild ∷ exchange.IUnflag ∷ []
   pub delete_made :
-      run_wins small_plan.last_card first small_run last run 4
+      run_wins small_plan first small_run last run 4
       ≡ exchange.DFlag ∷ exchange.Mark ∷ exchange.DChild ∷ exchange.DUnflag ∷ []
   pub view : View
   pub there : get_elem? last.views 0 ≡ some view

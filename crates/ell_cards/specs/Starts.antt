@@ -68,33 +68,33 @@ StartsHaveTheirKeys = (plan : TablePlan) (s : TableState) → Starts plan s → 
     → IsTreePair (own_words s) k value ↔ (contents_of plan.start k ≡ Some value)
 
 -- its pass may begin an operation
-pub record MayBeginThere (last : ℕ) (s : TableState) (op : Op) : Type 0 where
+pub record MayBeginThere (plan : TablePlan) (s : TableState) (op : Op) : Type 0 where
   pub after : TableState
-  pub turn : TableTurns last s (Makes 0 (call.Begin op)) after
+  pub turn : TableTurns plan s (Makes 0 (call.Begin op)) after
 
 -- so it may begin every operation on a key of its own, and on a shared one
 abbrev pub FirstPassMayBegin : Type 0
 FirstPassMayBegin = (plan : TablePlan) (s : TableState) → Starts plan s → (op : Op) → Contains plan.keys (key_of op)
     ⊎ IsSharedIn plan (key_of op)
-    → MayBeginThere plan.last_card s op
+    → MayBeginThere plan s op
 
 -- what a run from a start does: the tree of the table's own words has the start pairs first, each turn changes it as
 -- turns do, each card wins in order, and where the run leads, those words, with what passes know, are a sound state
 pub record RunFromStart (plan : TablePlan) (s : TableState) (turns : List Turn) (s' : TableState)
-    (run : TableRun plan.last_card s turns s') : Type 0 where
+    (run : TableRun plan s turns s') : Type 0 where
   pub opens : (k value : ℕ) → IsTreePair (own_words s) k value ↔ (contents_of plan.start k ≡ Some value)
-  pub turns_do : TurnsDo plan.last_card s turns s' run
-  pub wins : (c : ℕ) → InOrder (run_wins plan.last_card s turns s' run c)
+  pub turns_do : TurnsDo plan s turns s' run
+  pub wins : (c : ℕ) → InOrder (run_wins plan s turns s' run c)
   pub sound : IsSound (own_machine plan.last_card s')
 
 -- so does every run from a start, by any passes in any order
 abbrev pub RunsFromStarts : Type 0
 RunsFromStarts = (plan : TablePlan) (s : TableState) → Starts plan s → (turns : List Turn) (s' : TableState)
-    (run : TableRun plan.last_card s turns s') → RunFromStart plan s turns s' run
+    (run : TableRun plan s turns s') → RunFromStart plan s turns s' run
 
 -- the rule of a table with this plan: it is where turns of its passes have led from its start
 pub record IsReached (plan : TablePlan) (s : TableState) : Type 0 where
   pub first : TableState
   pub starts : Starts plan first
   pub turns : List Turn
-  pub run : TableRun plan.last_card first turns s
+  pub run : TableRun plan first turns s

@@ -76,12 +76,12 @@ pub record StepsBy (old new : PassModel) : Type 0 where
 -- what a step call that found this word leaves of a pass: what it knows is as the call says, and what the call tells is
 -- so; what a look has found of its own keys is what its ledger has; it was told no two keys of one node, and no two
 -- values; the pass owns the keys and has the share that it did, and names what is in its table
-pub record IsTaken (last : ℕ) (c : Call) (v : View) (n : ℕ) (w : View) : Type 0 where
+pub record IsTaken (plan : TablePlan) (c : Call) (v : View) (n : ℕ) (w : View) : Type 0 where
   pub view : w ≡ after c n v
-  pub tells : Tells last c v n
+  pub tells : Tells plan c v n
   pub own : ReadsItsOwn w
   pub fixed : KeysAreFixed w
   pub values : ValuesAreFixed w
   pub keys : ledger_keys w.worker.ledger ≡ ledger_keys v.worker.ledger
   pub share : SameShare v w
-  pub named : IsNamed last w
+  pub named : IsNamed plan.last_card w

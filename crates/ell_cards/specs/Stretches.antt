@@ -31,10 +31,10 @@ wins is_such s (Makes seat c) = is_such c && is_won (atomic_of c) (found_by s c)
 wins is_such s _ = false
 
 -- how many turns of a run are
-abbrev pub won_in : (Call → Bool) → (last : ℕ) (s : TableState) (turns : List Turn) (s' : TableState)
-    → TableRun last s turns s' → ℕ
-won_in is_such last s [] s' run = 0
-won_in is_such last s (t ∷ ts) s' run = (if wins is_such s t then 1 else 0) + won_in is_such last run.0 ts s' run.2
+abbrev pub won_in : (Call → Bool) → (plan : TablePlan) (s : TableState) (turns : List Turn) (s' : TableState)
+    → TableRun plan s turns s' → ℕ
+won_in is_such plan s [] s' run = 0
+won_in is_such plan s (t ∷ ts) s' run = (if wins is_such s t then 1 else 0) + won_in is_such plan run.0 ts s' run.2
 
 -- no path from the root to an internal node is longer than this
 abbrev pub HasHeight : Words → ℕ → Type 0
@@ -51,11 +51,11 @@ pub record Stretch (plan : TablePlan) : Type 0 where
   pub starts : Starts plan opened
   pub before : List Turn
   pub begun : TableState
-  pub led : TableRun plan.last_card opened before begun
+  pub led : TableRun plan opened before begun
   pub turns : List Turn
   pub now : TableState
-  pub run : TableRun plan.last_card begun turns now
-  pub unchanged : won_in is_change plan.last_card begun turns now run ≡ 0
+  pub run : TableRun plan begun turns now
+  pub unchanged : won_in is_change plan begun turns now run ≡ 0
 
 -- how many passes have an operation in hand
 abbrev pub passes_at_work : List View → ℕ
@@ -67,5 +67,5 @@ passes_at_work (v ∷ vs) = (if is_some v.worker.operation then 1 else 0) + pass
 -- beside them one for each such card
 abbrev pub FewFlagsWithoutAChange : Type 0
 FewFlagsWithoutAChange = (plan : TablePlan) (r : Stretch plan) (h : ℕ) → HasHeight (own_words r.begun) h
-    → won_in is_flag plan.last_card r.begun r.turns r.now r.run
+    → won_in is_flag plan r.begun r.turns r.now r.run
     ≤ (h + 1) * (passes_at_work r.begun.views + 2 * cards_in_hand r.now.views) + cards_in_hand r.now.views

@@ -21,12 +21,12 @@ pub record TookInRun (plan : TablePlan) (s : TableState) (turns : List Turn) (s'
     (seat key value : ℕ) : Type 0 where
   pub call : AnsweredInRun plan s turns s' seat (Delete key) Yes
   pub had : final (contents_of plan.start)
-      (run_effects plan.last_card s call.point.all call.point.state call.point.led) key ≡ Some value
+      (run_effects plan s call.point.all call.point.state call.point.led) key ≡ Some value
 
 -- so it is in every run of a table with this plan, from its start to a state in which a pass knows this
 abbrev pub IsTakenInRuns : TablePlan → View → ℕ → ℕ → Type 0
 IsTakenInRuns plan v key value =
-    (s : TableState) → Starts plan s → (turns : List Turn) (s' : TableState) → TableRun plan.last_card s turns s'
+    (s : TableState) → Starts plan s → (turns : List Turn) (s' : TableState) → TableRun plan s turns s'
     → (seat : ℕ) → get_elem? s'.views seat ≡ some v → TookInRun plan s turns s' seat key value
 
 -- a delete that was answered yes by its card took the value that the pass was told of the card's leaf

@@ -29,7 +29,7 @@ NoGreaterNext = (plan : TablePlan) (s : TableState) → IsReached plan s → (id
 -- taken away that stands
 abbrev pub NoGreaterUpdate : Type 0
 NoGreaterUpdate = (plan : TablePlan) (s : TableState) → IsReached plan s → (id : ℕ) (v : View)
-    → get_elem? s.views id ≡ some v → (x : ℕ) → May plan.last_card (call.Upd x) v → (n : ℕ)
+    → get_elem? s.views id ≡ some v → (x : ℕ) → May plan (call.Upd x) v → (n : ℕ)
     → found_by s (call.Upd x) < n
     → ¬ IsReached plan (told_of s id v (call.Upd x) n)
 
@@ -37,7 +37,7 @@ NoGreaterUpdate = (plan : TablePlan) (s : TableState) → IsReached plan s → (
 -- where it was lost
 abbrev pub NoOtherOutcome : Type 0
 NoOtherOutcome = (plan : TablePlan) (s : TableState) → IsReached plan s → (id : ℕ) (v : View)
-    → get_elem? s.views id ≡ some v → (c : Call) → May plan.last_card c v → (n : ℕ)
+    → get_elem? s.views id ≡ some v → (c : Call) → May plan c v → (n : ℕ)
     → is_won (atomic_of c) n ≢ is_won (atomic_of c) (found_by s c)
     → ¬ IsReached plan (told_of s id v c n)
 

@@ -18,6 +18,7 @@ use Rattle.ell_cards.specs.Models.{Does}
 use Rattle.ell_cards.specs.Calls.{atomic_of, is_won}
 use Rattle.ell_cards.specs.States.{TableState, seated}
 use Rattle.ell_cards.specs.Turns.{Turn, Makes, TableTurns, TableRun, found_by, view_after}
+use Rattle.ell_cards.specs.Models.{TablePlan}
 
 -- the table's own words, by their names
 abbrev pub own_words : TableState → Words
@@ -69,24 +70,24 @@ IsWonFor s (Makes seat c) = ChangeIsOf c (is_won (atomic_of c) (found_by s c)) s
 IsWonFor s _ = Unit {0}
 
 -- what a call does to the ledger of its pass: an answer is the map's, and no other call changes it
-abbrev pub LedgerGoesBy : (last : ℕ) (s : TableState) (t : Turn) (s' : TableState) → TableTurns last s t s' → Type 0
-LedgerGoesBy last s (Makes seat c) s' turn = LedgerChangesBy c turn.view (view_after s turn.view c)
-LedgerGoesBy last s _ s' turn = Unit {0}
+abbrev pub LedgerGoesBy : (plan : TablePlan) (s : TableState) (t : Turn) (s' : TableState) → TableTurns plan s t s' → Type 0
+LedgerGoesBy plan s (Makes seat c) s' turn = LedgerChangesBy c turn.view (view_after s turn.view c)
+LedgerGoesBy plan s _ s' turn = Unit {0}
 
 -- what a turn does, by the table's own words: the tree changes at a won ichild or dchild alone, by that card's key, for
 -- an operation in some hand; an answer is the map's; and the words after it, with what passes know, are a sound state
-pub record TurnDoes (last : ℕ) (s : TableState) (t : Turn) (s' : TableState) (turn : TableTurns last s t s')
+pub record TurnDoes (plan : TablePlan) (s : TableState) (t : Turn) (s' : TableState) (turn : TableTurns plan s t s')
     : Type 0 where
   pub pairs : PairsGoBy s t s'
   pub won : IsWonFor s t
-  pub ledger : LedgerGoesBy last s t s' turn
-  pub sound : IsSound (own_machine last s')
+  pub ledger : LedgerGoesBy plan s t s' turn
+  pub sound : IsSound (own_machine plan.last_card s')
 
 -- so does each turn of a run
 abbrev pub TurnsDo :
-    (last : ℕ) (s : TableState) (turns : List Turn) (s' : TableState) → TableRun last s turns s' → Type 0
-TurnsDo last s [] s' run = Unit {0}
-TurnsDo last s (t ∷ ts) s' run = TurnDoes last s t run.0 run.1 × TurnsDo last run.0 ts s' run.2
+    (plan : TablePlan) (s : TableState) (turns : List Turn) (s' : TableState) → TableRun plan s turns s' → Type 0
+TurnsDo plan s [] s' run = Unit {0}
+TurnsDo plan s (t ∷ ts) s' run = TurnDoes plan s t run.0 run.1 × TurnsDo plan run.0 ts s' run.2
 
 -- what a call wins for a card, if it is a won exchange
 abbrev pub win_of : Call → ℕ → List Exchange
@@ -107,6 +108,6 @@ turn_wins s _ d = []
 
 -- what a run wins for a card, in its order
 abbrev pub run_wins :
-    (last : ℕ) (s : TableState) (turns : List Turn) (s' : TableState) → TableRun last s turns s' → ℕ → List Exchange
-run_wins last s [] s' run d = []
-run_wins last s (t ∷ ts) s' run d = turn_wins s t d ++ run_wins last run.0 ts s' run.2 d
+    (plan : TablePlan) (s : TableState) (turns : List Turn) (s' : TableState) → TableRun plan s turns s' → ℕ → List Exchange
+run_wins plan s [] s' run d = []
+run_wins plan s (t ∷ ts) s' run d = turn_wins s t d ++ run_wins plan run.0 ts s' run.2 d

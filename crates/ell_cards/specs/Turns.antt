@@ -7,6 +7,7 @@ use Rattle.ell_cards.specs.Models.{IsFree, MayPart}
 use Rattle.ell_cards.specs.Changes.{left_view, right_view, joined_view, spent_view}
 use Rattle.ell_cards.specs.Calls.{word_of, atomic_of, left_by, after, May}
 use Rattle.ell_cards.specs.States.{TableState}
+use Rattle.ell_cards.specs.Models.{TablePlan}
 
 -- the word that a step call finds
 abbrev pub found_by : TableState → Call → ℕ
@@ -38,10 +39,10 @@ pub data Turn : Type 0 where
   Joins : ℕ → ℕ → Turn
 
 -- the pass in a seat may make a call, and the table is this after it
-pub record CallIsMade (last : ℕ) (s : TableState) (seat : ℕ) (c : Call) (s' : TableState) : Type 0 where
+pub record CallIsMade (plan : TablePlan) (s : TableState) (seat : ℕ) (c : Call) (s' : TableState) : Type 0 where
   pub view : View
   pub there : get_elem? s.views seat ≡ some view
-  pub may : May last c view
+  pub may : May plan c view
   pub gives : s' ≡ state_after s seat view c
 
 -- the pass in a seat has nothing in hand and may be parted, and the table is this after its split
@@ -64,12 +65,12 @@ pub record JoinIsMade (s : TableState) (seat other : ℕ) (s' : TableState) : Ty
   pub gives : s' ≡ state_joined s seat other view view'
 
 -- what a turn makes of a table with this last card
-abbrev pub TableTurns : ℕ → TableState → Turn → TableState → Type 0
-TableTurns last s (Makes seat c) s' = CallIsMade last s seat c s'
-TableTurns last s (Splits seat left) s' = SplitIsMade s seat left s'
-TableTurns last s (Joins seat other) s' = JoinIsMade s seat other s'
+abbrev pub TableTurns : TablePlan → TableState → Turn → TableState → Type 0
+TableTurns plan s (Makes seat c) s' = CallIsMade plan s seat c s'
+TableTurns plan s (Splits seat left) s' = SplitIsMade s seat left s'
+TableTurns plan s (Joins seat other) s' = JoinIsMade s seat other s'
 
 -- a run of a table: turns of any passes, one after the other
-abbrev pub TableRun : ℕ → TableState → List Turn → TableState → Type 0
-TableRun last s [] s' = s' ≡ s
-TableRun last s (t ∷ ts) s' = (between : TableState) × TableTurns last s t between × TableRun last between ts s'
+abbrev pub TableRun : TablePlan → TableState → List Turn → TableState → Type 0
+TableRun plan s [] s' = s' ≡ s
+TableRun plan s (t ∷ ts) s' = (between : TableState) × TableTurns plan s t between × TableRun plan between ts s'

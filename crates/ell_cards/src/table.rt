@@ -99,11 +99,11 @@ impl<A: Allocator + Copy> CardTable<A> {
     #[inline(always)]
     pub(crate) fn see(&self, pass: &mut Pass<A>, call: Call, word: usize) -> u64
         requires own { pass.old.table ≡ self.now.id }
-        requires may { May self.now.plan.last_card call pass.old.view }
+        requires may { May self.now.plan call pass.old.view }
         requires word { word ≡ word_of call }
         requires atomic { atomic_of call ≡ Load }
         ensures step { Sees pass.old pass.new (after call result pass.old.view) }
-        ensures tells { Tells self.now.plan.last_card call pass.old.view result }
+        ensures tells { Tells self.now.plan call pass.old.view result }
         ensures looked { ReadsItsOwn pass.new.view }
         ensures fixed { KeysAreFixed pass.new.view }
         ensures values { ValuesAreFixed pass.new.view }
@@ -116,11 +116,11 @@ impl<A: Allocator + Copy> CardTable<A> {
     #[inline(always)]
     pub(crate) fn load(&self, pass: &mut Pass<A>, call: Call, word: usize) -> u64
         requires own { pass.old.table ≡ self.now.id }
-        requires may { May self.now.plan.last_card call pass.old.view }
+        requires may { May self.now.plan call pass.old.view }
         requires word { word ≡ word_of call }
         requires atomic { atomic_of call ≡ Load }
         ensures step { Steps pass.old pass.new (after call result pass.old.view) }
-        ensures tells { Tells self.now.plan.last_card call pass.old.view result }
+        ensures tells { Tells self.now.plan call pass.old.view result }
         ensures values { ValuesAreFixed pass.new.view }
         ensures named { IsNamed self.now.plan.last_card pass.new.view }
     {
@@ -194,11 +194,11 @@ impl<A: Allocator + Copy> CardTable<A> {
         value: u64,
     ) -> u64
         requires own { pass.old.table ≡ self.now.id }
-        requires may { May self.now.plan.last_card call pass.old.view }
+        requires may { May self.now.plan call pass.old.view }
         requires word { word ≡ word_of call }
         requires atomic { atomic_of call ≡ Exchange expected value }
         ensures step { Steps pass.old pass.new (after call result pass.old.view) }
-        ensures tells { Tells self.now.plan.last_card call pass.old.view result }
+        ensures tells { Tells self.now.plan call pass.old.view result }
     {
         self.exchange_as::<Brand>(pass, call, word, expected, value)
     }

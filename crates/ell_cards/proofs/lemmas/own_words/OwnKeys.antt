@@ -24,6 +24,7 @@ use Rattle.ell_cards.proofs.lemmas.seats.Statements.{PairsByMachine}
 use Rattle.ell_cards.proofs.lemmas.stepping.AllCalls.{steps_are_events}
 use Rattle.ell_cards.proofs.lemmas.own_words.OwnTree.{same_keys}
 use Rattle.ell_cards.proofs.lemmas.own_words.OwnWords.{own_pairs, own_card_key, own_card_value, own_card_op}
+use Rattle.ell_cards.specs.Models.{TablePlan}
 
 -- an act of a machine, and no act
 module _ (m : Machine) (stage : Stages) (holds : Invariant m stage) (i : ℕ) (m' : Machine) where
@@ -101,16 +102,16 @@ module _ (w w' t t' : Words) (before : SamePairs t w) (after : SamePairs t' w') 
   }
 
   -- so they change as the call says, where the cards that the pass knows have the same keys and values
-  own_change : (c : Call) (b : Bool) (v : View) (cards : ℕ) → May cards c v
+  own_change : (c : Call) (b : Bool) (v : View) (plan : TablePlan) → May plan c v
       → ((d : ℕ) → KnowsCard v d → card_key w d ≡ card_key t d) → ((d : ℕ) → KnowsCard v d → card_value w d ≡ card_value t d)
       → ((d : ℕ) → KnowsCard v d → op_of_card w d ≡ op_of_card t d)
       → PairsChangeBy c b w w' → PairsChangeBy c b t t'
-  own_change (call.IChild c p l q right) true v cards may key value op_is h =
+  own_change (call.IChild c p l q right) true v plan may key value op_is h =
       subst (λ op. MakesChange op t t') (op_is c (inl may.knows)) (own_brings (is_replace_card w c) (card_key w c) (w.value (w.l c)) (card_value w c) h)
-  own_change (call.DChild c gp p sibling right) true v cards may key value op_is h =
+  own_change (call.DChild c gp p sibling right) true v plan may key value op_is h =
       subst (λ k. TakesPair t t' k (card_value t c)) (key c (inr (inr may.knows)))
       (subst (TakesPair t t' (card_key w c)) (value c (inr (inr may.knows))) (own_takes (card_key w c) (card_value w c) h))
-  own_change _ _ v cards may key value op_is h = own_same h
+  own_change _ _ v plan may key value op_is h = own_same h
 
 pub table_pairs_change_at_wins : PairsByMachine
 table_pairs_change_at_wins plan s r id v c here may =
@@ -118,5 +119,5 @@ table_pairs_change_at_wins plan s r id v c here may =
     let s' = state_after s id v c in
     let change = machine_pairs (machine_of_table plan s r) r.stages r.invariant id (machine_of_table plan s' step.kept) c (found_by s c) step.event in
     own_change r.words step.kept.words (own_words s) (own_words s') (own_pairs plan s r) (own_pairs plan s' step.kept)
-    c (is_won (atomic_of c) (found_by s c)) v plan.last_card may (λ d knows. sym (own_card_key plan s r id d v here knows))
+    c (is_won (atomic_of c) (found_by s c)) v plan may (λ d knows. sym (own_card_key plan s r id d v here knows))
     (λ d knows. sym (own_card_value plan s r id d v here knows)) (λ d knows. sym (own_card_op plan s r id d v here knows)) change

@@ -126,11 +126,11 @@ turn_wins_one s (Joins id other) d = omega arith
 abbrev pub ends_in : ℕ → List (Exchange × ℕ) → ℕ
 ends_in c won = times exchange.IUnflag c won + (times exchange.DUnflag c won + times exchange.Backtrack c won)
 
-pub ends_rise : (c cards : ℕ) (s : TableState) (t : Turn) (s' : TableState) → TableTurns cards s t s' → ends c s' ≡ ends c s + ends_in c (turn_won s t)
-ends_rise c cards s t s' turn =
-    let a = turn_total exchange.IUnflag c cards s t s' turn in
-    let b = turn_total exchange.DUnflag c cards s t s' turn in
-    let d = turn_total exchange.Backtrack c cards s t s' turn in
+pub ends_rise : (c : ℕ) (plan : TablePlan) (s : TableState) (t : Turn) (s' : TableState) → TableTurns plan s t s' → ends c s' ≡ ends c s + ends_in c (turn_won s t)
+ends_rise c plan s t s' turn =
+    let a = turn_total exchange.IUnflag c plan s t s' turn in
+    let b = turn_total exchange.DUnflag c plan s t s' turn in
+    let d = turn_total exchange.Backtrack c plan s t s' turn in
     omega arith
 
 -- some pass has a card in hand
@@ -246,12 +246,12 @@ module _ (plan : TablePlan) where
 
   module _ (s : TableState) (reached : IsReached plan s) (c : ℕ) (h : IsAbandoned s c) where
     -- no pass takes it in hand again
-    stays_free : (t : Turn) (s' : TableState) → TableTurns plan.last_card s t s' → (j : ℕ) (v : View) → get_elem? s'.views j ≡ some v → v.worker.card ≢ Some c
+    stays_free : (t : Turn) (s' : TableState) → TableTurns plan s t s' → (j : ℕ) (v : View) → get_elem? s'.views j ≡ some v → v.worker.card ≢ Some c
     stays_free (Makes id i) s' turn j u at = λ has.
         let w = after i (found_by s i) turn.view in
         let there : get_elem? (set s.views id w) j ≡ some u = subst (λ (x : TableState). get_elem? x.views j ≡ some u) turn.gives at in
         ⊎_elim
-        (λ (t : (j ≡ id) × (w ≡ u)). elim (call_held plan.last_card i (found_by s i) turn.view turn.may c (ap (λ (x : View). x.worker.card) t.1 ∙ has)) [
+        (λ (t : (j ≡ id) × (w ≡ u)). elim (call_held plan i (found_by s i) turn.view turn.may c (ap (λ (x : View). x.worker.card) t.1 ∙ has)) [
           | inl was ↦ h.free id turn.view turn.there was
           | inr claims ↦
               let is : get_or s.words 0 0 ≡ c = ap (found_by s) (sym claims.0) ∙ claims.1 in
@@ -270,30 +270,30 @@ module _ (plan : TablePlan) where
         (λ v. v.worker.card ≢ Some c) (λ e. some_not_none e refl) (λ e. some_not_none e refl) h.free) j u at
 
     -- and it doesn't end by a turn
-    stays_unended : (t : Turn) (s' : TableState) → TableTurns plan.last_card s t s' → IsReached plan s' → ends c s' ≡ 0
+    stays_unended : (t : Turn) (s' : TableState) → TableTurns plan s t s' → IsReached plan s' → ends c s' ≡ 0
     stays_unended t s' turn on = by (ends c s') refl
       where
         by : (n : ℕ) → ends c s' ≡ n → n ≡ 0
         by zero e = refl
         by (suc n) e =
             let was = h.unended in
-            let rise = ends_rise c plan.last_card s t s' turn in
+            let rise = ends_rise c plan s t s' turn in
             let one = turn_wins_one s t c in
             let flagged = ended_was_flagged s' on c (omega arith) in
-            let i = turn_total exchange.IFlag c plan.last_card s t s' turn in
-            let d = turn_total exchange.DFlag c plan.last_card s t s' turn in
+            let i = turn_total exchange.IFlag c plan s t s' turn in
+            let d = turn_total exchange.DFlag c plan s t s' turn in
             let hand = open_in_hand s reached c was (omega arith) in
             absurd (h.free hand.seat hand.view hand.there hand.holds)
 
   -- so it stays abandoned by every turn, and in every run
-  pub turn_abandoned : (s : TableState) → IsReached plan s → (c : ℕ) → IsAbandoned s c → (t : Turn) (s' : TableState) → TableTurns plan.last_card s t s' → IsAbandoned s' c
+  pub turn_abandoned : (s : TableState) → IsReached plan s → (c : ℕ) → IsAbandoned s c → (t : Turn) (s' : TableState) → TableTurns plan s t s' → IsAbandoned s' c
   turn_abandoned s reached c h t s' turn = record {
     claimed = let rises = claim_word_rises plan s (reached_kept plan s reached) t s' turn in let low = h.claimed in omega arith;
     free = stays_free s reached c h t s' turn;
     unended = stays_unended s reached c h t s' turn (reached_on plan s reached t s' turn);
   }
 
-  pub run_abandoned : (s : TableState) → IsReached plan s → (c : ℕ) → IsAbandoned s c → (turns : List Turn) (s' : TableState) → TableRun plan.last_card s turns s' → IsAbandoned s' c
+  pub run_abandoned : (s : TableState) → IsReached plan s → (c : ℕ) → IsAbandoned s c → (turns : List Turn) (s' : TableState) → TableRun plan s turns s' → IsAbandoned s' c
   run_abandoned s reached c h [] s' run = subst (λ x. IsAbandoned x c) (sym run) h
   run_abandoned s reached c h (t ∷ ts) s' run =
       run_abandoned run.0 (reached_on plan s reached t run.0 run.1) c (turn_abandoned s reached c h t run.0 run.1) ts s' run.2

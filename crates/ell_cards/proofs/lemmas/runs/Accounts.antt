@@ -76,16 +76,16 @@ silent_call : (c : Call) → ((said : Reply) → c ≢ call.Answer said) → Ans
 silent_call (call.Answer said) h = absurd (h said refl)
 silent_call _ h = tt
 
-turn_total : (such : Op × Reply → Bool) (last : ℕ) (s : TableState) (t : Turn) (s' : TableState) → TableTurns last s t s'
+turn_total : (such : Op × Reply → Bool) (plan : TablePlan) (s : TableState) (t : Turn) (s' : TableState) → TableTurns plan s t s'
     → ((seat : ℕ) (said : Reply) → t ≢ Makes seat (call.Answer said)) → total such s'.views ≡ total such s.views
-turn_total such last s (Makes seat c) s' h other =
+turn_total such plan s (Makes seat c) s' h other =
     let v = h.view in
     let w = after c (found_by s c) v in
     let there = total_set such s.views seat v w h.there in
     let same = ap (λ l. count_such such (own_calls l)) (answers_stay c (found_by s c) v (silent_call c (λ said e. other seat said (ap (Makes seat) e)))) in
     let goal : total such (set s.views seat w) ≡ total such s.views = omega arith in
     subst (λ (x : TableState). total such x.views ≡ total such s.views) (sym h.gives) goal
-turn_total such last s (Splits seat left) s' h other =
+turn_total such plan s (Splits seat left) s' h other =
     let v = h.view in
     let there : total such (set s.views seat (left_view left v)) + count_such such (own_calls v.answers) ≡ total such s.views + count_such such (own_calls v.answers) =
     total_set such s.views seat v (left_view left v) h.there in
@@ -95,7 +95,7 @@ turn_total such last s (Splits seat left) s' h other =
     let none : count_such such (own_calls (inherited v.answers)) ≡ 0 = ap (count_such such) (none_own v.answers) in
     let goal : total such (set s.views seat (left_view left v) ++ right_view left v ∷ []) ≡ total such s.views = omega arith in
     subst (λ (x : TableState). total such x.views ≡ total such s.views) (sym h.gives) goal
-turn_total such last s (Joins seat other) s' h silent =
+turn_total such plan s (Joins seat other) s' h silent =
     let v = h.view in
     let w = h.view' in
     let both = joined_view v w in
@@ -179,7 +179,7 @@ apart_of (x ∷ xs) once = (
   apart_of xs (λ i j y z a b e. let same = once (suc i) (suc j) y z a b e in omega arith),
 )
 
-module _ (plan : TablePlan) (opened : TableState) (starts : Starts plan opened) (turns : List Turn) (s' : TableState) (run : TableRun plan.last_card opened turns s') where
+module _ (plan : TablePlan) (opened : TableState) (starts : Starts plan opened) (turns : List Turn) (s' : TableState) (run : TableRun plan opened turns s') where
   abbrev state : ℕ → TableState
   state = after_turns plan opened starts turns s' run
 
@@ -212,13 +212,13 @@ module _ (plan : TablePlan) (opened : TableState) (starts : Starts plan opened) 
           absurd (other g.seat said (some-injective t (Makes g.seat (call.Answer said)) (sym at ∙ (ap (get_elem? turns) (sym now) ∙ g.answers))))
     ];
     apart = h.apart;
-    sums = λ such. turn_total such plan.last_card (state p) t (state (suc p)) (made plan opened starts turns s' run p t at) other ∙ h.sums such;
+    sums = λ such. turn_total such plan (state p) t (state (suc p)) (made plan opened starts turns s' run p t at) other ∙ h.sums such;
   }
 
   -- and by an answer
   answered : (p seat : ℕ) (said : Reply) → get_elem? turns p ≡ some (Makes seat (call.Answer said)) → Accounted p → Accounted (suc p)
   answered p seat said at h =
-      let end : CallIsMade plan.last_card (state p) seat (call.Answer said) (state (suc p)) = made plan opened starts turns s' run p (Makes seat (call.Answer said)) at in
+      let end : CallIsMade plan (state p) seat (call.Answer said) (state (suc p)) = made plan opened starts turns s' run p (Makes seat (call.Answer said)) at in
       let op = end.may.op in
       let short = inside turns p (Makes seat (call.Answer said)) at in
       let begun = begun_of plan opened starts turns s' run p (omega arith) seat op (record { view = end.view; there = end.there; does = end.may.busy }) in
@@ -288,7 +288,7 @@ module _ (plan : TablePlan) (opened : TableState) (starts : Starts plan opened) 
       let few = no_more such all.list lin.order all.apart
       (λ x i. let e = all.each x i in let there = lin.calls.ended x.begin e.0 x.op x.reply e.2 in in_at lin.order there.0 x there.1) in
       let sums = all.sums such in
-      let last = ap (λ (s : TableState). total such s.views) (at_end plan.last_card opened turns s' run) in
+      let last = ap (λ (s : TableState). total such s.views) (at_end plan opened turns s' run) in
       omega arith
 
   module _ (free : (j : ℕ) (u : View) → get_elem? s'.views j ≡ some u → IsFree u) where
@@ -308,7 +308,7 @@ module _ (plan : TablePlan) (opened : TableState) (starts : Starts plan opened) 
         (λ x i. let e = ended_only x (place_of lin.order x i) in
         all.all x.begin e.0 x.op x.reply (inside turns e.0 (Makes e.1.seat (call.Answer x.reply)) e.1.answers) e.1) in
         let sums = all.sums such in
-        let last = ap (λ (s : TableState). total such s.views) (at_end plan.last_card opened turns s' run) in
+        let last = ap (λ (s : TableState). total such s.views) (at_end plan opened turns s' run) in
         omega arith
 
 -- so it is of one thread

@@ -42,7 +42,7 @@ keep_on seat (Splits other left ∷ ts) h = (h.0, keep_on seat ts h.1)
 keep_on seat (Joins one other ∷ ts) h = (h.0, h.1, keep_on seat ts h.2)
 
 -- what a view has since one call of its pass, which is the last such: before any other call it had it already, and no split or join leaves it
-module _ (cards seat : ℕ) (Has : View → Type 0) (Is : Call → View → Type 0) (Goes : Call → Type 0)
+module _ (plan : TablePlan) (seat : ℕ) (Has : View → Type 0) (Is : Call → View → Type 0) (Goes : Call → Type 0)
     (by_call : (c : Call) (n : ℕ) (v : View) → Has (after c n v) → Is c v ⊎ (Goes c × Has v))
     (not_left : (chosen : List ℕ) (v : View) → Has (left_view chosen v) → ⊥) (not_right : (chosen : List ℕ) (v : View) → Has (right_view chosen v) → ⊥)
     (not_joined : (v w : View) → Has (joined_view v w) → ⊥) (not_spent : Has spent_view → ⊥) where
@@ -60,21 +60,21 @@ module _ (cards seat : ℕ) (Has : View → Type 0) (Is : Call → View → Type
     pub parts : turns ≡ before ++ Makes seat c ∷ later
     pub from : TableState
     pub to : TableState
-    pub led : TableRun cards s before from
-    pub made : CallIsMade cards from seat c to
+    pub led : TableRun plan s before from
+    pub made : CallIsMade plan from seat c to
     pub is : Is c made.view
-    pub since : TableRun cards to later s'
+    pub since : TableRun plan to later s'
     pub on : OnlyMakes Goes seat later
 
   -- the turn before which it had it: that call, or another
-  turn_back : (s : TableState) (t : Turn) (s' : TableState) → TableTurns cards s t s' → HasHere s'
-      → ((c : Call) × (t ≡ Makes seat c) × ((made : CallIsMade cards s seat c s') × Is c made.view)) ⊎ (OnlyMakes Goes seat (t ∷ []) × HasHere s)
+  turn_back : (s : TableState) (t : Turn) (s' : TableState) → TableTurns plan s t s' → HasHere s'
+      → ((c : Call) × (t ≡ Makes seat c) × ((made : CallIsMade plan s seat c s') × Is c made.view)) ⊎ (OnlyMakes Goes seat (t ∷ []) × HasHere s)
   turn_back s (Makes other c) s' h at =
       let v = view_after s h.view c in
       let now : get_elem? (set s.views other v) seat ≡ some at.view = ap (λ (t : TableState). get_elem? t.views seat) (sym h.gives) ∙ at.there in
       elim (at_set s.views other seat v at.view now) [
         | inl e ↦ elim (by_call c (found_by s c) h.view (subst Has (sym e.1) at.has)) [
-          | inl is ↦ inl (c, ap (λ i. Makes i c) (sym e.0), subst (λ i. (made : CallIsMade cards s i c s') × Is c made.view) (sym e.0) (h, is))
+          | inl is ↦ inl (c, ap (λ i. Makes i c) (sym e.0), subst (λ i. (made : CallIsMade plan s i c s') × Is c made.view) (sym e.0) (h, is))
           | inr was ↦ inr ((λ same. was.0, tt), record { view = h.view; there = ap (get_elem? s.views) e.0 ∙ h.there; has = was.1 })
         ]
         | inr e ↦ inr ((λ same. absurd (e.0 (sym same)), tt), record { view = at.view; there = e.1; has = at.has })
@@ -107,7 +107,7 @@ module _ (cards seat : ℕ) (Has : View → Type 0) (Is : Call → View → Type
   more_turns (Joins one other) ts h rest = (h.0, h.1, rest)
 
   -- what it has at the end of a run it has since a call of the run, or had all along
-  pub run_back : (s : TableState) (turns : List Turn) (s' : TableState) → TableRun cards s turns s' → HasHere s'
+  pub run_back : (s : TableState) (turns : List Turn) (s' : TableState) → TableRun plan s turns s' → HasHere s'
       → HasSince s turns s' ⊎ (OnlyMakes Goes seat turns × HasHere s)
   run_back s [] s' run at = inr (tt, subst HasHere run at)
   run_back s (t ∷ ts) s' run at = elim (run_back run.0 ts s' run.2 at) [
@@ -251,25 +251,25 @@ module _ (op : Op) (said : Reply) where
 
 -- what a pass answered last it answered in the run, and began in it, and it had this card in hand then
 pub answers_with_card : (plan : TablePlan) (v : View) (op : Op) (said : Reply) (card : Option ℕ) → v.answered ≡ Some (record { op = op; said = said; card = card })
-    → (s : TableState) → Starts plan s → (turns : List Turn) (s' : TableState) → TableRun plan.last_card s turns s' → (seat : ℕ) → get_elem? s'.views seat ≡ some v
+    → (s : TableState) → Starts plan s → (turns : List Turn) (s' : TableState) → TableRun plan s turns s' → (seat : ℕ) → get_elem? s'.views seat ≡ some v
     → (a : AnsweredInRun plan s turns s' seat op said) × (a.called.answers.view.worker.card ≡ card)
 answers_with_card plan v op said card last s starts turns s' run seat there =
-    elim (run_back plan.last_card seat (Answers op said card) (IsAnswer op said card) (λ c. Unit {0}) (answer_before op said card) (λ chosen v e. some_not_none e refl)
+    elim (run_back plan seat (Answers op said card) (IsAnswer op said card) (λ c. Unit {0}) (answer_before op said card) (λ chosen v e. some_not_none e refl)
     (λ chosen v e. some_not_none e refl) (λ v w e. some_not_none e refl) (λ e. some_not_none e refl) s turns s' run (record { view = v; there = there; has = last })) [
       | inr h ↦ absurd (each_first (first_of plan) (λ u. Answers op said card u → ⊥) (λ e. some_not_none e refl) seat h.1.view
           (ap (λ (t : TableState). get_elem? t.views seat) (sym starts.is) ∙ h.1.there) h.1.has)
-      | inl a ↦ elim (run_back plan.last_card seat (Busy op said) (IsBegin op said) KeepsOn (busy_before op said) (λ chosen v e. some_not_none e refl)
+      | inl a ↦ elim (run_back plan seat (Busy op said) (IsBegin op said) KeepsOn (busy_before op said) (λ chosen v e. some_not_none e refl)
           (λ chosen v e. some_not_none e refl) (λ v w e. some_not_none e refl) (λ e. some_not_none e refl) s a.before a.from a.led
           (record { view = a.made.view; there = a.made.there; has = a.is.1 })) [
             | inr h ↦ absurd (each_first (first_of plan) (λ u. Busy op said u → ⊥) (λ e. some_not_none e refl) seat h.1.view
                 (ap (λ (t : TableState). get_elem? t.views seat) (sym starts.is) ∙ h.1.there) h.1.has)
             | inl b ↦
-                let called : IsCalled plan.last_card b.from seat op b.to b.later a.from said = record {
+                let called : IsCalled plan b.from seat op b.to b.later a.from said = record {
                   ended = a.to;
-                  begins = subst (λ c. CallIsMade plan.last_card b.from seat c b.to) b.is b.made;
+                  begins = subst (λ c. CallIsMade plan b.from seat c b.to) b.is b.made;
                   run = b.since;
                   on = keep_on seat b.later b.on;
-                  answers = subst (λ c. CallIsMade plan.last_card a.from seat c a.to) a.is.0 a.made;
+                  answers = subst (λ c. CallIsMade plan a.from seat c a.to) a.is.0 a.made;
                 } in (
                   record {
                     earlier = b.before;
@@ -294,9 +294,9 @@ pub answers_have_their_points : AnswersHaveTheirPoints
 answers_have_their_points plan v op said card last s starts turns s' run seat there = (answers_with_card plan v op said card last s starts turns s' run seat there).0
 
 -- the turn before which a pass has an operation in hand: the call that begins it, or another, before which it had it
-pub turn_begun : (cards seat : ℕ) (op : Op) (s : TableState) (t : Turn) (s' : TableState) → TableTurns cards s t s' → (v : View) → get_elem? s'.views seat ≡ some v
+pub turn_begun : (plan : TablePlan) (seat : ℕ) (op : Op) (s : TableState) (t : Turn) (s' : TableState) → TableTurns plan s t s' → (v : View) → get_elem? s'.views seat ≡ some v
     → v.worker.operation ≡ Some op → (t ≡ Makes seat (call.Begin op)) ⊎ (KeepOn seat (t ∷ []) × ((u : View) × (get_elem? s.views seat ≡ some u) × (u.worker.operation ≡ Some op)))
-turn_begun cards seat op s t s' h v there has = elim (turn_back cards seat (Busy op Yes) (IsBegin op Yes) KeepsOn (busy_before op Yes) (λ chosen v e. some_not_none e refl)
+turn_begun plan seat op s t s' h v there has = elim (turn_back plan seat (Busy op Yes) (IsBegin op Yes) KeepsOn (busy_before op Yes) (λ chosen v e. some_not_none e refl)
     (λ chosen v e. some_not_none e refl) (λ v w e. some_not_none e refl) (λ e. some_not_none e refl) s t s' h (record { view = v; there = there; has = has })) [
       | inl begins ↦ inl (begins.1 ∙ ap (Makes seat) begins.2.1)
       | inr was ↦ inr (keep_on seat (t ∷ []) was.0, (was.1.view, was.1.there, was.1.has))

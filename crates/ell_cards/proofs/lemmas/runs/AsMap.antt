@@ -152,7 +152,7 @@ calls_answer_as_a_map plan s r seat op begun turns s' said called = elim (calls_
     first = t.first;
     state = t.state;
     before = t.before;
-    after = subst (λ ts. TableRun plan.last_card t.state ts s') (sym t.at) (t.next, t.now, t.after);
+    after = subst (λ ts. TableRun plan t.state ts s') (sym t.at) (t.next, t.now, t.after);
     says = λ there map. by.0 ∙ change_says op (own_words t.state) (own_words t.next) t.changes there map;
     goes = inr (record {
       card = by.1.0;
@@ -181,7 +181,7 @@ call_map (call.DChild c gp p s right) true old new takes there map = (without th
 call_map (call.DChild c gp p s right) false old new same there map = (there, same_map old new same there map)
 call_map _ b old new same there map = (there, same_map old new same there map)
 
-turn_map : (plan : TablePlan) (s : TableState) → HasMachine plan s → (t : Turn) (s' : TableState) → TableTurns plan.last_card s t s' → IsAMap s → IsAMap s'
+turn_map : (plan : TablePlan) (s : TableState) → HasMachine plan s → (t : Turn) (s' : TableState) → TableTurns plan s t s' → IsAMap s → IsAMap s'
 turn_map plan s r (Makes seat c) s' h m =
     let more = call_map c (is_won (atomic_of c) (found_by s c)) (own_words s) (own_words s') (turn_lawful plan s r (Makes seat c) s' h).1.tree m.there m.map in
     record { there = more.0; map = more.1 }
@@ -190,7 +190,7 @@ turn_map plan s r (Splits seat left) s' h m =
 turn_map plan s r (Joins seat other) s' h m =
     record { there = m.there; map = same_map (own_words s) (own_words s') (turn_lawful plan s r (Joins seat other) s' h).1.tree m.there m.map }
 
-run_map : (plan : TablePlan) (s : TableState) → HasMachine plan s → (turns : List Turn) (s' : TableState) → TableRun plan.last_card s turns s' → IsAMap s → IsAMap s'
+run_map : (plan : TablePlan) (s : TableState) → HasMachine plan s → (turns : List Turn) (s' : TableState) → TableRun plan s turns s' → IsAMap s → IsAMap s'
 run_map plan s r [] s' run m = subst IsAMap (sym run) m
 run_map plan s r (t ∷ ts) s' run m =
     run_map plan run.0 (turn_lawful plan s r t run.0 run.1).0 ts s' run.2 (turn_map plan s r t run.0 run.1 m)
@@ -209,7 +209,7 @@ effect_map (call.DChild c gp p s right) true old new takes there map = taken old
 effect_map (call.DChild c gp p s right) false old new same there map = same_map old new same there map
 effect_map _ b old new same there map = same_map old new same there map
 
-pub turn_effects : (plan : TablePlan) (s : TableState) → HasMachine plan s → (t : Turn) (s' : TableState) → TableTurns plan.last_card s t s' → (there : Contents)
+pub turn_effects : (plan : TablePlan) (s : TableState) → HasMachine plan s → (t : Turn) (s' : TableState) → TableTurns plan s t s' → (there : Contents)
     → HasMap (own_words s) there → HasMap (own_words s') (final there (turn_effect s t))
 turn_effects plan s r (Makes seat c) s' h there map =
     effect_map c (is_won (atomic_of c) (found_by s c)) (own_words s) (own_words s') (turn_lawful plan s r (Makes seat c) s' h).1.tree there map
@@ -222,11 +222,11 @@ final_append : (there : Contents) (a b : List Op) → final there (a ++ b) ≡ f
 final_append there [] b = refl
 final_append there (op ∷ ops) b = final_append (after op there) ops b
 
-run_maps : (plan : TablePlan) (s : TableState) → HasMachine plan s → (turns : List Turn) (s' : TableState) (run : TableRun plan.last_card s turns s') → (there : Contents)
-    → HasMap (own_words s) there → HasMap (own_words s') (final there (run_effects plan.last_card s turns s' run))
+run_maps : (plan : TablePlan) (s : TableState) → HasMachine plan s → (turns : List Turn) (s' : TableState) (run : TableRun plan s turns s') → (there : Contents)
+    → HasMap (own_words s) there → HasMap (own_words s') (final there (run_effects plan s turns s' run))
 run_maps plan s r [] s' run there map = subst (λ (x : TableState). HasMap (own_words x) there) (sym run) map
 run_maps plan s r (t ∷ ts) s' run there map =
-    subst (HasMap (own_words s')) (sym (final_append there (turn_effect s t) (run_effects plan.last_card run.0 ts s' run.2)))
+    subst (HasMap (own_words s')) (sym (final_append there (turn_effect s t) (run_effects plan run.0 ts s' run.2)))
     (run_maps plan run.0 (turn_lawful plan s r t run.0 run.1).0 ts s' run.2 (final there (turn_effect s t)) (turn_effects plan s r t run.0 run.1 there map))
 
 -- the tree is what one thread leaves
@@ -235,13 +235,13 @@ trees_are_of_one_thread plan s starts turns s' run =
     run_maps plan s (starts_are_kept plan s starts).kept turns s' run (contents_of plan.start) (starts_have_their_keys plan s starts)
 
 -- two runs in a row
-pub runs_on : (cards : ℕ) (s : TableState) (a : List Turn) (between : TableState) (b : List Turn) (s' : TableState) → TableRun cards s a between → TableRun cards between b s'
-    → TableRun cards s (a ++ b) s'
-runs_on cards s [] between b s' first next = subst (λ (x : TableState). TableRun cards x b s') first next
-runs_on cards s (t ∷ ts) between b s' first next = (first.0, first.1, runs_on cards first.0 ts between b s' first.2 next)
+pub runs_on : (plan : TablePlan) (s : TableState) (a : List Turn) (between : TableState) (b : List Turn) (s' : TableState) → TableRun plan s a between → TableRun plan between b s'
+    → TableRun plan s (a ++ b) s'
+runs_on plan s [] between b s' first next = subst (λ (x : TableState). TableRun plan x b s') first next
+runs_on plan s (t ∷ ts) between b s' first next = (first.0, first.1, runs_on plan first.0 ts between b s' first.2 next)
 
 -- the machine goes on
-pub run_kept : (plan : TablePlan) (s : TableState) → HasMachine plan s → (turns : List Turn) (s' : TableState) → TableRun plan.last_card s turns s' → HasMachine plan s'
+pub run_kept : (plan : TablePlan) (s : TableState) → HasMachine plan s → (turns : List Turn) (s' : TableState) → TableRun plan s turns s' → HasMachine plan s'
 run_kept plan s r [] s' run = subst (HasMachine plan) (sym run) r
 run_kept plan s r (t ∷ ts) s' run = run_kept plan run.0 (turn_lawful plan s r t run.0 run.1).0 ts s' run.2
 
@@ -252,7 +252,7 @@ calls_reply_as_one_thread plan opened starts earlier s run seat op begun turns s
     let kept = run_kept plan opened (starts_are_kept plan opened starts).kept earlier s run in
     let at = calls_answer_as_a_map plan s kept seat op begun turns s' said called in
     let all = earlier ++ Makes seat (call.Begin op) ∷ take at.first turns in
-    let led = runs_on plan.last_card opened earlier s (Makes seat (call.Begin op) ∷ take at.first turns) at.state run (begun, called.begins, at.before) in
+    let led = runs_on plan opened earlier s (Makes seat (call.Begin op) ∷ take at.first turns) at.state run (begun, called.begins, at.before) in
     record {
       first = at.first;
       state = at.state;
@@ -260,6 +260,6 @@ calls_reply_as_one_thread plan opened starts earlier s run seat op begun turns s
       after = at.after;
       all = all;
       led = led;
-      says = at.says (final (contents_of plan.start) (run_effects plan.last_card opened all at.state led)) (trees_are_of_one_thread plan opened starts all at.state led);
+      says = at.says (final (contents_of plan.start) (run_effects plan opened all at.state led)) (trees_are_of_one_thread plan opened starts all at.state led);
       goes = at.goes;
     }

@@ -31,7 +31,7 @@ some_glance : (gs : List Glance) (g : Glance) → Has gs g → IsSome gs
 some_glance [] g has = elim has [ ]
 some_glance (d ∷ gs) g has = tt
 
-module _ (cards seat : ℕ) where
+module _ (plan : TablePlan) (seat : ℕ) where
   -- the pass in the seat looks
   record LooksHere (s : TableState) : Type 0 where
     view : View
@@ -42,7 +42,7 @@ module _ (cards seat : ℕ) where
   abbrev Before : Call → View → Type 0
   Before c v = (c ≡ call.Look) ⊎ (BeginsNothing c × IsSome v.glances)
 
-  look_before : (c : Call) (n : ℕ) (v : View) → May cards c v → IsSome (after c n v).glances → Before c v
+  look_before : (c : Call) (n : ℕ) (v : View) → May plan c v → IsSome (after c n v).glances → Before c v
   look_before call.Look n v may e = inl refl
   look_before (call.LookDown from key right) n v may e = inr (tt, some_glance v.glances may.come.glance may.come.among)
   look_before (call.Claim c) n v may e = inr (tt, subst IsSome (claim_look (n == c) c v) e)
@@ -72,7 +72,7 @@ module _ (cards seat : ℕ) where
   no_look v u none same looks = subst IsSome (sym (ap (λ (w : View). w.glances) same) ∙ none) looks
 
   -- the turn before which a look is: the call that began it, or another
-  turn_back : (s : TableState) (t : Turn) (s' : TableState) → TableTurns cards s t s' → LooksHere s'
+  turn_back : (s : TableState) (t : Turn) (s' : TableState) → TableTurns plan s t s' → LooksHere s'
       → (t ≡ Makes seat call.Look) ⊎ (LooksOn seat (t ∷ []) × LooksHere s)
   turn_back s (Makes other c) s' h at =
       let v = view_after s h.view c in
@@ -112,8 +112,8 @@ module _ (cards seat : ℕ) where
   more_looks (Joins one other) ts h rest = (h.0, h.1, rest)
 
   -- a look at the end of a run began in it, or was under way all along
-  run_back : (s : TableState) (turns : List Turn) (s' : TableState) → TableRun cards s turns s' → LooksHere s'
-      → Began cards s turns s' seat ⊎ (LooksOn seat turns × LooksHere s)
+  run_back : (s : TableState) (turns : List Turn) (s' : TableState) → TableRun plan s turns s' → LooksHere s'
+      → Began plan s turns s' seat ⊎ (LooksOn seat turns × LooksHere s)
   run_back s [] s' run at = inr (tt, subst LooksHere run at)
   run_back s (t ∷ ts) s' run at = elim (run_back run.0 ts s' run.2 at) [
     | inl b ↦ inl (record {
@@ -133,7 +133,7 @@ module _ (cards seat : ℕ) where
         to = run.0;
         at = ap (λ (u : Turn). some u) is;
         before = refl;
-        call = subst (λ u. TableTurns cards s u run.0) is run.1;
+        call = subst (λ u. TableTurns plan s u run.0) is run.1;
         after = run.2;
         on = h.0;
       })
@@ -142,24 +142,24 @@ module _ (cards seat : ℕ) where
   ]
 
 -- no pass looks at a start
-starts_still : (plan : TablePlan) (s : TableState) → Starts plan s → (last seat : ℕ) → LooksHere last seat s → ⊥
-starts_still plan s starts last seat at =
+starts_still : (plan : TablePlan) (s : TableState) → Starts plan s → (seat : ℕ) → LooksHere plan seat s → ⊥
+starts_still plan s starts seat at =
     elim (at_snoc [] (first_of plan) at.view seat (ap (λ (t : TableState). get_elem? t.views seat) (sym starts.is) ∙ at.there)) [
       | inl e ↦ absurd (some-ne-none at.view (sym e))
-      | inr e ↦ no_look last seat (first_of plan) at.view refl e at.looks
+      | inr e ↦ no_look plan seat (first_of plan) at.view refl e at.looks
     ]
 
 -- so each look began in the run, and what it has found was so since
 pub stretches_are_of_one_state : StretchesAreOfOneState
 stretches_are_of_one_state plan v low high said found s starts turns s' run seat there =
     let kept = (starts_are_kept plan s starts).kept in
-    elim (run_back plan.last_card seat s turns s' run (record { view = v; there = there; looks = some_glance v.glances found.comes.glance found.comes.among })) [
+    elim (run_back plan seat s turns s' run (record { view = v; there = there; looks = some_glance v.glances found.comes.glance found.comes.among })) [
       | inl b ↦ record {
         began = b;
         so = stretches_of_one_state plan v low high said found b.from
             (runs_are_lawful plan s kept _ b.from b.before).kept seat b.to b.call _ s' b.after b.on there;
       }
-      | inr h ↦ absurd (starts_still plan s starts plan.last_card seat h.1)
+      | inr h ↦ absurd (starts_still plan s starts seat h.1)
     ]
 
 -- of two looks, one after the other, the second is of no earlier state
@@ -190,8 +190,8 @@ one_key v key there found = record {
     by None other = elim (cases_lt found.leaf_key key) [ inl less ↦ inl less | inr most ↦ inr (omega arith) ]
     by (Some value) tells = (tells.0, omega arith, omega arith, tells.1)
 
-was_of_key : (cards : ℕ) (s : TableState) (turns : List Turn) (s' : TableState) (key : ℕ) (there : Option ℕ)
-    → WasSo cards s turns s' (HasBetween key (key + 1) (with_key key there)) → WasSo cards s turns s' (HasThere key there)
+was_of_key : (plan : TablePlan) (s : TableState) (turns : List Turn) (s' : TableState) (key : ℕ) (there : Option ℕ)
+    → WasSo plan s turns s' (HasBetween key (key + 1) (with_key key there)) → WasSo plan s turns s' (HasThere key there)
 unfolding HasThere HasBetween
 was_of_key cards s turns s' key there was = record { state = was.state; amid = was.amid; so = by there was.so }
   where
@@ -203,11 +203,11 @@ was_of_key cards s turns s' key there was = record { state = was.state; amid = w
 pub looks_are_of_one_state : LooksAreOfOneState
 looks_are_of_one_state plan v key said found s starts turns s' run seat there =
     let was = stretches_are_of_one_state plan v key (key + 1) (with_key key said) (one_key v key said found) s starts turns s' run seat there in
-    record { began = was.began; so = was_of_key plan.last_card was.began.to _ s' key said was.so }
+    record { began = was.began; so = was_of_key plan was.began.to _ s' key said was.so }
 
 pub looks_are_in_order : LooksAreInOrder
 looks_are_in_order plan s starts turns ended run seat v at first found other begun call more s' run' on w at' second found' =
     let both = stretches_are_in_order plan s starts turns ended run seat v at (first.0, first.0 + 1, with_key first.0 first.1)
     (one_key v first.0 first.1 found) other begun call more s' run' on w at' (second.0, second.0 + 1, with_key second.0 second.1)
     (one_key w second.0 second.1 found') in
-    (looks_are_of_one_state plan v first.0 first.1 found s starts turns ended run seat at, was_of_key plan.last_card begun more s' second.0 second.1 both.1)
+    (looks_are_of_one_state plan v first.0 first.1 found s starts turns ended run seat at, was_of_key plan begun more s' second.0 second.1 both.1)

@@ -135,7 +135,7 @@ told_on s words id v w here more c h = elim (cases_eq h.seat id) [
   | inr n ↦ record { seat = h.seat; view = h.view; there = set_else s.views id h.seat w n ∙ h.there; parent = h.parent; told = h.told }
 ]
 
-module _ (cards first : ℕ) (s : TableState) (h : AllTold first s) where
+module _ (plan : TablePlan) (first : ℕ) (s : TableState) (h : AllTold first s) where
   -- a call that is no claim
   call_told : (id : ℕ) (v : View) (c : Call) → get_elem? s.views id ≡ some v → ((d : ℕ) → c ≢ call.Claim d) → AllTold first (state_after s id v c)
   call_told id v c here apart =
@@ -176,7 +176,7 @@ module _ (cards first : ℕ) (s : TableState) (h : AllTold first s) where
             ];
           }
 
-  turn_told : (t : Turn) (s' : TableState) → TableTurns cards s t s' → AllTold first s'
+  turn_told : (t : Turn) (s' : TableState) → TableTurns plan s t s' → AllTold first s'
   turn_told (Makes id (call.Claim c)) s' turn = subst (AllTold first) (sym turn.gives) (claimed_told id turn.view c turn.there turn.may.0)
   turn_told (Makes id c) s' turn = subst (AllTold first) (sym turn.gives) (call_told id turn.view c turn.there (λ d e. (cc)))
   turn_told (Splits id chosen) s' turn =
@@ -218,14 +218,14 @@ module _ (cards first : ℕ) (s : TableState) (h : AllTold first s) where
         }
       ]
 
-run_told : (cards first : ℕ) (s : TableState) (turns : List Turn) (s' : TableState) → TableRun cards s turns s' → AllTold first s → AllTold first s'
-run_told cards first s [] s' run h = subst (AllTold first) (sym run) h
-run_told cards first s (t ∷ ts) s' run h = run_told cards first run.0 ts s' run.2 (turn_told cards first s h t run.0 run.1)
+run_told : (plan : TablePlan) (first : ℕ) (s : TableState) (turns : List Turn) (s' : TableState) → TableRun plan s turns s' → AllTold first s → AllTold first s'
+run_told plan first s [] s' run h = subst (AllTold first) (sym run) h
+run_told plan first s (t ∷ ts) s' run h = run_told plan first run.0 ts s' run.2 (turn_told plan first s h t run.0 run.1)
 
 pub all_told : (plan : TablePlan) (s : TableState) → IsReached plan s → AllTold (length plan.start) s
 all_told plan s h =
     let opens : get_or h.first.words 0 0 ≡ length plan.start + 1 = sym (listed_next h.first.words) ∙ ap (λ (w : Words). w.next) h.starts.words.are in
-    run_told plan.last_card (length plan.start) h.first h.turns s h.run (record {
+    run_told plan (length plan.start) h.first h.turns s h.run (record {
       next = omega arith;
       told = λ c low below. absurd (omega arith);
     })

@@ -44,9 +44,9 @@ wins_are_counted plan s h =
       stages = goes.1.stages;
       invariant = goes.1.invariant;
       counted = λ j more c.
-          let runs = run_total j more c plan.last_card h.first h.turns s h.run in
+          let runs = run_total j more c plan h.first h.turns s h.run in
           let none = none_at_start plan h.first h.starts j c in
-          let first = ap (λ ws. count j (ws ++ run_wins plan.last_card h.first h.turns s h.run c)) (k.unwon c) in
+          let first = ap (λ ws. count j (ws ++ run_wins plan h.first h.turns s h.run c)) (k.unwon c) in
           let wins = ap (count j) (goes.1.wins c) in
           omega arith;
     }
@@ -80,7 +80,7 @@ claims_one true c d = by (d == c)
     by true = refl
     by false = refl
 
-module _ (cards first : ℕ) (s : TableState) (h : ClaimsCount first s) where
+module _ (plan : TablePlan) (first : ℕ) (s : TableState) (h : ClaimsCount first s) where
   -- where the claim word and the claims are as they were
   same_claims : (s' : TableState) → get_or s'.words 0 0 ≡ get_or s.words 0 0 → ((d : ℕ) → total exchange.Claim d s' ≡ total exchange.Claim d s) → ClaimsCount first s'
   same_claims s' next same = record {
@@ -109,7 +109,7 @@ module _ (cards first : ℕ) (s : TableState) (h : ClaimsCount first s) where
       own : (d : ℕ) → d ≡ c → total exchange.Claim d s' ≡ total exchange.Claim d s + 1
       own d e = more d ∙ ap (λ (b : Bool). total exchange.Claim d s + (if b then 1 else 0)) (eq-eqb d c e)
 
-  claim_counts : (id c : ℕ) (s' : TableState) → TableTurns cards s (Makes id (call.Claim c)) s' → ClaimsCount first s'
+  claim_counts : (id c : ℕ) (s' : TableState) → TableTurns plan s (Makes id (call.Claim c)) s' → ClaimsCount first s'
   claim_counts id c s' turn = by (get_or s.words 0 0 == c) refl
     where
       n : ℕ
@@ -122,7 +122,7 @@ module _ (cards first : ℕ) (s : TableState) (h : ClaimsCount first s) where
       next_is = ap (λ (x : TableState). get_or x.words 0 0) turn.gives ∙ first_set s.words (if n == c then c + 1 else n) some
 
       added : (d : ℕ) → total exchange.Claim d s' ≡ total exchange.Claim d s + (if n == c then (if d == c then 1 else 0) else 0)
-      added d = turn_total exchange.Claim d cards s (Makes id (call.Claim c)) s' turn ∙ ap (λ m. total exchange.Claim d s + m) (claims_one (n == c) c d)
+      added d = turn_total exchange.Claim d plan s (Makes id (call.Claim c)) s' turn ∙ ap (λ m. total exchange.Claim d s + m) (claims_one (n == c) c d)
 
       by : (b : Bool) → (n == c) ≡ b → ClaimsCount first s'
       by false e = same_claims s' (next_is ∙ ap (λ (b : Bool). if b then c + 1 else n) e)
@@ -130,27 +130,27 @@ module _ (cards first : ℕ) (s : TableState) (h : ClaimsCount first s) where
       by true e = one_more_claim s' c (eqb-true n c e) (next_is ∙ ap (λ (b : Bool). if b then c + 1 else n) e)
           (λ d. added d ∙ ap (λ (b : Bool). total exchange.Claim d s + (if b then (if d == c then 1 else 0) else 0)) e)
 
-  call_counts : (id : ℕ) (c : Call) (s' : TableState) → TableTurns cards s (Makes id c) s' → ((d : ℕ) → c ≢ call.Claim d) → ClaimsCount first s'
+  call_counts : (id : ℕ) (c : Call) (s' : TableState) → TableTurns plan s (Makes id c) s' → ((d : ℕ) → c ≢ call.Claim d) → ClaimsCount first s'
   call_counts id c s' turn apart = same_claims s'
       (ap (λ (x : TableState). get_or x.words 0 0) turn.gives ∙ leaves_next c s.words apart)
-      (λ d. let more = turn_total exchange.Claim d cards s (Makes id c) s' turn in let none = claims_none c (found_by s c) d apart in omega arith)
+      (λ d. let more = turn_total exchange.Claim d plan s (Makes id c) s' turn in let none = claims_none c (found_by s c) d apart in omega arith)
 
-  turn_counts : (t : Turn) (s' : TableState) → TableTurns cards s t s' → ClaimsCount first s'
+  turn_counts : (t : Turn) (s' : TableState) → TableTurns plan s t s' → ClaimsCount first s'
   turn_counts (Makes id (call.Claim c)) s' turn = claim_counts id c s' turn
   turn_counts (Makes id c) s' turn = call_counts id c s' turn (λ d e. (cc))
   turn_counts (Splits id chosen) s' turn = same_claims s' (ap (λ (x : TableState). get_or x.words 0 0) turn.gives)
-      (λ d. let more = turn_total exchange.Claim d cards s (Splits id chosen) s' turn in omega arith)
+      (λ d. let more = turn_total exchange.Claim d plan s (Splits id chosen) s' turn in omega arith)
   turn_counts (Joins id other) s' turn = same_claims s' (ap (λ (x : TableState). get_or x.words 0 0) turn.gives)
-      (λ d. let more = turn_total exchange.Claim d cards s (Joins id other) s' turn in omega arith)
+      (λ d. let more = turn_total exchange.Claim d plan s (Joins id other) s' turn in omega arith)
 
-run_counts : (cards first : ℕ) (s : TableState) (turns : List Turn) (s' : TableState) → TableRun cards s turns s' → ClaimsCount first s → ClaimsCount first s'
-run_counts cards first s [] s' run h = subst (ClaimsCount first) (sym run) h
-run_counts cards first s (t ∷ ts) s' run h = run_counts cards first run.0 ts s' run.2 (turn_counts cards first s h t run.0 run.1)
+run_counts : (plan : TablePlan) (first : ℕ) (s : TableState) (turns : List Turn) (s' : TableState) → TableRun plan s turns s' → ClaimsCount first s → ClaimsCount first s'
+run_counts plan first s [] s' run h = subst (ClaimsCount first) (sym run) h
+run_counts plan first s (t ∷ ts) s' run h = run_counts plan first run.0 ts s' run.2 (turn_counts plan first s h t run.0 run.1)
 
 pub claims_are_counted : (plan : TablePlan) (s : TableState) → IsReached plan s → ClaimsCount (length plan.start) s
 claims_are_counted plan s h =
     let opens : get_or h.first.words 0 0 ≡ length plan.start + 1 = sym (listed_next h.first.words) ∙ ap (λ (w : Words). w.next) h.starts.words.are in
-    run_counts plan.last_card (length plan.start) h.first h.turns s h.run (record {
+    run_counts plan (length plan.start) h.first h.turns s h.run (record {
       next = omega arith;
       low = λ c low. none_at_start plan h.first h.starts exchange.Claim c;
       claimed = λ c above below. absurd (omega arith);

@@ -101,7 +101,7 @@ all_earlier takes turns [] cs turn h e = tt
 all_earlier takes turns (d ∷ ds) [] turn h e = absurd h
 all_earlier takes turns (d ∷ ds) (c ∷ cs) turn h e = (e.0, all_earlier takes turns ds cs turn h.3 e.1)
 
-module _ (plan : TablePlan) (opened : TableState) (starts : Starts plan opened) (turns : List Turn) (s' : TableState) (run : TableRun plan.last_card opened turns s') where
+module _ (plan : TablePlan) (opened : TableState) (starts : Starts plan opened) (turns : List Turn) (s' : TableState) (run : TableRun plan opened turns s') where
   abbrev state : ℕ → TableState
   state = after_turns plan opened starts turns s' run
 
@@ -162,7 +162,7 @@ module _ (plan : TablePlan) (opened : TableState) (starts : Starts plan opened) 
       on_knows p seat v (after c n v) same (λ op does. sym (does_stay c n v plain) ∙ does)
       (λ op begins. plain_begin c op plain (makes_begin seat seat c (call.Begin op) (other_turn p (Makes seat c) (Makes seat (call.Begin op)) at begins)).1) k
 
-  call_knows : (p seat : ℕ) (c : Call) (n : ℕ) (v : View) → get_elem? turns p ≡ some (Makes seat c) → May plan.last_card c v
+  call_knows : (p seat : ℕ) (c : Call) (n : ℕ) (v : View) → get_elem? turns p ≡ some (Makes seat c) → May plan c v
       → get_elem? (state p).views seat ≡ some v → Knows p seat v → Knows (suc p) seat (after c n v)
   call_knows p seat (call.Begin op) n v at may there k = record {
     spans = k.spans;
@@ -195,7 +195,7 @@ module _ (plan : TablePlan) (opened : TableState) (starts : Starts plan opened) 
   others_know : (p j : ℕ) (u : View) (t : Turn) → get_elem? turns p ≡ some t → ((op : Op) → t ≢ Makes j (call.Begin op)) → Knows p j u → Knows (suc p) j u
   others_know p j u t at other k = on_knows p j u u refl (λ op does. does) (λ op begins. other op (other_turn p t (Makes j (call.Begin op)) at begins)) k
 
-  turn_knows : (p : ℕ) (t : Turn) → get_elem? turns p ≡ some t → TableTurns plan.last_card (state p) t (state (suc p)) → AllKnow p → AllKnow (suc p)
+  turn_knows : (p : ℕ) (t : Turn) → get_elem? turns p ≡ some t → TableTurns plan (state p) t (state (suc p)) → AllKnow p → AllKnow (suc p)
   turn_knows p (Makes id c) at h knows = λ j u there.
       let v = h.view in
       let n = found_by (state p) c in
@@ -255,7 +255,7 @@ module _ (plan : TablePlan) (opened : TableState) (starts : Starts plan opened) 
   pub know : (seat : ℕ) (v : View) → get_elem? s'.views seat ≡ some v → (spans : List Span) × Fits taken turns v.answers spans
   know seat v there =
       let k = all_know (length turns) (omega arith) seat v
-      (subst (λ (x : TableState). get_elem? x.views seat ≡ some v) (at_end plan.last_card opened turns s' run) there) in
+      (subst (λ (x : TableState). get_elem? x.views seat ≡ some v) (at_end plan opened turns s' run) there) in
       (k.spans, k.fits)
 
 -- the calls of a sequence stand where its items do

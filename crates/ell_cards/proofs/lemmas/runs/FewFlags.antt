@@ -429,8 +429,8 @@ module _ (plan : TablePlan) (s0 : TableState) (r0 : HasMachine plan s0) (first :
 
 pub few_flags_without_a_change : FewFlagsWithoutAChange
 few_flags_without_a_change plan r h height =
-    few_flags plan r.begun r0 r0.stages r0.invariant r.now (λ d. run_wins plan.last_card r.begun r.turns r.now r.run d) (won_in is_flag plan.last_card r.begun r.turns r.now r.run)
-    at (quiet_run plan.last_card r.begun r.turns r.now r.run r.unchanged) (machine_is_sound plan r.begun r0).tree h
+    few_flags plan r.begun r0 r0.stages r0.invariant r.now (λ d. run_wins plan r.begun r.turns r.now r.run d) (won_in is_flag plan r.begun r.turns r.now r.run)
+    at (quiet_run plan r.begun r.turns r.now r.run r.unchanged) (machine_is_sound plan r.begun r0).tree h
     (λ path x leads inner. height path x
     (leads_on r0.words (own_words r.begun) r0.stages r0.invariant.words (same_card plan r.begun r0) 0
     (root_born r0.words (own_words r.begun) r0.stages r0.invariant.words (same_card plan r.begun r0)) path x leads) inner)
@@ -441,9 +441,9 @@ few_flags_without_a_change plan r h height =
     r0 : HasMachine plan r.begun
     r0 = led_kept plan r.opened r.starts r.before r.begun r.led
 
-    at : Amid plan r.begun r0 r0.stages r0.invariant r.now (λ d. run_wins plan.last_card r.begun r.turns r.now r.run d) (won_in is_flag plan.last_card r.begun r.turns r.now r.run)
+    at : Amid plan r.begun r0 r0.stages r0.invariant r.now (λ d. run_wins plan r.begun r.turns r.now r.run d) (won_in is_flag plan r.begun r.turns r.now r.run)
     at =
-        let same : 0 + won_in is_flag plan.last_card r.begun r.turns r.now r.run ≡ won_in is_flag plan.last_card r.begun r.turns r.now r.run = omega arith in
-        subst (Amid plan r.begun r0 r0.stages r0.invariant r.now (λ d. run_wins plan.last_card r.begun r.turns r.now r.run d)) same
+        let same : 0 + won_in is_flag plan r.begun r.turns r.now r.run ≡ won_in is_flag plan r.begun r.turns r.now r.run = omega arith in
+        subst (Amid plan r.begun r0 r0.stages r0.invariant r.now (λ d. run_wins plan r.begun r.turns r.now r.run d)) same
         (run_amid plan r.begun r0 r0.stages r0.invariant r.begun (λ d. []) 0 (amid_first plan r.begun r0 r0.stages r0.invariant) (λ d. refl)
         r.turns r.now r.run r.unchanged)

@@ -96,7 +96,7 @@ module _ (x low high key : ℕ) (right : Bool) (inner : IsInternal x) (a : low �
 
   module _ (plan : TablePlan) where
     -- over a turn
-    turn_child : (s : TableState) (r : HasMachine plan s) (t : Turn) (s' : TableState) → TableTurns plan.last_card s t s' → Born r.stages x
+    turn_child : (s : TableState) (r : HasMachine plan s) (t : Turn) (s' : TableState) → TableTurns plan s t s' → Born r.stages x
         → AllOnCourse r.words x low high → is_right r.words x key ≡ right
         → (r' : HasMachine plan s') × StagesLater r.stages r'.stages × StretchGoesOn r.words r'.words x low high key right
     turn_child s r (Makes other c) s' h born course side =
@@ -122,12 +122,12 @@ module _ (x low high key : ℕ) (right : Bool) (inner : IsInternal x) (a : low �
       are : turns ≡ before ++ after
       state : TableState
       kept : HasMachine plan state
-      first : TableRun plan.last_card s before state
-      last : TableRun plan.last_card state after s'
+      first : TableRun plan s before state
+      last : TableRun plan state after s'
       come : AllCome kept.words x low high
       child : end.words.child x right ≡ kept.words.child x right
 
-    later_since : (s : TableState) (t : Turn) (between : TableState) (ts : List Turn) (s' : TableState) (end : HasMachine plan s') → TableTurns plan.last_card s t between
+    later_since : (s : TableState) (t : Turn) (between : TableState) (ts : List Turn) (s' : TableState) (end : HasMachine plan s') → TableTurns plan s t between
         → CameSince between ts s' end → CameSince s (t ∷ ts) s' end
     later_since s t between ts s' end turn c = record {
       before = t ∷ c.before;
@@ -143,7 +143,7 @@ module _ (x low high key : ℕ) (right : Bool) (inner : IsInternal x) (a : low �
 
     -- over a run the child is as it was, or since such a state
     same_or_since : (s : TableState) (r : HasMachine plan s) → Born r.stages x → AllOnCourse r.words x low high → is_right r.words x key ≡ right
-        → (turns : List Turn) (s' : TableState) → TableRun plan.last_card s turns s'
+        → (turns : List Turn) (s' : TableState) → TableRun plan s turns s'
         → (end : HasMachine plan s') × ((end.words.child x right ≡ r.words.child x right) ⊎ CameSince s turns s' end)
     same_or_since s r born course side [] s' run =
         subst (λ n. (end : HasMachine plan n) × ((end.words.child x right ≡ r.words.child x right) ⊎ CameSince s [] n end)) (sym run) (r, inl refl)
@@ -178,12 +178,12 @@ module _ (plan : TablePlan) where
     pub are : turns ≡ before ++ after
     pub state : TableState
     pub kept : HasMachine plan state
-    pub first : TableRun plan.last_card s0 before state
-    pub last : TableRun plan.last_card state after s
+    pub first : TableRun plan s0 before state
+    pub last : TableRun plan state after s
     pub come : AllCome kept.words x low high
     pub real : high ≤ greatest_key + 1
 
-  came_more : (s0 : TableState) (turns : List Turn) (s : TableState) (t : Turn) (s' : TableState) (x low high : ℕ) → TableTurns plan.last_card s t s'
+  came_more : (s0 : TableState) (turns : List Turn) (s : TableState) (t : Turn) (s' : TableState) (x low high : ℕ) → TableTurns plan s t s'
       → Came s0 turns s x low high → Came s0 (turns ++ t ∷ []) s' x low high
   came_more s0 turns s t s' x low high turn c = record {
     before = c.before;
@@ -192,7 +192,7 @@ module _ (plan : TablePlan) where
     state = c.state;
     kept = c.kept;
     first = c.first;
-    last = one_more_turn plan.last_card c.state c.after s t s' c.last turn;
+    last = one_more_turn plan c.state c.after s t s' c.last turn;
     come = c.come;
     real = c.real;
   }
@@ -214,7 +214,7 @@ module _ (plan : TablePlan) where
 
   module _ (seat : ℕ) (s : TableState) (v : View) (there : get_elem? s.views seat ≡ some v) (x k : ℕ) (told : IsTold v (Key x k)) where
     -- the key of a node is as it is told later
-    key_there : (state : TableState) (kept : HasMachine plan state) (turns : List Turn) → TableRun plan.last_card state turns s → Born kept.stages x → kept.words.key x ≡ k
+    key_there : (state : TableState) (kept : HasMachine plan state) (turns : List Turn) → TableRun plan state turns s → Born kept.stages x → kept.words.key x ≡ k
     key_there state kept turns run born =
         let goes = run_goes plan state kept kept.stages kept.invariant turns s run in
         sym (goes.1.words.key x ((kept.invariant.words.cards (card x)).claimed.0 (born-claimed (kept.stages (card x)) (x % 4) born)))
@@ -272,7 +272,7 @@ module _ (plan : TablePlan) where
                   are = c.are ∙ (ap (λ us. c.before ++ us) later.are ∙ sym (append_assoc c.before later.before later.after));
                   state = later.state;
                   kept = later.kept;
-                  first = run_append plan.last_card s0 c.before c.state later.before later.state c.first later.first;
+                  first = run_append plan s0 c.before c.state later.before later.state c.first later.first;
                   last = later.last;
                   come = down u later.come (key_there later.state later.kept later.after later.last born') (is ∙ later.child);
                   real = upto_real right high k (greatest_key + 1) c.real;
@@ -305,7 +305,7 @@ module _ (plan : TablePlan) (seat : ℕ) where
         (came_part plan s0 turns s from.node c.glance.low c.glance.high from.low from.high c.from c.upto was)
     goes_down from k right may g (earlier _ _ _ has) = at.came g has
 
-    call_came : (c : Call) → BeginsNothing c → May plan.last_card c at.view → AllCame (view_after s at.view c)
+    call_came : (c : Call) → BeginsNothing c → May plan c at.view → AllCame (view_after s at.view c)
     call_came call.Look keeps may = absurd keeps
     call_came (call.LookDown from k right) keeps may = goes_down from k right may
     call_came (call.Claim c) keeps may = came_still (claim_look (found_by s (call.Claim c) == c) c at.view)
@@ -333,9 +333,9 @@ module _ (plan : TablePlan) (seat : ℕ) where
     call_came (call.DUnflag c gp) keeps may = at.came
     call_came (call.Backtrack c gp) keeps may = at.came
 
-    turn_looks : (t : Turn) (s' : TableState) → TableTurns plan.last_card s t s' → Only BeginsNothing seat t → Looks s0 (turns ++ t ∷ []) s'
+    turn_looks : (t : Turn) (s' : TableState) → TableTurns plan s t s' → Only BeginsNothing seat t → Looks s0 (turns ++ t ∷ []) s'
     turn_looks t s' h on =
-        let goes = turn_seat BeginsNothing plan.last_card s seat at.view at.there t s' h on in
+        let goes = turn_seat BeginsNothing plan s seat at.view at.there t s' h on in
         let came : AllCame goes.view = elim goes.made [
           | inl same ↦ came_still (ap (λ (u : View). u.glances) same)
           | inr c ↦ subst AllCame (sym c.3) (call_came c.0 c.1 c.2)
@@ -343,11 +343,11 @@ module _ (plan : TablePlan) (seat : ℕ) where
         record {
           view = goes.view;
           there = goes.there;
-          free = (turn_free plan.last_card s seat at.view t s' goes at.free).free;
+          free = (turn_free plan s seat at.view t s' goes at.free).free;
           came = λ g has. came_more plan s0 turns s t s' g.node g.low g.high h (came g has);
         }
 
-  run_looks : (s0 : TableState) (turns : List Turn) (s : TableState) → Looks s0 turns s → (more : List Turn) (s' : TableState) → TableRun plan.last_card s more s' → LooksOn seat more
+  run_looks : (s0 : TableState) (turns : List Turn) (s : TableState) → Looks s0 turns s → (more : List Turn) (s' : TableState) → TableRun plan s more s' → LooksOn seat more
       → Looks s0 (turns ++ more) s'
   run_looks s0 turns s at [] s' run on =
       subst (λ us. Looks s0 us s') (sym (append-nil turns)) (subst (Looks s0 turns) (sym run) at)
@@ -361,7 +361,7 @@ module _ (plan : TablePlan) (seat : ℕ) where
   left_of_top k most key e real = sym (lt-leb k key (omega arith))
 
   -- a look that begins has come to its node by all real keys
-  look_begins : (s : TableState) → HasMachine plan s → (s1 : TableState) → CallIsMade plan.last_card s seat call.Look s1 → Looks s1 [] s1
+  look_begins : (s : TableState) → HasMachine plan s → (s1 : TableState) → CallIsMade plan s seat call.Look s1 → Looks s1 [] s1
   look_begins s r s1 h =
       let turn = turn_lawful plan s r (Makes seat call.Look) s1 h in
       let kept = turn.0 in
@@ -402,21 +402,21 @@ module _ (plan : TablePlan) (seat : ℕ) where
 
 -- a state of which all keys of a stretch came by a node is amid its run
 came_amid : (plan : TablePlan) (s0 : TableState) (turns : List Turn) (s : TableState) (x low high : ℕ) (c : Came plan s0 turns s x low high)
-    → IsAmid plan.last_card s0 turns s c.state
+    → IsAmid plan s0 turns s c.state
 came_amid plan s0 turns s x low high c =
     let n = length c.before in
     let first : take n turns ≡ c.before = ap (take n) c.are ∙ take-append_seam c.before c.after in
     let last : drop n turns ≡ c.after = ap (drop n) c.are ∙ drop-append_seam c.before c.after in
     record {
       first = n;
-      before = subst (λ us. TableRun plan.last_card s0 us c.state) (sym first) c.first;
-      after = subst (λ us. TableRun plan.last_card c.state us s) (sym last) c.last;
+      before = subst (λ us. TableRun plan s0 us c.state) (sym first) c.first;
+      after = subst (λ us. TableRun plan c.state us s) (sym last) c.last;
     }
 
 module _ (plan : TablePlan) (s0 : TableState) (turns : List Turn) (s : TableState) (seat : ℕ) (v : View) (there : get_elem? s.views seat ≡ some v) where
   -- what was found at a leaf by all keys of a stretch
   found_there : (low high : ℕ) (what : Option (ℕ × ℕ)) → (found : HasFoundBetween v low high what) → Came plan s0 turns s found.leaf low high
-      → WasSo plan.last_card s0 turns s (HasBetween low high what)
+      → WasSo plan s0 turns s (HasBetween low high what)
   unfolding HasBetween
   found_there low high what found c = record { state = c.state; amid = came_amid plan s0 turns s found.leaf low high c; so = by what found.tells }
     where
@@ -459,8 +459,8 @@ module _ (plan : TablePlan) (s0 : TableState) (turns : List Turn) (s : TableStat
 
 -- so what a look finds of a stretch was so in one state since it began
 pub stretches_of_one_state : (plan : TablePlan) (v : View) (low high : ℕ) (there : Option (ℕ × ℕ)) → HasFoundBetween v low high there
-    → (s : TableState) → HasMachine plan s → (seat : ℕ) (s1 : TableState) → CallIsMade plan.last_card s seat call.Look s1 → (turns : List Turn) (s' : TableState)
-    → TableRun plan.last_card s1 turns s' → LooksOn seat turns → get_elem? s'.views seat ≡ some v → WasSo plan.last_card s1 turns s' (HasBetween low high there)
+    → (s : TableState) → HasMachine plan s → (seat : ℕ) (s1 : TableState) → CallIsMade plan s seat call.Look s1 → (turns : List Turn) (s' : TableState)
+    → TableRun plan s1 turns s' → LooksOn seat turns → get_elem? s'.views seat ≡ some v → WasSo plan s1 turns s' (HasBetween low high there)
 stretches_of_one_state plan v low high what found s r seat s1 call turns s' run on there =
     let looks = run_looks plan seat s1 [] s1 (look_begins plan seat s r s1 call) turns s' run on in
     let same : looks.view ≡ v = some-injective looks.view v (sym looks.there ∙ there) in

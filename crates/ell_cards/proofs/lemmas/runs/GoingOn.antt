@@ -150,26 +150,26 @@ module _ (m : Machine) (stage : Stages) (holds : Invariant m stage) (i : ℕ) (m
       (tries a b h)
 
   -- the wins of a call
-  pub call_wins : (c : Call) (n : ℕ) (v : View) (cards : ℕ) → (m.worker i).card ≡ v.worker.card → May cards c v → Becomes i (act_of c n) (said_of c n) m m'
+  pub call_wins : (c : Call) (n : ℕ) (v : View) (plan : TablePlan) → (m.worker i).card ≡ v.worker.card → May plan c v → Becomes i (act_of c n) (said_of c n) m m'
       → Turned m stage (λ d. if is_won (atomic_of c) n then win_of c d else []) m'
-  call_wins (call.Begin op) n v cards mine may h = acts (act.Begin op) Moved h
-  call_wins call.Again n v cards mine may h = acts act.Again Moved h
-  call_wins call.Leave n v cards mine may h = acts act.Leave Moved h
-  call_wins (call.Answer said) n v cards mine may h = acts act.Answer (Answered said) h
-  call_wins (call.Upd x) n v cards mine may h = acts act.Upd Moved h
-  call_wins (call.Down x right) n v cards mine may h = acts act.Down Moved h
-  call_wins (call.Claim c) n v cards mine may h = claims (n == c) h
-  call_wins (call.IFlag c p from) n v cards mine may h =
+  call_wins (call.Begin op) n v plan mine may h = acts (act.Begin op) Moved h
+  call_wins call.Again n v plan mine may h = acts act.Again Moved h
+  call_wins call.Leave n v plan mine may h = acts act.Leave Moved h
+  call_wins (call.Answer said) n v plan mine may h = acts act.Answer (Answered said) h
+  call_wins (call.Upd x) n v plan mine may h = acts act.Upd Moved h
+  call_wins (call.Down x right) n v plan mine may h = acts act.Down Moved h
+  call_wins (call.Claim c) n v plan mine may h = claims (n == c) h
+  call_wins (call.IFlag c p from) n v plan mine may h =
       flags act.IFlag exchange.IFlag (n == packed from) c (λ hand d. refl) (mine ∙ may.may.holds) h
-  call_wins (call.IChild c p l q right) n v cards mine may h = tries (act.IChild c) (n == linked l) h
-  call_wins (call.IUnflag c p) n v cards mine may h = tries (act.IUnflag c) (n == iflag c) h
-  call_wins (call.DFlag c gp from) n v cards mine may h =
+  call_wins (call.IChild c p l q right) n v plan mine may h = tries (act.IChild c) (n == linked l) h
+  call_wins (call.IUnflag c p) n v plan mine may h = tries (act.IUnflag c) (n == iflag c) h
+  call_wins (call.DFlag c gp from) n v plan mine may h =
       flags act.DFlag exchange.DFlag (n == packed from) c (λ hand d. refl) (mine ∙ may.may.holds) h
-  call_wins (call.Mark c p was) n v cards mine may h = tries (act.Mark c) (n == was) h
-  call_wins (call.DChild c gp p sibling right) n v cards mine may h = tries (act.DChild c) (n == linked p) h
-  call_wins (call.DUnflag c gp) n v cards mine may h = tries (act.DUnflag c) (n == dflag c) h
-  call_wins (call.Backtrack c gp) n v cards mine may h = tries (act.Backtrack c) (n == dflag c) h
-  call_wins _ n v cards mine may h = rests h
+  call_wins (call.Mark c p was) n v plan mine may h = tries (act.Mark c) (n == was) h
+  call_wins (call.DChild c gp p sibling right) n v plan mine may h = tries (act.DChild c) (n == linked p) h
+  call_wins (call.DUnflag c gp) n v plan mine may h = tries (act.DUnflag c) (n == dflag c) h
+  call_wins (call.Backtrack c gp) n v plan mine may h = tries (act.Backtrack c) (n == dflag c) h
+  call_wins _ n v plan mine may h = rests h
 
 module _ (plan : TablePlan) where
   -- a split leaves each worker as it is, or with nothing in hand
@@ -222,12 +222,12 @@ module _ (plan : TablePlan) where
 
   -- what a turn makes of the machine
   pub turn_turns : (s : TableState) (r : HasMachine plan s) (stage : Stages) → Invariant (machine_of_table plan s r) stage → (t : Turn) (s' : TableState)
-      → TableTurns plan.last_card s t s' → (k : HasMachine plan s') × Turned (machine_of_table plan s r) stage (turn_wins s t) (machine_of_table plan s' k)
+      → TableTurns plan s t s' → (k : HasMachine plan s') × Turned (machine_of_table plan s r) stage (turn_wins s t) (machine_of_table plan s' k)
       × StagesLater r.stages k.stages
   turn_turns s r stage holds (Makes seat c) s' h =
       let turn = turn_lawful plan s r (Makes seat c) s' h in (
         turn.0,
-        call_wins (machine_of_table plan s r) stage holds seat (machine_of_table plan s' turn.0) c (found_by s c) h.view plan.last_card
+        call_wins (machine_of_table plan s r) stage holds seat (machine_of_table plan s' turn.0) c (found_by s c) h.view plan
             (ap (λ o. (seat_worker o).card) h.there) h.may turn.1.machine,
         turn.1.later,
       )
@@ -240,8 +240,8 @@ module _ (plan : TablePlan) where
 
   -- what a run makes of the machine
   pub run_goes : (s : TableState) (r : HasMachine plan s) (stage : Stages) → Invariant (machine_of_table plan s r) stage → (turns : List Turn) (s' : TableState)
-      → (run : TableRun plan.last_card s turns s')
-      → (k : HasMachine plan s') × Went r.words stage (run_wins plan.last_card s turns s' run) (machine_of_table plan s' k) × StagesLater r.stages k.stages
+      → (run : TableRun plan s turns s')
+      → (k : HasMachine plan s') × Went r.words stage (run_wins plan s turns s' run) (machine_of_table plan s' k) × StagesLater r.stages k.stages
   run_goes s r stage holds [] s' run =
       subst (λ x. (k : HasMachine plan x) × Went r.words stage (λ d. []) (machine_of_table plan x k) × StagesLater r.stages k.stages) (sym run)
       (r, went_nowhere (machine_of_table plan s r) stage (machine_of_table plan s r) holds refl, stages_same r.stages)
@@ -249,7 +249,7 @@ module _ (plan : TablePlan) where
       let first = turn_turns s r stage holds t run.0 run.1 in
       let rest = run_goes run.0 first.0 first.1.went.stages first.1.went.invariant ts s' run.2 in (
         rest.0,
-        went_after r.words stage (turn_wins s t) (machine_of_table plan run.0 first.0) (run_wins plan.last_card run.0 ts s' run.2)
+        went_after r.words stage (turn_wins s t) (machine_of_table plan run.0 first.0) (run_wins plan run.0 ts s' run.2)
             (machine_of_table plan s' rest.0) first.1.went rest.1,
         stages_later r.stages first.0.stages rest.0.stages first.2 rest.2,
       )

@@ -60,32 +60,32 @@ mark_keeps false c x u v w same next = by (is_mark_of c u.state u.card) same nex
     by false same next = keeps_all v w (ap (λ k. k.card) same) next (ap (λ k. k.search.node) same)
 
 -- each call but a claim and the reading of the claim word does
-call_keeps : (cards : ℕ) (c : Call) (n : ℕ) (v : View) → May cards c v → ((d : ℕ) → c ≢ call.Claim d) → c ≢ call.Next → KeepsHand v (after c n v)
-call_keeps cards (call.Begin op) n v may apart other = record { held = λ c e. absurd (some_not_none e refl); read = λ m x e no at. absurd (some_not_none e refl) }
-call_keeps cards call.Again n v may apart other = record { held = λ c e. absurd (some_not_none e refl); read = λ m x e no at. absurd (some_not_none e refl) }
-call_keeps cards call.Leave n v may apart other = keeps_nowhere v (after call.Leave n v) (λ c e. absurd (some_not_none e refl)) refl
-call_keeps cards (call.Answer said) n v may apart other = keeps_nowhere v (after (call.Answer said) n v) (λ c e. absurd (some_not_none e refl)) refl
-call_keeps cards (call.Down x right) n v may apart other = record { held = λ c e. e; read = λ m y e no at. (e, no, x, may.stands) }
-call_keeps cards call.Next n v may apart other = absurd (other refl)
-call_keeps cards (call.Claim c) n v may apart other = absurd (apart c refl)
-call_keeps cards (call.IFlag c p from) n v may apart other =
+call_keeps : (plan : TablePlan) (c : Call) (n : ℕ) (v : View) → May plan c v → ((d : ℕ) → c ≢ call.Claim d) → c ≢ call.Next → KeepsHand v (after c n v)
+call_keeps plan (call.Begin op) n v may apart other = record { held = λ c e. absurd (some_not_none e refl); read = λ m x e no at. absurd (some_not_none e refl) }
+call_keeps plan call.Again n v may apart other = record { held = λ c e. absurd (some_not_none e refl); read = λ m x e no at. absurd (some_not_none e refl) }
+call_keeps plan call.Leave n v may apart other = keeps_nowhere v (after call.Leave n v) (λ c e. absurd (some_not_none e refl)) refl
+call_keeps plan (call.Answer said) n v may apart other = keeps_nowhere v (after (call.Answer said) n v) (λ c e. absurd (some_not_none e refl)) refl
+call_keeps plan (call.Down x right) n v may apart other = record { held = λ c e. e; read = λ m y e no at. (e, no, x, may.stands) }
+call_keeps plan call.Next n v may apart other = absurd (other refl)
+call_keeps plan (call.Claim c) n v may apart other = absurd (apart c refl)
+call_keeps plan (call.IFlag c p from) n v may apart other =
     flag_keeps (n == packed from) (fact.IFlagged c) p (unpacked n) v (after (call.IFlag c p from) n v) refl
-call_keeps cards (call.DFlag c gp from) n v may apart other =
+call_keeps plan (call.DFlag c gp from) n v may apart other =
     flag_keeps (n == packed from) (fact.DFlagged c) gp (unpacked n) v (after (call.DFlag c gp from) n v) refl
-call_keeps cards (call.Mark c p was) n v may apart other =
+call_keeps plan (call.Mark c p was) n v may apart other =
     mark_keeps (n == was) c p (unpacked n) v (after (call.Mark c p was) n v) refl refl
-call_keeps cards c n v may apart other = keeps_all v (after c n v) refl refl refl
+call_keeps plan c n v may apart other = keeps_all v (after c n v) refl refl refl
 
 -- a card in hand after a call was there before it, or the call has claimed it
-pub call_held : (cards : ℕ) (c : Call) (n : ℕ) (v : View) → May cards c v → (d : ℕ) → (after c n v).worker.card ≡ Some d
+pub call_held : (plan : TablePlan) (c : Call) (n : ℕ) (v : View) → May plan c v → (d : ℕ) → (after c n v).worker.card ≡ Some d
     → (v.worker.card ≡ Some d) ⊎ ((c ≡ call.Claim d) × (n ≡ d))
-call_held cards (call.Claim c) n v may d has = by (n == c) refl has
+call_held plan (call.Claim c) n v may d has = by (n == c) refl has
   where
     by : (b : Bool) → (n == c) ≡ b → (after_claim b c v).worker.card ≡ Some d → (v.worker.card ≡ Some d) ⊎ ((call.Claim c ≡ call.Claim d) × (n ≡ d))
     by true e has = let same = some_same has in inr (ap call.Claim same, eqb-true n c e ∙ same)
     by false e has = inl has
-call_held cards call.Next n v may d has = inl has
-call_held cards c n v may d has = inl ((call_keeps cards c n v may (λ d e. (cc)) (λ e. (cc))).held d has)
+call_held plan call.Next n v may d has = inl has
+call_held plan c n v may d has = inl ((call_keeps plan c n v may (λ d e. (cc)) (λ e. (cc))).held d has)
 
 -- a call that is no claim leaves the claims that the pass won
 pub claims_same : (c : Call) (n : ℕ) (v : View) → ((d : ℕ) → c ≢ call.Claim d) → (e : ℕ) → times exchange.Claim e (after c n v).won ≡ times exchange.Claim e v.won
@@ -108,9 +108,9 @@ claim_claimed true c v h = record {
 }
 claim_claimed false c v h = record { held = h.held; read = h.read }
 
-after_claimed : (cards : ℕ) (c : Call) (n : ℕ) (v : View) → May cards c v → (c ≡ call.Next → times exchange.Claim n v.won ≡ 0) → HandIsClaimed v → HandIsClaimed (after c n v)
-after_claimed cards (call.Claim c) n v may fresh h = claim_claimed (n == c) c v h
-after_claimed cards call.Next n v may fresh h = record {
+after_claimed : (plan : TablePlan) (c : Call) (n : ℕ) (v : View) → May plan c v → (c ≡ call.Next → times exchange.Claim n v.won ≡ 0) → HandIsClaimed v → HandIsClaimed (after c n v)
+after_claimed plan (call.Claim c) n v may fresh h = claim_claimed (n == c) c v h
+after_claimed plan call.Next n v may fresh h = record {
   held = h.held;
   read = λ m x e no at. ap (λ k. times exchange.Claim k v.won) (sym (some_same e)) ∙ fresh refl;
 }
@@ -141,12 +141,12 @@ AllClaimed s = (j : ℕ) (v : View) → get_elem? s.views j ≡ some v → HandI
 claimed_nowhere : (w : View) → w.worker.card ≡ None → w.worker.search.node ≡ None → HandIsClaimed w
 claimed_nowhere w card node = record { held = λ c e. absurd (some_not_none e card); read = λ n x e no at. absurd (some_not_none at node) }
 
-turn_claimed : (cards first : ℕ) (s : TableState) → ClaimsCount first s → (t : Turn) (s' : TableState) → TableTurns cards s t s' → AllClaimed s → AllClaimed s'
-turn_claimed cards first s counts (Makes id c) s' turn h = λ j u at.
+turn_claimed : (plan : TablePlan) (first : ℕ) (s : TableState) → ClaimsCount first s → (t : Turn) (s' : TableState) → TableTurns plan s t s' → AllClaimed s → AllClaimed s'
+turn_claimed plan first s counts (Makes id c) s' turn h = λ j u at.
     let w = after c (found_by s c) turn.view in
     let there : get_elem? (set s.views id w) j ≡ some u = subst (λ (x : TableState). get_elem? x.views j ≡ some u) turn.gives at in
     ⊎_elim
-    (λ (t : (j ≡ id) × (w ≡ u)). subst HandIsClaimed t.1 (after_claimed cards c (found_by s c) turn.view turn.may
+    (λ (t : (j ≡ id) × (w ≡ u)). subst HandIsClaimed t.1 (after_claimed plan c (found_by s c) turn.view turn.may
     (λ e. fresh e) (h id turn.view turn.there)))
     (λ (t : (j ≢ id) × (get_elem? s.views j ≡ some u)). h j u t.1)
     (at_set s.views id j w u there)
@@ -158,23 +158,23 @@ turn_claimed cards first s counts (Makes id c) s' turn h = λ j u at.
         let none = counts.high n (omega arith) in
         let one = one_in exchange.Claim n s.views id turn.view turn.there in
         omega arith
-turn_claimed cards first s counts (Splits id chosen) s' turn h =
+turn_claimed plan first s counts (Splits id chosen) s' turn h =
     let left = left_view chosen turn.view in
     let right = right_view chosen turn.view in
     subst AllClaimed (sym turn.gives)
     (each_split s.views id turn.view turn.there left right HandIsClaimed (claimed_nowhere left refl refl) (claimed_nowhere right refl refl) h)
-turn_claimed cards first s counts (Joins id other) s' turn h =
+turn_claimed plan first s counts (Joins id other) s' turn h =
     let both = joined_view turn.view turn.view' in
     subst AllClaimed (sym turn.gives)
     (each_joined s.views id other turn.view turn.view' turn.there turn.there' (λ e. turn.apart (sym e)) both HandIsClaimed
     (claimed_nowhere both refl refl) (claimed_nowhere spent_view refl refl) h)
 
 run_claimed : (plan : TablePlan) (s : TableState) → IsReached plan s → (turns : List Turn) (s' : TableState)
-    → TableRun plan.last_card s turns s' → AllClaimed s → AllClaimed s'
+    → TableRun plan s turns s' → AllClaimed s → AllClaimed s'
 run_claimed plan s reached [] s' run h = subst AllClaimed (sym run) h
 run_claimed plan s reached (t ∷ ts) s' run h =
     run_claimed plan run.0 (reached_on plan s reached t run.0 run.1) ts s' run.2
-    (turn_claimed plan.last_card (length plan.start) s (claims_are_counted plan s reached) t run.0 run.1 h)
+    (turn_claimed plan (length plan.start) s (claims_are_counted plan s reached) t run.0 run.1 h)
 
 -- the start of a run that leads somewhere was reached
 pub first_reached : (plan : TablePlan) (s : TableState) (h : IsReached plan s) → IsReached plan h.first

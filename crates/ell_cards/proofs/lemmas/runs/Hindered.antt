@@ -266,7 +266,7 @@ module _ (plan : TablePlan) (m0 : Machine) (stage : Stages) (first : Invariant m
       finds seen.node seen.word n inner born place low (three seen.word calm) (ap r.words.update node ∙ is) (λ e. other (e ∙ word))
 
   -- a lost claim
-  claim_hindered : (c : ℕ) → May plan.last_card (call.Claim c) v → (b : Bool) → (found_by s (call.Claim c) == c) ≡ b → HinderedSince m0.words stage later_words ends old (after_claim b c v)
+  claim_hindered : (c : ℕ) → May plan (call.Claim c) v → (b : Bool) → (found_by s (call.Claim c) == c) ≡ b → HinderedSince m0.words stage later_words ends old (after_claim b c v)
   claim_hindered c may true e =
       calm (after_claim true c v) refl refl hindered.next named_later
       (λ d has.
@@ -323,7 +323,7 @@ module _ (plan : TablePlan) (m0 : Machine) (stage : Stages) (first : Invariant m
         ]
       ]
 
-  mark_found : (c p was : ℕ) → May plan.last_card (call.Mark c p was) v → r.words.update p ≡ found_by s (call.Mark c p was)
+  mark_found : (c p was : ℕ) → May plan (call.Mark c p was) v → r.words.update p ≡ found_by s (call.Mark c p was)
   mark_found c p was may =
       let p_is : r.words.p c ≡ p = told_is plan s r seat v there c field.P p may.0.place in
       let said = known_delete plan s r seat v there c (inl may.0.knows) in
@@ -341,7 +341,7 @@ module _ (plan : TablePlan) (m0 : Machine) (stage : Stages) (first : Invariant m
       one_met (exchanged [] n (after_flag false new x (unpacked n) v)) (Found (unpacked n)) refl refl
       (lost (λ q. true≢false (sym (eq-eqb n from q) ∙ e))) refl (λ seen h. h) (λ d has. absurd (some_not_none has refl)) (λ key d busy has flagged. absurd (true≢false (sym flagged)))
 
-  iflag_hindered : (c p : ℕ) (from : Update) → May plan.last_card (call.IFlag c p from) v
+  iflag_hindered : (c p : ℕ) (from : Update) → May plan (call.IFlag c p from) v
       → HinderedSince m0.words stage later_words ends old (after (call.IFlag c p from) (found_by s (call.IFlag c p from)) v)
   iflag_hindered c p from may =
       let n = found_by s (call.IFlag c p from) in
@@ -359,7 +359,7 @@ module _ (plan : TablePlan) (m0 : Machine) (stage : Stages) (first : Invariant m
       (finds_seen seen p (packed from) n may.node may.read there_now.inner there_now.born (place_of seen (since.parent seen behind)) low
       (subst (λ (z : Seen). IsClean z.word) same held.calm) is)
 
-  dflag_hindered : (c gp : ℕ) (from : Update) → May plan.last_card (call.DFlag c gp from) v
+  dflag_hindered : (c gp : ℕ) (from : Update) → May plan (call.DFlag c gp from) v
       → HinderedSince m0.words stage later_words ends old (after (call.DFlag c gp from) (found_by s (call.DFlag c gp from)) v)
   dflag_hindered c gp from may =
       let n = found_by s (call.DFlag c gp from) in
@@ -385,7 +385,7 @@ module _ (plan : TablePlan) (m0 : Machine) (stage : Stages) (first : Invariant m
       (subst (λ (z : Seen). IsClean z.word) same held.calm) is)
 
   -- a mark of the card in hand that was lost
-  mark_met : (c p was n : ℕ) → May plan.last_card (call.Mark c p was) v → r.words.update p ≡ n → n ≢ was → v.worker.card ≡ Some c
+  mark_met : (c p was n : ℕ) → May plan (call.Mark c p was) v → r.words.update p ≡ n → n ≢ was → v.worker.card ≡ Some c
       → Met m0.words stage later_words ends (Found (unpacked n))
   mark_met c p was n may is other has =
       let p_is : r.words.p c ≡ p = told_is plan s r seat v there c field.P p may.0.place in
@@ -430,7 +430,7 @@ module _ (plan : TablePlan) (m0 : Machine) (stage : Stages) (first : Invariant m
       ]
 
   -- so the card in hand is none that its lost mark found
-  mark_apart : (c p was n : ℕ) → May plan.last_card (call.Mark c p was) v → r.words.update p ≡ n → n ≢ was → v.worker.card ≡ Some c
+  mark_apart : (c p was n : ℕ) → May plan (call.Mark c p was) v → r.words.update p ≡ n → n ≢ was → v.worker.card ≡ Some c
       → is_mark_of c (unpacked n).state (unpacked n).card ≡ false → (unpacked n).card ≢ c
   mark_apart c p was n may is other has apart =
       let p_is : r.words.p c ≡ p = told_is plan s r seat v there c field.P p may.0.place in
@@ -446,7 +446,7 @@ module _ (plan : TablePlan) (m0 : Machine) (stage : Stages) (first : Invariant m
       word_apart c p deletes p_is (subst IsInternal p_is said.parent.inner) (subst (Born now) p_is said.parent.born)
       (subst (λ x. m0.words.update x < r.words.update x) p_is rose) (unpacked n).state (unpacked n).card (is ∙ sym (packed_again n)) apart
 
-  mark_hindered : (c p was : ℕ) → May plan.last_card (call.Mark c p was) v
+  mark_hindered : (c p was : ℕ) → May plan (call.Mark c p was) v
       → HinderedSince m0.words stage later_words ends old (after (call.Mark c p was) (found_by s (call.Mark c p was)) v)
   mark_hindered c p was may = by (n == was) refl
     where
@@ -477,7 +477,7 @@ module _ (plan : TablePlan) (m0 : Machine) (stage : Stages) (first : Invariant m
       by false e = lost (is_mark_of c (unpacked n).state (unpacked n).card) refl (λ q. true≢false (sym (eq-eqb n was q) ∙ e))
 
   -- a search that has gone down has the word behind it that it read
-  went_down : (x : ℕ) (right : Bool) → May plan.last_card (call.Down x right) v → (seen : Seen) → IsBehind (after (call.Down x right) (found_by s (call.Down x right)) v).worker.search seen
+  went_down : (x : ℕ) (right : Bool) → May plan (call.Down x right) v → (seen : Seen) → IsBehind (after (call.Down x right) (found_by s (call.Down x right)) v).worker.search seen
       → (unpacked seen.word).card < later_words.next
   went_down x right may seen (inl e) =
       let read : unwrap_or v.worker.search.read 0 ≡ may.word = ap (λ o. unwrap_or o 0) may.read in
@@ -515,7 +515,7 @@ module _ (plan : TablePlan) (m0 : Machine) (stage : Stages) (first : Invariant m
       (λ seen e. (since.grandparent seen (ap (λ (z : Worker). z.search.grandparent) me ∙ e), named_later seen (inr e)))
 
   -- any call that keeps on
-  pub call_hindered : (c : Call) → KeepsOn c → May plan.last_card c v → HinderedSince m0.words stage later_words ends old (after c (found_by s c) v)
+  pub call_hindered : (c : Call) → KeepsOn c → May plan c v → HinderedSince m0.words stage later_words ends old (after c (found_by s c) v)
   call_hindered (call.Begin op) keeps may = absurd keeps
   call_hindered call.Again keeps may = tried (after_again v) (way_now v) refl way_was_met refl refl refl (λ n e. absurd (some_not_none e refl)) refl
   call_hindered call.Leave keeps may = tried (after_leave v) (way_now v) refl way_was_met refl refl refl hindered.next refl

@@ -32,7 +32,7 @@ use Rattle.ell_cards.proofs.lemmas.runs.LinearizingStates.{run_same, run_to}
 no_effect : (s : TableState) (seat : ℕ) (t : Turn) → t ≡ Makes seat call.Leave → (op : Op) → turn_effect s t ≡ op ∷ [] → ⊥
 no_effect s seat t is op e = let none : [] ≡ op ∷ [] = subst (λ (u : Turn). turn_effect s u ≡ op ∷ []) is e in absurd cc
 
-module _ (plan : TablePlan) (s : TableState) (starts : Starts plan s) (turns : List Turn) (s' : TableState) (run : TableRun plan.last_card s turns s') where
+module _ (plan : TablePlan) (s : TableState) (starts : Starts plan s) (turns : List Turn) (s' : TableState) (run : TableRun plan s turns s') where
   abbrev state : ℕ → TableState
   state = after_turns plan s starts turns s' run
 
@@ -40,18 +40,18 @@ module _ (plan : TablePlan) (s : TableState) (starts : Starts plan s) (turns : L
   free_left : (seat begin end : ℕ) → get_elem? turns end ≡ some (Makes seat call.Leave) → begin < end → (q : ℕ) → end < q → KeepsOnBetween seat turns begin q
       → (w : View) → get_elem? (state q).views seat ≡ some w → IsFree w
   free_left seat begin end at low q less on w there =
-      let h : CallIsMade plan.last_card (state end) seat call.Leave (state (suc end)) = made plan s starts turns s' run end (Makes seat call.Leave) at in
+      let h : CallIsMade plan (state end) seat call.Leave (state (suc end)) = made plan s starts turns s' run end (Makes seat call.Leave) at in
       let v = view_after (state end) h.view call.Leave in
       let now : get_elem? (state (suc end)).views seat ≡ some v =
       ap (λ (t : TableState). get_elem? t.views seat) h.gives ∙ set_there (state end).views seat v h.view h.there in
-      free_on plan.last_card seat (state (suc end)) v now refl (slice plan s starts turns s' run (suc end) q) (state q)
+      free_on plan seat (state (suc end)) v now refl (slice plan s starts turns s' run (suc end) q) (state q)
       (run_slice plan s starts turns s' run (suc end) q (omega arith))
       (keep_slice plan s starts turns s' run seat begin (suc end) q (omega arith) (omega arith) on) w there
 
   -- neither before it was laid down, when its card would be known backed that has changed the tree, nor then, nor since
   unchanged : (seat begin end : ℕ) (op o : Op) (change : ℕ) → IsLaidDown turns seat begin end op → Changed plan s starts turns s' run seat begin change o → ⊥
   unchanged seat begin end op o change laid k =
-      let leave : CallIsMade plan.last_card (state end) seat call.Leave (state (suc end)) = made plan s starts turns s' run end (Makes seat call.Leave) laid.leaves in
+      let leave : CallIsMade plan (state end) seat call.Leave (state (suc end)) = made plan s starts turns s' run end (Makes seat call.Leave) laid.leaves in
       elim (cases_lt change end) [
         | inl less ↦ elim (settled_at plan s starts turns s' run seat begin change o k end less laid.on leave.view leave.there) [
           | inl free ↦ some_not_none leave.may.busy free
@@ -135,15 +135,15 @@ within (x ∷ xs) b = let h = within xs b in omega arith
 -- what a pass laid down last was laid down in the run, and began in it
 pub laid_down_last_changes_nothing : LaidDownLastChangesNothing
 laid_down_last_changes_nothing plan v op last s starts turns s' run seat there =
-    elim (run_back plan.last_card seat (Laid op) (IsLeave op) (λ c. Unit {0}) (laid_before op) (λ chosen v e. some_not_none e refl) (λ chosen v e. some_not_none e refl)
+    elim (run_back plan seat (Laid op) (IsLeave op) (λ c. Unit {0}) (laid_before op) (λ chosen v e. some_not_none e refl) (λ chosen v e. some_not_none e refl)
     (λ v w e. some_not_none e refl) (λ e. some_not_none e refl) s turns s' run (record { view = v; there = there; has = last })) [
       | inr h ↦ absurd (each_first (first_of plan) (λ u. Laid op u → ⊥) (λ e. some_not_none e refl) seat h.1.view
           (ap (λ (t : TableState). get_elem? t.views seat) (sym starts.is) ∙ h.1.there) h.1.has)
       | inl a ↦
           let end = length a.before in
-          let led = subst (λ l. TableRun plan.last_card s l (after_turns plan s starts turns s' run end)) (ap (take end) a.parts ∙ first_turns a.before (Makes seat a.c ∷ a.later))
-          (run_to plan.last_card s turns s' run end) in
-          let same : a.from ≡ after_turns plan s starts turns s' run end = run_same plan.last_card s a.before a.from (after_turns plan s starts turns s' run end) a.led led in
+          let led = subst (λ l. TableRun plan s l (after_turns plan s starts turns s' run end)) (ap (take end) a.parts ∙ first_turns a.before (Makes seat a.c ∷ a.later))
+          (run_to plan s turns s' run end) in
+          let same : a.from ≡ after_turns plan s starts turns s' run end = run_same plan s a.before a.from (after_turns plan s starts turns s' run end) a.led led in
           let busy : IsBusy (after_turns plan s starts turns s' run end) seat op =
           subst (λ x. IsBusy x seat op) same (record { view = a.made.view; there = a.made.there; does = a.is.1 }) in
           let inside : end ≤ length turns = subst (λ l. end ≤ length l) (sym a.parts) (within a.before (Makes seat a.c ∷ a.later)) in

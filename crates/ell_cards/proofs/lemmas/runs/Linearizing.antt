@@ -24,7 +24,7 @@ use Rattle.ell_cards.proofs.lemmas.runs.LinearizingStates.{run_same, at_end, run
 use Rattle.ell_cards.proofs.lemmas.runs.LinearizingTurns.{turn_cases}
 use Rattle.ell_cards.proofs.lemmas.runs.LinearizingPoints.{same_begin, one_begin, after_turns, kept, map_after, is_map, first_map, made, begun_of, Changed, changed_of, one_change, called, change_before, no_leaf, one_end, ReadsAt, change_at, one_call, ChangesThere, point_at}
 
-module _ (plan : TablePlan) (opened : TableState) (starts : Starts plan opened) (turns : List Turn) (s' : TableState) (run : TableRun plan.last_card opened turns s') where
+module _ (plan : TablePlan) (opened : TableState) (starts : Starts plan opened) (turns : List Turn) (s' : TableState) (run : TableRun plan opened turns s') where
   abbrev at_turn : ℕ → TableState
   at_turn = after_turns plan opened starts turns s' run
 
@@ -32,7 +32,7 @@ module _ (plan : TablePlan) (opened : TableState) (starts : Starts plan opened) 
   map_at = map_after plan opened starts turns s' run
 
   abbrev Changes : ℕ → ℕ → Op → Type 0
-  Changes i p op = ChangesAt plan.last_card opened turns i p op
+  Changes i p op = ChangesAt plan opened turns i p op
 
   -- an item that is a call which changes the tree, at its turn
   pub record IsChanging (x : Placed) : Type 0 where
@@ -129,7 +129,7 @@ module _ (plan : TablePlan) (opened : TableState) (starts : Starts plan opened) 
   }
 
   -- and one by which it does
-  changing_here : (p : ℕ) (op : Op) (g : IsOfACall plan.last_card opened turns p op) → Changing (suc p) → Changing p
+  changing_here : (p : ℕ) (op : Op) (g : IsOfACall plan opened turns p op) → Changing (suc p) → Changing p
   changing_here p op g rest =
       let x : Placed = record { item = record { begin = g.begin; op = op; reply = reply_of_change op }; at = p; past = suc p } in record {
         list = x ∷ rest.list;
@@ -288,7 +288,7 @@ module _ (plan : TablePlan) (opened : TableState) (starts : Starts plan opened) 
 
   pub answers_end_calls : AnswersEndCalls turns
   answers_end_calls seat p said at =
-      let end : CallIsMade plan.last_card (at_turn p) seat (call.Answer said) (at_turn (suc p)) =
+      let end : CallIsMade plan (at_turn p) seat (call.Answer said) (at_turn (suc p)) =
       made plan opened starts turns s' run p (Makes seat (call.Answer said)) at in
       let short = inside turns p (Makes seat (call.Answer said)) at in
       let begun = begun_of plan opened starts turns s' run p (omega arith) seat end.may.op (record { view = end.view; there = end.there; does = end.may.busy }) in record {
@@ -398,7 +398,7 @@ module _ (plan : TablePlan) (opened : TableState) (starts : Starts plan opened) 
   ]
 
   -- a call that has changed the tree has ended with yes, or not yet
-  pending : (x : Item) (p : ℕ) → Changes x.begin p x.op → x.reply ≡ reply_of_change x.op → IsMade plan.last_card opened turns x
+  pending : (x : Item) (p : ℕ) → Changes x.begin p x.op → x.reply ≡ reply_of_change x.op → IsMade plan opened turns x
   pending x p g says = elim (ended_by (length turns) x.begin (omega arith)) [
     | inl h ↦
         let does = (same_begin turns x.begin h.ended.seat g.by.work.seat h.op x.op h.ended.begins g.begins).1 in
@@ -419,19 +419,19 @@ module _ (plan : TablePlan) (opened : TableState) (starts : Starts plan opened) 
   ]
 
   -- and no other
-  made_of : (x : Placed) → In x all_calls.list → IsMade plan.last_card opened turns x.item
+  made_of : (x : Placed) → In x all_calls.list → IsMade plan opened turns x.item
   made_of x i = elim (all_calls.all x i) [
     | inl j ↦ (let h = every_reading.each x j in inl (h.0, h.2.answered))
     | inr j ↦ (let h = (every_change.each x j).1 in pending x.item x.at h.changes h.says)
   ]
 
-  pub has_the_calls : HasTheCalls plan.last_card opened turns sequence
+  pub has_the_calls : HasTheCalls plan opened turns sequence
   has_the_calls = record {
     ended = ended_there;
     changed = changed_there;
     other = λ n there.
         let x = placed_at all_calls.list there.0 n there.1 in
-        subst (IsMade plan.last_card opened turns) x.is (made_of x.placed (in_at all_calls.list there.0 x.placed x.there));
+        subst (IsMade plan opened turns) x.is (made_of x.placed (in_at all_calls.list there.0 x.placed x.there));
     once = λ i j m n at at' e.
         let x = placed_at all_calls.list i m at in
         let y = placed_at all_calls.list j n at' in
@@ -477,12 +477,12 @@ module _ (plan : TablePlan) (opened : TableState) (starts : Starts plan opened) 
   leaves_right =
       let is : final (contents_of plan.start) (ops_of sequence) ≡ map_at (length turns) =
       ap (λ m. final m (ops_of sequence)) (sym (first_map plan opened starts turns s' run)) ∙ right_leaves map_at (length turns) 0 all_calls.list all_calls.right in
-      subst (HasMap (own_words s')) (sym is) (subst (λ (s : TableState). HasMap (own_words s) (map_at (length turns))) (sym (at_end plan.last_card opened turns s' run))
+      subst (HasMap (own_words s')) (sym is) (subst (λ (s : TableState). HasMap (own_words s) (map_at (length turns))) (sym (at_end plan opened turns s' run))
       (is_map plan opened starts turns s' run (length turns)))
 
-  pub of_calls : ChangesAreOfCalls plan.last_card opened turns
+  pub of_calls : ChangesAreOfCalls plan opened turns
   of_calls k state turn op at effect =
-      let is : state ≡ at_turn k = run_same plan.last_card opened (take k turns) state (at_turn k) at.led (run_to plan.last_card opened turns s' run k) in
+      let is : state ≡ at_turn k = run_same plan opened (take k turns) state (at_turn k) at.led (run_to plan opened turns s' run k) in
       change_at plan opened starts turns s' run k turn op at.at (subst (λ (s : TableState). turn_effect s turn ≡ op ∷ []) is effect)
 
 -- each run from a start is linearizable

@@ -32,22 +32,22 @@ use Rattle.ell_cards.proofs.lemmas.runs.OwnSeat.{turn_seat, call_free}
 use Rattle.ell_cards.proofs.lemmas.runs.Searched.{first_keeps}
 
 -- a pass with nothing in hand has nothing in hand after a call that takes no operation in hand
-keeps_free : (cards : ℕ) (c : Call) (n : ℕ) (v : View) → KeepsOn c → May cards c v → IsFree v → IsFree (after c n v)
-keeps_free cards (call.Begin op) n v keeps may free = absurd keeps
-keeps_free cards call.Look n v keeps may free = free
-keeps_free cards c n v keeps may free = (call_free cards c n v keeps may free).free
+keeps_free : (plan : TablePlan) (c : Call) (n : ℕ) (v : View) → KeepsOn c → May plan c v → IsFree v → IsFree (after c n v)
+keeps_free plan (call.Begin op) n v keeps may free = absurd keeps
+keeps_free plan call.Look n v keeps may free = free
+keeps_free plan c n v keeps may free = (call_free plan c n v keeps may free).free
 
 -- nor after a run in which it takes none
-pub free_on : (cards seat : ℕ) (s : TableState) (v : View) → get_elem? s.views seat ≡ some v → IsFree v → (turns : List Turn) (s' : TableState)
-    → TableRun cards s turns s' → KeepOn seat turns → (w : View) → get_elem? s'.views seat ≡ some w → IsFree w
-free_on cards seat s v there free [] s' run on w there' =
+pub free_on : (plan : TablePlan) (seat : ℕ) (s : TableState) (v : View) → get_elem? s.views seat ≡ some v → IsFree v → (turns : List Turn) (s' : TableState)
+    → TableRun plan s turns s' → KeepOn seat turns → (w : View) → get_elem? s'.views seat ≡ some w → IsFree w
+free_on plan seat s v there free [] s' run on w there' =
     subst IsFree (some-injective v w (sym there ∙ (ap (λ (t : TableState). get_elem? t.views seat) (sym run) ∙ there'))) free
-free_on cards seat s v there free (t ∷ ts) s' run on w there' =
+free_on plan seat s v there free (t ∷ ts) s' run on w there' =
     let keeps = first_keeps seat t ts on in
-    let goes = turn_seat KeepsOn cards s seat v there t run.0 run.1 keeps.0 in
-    free_on cards seat run.0 goes.view goes.there (elim goes.made [
+    let goes = turn_seat KeepsOn plan s seat v there t run.0 run.1 keeps.0 in
+    free_on plan seat run.0 goes.view goes.there (elim goes.made [
       | inl same ↦ subst IsFree (sym same) free
-      | inr c ↦ subst IsFree (sym c.3) (keeps_free cards c.0 (found_by s c.0) v c.1 c.2 free)
+      | inr c ↦ subst IsFree (sym c.3) (keeps_free plan c.0 (found_by s c.0) v c.1 c.2 free)
     ]) ts s' run.2 keeps.1 w there'
 
 -- a pass has a card in hand, flagged, or nothing at all
@@ -63,21 +63,21 @@ mark_held false d x u v w same c h = by (is_mark_of d u.state u.card) same
     by false same = record { holds = ap (λ k. k.card) same ∙ h.holds; flagged = ap (λ k. k.flagged) same ∙ h.flagged }
 
 -- a card in hand that was flagged, and is not known backed, stays there till the pass has nothing in hand
-held_by : (cards c : ℕ) (y : Call) (n : ℕ) (v : View) → KeepsOn y → May cards y v → ¬ Knows v (fact.Backed c) → HasFlagged v c → Settled c (after y n v)
-held_by cards c (call.Begin op) n v keeps may fresh h = absurd keeps
-held_by cards c call.Again n v keeps may fresh h = absurd (fresh (may.backed c h.holds h.flagged))
-held_by cards c call.Leave n v keeps may fresh h = absurd (fresh (may.backed c h.holds h.flagged))
-held_by cards c (call.Answer said) n v keeps may fresh h = inl refl
-held_by cards c (call.Claim d) n v keeps may fresh h = absurd (some_not_none h.holds may.0.no_card)
-held_by cards c (call.IFlag d p from) n v keeps may fresh h = absurd (false≢true (sym may.may.unflagged ∙ h.flagged))
-held_by cards c (call.DFlag d gp from) n v keeps may fresh h = absurd (false≢true (sym may.may.unflagged ∙ h.flagged))
-held_by cards c (call.Mark d p was) n v keeps may fresh h = inr (mark_held (n == was) d p (unpacked n) v (after (call.Mark d p was) n v) refl c h)
-held_by cards c _ n v keeps may fresh h = inr (record { holds = h.holds; flagged = h.flagged })
+held_by : (plan : TablePlan) (c : ℕ) (y : Call) (n : ℕ) (v : View) → KeepsOn y → May plan y v → ¬ Knows v (fact.Backed c) → HasFlagged v c → Settled c (after y n v)
+held_by plan c (call.Begin op) n v keeps may fresh h = absurd keeps
+held_by plan c call.Again n v keeps may fresh h = absurd (fresh (may.backed c h.holds h.flagged))
+held_by plan c call.Leave n v keeps may fresh h = absurd (fresh (may.backed c h.holds h.flagged))
+held_by plan c (call.Answer said) n v keeps may fresh h = inl refl
+held_by plan c (call.Claim d) n v keeps may fresh h = absurd (some_not_none h.holds may.0.no_card)
+held_by plan c (call.IFlag d p from) n v keeps may fresh h = absurd (false≢true (sym may.may.unflagged ∙ h.flagged))
+held_by plan c (call.DFlag d gp from) n v keeps may fresh h = absurd (false≢true (sym may.may.unflagged ∙ h.flagged))
+held_by plan c (call.Mark d p was) n v keeps may fresh h = inr (mark_held (n == was) d p (unpacked n) v (after (call.Mark d p was) n v) refl c h)
+held_by plan c _ n v keeps may fresh h = inr (record { holds = h.holds; flagged = h.flagged })
 
-settled_by : (cards c : ℕ) (y : Call) (n : ℕ) (v : View) → KeepsOn y → May cards y v → ¬ Knows v (fact.Backed c) → Settled c v → Settled c (after y n v)
-settled_by cards c y n v keeps may fresh h = elim h [
-  | inl free ↦ inl (keeps_free cards y n v keeps may free)
-  | inr held ↦ held_by cards c y n v keeps may fresh held
+settled_by : (plan : TablePlan) (c : ℕ) (y : Call) (n : ℕ) (v : View) → KeepsOn y → May plan y v → ¬ Knows v (fact.Backed c) → Settled c v → Settled c (after y n v)
+settled_by plan c y n v keeps may fresh h = elim h [
+  | inl free ↦ inl (keeps_free plan y n v keeps may free)
+  | inr held ↦ held_by plan c y n v keeps may fresh held
 ]
 
 -- what a card has won of exchanges of a child, by its stage: one at most, and none if it is backed
@@ -147,21 +147,21 @@ module _ (plan : TablePlan) (c : ℕ) where
 
   -- what a turn leaves of it
   settled_turn : (s : TableState) (r : HasMachine plan s) (stage : Stages) → Invariant (machine_of_table plan s r) stage → (seat : ℕ) (v : View)
-      → get_elem? s.views seat ≡ some v → ¬ (is_backed (stage c) ≡ true) → Settled c v → (t : Turn) (s' : TableState) → TableTurns plan.last_card s t s' → KeepOn seat (t ∷ [])
+      → get_elem? s.views seat ≡ some v → ¬ (is_backed (stage c) ≡ true) → Settled c v → (t : Turn) (s' : TableState) → TableTurns plan s t s' → KeepOn seat (t ∷ [])
       → (w : View) × (get_elem? s'.views seat ≡ some w) × Settled c w
   settled_turn s r stage holds seat v there fresh h t s' turn on =
-      let goes = turn_seat KeepsOn plan.last_card s seat v there t s' turn (first_keeps seat t [] on).0 in (
+      let goes = turn_seat KeepsOn plan s seat v there t s' turn (first_keeps seat t [] on).0 in (
         goes.view,
         goes.there,
         elim goes.made [
           | inl same ↦ subst (Settled c) (sym same) h
-          | inr y ↦ subst (Settled c) (sym y.3) (settled_by plan.last_card c y.0 (found_by s y.0) v y.1 y.2 (not_known s r stage holds seat v there fresh) h)
+          | inr y ↦ subst (Settled c) (sym y.3) (settled_by plan c y.0 (found_by s y.0) v y.1 y.2 (not_known s r stage holds seat v there fresh) h)
         ],
       )
 
   -- once a card has won its exchange of a child, the pass that has it in hand keeps it till it has nothing in hand
   settled_on : (s : TableState) (r : HasMachine plan s) (stage : Stages) → Invariant (machine_of_table plan s r) stage → 0 < changes_by (stage c)
-      → (seat : ℕ) (v : View) → get_elem? s.views seat ≡ some v → Settled c v → (turns : List Turn) (s' : TableState) → TableRun plan.last_card s turns s' → KeepOn seat turns
+      → (seat : ℕ) (v : View) → get_elem? s.views seat ≡ some v → Settled c v → (turns : List Turn) (s' : TableState) → TableRun plan s turns s' → KeepOn seat turns
       → (w : View) → get_elem? s'.views seat ≡ some w → Settled c w
   settled_on s r stage holds changed seat v there h [] s' run on w there' =
       subst (Settled c) (some-injective v w (sym there ∙ (ap (λ (t : TableState). get_elem? t.views seat) (sym run) ∙ there'))) h
@@ -175,8 +175,8 @@ module _ (plan : TablePlan) (c : ℕ) where
 
   -- from the turn on in which it wins it
   pub settled_since : (s : TableState) → HasMachine plan s → (seat : ℕ) (v : View) → get_elem? s.views seat ≡ some v → HasFlagged v c
-      → (t : Turn) (s1 : TableState) → TableTurns plan.last_card s t s1 → sum_by child_changes (turn_wins s t c) ≡ 1 → KeepOn seat (t ∷ [])
-      → (turns : List Turn) (s' : TableState) → TableRun plan.last_card s1 turns s' → KeepOn seat turns → (w : View) → get_elem? s'.views seat ≡ some w → Settled c w
+      → (t : Turn) (s1 : TableState) → TableTurns plan s t s1 → sum_by child_changes (turn_wins s t c) ≡ 1 → KeepOn seat (t ∷ [])
+      → (turns : List Turn) (s' : TableState) → TableRun plan s1 turns s' → KeepOn seat turns → (w : View) → get_elem? s'.views seat ≡ some w → Settled c w
   settled_since s r seat v there h t s1 turn won keeps turns s' run on w there' =
       let next = turn_turns plan s r r.stages r.invariant t s1 turn in
       let changed = new_change (r.stages c) (next.1.went.stages c) (turn_wins s t c) (next.1.went.wins c) won in
@@ -185,19 +185,19 @@ module _ (plan : TablePlan) (c : ℕ) where
       settled_on s1 next.0 next.1.went.stages next.1.went.invariant changed seat one.0 one.1 one.2 turns s' run on w there'
 
   -- nor does any pass know it backed then
-  pub not_backed_since : (s : TableState) → HasMachine plan s → (t : Turn) (s1 : TableState) → TableTurns plan.last_card s t s1
-      → sum_by child_changes (turn_wins s t c) ≡ 1 → (turns : List Turn) (s' : TableState) → TableRun plan.last_card s1 turns s' → (seat : ℕ) (w : View)
+  pub not_backed_since : (s : TableState) → HasMachine plan s → (t : Turn) (s1 : TableState) → TableTurns plan s t s1
+      → sum_by child_changes (turn_wins s t c) ≡ 1 → (turns : List Turn) (s' : TableState) → TableRun plan s1 turns s' → (seat : ℕ) (w : View)
       → get_elem? s'.views seat ≡ some w → ¬ Knows w (fact.Backed c)
   not_backed_since s r t s1 turn won turns s' run seat w there =
       let goes = run_goes plan s r r.stages r.invariant (t ∷ turns) s' (s1, turn, run) in
-      let changed = won_since (r.stages c) (goes.1.stages c) (turn_wins s t c) (run_wins plan.last_card s1 turns s' run c) (goes.1.wins c) won in
+      let changed = won_since (r.stages c) (goes.1.stages c) (turn_wins s t c) (run_wins plan s1 turns s' run c) (goes.1.wins c) won in
       not_known s' goes.0 goes.1.stages goes.1.invariant seat w there (not_backed (goes.1.stages c) (goes.1.stages c) [] (sym (append-nil (wins_of (goes.1.stages c)))) changed)
 
   -- and no later turn wins another
-  pub changed_once : (s : TableState) → HasMachine plan s → (t : Turn) (s1 : TableState) → TableTurns plan.last_card s t s1 → sum_by child_changes (turn_wins s t c) ≡ 1
-      → (turns : List Turn) (s' : TableState) → TableRun plan.last_card s1 turns s' → (u : Turn) (s2 : TableState) → TableTurns plan.last_card s' u s2
+  pub changed_once : (s : TableState) → HasMachine plan s → (t : Turn) (s1 : TableState) → TableTurns plan s t s1 → sum_by child_changes (turn_wins s t c) ≡ 1
+      → (turns : List Turn) (s' : TableState) → TableRun plan s1 turns s' → (u : Turn) (s2 : TableState) → TableTurns plan s' u s2
       → sum_by child_changes (turn_wins s' u c) ≡ 1 → ⊥
   changed_once s r t s1 turn won turns s' run u s2 again twice =
       let goes = run_goes plan s r r.stages r.invariant (t ∷ turns) s' (s1, turn, run) in
       let more = turn_turns plan s' goes.0 goes.1.stages goes.1.invariant u s2 again in
-      two (r.stages c) (goes.1.stages c) (more.1.went.stages c) (turn_wins s t c) (run_wins plan.last_card s1 turns s' run c) (turn_wins s' u c) (goes.1.wins c) (more.1.went.wins c) won twice
+      two (r.stages c) (goes.1.stages c) (more.1.went.stages c) (turn_wins s t c) (run_wins plan s1 turns s' run c) (turn_wins s' u c) (goes.1.wins c) (more.1.went.wins c) won twice

@@ -102,36 +102,36 @@ more_on turns seat i p t at keeps on k u low high e = elim (cases_lt k p) [
       subst (λ (x : Turn). KeepOn seat (x ∷ [])) is keeps
 ]
 
-module _ (plan : TablePlan) (opened : TableState) (starts : Starts plan opened) (turns : List Turn) (s' : TableState) (run : TableRun plan.last_card opened turns s') where
+module _ (plan : TablePlan) (opened : TableState) (starts : Starts plan opened) (turns : List Turn) (s' : TableState) (run : TableRun plan opened turns s') where
   -- the state after so many turns
   abbrev pub after_turns : ℕ → TableState
-  after_turns p = state_at plan.last_card opened turns s' run p
+  after_turns p = state_at plan opened turns s' run p
 
   pub kept : (p : ℕ) → HasMachine plan (after_turns p)
   kept p =
-      (runs_are_lawful plan opened (starts_are_kept plan opened starts).kept (take p turns) (after_turns p) (run_to plan.last_card opened turns s' run p)).kept
+      (runs_are_lawful plan opened (starts_are_kept plan opened starts).kept (take p turns) (after_turns p) (run_to plan opened turns s' run p)).kept
 
   -- the map that its tree is
   pub map_after : ℕ → Contents
-  map_after p = final (contents_of plan.start) (run_effects plan.last_card opened (take p turns) (after_turns p) (run_to plan.last_card opened turns s' run p))
+  map_after p = final (contents_of plan.start) (run_effects plan opened (take p turns) (after_turns p) (run_to plan opened turns s' run p))
 
   pub is_map : (p : ℕ) → HasMap (own_words (after_turns p)) (map_after p)
   unfolding map_after
-  is_map p = trees_are_of_one_thread plan opened starts (take p turns) (after_turns p) (run_to plan.last_card opened turns s' run p)
+  is_map p = trees_are_of_one_thread plan opened starts (take p turns) (after_turns p) (run_to plan opened turns s' run p)
 
   pub first_map : map_after 0 ≡ contents_of plan.start
   unfolding map_after
   first_map = refl
 
-  pub made : (p : ℕ) (t : Turn) → get_elem? turns p ≡ some t → TableTurns plan.last_card (after_turns p) t (after_turns (suc p))
-  made p t at = turn_at plan.last_card opened turns s' run p t at
+  pub made : (p : ℕ) (t : Turn) → get_elem? turns p ≡ some t → TableTurns plan (after_turns p) t (after_turns (suc p))
+  made p t at = turn_at plan opened turns s' run p t at
 
   -- the turns from one state to a later one
   abbrev pub slice : ℕ → ℕ → List Turn
   slice p q = take (q - p) (drop p turns)
 
-  pub run_slice : (p q : ℕ) → p ≤ q → TableRun plan.last_card (after_turns p) (slice p q) (after_turns q)
-  run_slice p q up = run_between plan.last_card opened turns s' run p (q - p) q (omega arith)
+  pub run_slice : (p q : ℕ) → p ≤ q → TableRun plan (after_turns p) (slice p q) (after_turns q)
+  run_slice p q up = run_between plan opened turns s' run p (q - p) q (omega arith)
 
   pub keep_slice : (seat i p q : ℕ) → i < p → p ≤ q → KeepsOnBetween seat turns i q → KeepOn seat (slice p q)
   keep_slice seat i p q low up on = keep_all seat (slice p q)
@@ -147,7 +147,7 @@ module _ (plan : TablePlan) (opened : TableState) (starts : Starts plan opened) 
   begun_of zero up seat op h = absurd (nobody_busy seat op h)
   begun_of (suc p) up seat op h =
       let t = turn_inside turns p (omega arith) in
-      elim (turn_begun plan.last_card seat op (after_turns p) t.0 (after_turns (suc p)) (made p t.0 t.1) h.view h.there h.does) [
+      elim (turn_begun plan seat op (after_turns p) t.0 (after_turns (suc p)) (made p t.0 t.1) h.view h.there h.does) [
         | inl is ↦ record {
           begin = p;
           begins = t.1 ∙ ap (λ (x : Turn). some x) is;
@@ -166,11 +166,11 @@ module _ (plan : TablePlan) (opened : TableState) (starts : Starts plan opened) 
   pub free_after : (seat i j : ℕ) (said : Reply) → get_elem? turns j ≡ some (Makes seat (call.Answer said)) → i < j → (q : ℕ) → j < q → KeepsOnBetween seat turns i q
       → (w : View) → get_elem? (after_turns q).views seat ≡ some w → IsFree w
   free_after seat i j said at low q less on w there =
-      let h : CallIsMade plan.last_card (after_turns j) seat (call.Answer said) (after_turns (suc j)) = made j (Makes seat (call.Answer said)) at in
+      let h : CallIsMade plan (after_turns j) seat (call.Answer said) (after_turns (suc j)) = made j (Makes seat (call.Answer said)) at in
       let v = view_after (after_turns j) h.view (call.Answer said) in
       let now : get_elem? (after_turns (suc j)).views seat ≡ some v =
       ap (λ (t : TableState). get_elem? t.views seat) h.gives ∙ set_there (after_turns j).views seat v h.view h.there in
-      free_on plan.last_card seat (after_turns (suc j)) v now refl (slice (suc j) q) (after_turns q) (run_slice (suc j) q (omega arith))
+      free_on plan seat (after_turns (suc j)) v now refl (slice (suc j) q) (after_turns q) (run_slice (suc j) q (omega arith))
       (keep_slice seat i (suc j) q (omega arith) (omega arith) on) w there
 
   -- a call of the pass in a seat that changes the tree in a turn, by the state before it
@@ -190,10 +190,10 @@ module _ (plan : TablePlan) (opened : TableState) (starts : Starts plan opened) 
     pub changes : TurnChanges (after_turns p) turn op
     pub same : card ≡ changes.card
 
-  pub changed_of : (i p : ℕ) (op : Op) (h : ChangesAt plan.last_card opened turns i p op) → Changed h.by.work.seat i p op
+  pub changed_of : (i p : ℕ) (op : Op) (h : ChangesAt plan opened turns i p op) → Changed h.by.work.seat i p op
   changed_of i p op h =
       let g = h.by in
-      let is : g.state ≡ after_turns p = run_same plan.last_card opened (take p turns) g.state (after_turns p) g.is.led (run_to plan.last_card opened turns s' run p) in
+      let is : g.state ≡ after_turns p = run_same plan opened (take p turns) g.state (after_turns p) g.is.led (run_to plan opened turns s' run p) in
       let effect = subst (λ (s : TableState). turn_effect s g.turn ≡ op ∷ []) is g.effect in
       let own = subst (λ (s : TableState). turn_wins s g.turn g.card ≡ change_of op) is g.own in
       let changes = turn_changes (after_turns p) g.turn op effect in
@@ -244,7 +244,7 @@ module _ (plan : TablePlan) (opened : TableState) (starts : Starts plan opened) 
 
   -- a call that has ended, by what its turns are
   pub called : (i j : ℕ) (op : Op) (said : Reply) (h : IsAnswered turns i j op said)
-      → IsCalled plan.last_card (after_turns i) h.seat op (after_turns (suc i)) (slice (suc i) j) (after_turns j) said
+      → IsCalled plan (after_turns i) h.seat op (after_turns (suc i)) (slice (suc i) j) (after_turns j) said
   called i j op said h =
       let low = h.later in record {
         ended = after_turns (suc j);
@@ -287,7 +287,7 @@ module _ (plan : TablePlan) (opened : TableState) (starts : Starts plan opened) 
   not_twice : (seat i j q : ℕ) (said other : Reply) → i < j → get_elem? turns j ≡ some (Makes seat (call.Answer said)) → get_elem? turns q ≡ some (Makes seat (call.Answer other))
       → KeepsOnBetween seat turns i q → j < q → ⊥
   not_twice seat i j q said other low e f on less =
-      let end : CallIsMade plan.last_card (after_turns q) seat (call.Answer other) (after_turns (suc q)) = made q (Makes seat (call.Answer other)) f in
+      let end : CallIsMade plan (after_turns q) seat (call.Answer other) (after_turns (suc q)) = made q (Makes seat (call.Answer other)) f in
       some_not_none end.may.busy (free_after seat i j said e low q less on end.view end.there)
 
   pub one_end : (i j q : ℕ) (op o : Op) (said other : Reply) → IsAnswered turns i j op said → IsAnswered turns i q o other → j ≡ q
@@ -310,22 +310,22 @@ module _ (plan : TablePlan) (opened : TableState) (starts : Starts plan opened) 
     pub high : place ≤ q
     pub is : state ≡ after_turns place
 
-  pub state_between : (p q n : ℕ) (state : TableState) → p ≤ q → TableRun plan.last_card (after_turns p) (take n (slice p q)) state → StateBetween p q state
+  pub state_between : (p q n : ℕ) (state : TableState) → p ≤ q → TableRun plan (after_turns p) (take n (slice p q)) state → StateBetween p q state
   state_between p q n state up led = elim (cases_lt n (q - p)) [
     | inl less ↦ record {
       place = p + n;
       low = omega arith;
       high = omega arith;
-      is = run_same plan.last_card (after_turns p) (take n (drop p turns)) state (after_turns (p + n))
-          (subst (λ ts. TableRun plan.last_card (after_turns p) ts state) (take_fewer n (q - p) (drop p turns) (omega arith)) led)
-          (run_between plan.last_card opened turns s' run p n (p + n) refl);
+      is = run_same plan (after_turns p) (take n (drop p turns)) state (after_turns (p + n))
+          (subst (λ ts. TableRun plan (after_turns p) ts state) (take_fewer n (q - p) (drop p turns) (omega arith)) led)
+          (run_between plan opened turns s' run p n (p + n) refl);
     }
     | inr most ↦ record {
       place = q;
       low = up;
       high = omega arith;
-      is = run_same plan.last_card (after_turns p) (slice p q) state (after_turns q)
-          (subst (λ ts. TableRun plan.last_card (after_turns p) ts state) (take_more n (q - p) (drop p turns) most) led) (run_slice p q up);
+      is = run_same plan (after_turns p) (slice p q) state (after_turns q)
+          (subst (λ ts. TableRun plan (after_turns p) ts state) (take_more n (q - p) (drop p turns) most) led) (run_slice p q up);
     }
   ]
 
@@ -337,7 +337,7 @@ module _ (plan : TablePlan) (opened : TableState) (starts : Starts plan opened) 
     pub says : said ≡ reply_of op (map_after point)
     pub leaves : after op (map_after point) ≡ map_after point
 
-  reads_at : (i j : ℕ) (op : Op) (said : Reply) → i < j → SaysWhatWas plan.last_card op (after_turns (suc i)) (slice (suc i) j) (after_turns j) said → ReadsAt i j op said
+  reads_at : (i j : ℕ) (op : Op) (said : Reply) → i < j → SaysWhatWas plan op (after_turns (suc i)) (slice (suc i) j) (after_turns j) said → ReadsAt i j op said
   reads_at i j op said low was =
       let at = state_between (suc i) j was.so.amid.first was.so.state (omega arith) was.so.amid.before in
       let so = subst (λ (s : TableState). HasThere (key_of op) was.there (own_words s)) at.is was.so.so in
@@ -351,12 +351,12 @@ module _ (plan : TablePlan) (opened : TableState) (starts : Starts plan opened) 
       }
 
   -- whose a turn is by which the tree changes
-  won_for : (p : ℕ) (t : Turn) → TableTurns plan.last_card (after_turns p) t (after_turns (suc p)) → IsWonFor (after_turns p) t
+  won_for : (p : ℕ) (t : Turn) → TableTurns plan (after_turns p) t (after_turns (suc p)) → IsWonFor (after_turns p) t
   won_for p (Makes seat y) h = table_changes_are_operations plan (after_turns p) (kept p) seat h.view y h.there h.may
   won_for p (Splits seat left) h = tt
   won_for p (Joins seat other) h = tt
 
-  pub change_at : (p : ℕ) (t : Turn) (op : Op) → get_elem? turns p ≡ some t → turn_effect (after_turns p) t ≡ op ∷ [] → IsOfACall plan.last_card opened turns p op
+  pub change_at : (p : ℕ) (t : Turn) (op : Op) → get_elem? turns p ≡ some t → turn_effect (after_turns p) t ≡ op ∷ [] → IsOfACall plan opened turns p op
   change_at p t op at e =
       let changes = turn_changes (after_turns p) t op e in
       let work = changes.work (won_for p t (made p t at)) in
@@ -367,7 +367,7 @@ module _ (plan : TablePlan) (opened : TableState) (starts : Starts plan opened) 
           by = record {
             state = after_turns p;
             turn = t;
-            is = record { led = run_to plan.last_card opened turns s' run p; at = at };
+            is = record { led = run_to plan opened turns s' run p; at = at };
             effect = e;
             card = changes.card;
             own = changes.own changes.card ∙ ap (λ b. if b then change_of op else []) (eq-eqb changes.card changes.card refl);
@@ -404,12 +404,12 @@ module _ (plan : TablePlan) (opened : TableState) (starts : Starts plan opened) 
       }
 
   -- a seat that goes on is there
-  seat_on : (seat : ℕ) (s : TableState) (v : View) → get_elem? s.views seat ≡ some v → (ts : List Turn) (last : TableState) → TableRun plan.last_card s ts last → KeepOn seat ts
+  seat_on : (seat : ℕ) (s : TableState) (v : View) → get_elem? s.views seat ≡ some v → (ts : List Turn) (last : TableState) → TableRun plan s ts last → KeepOn seat ts
       → (w : View) × (get_elem? last.views seat ≡ some w)
   seat_on seat s v there [] last led on = (v, ap (λ (t : TableState). get_elem? t.views seat) led ∙ there)
   seat_on seat s v there (t ∷ ts) last led on =
       let keeps = first_keeps seat t ts on in
-      let goes = turn_seat KeepsOn plan.last_card s seat v there t led.0 led.1 keeps.0 in
+      let goes = turn_seat KeepsOn plan s seat v there t led.0 led.1 keeps.0 in
       seat_on seat led.0 goes.view goes.there ts last led.2 keeps.1
 
   -- a call that answers by its card has changed the tree
@@ -436,7 +436,7 @@ module _ (plan : TablePlan) (opened : TableState) (starts : Starts plan opened) 
   -- the turn of a call that answers by its card
   pub record ChangesThere (i : ℕ) (op : Op) : Type 0 where
     pub change : ℕ
-    pub changes : ChangesAt plan.last_card opened turns i change op
+    pub changes : ChangesAt plan opened turns i change op
 
   -- the turn in which a card's child exchange was won, within a call
   record CardTurn (i j c : ℕ) : Type 0 where
@@ -452,14 +452,14 @@ module _ (plan : TablePlan) (opened : TableState) (starts : Starts plan opened) 
   first_there [] (suc n) t rest e = absurd cc
   first_there (x ∷ xs) (suc n) t rest e = first_there xs n t rest e
 
-  card_turn : (i j : ℕ) (op : Op) (c : ℕ) → i < j → TakesEffect plan.last_card op c (after_turns (suc i)) (slice (suc i) j) (after_turns j) → CardTurn i j c
+  card_turn : (i j : ℕ) (op : Op) (c : ℕ) → i < j → TakesEffect plan op c (after_turns (suc i)) (slice (suc i) j) (after_turns j) → CardTurn i j c
   card_turn i j op c less t =
       let first = place_between turns (suc i) (j - suc i) t.first t.turn (first_there (slice (suc i) j) t.first t.turn (drop (suc t.first) (slice (suc i) j)) t.at) in
       let few = first.0 in
       let p = suc i + t.first in
-      let is : t.state ≡ after_turns p = run_same plan.last_card (after_turns (suc i)) (take t.first (drop (suc i) turns)) t.state (after_turns p)
-      (subst (λ ts. TableRun plan.last_card (after_turns (suc i)) ts t.state) (take_fewer t.first (j - suc i) (drop (suc i) turns) (omega arith)) t.before)
-      (run_between plan.last_card opened turns s' run (suc i) t.first p refl) in record {
+      let is : t.state ≡ after_turns p = run_same plan (after_turns (suc i)) (take t.first (drop (suc i) turns)) t.state (after_turns p)
+      (subst (λ ts. TableRun plan (after_turns (suc i)) ts t.state) (take_fewer t.first (j - suc i) (drop (suc i) turns) (omega arith)) t.before)
+      (run_between plan opened turns s' run (suc i) t.first p refl) in record {
         place = p;
         low = omega arith;
         high = omega arith;
@@ -492,11 +492,11 @@ module _ (plan : TablePlan) (opened : TableState) (starts : Starts plan opened) 
       let does : o ≡ op =
       (same_begin turns i seat seat o op (subst (λ n. get_elem? turns n ≡ some (Makes seat (call.Begin o))) same by.changes.begins) at_first).1 in record {
         change = p;
-        changes = subst (λ x. ChangesAt plan.last_card opened turns i p x) does (subst (λ n. ChangesAt plan.last_card opened turns n p o) same by.changes);
+        changes = subst (λ x. ChangesAt plan opened turns i p x) does (subst (λ n. ChangesAt plan opened turns n p o) same by.changes);
       }
 
   changes_there : (i j : ℕ) (op : Op) (said : Reply) (h : IsAnswered turns i j op said) (c : ℕ) → HoldsAtEnd (after_turns j) h.seat c
-      → TakesEffect plan.last_card op c (after_turns (suc i)) (slice (suc i) j) (after_turns j) → ChangesThere i op
+      → TakesEffect plan op c (after_turns (suc i)) (slice (suc i) j) (after_turns j) → ChangesThere i op
   changes_there i j op said h c holds effect =
       let t = card_turn i j op c h.later effect in
       elim (turn_cases (after_turns t.place) t.turn) [

@@ -8,52 +8,53 @@ use Rattle.ell_cards.specs.States.{TableState}
 use Rattle.ell_cards.specs.Turns.{Turn, Makes, Splits, Joins, TableTurns, TableRun, state_after, state_split, state_joined}
 use Rattle.ell_cards.specs.Meanwhile.{KeepOn}
 use Rattle.ell_cards.specs.Changing.{HasMap}
+use Rattle.ell_cards.specs.Models.{TablePlan}
 
 -- what a turn leads to is one state
-pub turn_same : (cards : ℕ) (s : TableState) (t : Turn) (a b : TableState) → TableTurns cards s t a → TableTurns cards s t b → a ≡ b
-turn_same cards s (Makes seat c) a b h k =
+pub turn_same : (plan : TablePlan) (s : TableState) (t : Turn) (a b : TableState) → TableTurns plan s t a → TableTurns plan s t b → a ≡ b
+turn_same plan s (Makes seat c) a b h k =
     h.gives ∙ (ap (λ v. state_after s seat v c) (some-injective h.view k.view (sym h.there ∙ k.there)) ∙ sym k.gives)
-turn_same cards s (Splits seat left) a b h k =
+turn_same plan s (Splits seat left) a b h k =
     h.gives ∙ (ap (λ v. state_split s seat v left) (some-injective h.view k.view (sym h.there ∙ k.there)) ∙ sym k.gives)
-turn_same cards s (Joins seat other) a b h k =
+turn_same plan s (Joins seat other) a b h k =
     h.gives ∙ (ap (λ v. state_joined s seat other v h.view') (some-injective h.view k.view (sym h.there ∙ k.there))
     ∙ (ap (state_joined s seat other k.view) (some-injective h.view' k.view' (sym h.there' ∙ k.there')) ∙ sym k.gives))
 
 -- and so is what a run leads to
-pub run_same : (cards : ℕ) (s : TableState) (turns : List Turn) (a b : TableState) → TableRun cards s turns a → TableRun cards s turns b → a ≡ b
-run_same cards s [] a b h k = h ∙ sym k
-run_same cards s (t ∷ ts) a b h k =
-    run_same cards k.0 ts a b (subst (λ (x : TableState). TableRun cards x ts a) (turn_same cards s t h.0 k.0 h.1 k.1) h.2) k.2
+pub run_same : (plan : TablePlan) (s : TableState) (turns : List Turn) (a b : TableState) → TableRun plan s turns a → TableRun plan s turns b → a ≡ b
+run_same plan s [] a b h k = h ∙ sym k
+run_same plan s (t ∷ ts) a b h k =
+    run_same plan k.0 ts a b (subst (λ (x : TableState). TableRun plan x ts a) (turn_same plan s t h.0 k.0 h.1 k.1) h.2) k.2
 
-module _ (cards : ℕ) where
+module _ (plan : TablePlan) where
   -- the state of a run after so many turns
-  abbrev pub state_at : (s : TableState) (turns : List Turn) (s' : TableState) → TableRun cards s turns s' → ℕ → TableState
+  abbrev pub state_at : (s : TableState) (turns : List Turn) (s' : TableState) → TableRun plan s turns s' → ℕ → TableState
   state_at s turns s' run zero = s
   state_at s [] s' run (suc p) = s
   state_at s (t ∷ ts) s' run (suc p) = state_at run.0 ts s' run.2 p
 
   -- the turn after it
-  pub turn_at : (s : TableState) (turns : List Turn) (s' : TableState) (run : TableRun cards s turns s') (p : ℕ) (t : Turn) → get_elem? turns p ≡ some t
-      → TableTurns cards (state_at s turns s' run p) t (state_at s turns s' run (suc p))
+  pub turn_at : (s : TableState) (turns : List Turn) (s' : TableState) (run : TableRun plan s turns s') (p : ℕ) (t : Turn) → get_elem? turns p ≡ some t
+      → TableTurns plan (state_at s turns s' run p) t (state_at s turns s' run (suc p))
   turn_at s [] s' run p t e = absurd (some-ne-none t (sym e))
-  turn_at s (u ∷ us) s' run zero t e = subst (λ x. TableTurns cards s x run.0) (some-injective u t e) run.1
+  turn_at s (u ∷ us) s' run zero t e = subst (λ x. TableTurns plan s x run.0) (some-injective u t e) run.1
   turn_at s (u ∷ us) s' run (suc p) t e = turn_at run.0 us s' run.2 p t e
 
   -- the last one
-  pub at_end : (s : TableState) (turns : List Turn) (s' : TableState) (run : TableRun cards s turns s') → s' ≡ state_at s turns s' run (length turns)
+  pub at_end : (s : TableState) (turns : List Turn) (s' : TableState) (run : TableRun plan s turns s') → s' ≡ state_at s turns s' run (length turns)
   at_end s [] s' run = run
   at_end s (t ∷ ts) s' run = at_end run.0 ts s' run.2
 
   -- turns lead from one to a later one
-  pub run_to : (s : TableState) (turns : List Turn) (s' : TableState) (run : TableRun cards s turns s') (p : ℕ) → TableRun cards s (take p turns) (state_at s turns s' run p)
+  pub run_to : (s : TableState) (turns : List Turn) (s' : TableState) (run : TableRun plan s turns s') (p : ℕ) → TableRun plan s (take p turns) (state_at s turns s' run p)
   run_to s turns s' run zero = refl
   run_to s [] s' run (suc p) = refl
   run_to s (t ∷ ts) s' run (suc p) = (run.0, run.1, run_to run.0 ts s' run.2 p)
 
-  pub run_between : (s : TableState) (turns : List Turn) (s' : TableState) (run : TableRun cards s turns s') (p n q : ℕ) → p + n ≡ q
-      → TableRun cards (state_at s turns s' run p) (take n (drop p turns)) (state_at s turns s' run q)
+  pub run_between : (s : TableState) (turns : List Turn) (s' : TableState) (run : TableRun plan s turns s') (p n q : ℕ) → p + n ≡ q
+      → TableRun plan (state_at s turns s' run p) (take n (drop p turns)) (state_at s turns s' run q)
   run_between s turns s' run zero n q e =
-      let same : n ≡ q = omega arith in subst (λ k. TableRun cards s (take n turns) (state_at s turns s' run k)) same (run_to s turns s' run n)
+      let same : n ≡ q = omega arith in subst (λ k. TableRun plan s (take n turns) (state_at s turns s' run k)) same (run_to s turns s' run n)
   run_between s turns s' run (suc p) n zero e = absurd (omega arith)
   run_between s [] s' run (suc p) zero (suc q) e = refl
   run_between s [] s' run (suc p) (suc n) (suc q) e = refl

@@ -181,13 +181,13 @@ module _ (m0 : Machine) (stage0 : Stages) (first : Invariant m0 stage0) (seat : 
         hindered_rests plan m0 stage0 first s at.kept at.went.stages at.went.invariant at.went.words at.went.later at.went.cleans seat at.view at.there at.since now after words later old at.hindered
 
     -- a search goes on by a turn
-    turn_since : (s : TableState) (won : ℕ → List Exchange) → Leads s won → (t : Turn) (s' : TableState) → TableTurns plan.last_card s t s' → KeepOn seat (t ∷ [])
+    turn_since : (s : TableState) (won : ℕ → List Exchange) → Leads s won → (t : Turn) (s' : TableState) → TableTurns plan s t s' → KeepOn seat (t ∷ [])
         → Leads s' (λ d. won d ++ turn_wins s t d)
     turn_since s won at (Makes other c) s' h keep =
         let turn = turn_lawful plan s at.kept (Makes other c) s' h in
         let m = machine_of_table plan s at.kept in
         let m' = machine_of_table plan s' turn.0 in
-        let goes = (call_wins m at.went.stages at.went.invariant other m' c (found_by s c) h.view plan.last_card (ap (λ o. (seat_worker o).card) h.there) h.may turn.1.machine).went in
+        let goes = (call_wins m at.went.stages at.went.invariant other m' c (found_by s c) h.view plan (ap (λ o. (seat_worker o).card) h.there) h.may turn.1.machine).went in
         let on = becomes_since m at.went.stages other (act_of c (found_by s c)) (said_of c (found_by s c)) m' at.went.invariant at.went.words at.went.later
         turn.1.machine in
         elim (cases_eq seat other) [
@@ -206,7 +206,7 @@ module _ (m0 : Machine) (stage0 : Stages) (first : Invariant m0 stage0) (seat : 
               ] in
               then_goes s won at s' turn.0 (turn_wins s (Makes other c)) goes since (view_after s at.view c) now
               (call_hindered plan m0 stage0 first s at.kept at.went.stages at.went.invariant at.went.words at.went.later at.went.cleans seat at.view at.there at.since
-              turn.0.words goes.stages goes.words goes.later old at.hindered c (keep.0 (sym e)) (subst (λ u. May plan.last_card c u) own h.may))
+              turn.0.words goes.stages goes.words goes.later old at.hindered c (keep.0 (sym e)) (subst (λ u. May plan c u) own h.may))
           | inr n ↦
               let now : get_elem? s'.views seat ≡ some at.view =
               ap (λ (t : TableState). get_elem? t.views seat) h.gives ∙ (set_else s.views other seat (view_after s h.view c) n ∙ at.there) in
@@ -251,15 +251,15 @@ module _ (m0 : Machine) (stage0 : Stages) (first : Invariant m0 stage0) (seat : 
     first_keeps (Joins one other) ts h = ((h.0, h.1, tt), h.2)
 
     -- and by a run
-    run_since : (s : TableState) (won : ℕ → List Exchange) → Leads s won → (turns : List Turn) (s' : TableState) (run : TableRun plan.last_card s turns s') → KeepOn seat turns
-        → Leads s' (λ d. won d ++ run_wins plan.last_card s turns s' run d)
+    run_since : (s : TableState) (won : ℕ → List Exchange) → Leads s won → (turns : List Turn) (s' : TableState) (run : TableRun plan s turns s') → KeepOn seat turns
+        → Leads s' (λ d. won d ++ run_wins plan s turns s' run d)
     run_since s won at [] s' run keep =
         subst (λ x. Leads x (λ d. won d ++ [])) (sym run)
         (subst (Leads s) (λ t d. sym (append-nil (won d)) t) at)
     run_since s won at (t ∷ ts) s' run keep =
         let keeps = first_keeps t ts keep in
         let one = turn_since s won at t run.0 run.1 keeps.0 in
-        subst (Leads s') (λ i d. append_assoc (won d) (turn_wins s t d) (run_wins plan.last_card run.0 ts s' run.2 d) i)
+        subst (Leads s') (λ i d. append_assoc (won d) (turn_wins s t d) (run_wins plan run.0 ts s' run.2 d) i)
         (run_since run.0 (λ d. won d ++ turn_wins s t d) one ts s' run.2 keeps.1)
 
 -- what a pass knows to have ended has
@@ -283,7 +283,7 @@ module _ (plan : TablePlan) (q : SearchRun plan) where
   opens = starts_are_kept plan q.opened q.starts
 
   -- where the run leads before the search begins
-  led_to : (k : HasMachine plan q.begun) × Went opens.kept.words opens.kept.stages (run_wins plan.last_card q.opened q.before q.begun q.led) (machine_of_table plan q.begun k)
+  led_to : (k : HasMachine plan q.begun) × Went opens.kept.words opens.kept.stages (run_wins plan q.opened q.before q.begun q.led) (machine_of_table plan q.begun k)
   led_to = let made = run_goes plan q.opened opens.kept opens.kept.stages opens.kept.invariant q.before q.begun q.led in (made.0, made.1)
 
   abbrev first : Machine
@@ -293,11 +293,11 @@ module _ (plan : TablePlan) (q : SearchRun plan) where
   stage = led_to.1.stages
 
   -- nothing was won before the start
-  won_by_then : (c : ℕ) → wins_of (stage c) ≡ run_wins plan.last_card q.opened q.before q.begun q.led c
-  won_by_then c = led_to.1.wins c ∙ ap (λ ks. ks ++ run_wins plan.last_card q.opened q.before q.begun q.led c) (opens.unwon c)
+  won_by_then : (c : ℕ) → wins_of (stage c) ≡ run_wins plan q.opened q.before q.begun q.led c
+  won_by_then c = led_to.1.wins c ∙ ap (λ ks. ks ++ run_wins plan q.opened q.before q.begun q.led c) (opens.unwon c)
 
   -- where it leads while the search goes on
-  led : Leads first stage led_to.1.invariant q.seat plan q.begins.view.hindrances q.now (run_wins plan.last_card q.begun q.meanwhile q.now q.run)
+  led : Leads first stage led_to.1.invariant q.seat plan q.begins.view.hindrances q.now (run_wins plan q.begun q.meanwhile q.now q.run)
   led = run_since first stage led_to.1.invariant q.seat plan q.begins.view.hindrances q.begun (λ d. []) (record {
     kept = led_to.0;
     went = record {
@@ -339,7 +339,7 @@ module _ (plan : TablePlan) (q : SearchRun plan) where
 
   -- one that had not, and has ended now, ended since
   ended_in : (c : ℕ) → has_ended (stage c) ≡ false → has_ended (led.went.stages c) ≡ true → ended_since plan q c ≡ true
-  ended_in c un after = new_end (wins_of (stage c)) (run_wins plan.last_card q.begun q.meanwhile q.now q.run c)
+  ended_in c un after = new_end (wins_of (stage c)) (run_wins plan q.begun q.meanwhile q.now q.run c)
       (ap has_end (sym (led.went.wins c)) ∙ (wins_end (led.went.stages c) ∙ after)) (wins_end (stage c) ∙ un)
 
   -- what the pass knows to have ended has
@@ -406,7 +406,7 @@ known_milestones_were_reached plan first starts turns s run seat v there =
     let is = listed_next s.words ∙ led.0.next in record {
       given_out = omega (arith, low, is);
       ended = λ c ended.
-          let won = led.1.wins c ∙ ap (λ ks. ks ++ run_wins plan.last_card first turns s run c) (opens.unwon c) in
+          let won = led.1.wins c ∙ ap (λ ks. ks ++ run_wins plan first turns s run c) (opens.unwon c) in
           ap has_end (sym won) ∙ (wins_end (led.1.stages c)
           ∙ facts_ended (machine_of_table plan s led.0) led.1.stages led.1.invariant seat v (ap seat_worker there) c ended);
     }

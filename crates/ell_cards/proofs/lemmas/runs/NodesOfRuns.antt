@@ -89,4 +89,4 @@ module _ (plan : TablePlan) (s : TableState) (r : HasMachine plan s) (s' : Table
 pub table_nodes_go_on : NodesByMachine
 table_nodes_go_on plan s r turns s' run x reached =
     let goes = run_goes plan s r r.stages r.invariant turns s' run in
-    node_goes_on plan s r s' goes.0 (run_wins plan.last_card s turns s' run) goes.1 goes.2 x reached
+    node_goes_on plan s r s' goes.0 (run_wins plan s turns s' run) goes.1 goes.2 x reached

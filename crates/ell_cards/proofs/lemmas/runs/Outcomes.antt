@@ -149,7 +149,7 @@ alike_by true false h g = absurd (g refl refl)
 
 -- an exchange that the pass in a seat may make, and its word told otherwise
 module _ (plan : TablePlan) (s : TableState) (h : IsReached plan s) (id : ℕ) (v : View) (here : get_elem? s.views id ≡ some v)
-    (c : Call) (may : May plan.last_card c v) (n : ℕ) (on : IsReached plan (told_of s id v c n)) where
+    (c : Call) (may : May plan c v) (n : ℕ) (on : IsReached plan (told_of s id v c n)) where
   -- where it leads
   pub went : IsReached plan (state_after s id v c)
   went = reached_on plan s h (Makes id c) (state_after s id v c) (record { view = v; there = here; may = may; gives = refl })
@@ -186,7 +186,7 @@ module _ (plan : TablePlan) (s : TableState) (h : IsReached plan s) (id : ℕ) (
 
 -- a flag that the pass in a seat may set for its card in hand at a node, and its word told otherwise
 module _ (plan : TablePlan) (s : TableState) (h : IsReached plan s) (id : ℕ) (v : View) (here : get_elem? s.views id ≡ some v)
-    (c : Call) (may : May plan.last_card c v) (n : ℕ) (on : IsReached plan (told_of s id v c n))
+    (c : Call) (may : May plan c v) (n : ℕ) (on : IsReached plan (told_of s id v c n))
     (d : ℕ) (hand : MayFill v d) (x : ℕ) (passed : IsPassed v x) (at : word_of c ≡ update_address x) where
   abbrev before : HasMachine plan s
   before = reached_kept plan s h
@@ -267,7 +267,7 @@ module _ (plan : TablePlan) (s : TableState) (h : IsReached plan s) (id : ℕ) (
 
 module _ (plan : TablePlan) (s : TableState) (h : IsReached plan s) (id : ℕ) (v : View) (here : get_elem? s.views id ≡ some v) where
   abbrev Alike : Call → Type 0
-  Alike c = May plan.last_card c v → (n : ℕ) → IsReached plan (told_of s id v c n) → is_won (atomic_of c) n ≡ is_won (atomic_of c) (found_by s c)
+  Alike c = May plan c v → (n : ℕ) → IsReached plan (told_of s id v c n) → is_won (atomic_of c) n ≡ is_won (atomic_of c) (found_by s c)
 
   ichild_alike : (c p : ℕ) (l : Link) (q : ℕ) (right : Bool) → Alike (call.IChild c p l q right)
   ichild_alike c p l q right may n on = taught_alike plan s h id v here (call.IChild c p l q right) may n on exchange.IChild (omega arith)

@@ -55,8 +55,8 @@ looks_read_their_own plan s h seat v at key there found owns =
     let begun_there : get_elem? b.to.views seat ≡ some begun =
     ap (λ (t : TableState). get_elem? t.views seat) b.call.gives ∙ set_there b.from.views seat begun b.call.view b.call.there in
     let turns = drop (suc b.first) h.turns in
-    let mid = run_free plan.last_card b.to seat begun begun_there b.call.may (take so.amid.first turns) so.state so.amid.before (looks_first seat so.amid.first turns b.on) in
-    let end = run_free plan.last_card b.to seat begun begun_there b.call.may turns s b.after b.on in
+    let mid = run_free plan b.to seat begun begun_there b.call.may (take so.amid.first turns) so.state so.amid.before (looks_first seat so.amid.first turns b.on) in
+    let end = run_free plan b.to seat begun begun_there b.call.may turns s b.after b.on in
     let same = ap (λ (u : View). u.worker.ledger) (some-injective end.view v (sym end.there ∙ at)) in
     let ledger : mid.view.worker.ledger ≡ v.worker.ledger = mid.still.ledger ∙ (sym end.still.ledger ∙ same) in
     let from = (runs_are_lawful plan h.first first (take b.first h.turns) b.from b.before).kept in

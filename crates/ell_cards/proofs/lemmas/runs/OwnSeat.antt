@@ -19,6 +19,7 @@ use Rattle.ell_cards.specs.Turns.{Turn, Makes, Splits, Joins, TableTurns, TableR
 use Rattle.ell_cards.specs.Looking.{BeginsNothing, LooksOn}
 use Rattle.ell_cards.proofs.lemmas.seats.Seats.{inside, set_there}
 use Rattle.ell_cards.proofs.lemmas.lifetimes.Splits.{before_last}
+use Rattle.ell_cards.specs.Models.{TablePlan}
 
 -- a pass with nothing in hand has nothing in hand afterwards, and the same ledger
 pub record StaysFree (v w : View) : Type 0 where
@@ -42,17 +43,17 @@ mark_free false c x u v w same free = by (is_mark_of c u.state u.card) same
     by false same = record { free = ap (λ k. k.operation) same ∙ free; ledger = ap (λ k. k.ledger) same }
 
 -- so it stays by every call that begins nothing
-pub call_free : (cards : ℕ) (c : Call) (n : ℕ) (v : View) → BeginsNothing c → May cards c v → IsFree v → StaysFree v (after c n v)
-call_free cards (call.Begin op) n v begins may free = absurd begins
-call_free cards call.Look n v begins may free = absurd begins
-call_free cards call.Again n v begins may free = absurd (some_not_none may.busy free)
-call_free cards call.Leave n v begins may free = absurd (some_not_none may.busy free)
-call_free cards (call.Answer said) n v begins may free = absurd (some_not_none may.busy free)
-call_free cards (call.Claim c) n v begins may free = claim_free (n == c) c v free
-call_free cards (call.IFlag c p from) n v begins may free = flag_free (n == packed from) (fact.IFlagged c) p (unpacked n) v (after (call.IFlag c p from) n v) refl free
-call_free cards (call.DFlag c gp from) n v begins may free = flag_free (n == packed from) (fact.DFlagged c) gp (unpacked n) v (after (call.DFlag c gp from) n v) refl free
-call_free cards (call.Mark c p was) n v begins may free = mark_free (n == was) c p (unpacked n) v (after (call.Mark c p was) n v) refl free
-call_free cards _ n v begins may free = record { free = free; ledger = refl }
+pub call_free : (plan : TablePlan) (c : Call) (n : ℕ) (v : View) → BeginsNothing c → May plan c v → IsFree v → StaysFree v (after c n v)
+call_free plan (call.Begin op) n v begins may free = absurd begins
+call_free plan call.Look n v begins may free = absurd begins
+call_free plan call.Again n v begins may free = absurd (some_not_none may.busy free)
+call_free plan call.Leave n v begins may free = absurd (some_not_none may.busy free)
+call_free plan (call.Answer said) n v begins may free = absurd (some_not_none may.busy free)
+call_free plan (call.Claim c) n v begins may free = claim_free (n == c) c v free
+call_free plan (call.IFlag c p from) n v begins may free = flag_free (n == packed from) (fact.IFlagged c) p (unpacked n) v (after (call.IFlag c p from) n v) refl free
+call_free plan (call.DFlag c gp from) n v begins may free = flag_free (n == packed from) (fact.DFlagged c) gp (unpacked n) v (after (call.DFlag c gp from) n v) refl free
+call_free plan (call.Mark c p was) n v begins may free = mark_free (n == was) c p (unpacked n) v (after (call.Mark c p was) n v) refl free
+call_free plan _ n v begins may free = record { free = free; ledger = refl }
 
 -- a turn in which the pass in a seat makes only such calls, and is not split or joined
 abbrev pub Only : (Call → Type 0) → ℕ → Turn → Type 0
@@ -61,21 +62,21 @@ Only So seat (Splits other left) = other ≢ seat
 Only So seat (Joins one other) = (one ≢ seat) × (other ≢ seat)
 
 -- what such a turn makes of the pass in the seat: nothing, or it is such a call of the pass
-pub record SeatGoesOn (So : Call → Type 0) (cards : ℕ) (s : TableState) (seat : ℕ) (v : View) (t : Turn) (s' : TableState) : Type 0 where
+pub record SeatGoesOn (So : Call → Type 0) (plan : TablePlan) (s : TableState) (seat : ℕ) (v : View) (t : Turn) (s' : TableState) : Type 0 where
   pub view : View
   pub there : get_elem? s'.views seat ≡ some view
-  pub made : (view ≡ v) ⊎ ((c : Call) × So c × May cards c v × (view ≡ view_after s v c) × (t ≡ Makes seat c))
+  pub made : (view ≡ v) ⊎ ((c : Call) × So c × May plan c v × (view ≡ view_after s v c) × (t ≡ Makes seat c))
 
-pub turn_seat : (So : Call → Type 0) (cards : ℕ) (s : TableState) (seat : ℕ) (v : View) → get_elem? s.views seat ≡ some v → (t : Turn) (s' : TableState)
-    → TableTurns cards s t s' → Only So seat t → SeatGoesOn So cards s seat v t s'
-turn_seat So cards s seat v there (Makes other c) s' h on = elim (cases_eq seat other) [
+pub turn_seat : (So : Call → Type 0) (plan : TablePlan) (s : TableState) (seat : ℕ) (v : View) → get_elem? s.views seat ≡ some v → (t : Turn) (s' : TableState)
+    → TableTurns plan s t s' → Only So seat t → SeatGoesOn So plan s seat v t s'
+turn_seat So plan s seat v there (Makes other c) s' h on = elim (cases_eq seat other) [
   | inl e ↦
       let own : h.view ≡ v = some-injective h.view v (sym h.there ∙ (ap (get_elem? s.views) (sym e) ∙ there)) in
       record {
         view = view_after s v c;
         there = ap (λ (t : TableState). get_elem? t.views seat) h.gives ∙ (ap (λ i. get_elem? (set s.views i (view_after s h.view c)) seat) (sym e)
             ∙ (ap (λ u. get_elem? (set s.views seat (view_after s u c)) seat) own ∙ set_there s.views seat (view_after s v c) v there));
-        made = inr (c, on (sym e), subst (λ u. May cards c u) own h.may, refl, ap (λ i. Makes i c) (sym e));
+        made = inr (c, on (sym e), subst (λ u. May plan c u) own h.may, refl, ap (λ i. Makes i c) (sym e));
       }
   | inr n ↦ record {
     view = v;
@@ -101,11 +102,11 @@ turn_seat So cards s seat v there (Joins one other) s' h on = record {
 }
 
 -- so a pass that has nothing in hand has its ledger and nothing in hand
-pub turn_free : (cards : ℕ) (s : TableState) (seat : ℕ) (v : View) (t : Turn) (s' : TableState) (goes : SeatGoesOn BeginsNothing cards s seat v t s') → IsFree v
+pub turn_free : (plan : TablePlan) (s : TableState) (seat : ℕ) (v : View) (t : Turn) (s' : TableState) (goes : SeatGoesOn BeginsNothing plan s seat v t s') → IsFree v
     → StaysFree v goes.view
-turn_free cards s seat v t s' goes free = elim goes.made [
+turn_free plan s seat v t s' goes free = elim goes.made [
   | inl same ↦ subst (StaysFree v) (sym same) (record { free = free; ledger = refl })
-  | inr c ↦ subst (StaysFree v) (sym c.3) (call_free cards c.0 (found_by s c.0) v c.1 c.2 free)
+  | inr c ↦ subst (StaysFree v) (sym c.3) (call_free plan c.0 (found_by s c.0) v c.1 c.2 free)
 ]
 
 pub first_looks : (seat : ℕ) (t : Turn) (ts : List Turn) → LooksOn seat (t ∷ ts) → Only BeginsNothing seat t × LooksOn seat ts
@@ -119,13 +120,13 @@ pub record IsFreeStill (s : TableState) (seat : ℕ) (v : View) : Type 0 where
   pub there : get_elem? s.views seat ≡ some view
   pub still : StaysFree v view
 
-pub run_free : (cards : ℕ) (s : TableState) (seat : ℕ) (v : View) → get_elem? s.views seat ≡ some v → IsFree v → (turns : List Turn) (s' : TableState)
-    → TableRun cards s turns s' → LooksOn seat turns → IsFreeStill s' seat v
-run_free cards s seat v there free [] s' run on =
+pub run_free : (plan : TablePlan) (s : TableState) (seat : ℕ) (v : View) → get_elem? s.views seat ≡ some v → IsFree v → (turns : List Turn) (s' : TableState)
+    → TableRun plan s turns s' → LooksOn seat turns → IsFreeStill s' seat v
+run_free plan s seat v there free [] s' run on =
     record { view = v; there = ap (λ (t : TableState). get_elem? t.views seat) run ∙ there; still = record { free = free; ledger = refl } }
-run_free cards s seat v there free (t ∷ ts) s' run on =
+run_free plan s seat v there free (t ∷ ts) s' run on =
     let looks = first_looks seat t ts on in
-    let goes = turn_seat BeginsNothing cards s seat v there t run.0 run.1 looks.0 in
-    let one = turn_free cards s seat v t run.0 goes free in
-    let rest = run_free cards run.0 seat goes.view goes.there one.free ts s' run.2 looks.1 in
+    let goes = turn_seat BeginsNothing plan s seat v there t run.0 run.1 looks.0 in
+    let one = turn_free plan s seat v t run.0 goes free in
+    let rest = run_free plan run.0 seat goes.view goes.there one.free ts s' run.2 looks.1 in
     record { view = rest.view; there = rest.there; still = record { free = rest.still.free; ledger = rest.still.ledger ∙ one.ledger } }

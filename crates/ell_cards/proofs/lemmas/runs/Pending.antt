@@ -73,19 +73,19 @@ does_stay (call.Mark c p was) n v plain = does_mark (n == was) c p (unpacked n) 
 does_stay _ n v plain = refl
 
 -- a pass that has an operation in hand begins no other, and is not split or joined
-keeps_of : (last : ℕ) (c : Call) (v : View) (op : Op) → Does v op → May last c v → KeepsOn c
-keeps_of last (call.Begin o) v op does may = absurd (some_not_none does may.0)
-keeps_of last _ v op does may = tt
+keeps_of : (plan : TablePlan) (c : Call) (v : View) (op : Op) → Does v op → May plan c v → KeepsOn c
+keeps_of plan (call.Begin o) v op does may = absurd (some_not_none does may.0)
+keeps_of plan _ v op does may = tt
 
-busy_keeps : (last : ℕ) (s : TableState) (seat : ℕ) (v : View) (op : Op) → get_elem? s.views seat ≡ some v → Does v op → (t : Turn) (s' : TableState)
-    → TableTurns last s t s' → Only KeepsOn seat t
-busy_keeps last s seat v op there does (Makes other c) s' h = λ same.
+busy_keeps : (plan : TablePlan) (s : TableState) (seat : ℕ) (v : View) (op : Op) → get_elem? s.views seat ≡ some v → Does v op → (t : Turn) (s' : TableState)
+    → TableTurns plan s t s' → Only KeepsOn seat t
+busy_keeps plan s seat v op there does (Makes other c) s' h = λ same.
     let own : h.view ≡ v = some-injective h.view v (sym h.there ∙ (ap (get_elem? s.views) same ∙ there)) in
-    keeps_of last c v op does (subst (May last c) own h.may)
-busy_keeps last s seat v op there does (Splits other left) s' h = λ same.
+    keeps_of plan c v op does (subst (May plan c) own h.may)
+busy_keeps plan s seat v op there does (Splits other left) s' h = λ same.
     let own : h.view ≡ v = some-injective h.view v (sym h.there ∙ (ap (get_elem? s.views) same ∙ there)) in
     some_not_none does (subst IsFree own h.free)
-busy_keeps last s seat v op there does (Joins one other) s' h = (
+busy_keeps plan s seat v op there does (Joins one other) s' h = (
   λ same.
       let own : h.view ≡ v = some-injective h.view v (sym h.there ∙ (ap (get_elem? s.views) same ∙ there)) in
       some_not_none does (subst IsFree own h.free),
@@ -99,7 +99,7 @@ keep_one seat (Makes other c) h = (h, tt)
 keep_one seat (Splits other left) h = (h, tt)
 keep_one seat (Joins one other) h = (h.0, h.1, tt)
 
-module _ (plan : TablePlan) (opened : TableState) (starts : Starts plan opened) (turns : List Turn) (s' : TableState) (run : TableRun plan.last_card opened turns s') where
+module _ (plan : TablePlan) (opened : TableState) (starts : Starts plan opened) (turns : List Turn) (s' : TableState) (run : TableRun plan opened turns s') where
   abbrev state : ℕ → TableState
   state = after_turns plan opened starts turns s' run
 
@@ -110,7 +110,7 @@ module _ (plan : TablePlan) (opened : TableState) (starts : Starts plan opened) 
     does : Does view op
     on : KeepsOnBetween seat turns i q
 
-  module _ (i p : ℕ) (op : Op) (changes : ChangesAt plan.last_card opened turns i p op) (unended : (end : ℕ) (o : Op) (said : Reply) → ¬ IsAnswered turns i end o said) where
+  module _ (i p : ℕ) (op : Op) (changes : ChangesAt plan opened turns i p op) (unended : (end : ℕ) (o : Op) (said : Reply) → ¬ IsAnswered turns i end o said) where
     abbrev seat : ℕ
     seat = changes.by.work.seat
 
@@ -118,8 +118,8 @@ module _ (plan : TablePlan) (opened : TableState) (starts : Starts plan opened) 
     goes : (q : ℕ) → i < q → (t : Turn) → get_elem? turns q ≡ some t → GoesOn seat i q op → GoesOn seat i (suc q) op
     goes q low t at h =
         let turn = made plan opened starts turns s' run q t at in
-        let only = busy_keeps plan.last_card (state q) seat h.view op h.there h.does t (state (suc q)) turn in
-        let next = turn_seat KeepsOn plan.last_card (state q) seat h.view h.there t (state (suc q)) turn only in
+        let only = busy_keeps plan (state q) seat h.view op h.there h.does t (state (suc q)) turn in
+        let next = turn_seat KeepsOn plan (state q) seat h.view h.there t (state (suc q)) turn only in
         record {
           view = next.view;
           there = next.there;
@@ -162,4 +162,4 @@ module _ (plan : TablePlan) (opened : TableState) (starts : Starts plan opened) 
     in_hand inside free =
         let n = length turns - p in
         let h = goes_to n (length turns) (omega arith) (omega arith) in
-        some_not_none h.does (free seat h.view (ap (λ (s : TableState). get_elem? s.views seat) (at_end plan.last_card opened turns s' run) ∙ h.there))
+        some_not_none h.does (free seat h.view (ap (λ (s : TableState). get_elem? s.views seat) (at_end plan opened turns s' run) ∙ h.there))

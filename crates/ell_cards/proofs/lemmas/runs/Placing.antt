@@ -97,7 +97,7 @@ of_take (suc n) [] k a e = absurd (some-ne-none a (sym e))
 of_take (suc n) (x ∷ xs) zero a e = (omega arith, e)
 of_take (suc n) (x ∷ xs) (suc k) a e = (let h = of_take n xs k a e in let less = h.0 in (omega arith, h.1))
 
-module _ (plan : TablePlan) (opened : TableState) (starts : Starts plan opened) (turns : List Turn) (s' : TableState) (run : TableRun plan.last_card opened turns s') where
+module _ (plan : TablePlan) (opened : TableState) (starts : Starts plan opened) (turns : List Turn) (s' : TableState) (run : TableRun plan opened turns s') where
   abbrev state : ℕ → TableState
   state = after_turns plan opened starts turns s' run
 
@@ -114,25 +114,25 @@ module _ (plan : TablePlan) (opened : TableState) (starts : Starts plan opened) 
     high : at ≤ ended
     so : HasThere key there (own_words (state at))
 
-  seen_at : (ended key : ℕ) (there : Option ℕ) (look : IsLook plan.last_card opened turns ended key there) → SeenAt (began plan.last_card opened turns ended key there look) ended key there
+  seen_at : (ended key : ℕ) (there : Option ℕ) (look : IsLook plan opened turns ended key there) → SeenAt (began plan opened turns ended key there look) ended key there
   seen_at ended key there look =
       let b = look.found.began in
       let at = of_take ended turns b.first (Makes look.seat call.Look) b.at in
       let less = at.0 in
-      let from : b.from ≡ state b.first = run_same plan.last_card opened (take b.first turns) b.from (state b.first)
-      (subst (λ ts. TableRun plan.last_card opened ts b.from) (take_fewer b.first ended turns (omega arith)) b.before)
-      (run_to plan.last_card opened turns s' run b.first) in
-      let to : b.to ≡ state (suc b.first) = turn_same plan.last_card b.from (Makes look.seat call.Look) b.to (state (suc b.first)) b.call
-      (subst (λ (x : TableState). TableTurns plan.last_card x (Makes look.seat call.Look) (state (suc b.first))) (sym from)
+      let from : b.from ≡ state b.first = run_same plan opened (take b.first turns) b.from (state b.first)
+      (subst (λ ts. TableRun plan opened ts b.from) (take_fewer b.first ended turns (omega arith)) b.before)
+      (run_to plan opened turns s' run b.first) in
+      let to : b.to ≡ state (suc b.first) = turn_same plan b.from (Makes look.seat call.Look) b.to (state (suc b.first)) b.call
+      (subst (λ (x : TableState). TableTurns plan x (Makes look.seat call.Look) (state (suc b.first))) (sym from)
       (made plan opened starts turns s' run b.first (Makes look.seat call.Look) at.1)) in
       let n = ended - suc b.first in
       let whole : suc b.first + n ≡ ended = omega arith in
       let rest : drop (suc b.first) (take ended turns) ≡ take n (drop (suc b.first) turns) =
       ap (λ k. drop (suc b.first) (take k turns)) (sym whole) ∙ drop-take (suc b.first) n turns in
       let amid = look.found.so.amid in
-      let led : TableRun plan.last_card (state (suc b.first)) (take amid.first (take n (drop (suc b.first) turns))) look.found.so.state =
-      subst (λ (x : TableState). TableRun plan.last_card x (take amid.first (take n (drop (suc b.first) turns))) look.found.so.state) to
-      (subst (λ ts. TableRun plan.last_card b.to (take amid.first ts) look.found.so.state) rest amid.before) in
+      let led : TableRun plan (state (suc b.first)) (take amid.first (take n (drop (suc b.first) turns))) look.found.so.state =
+      subst (λ (x : TableState). TableRun plan x (take amid.first (take n (drop (suc b.first) turns))) look.found.so.state) to
+      (subst (λ ts. TableRun plan b.to (take amid.first ts) look.found.so.state) rest amid.before) in
       let between = state_between plan opened starts turns s' run (suc b.first) ended amid.first look.found.so.state (omega arith) led in record {
         at = between.place;
         low = between.low;
@@ -143,7 +143,7 @@ module _ (plan : TablePlan) (opened : TableState) (starts : Starts plan opened) 
   least : (p : ℕ) → 0 ≤ p
   least p = omega arith
 
-  within : (ended key : ℕ) (there : Option ℕ) (look : IsLook plan.last_card opened turns ended key there) → (seen_at ended key there look).at ≤ length turns
+  within : (ended key : ℕ) (there : Option ℕ) (look : IsLook plan opened turns ended key there) → (seen_at ended key there look).at ≤ length turns
   within ended key there look = let high = (seen_at ended key there look).high in let inside = look.inside in omega arith
 
   -- the calls before a state
@@ -154,8 +154,8 @@ module _ (plan : TablePlan) (opened : TableState) (starts : Starts plan opened) 
   before_rises p q up up' less =
       cut_rises map_at (length turns) 0 p q (all_calls plan opened starts turns s' run).list (all_calls plan opened starts turns s' run).right (least p) up (least q) up' less
 
-  abbrev look_placed : (ended key : ℕ) (there : Option ℕ) (look : IsLook plan.last_card opened turns ended key there)
-      → HasPlace (contents_of plan.start) turns order (began plan.last_card opened turns ended key there look) ended key there
+  abbrev look_placed : (ended key : ℕ) (there : Option ℕ) (look : IsLook plan opened turns ended key there)
+      → HasPlace (contents_of plan.start) turns order (began plan opened turns ended key there look) ended key there
   look_placed ended key there look =
       let seen = seen_at ended key there look in
       let p = seen.at in

@@ -112,16 +112,16 @@ module _ (plan : TablePlan) where
     kept : HasMachine plan state
     turn : Turn
     next : TableState
-    before : TableRun plan.last_card s (take n turns) state
-    now : TableTurns plan.last_card state turn next
-    after : TableRun plan.last_card next (drop (suc n) turns) s'
+    before : TableRun plan s (take n turns) state
+    now : TableTurns plan state turn next
+    after : TableRun plan next (drop (suc n) turns) s'
     at : drop n turns ≡ turn ∷ drop (suc n) turns
     wins : InList k (turn_wins state turn c)
 
-  find : (k : Exchange) (c : ℕ) (s : TableState) → HasMachine plan s → (turns : List Turn) (s' : TableState) (run : TableRun plan.last_card s turns s')
-      → InList k (run_wins plan.last_card s turns s' run c) → Found k c s turns s'
+  find : (k : Exchange) (c : ℕ) (s : TableState) → HasMachine plan s → (turns : List Turn) (s' : TableState) (run : TableRun plan s turns s')
+      → InList k (run_wins plan s turns s' run c) → Found k c s turns s'
   find k c s r [] s' run h = absurd (not_in_none k [] refl h)
-  find k c s r (t ∷ ts) s' run h = elim (in_either k (turn_wins s t c) (run_wins plan.last_card run.0 ts s' run.2 c) h) [
+  find k c s r (t ∷ ts) s' run h = elim (in_either k (turn_wins s t c) (run_wins plan run.0 ts s' run.2 c) h) [
     | inl here ↦ record { n = 0; state = s; kept = r; turn = t; next = run.0; before = refl; now = run.1; after = run.2; at = refl; wins = here }
     | inr there ↦ (let f = find k c run.0 (turn_lawful plan s r t run.0 run.1).0 ts s' run.2 there in record {
       n = suc f.n;
@@ -197,12 +197,12 @@ module _ (plan : TablePlan) where
 
   -- a pass has in hand no card that was claimed before its call
   hands : (seat : ℕ) (old : Option ℕ) (low : ℕ) (s : TableState) (r : HasMachine plan s) → low ≤ r.words.next → (v : View) → get_elem? s.views seat ≡ some v → LateHand old low v
-      → (turns : List Turn) (s' : TableState) → TableRun plan.last_card s turns s' → KeepOn seat turns → (w : View) → get_elem? s'.views seat ≡ some w → LateHand old low w
+      → (turns : List Turn) (s' : TableState) → TableRun plan s turns s' → KeepOn seat turns → (w : View) → get_elem? s'.views seat ≡ some w → LateHand old low w
   hands seat old low s r least v there h [] s' run on w there' =
       subst (LateHand old low) (some-injective v w (sym there ∙ (ap (λ (t : TableState). get_elem? t.views seat) (sym run) ∙ there'))) h
   hands seat old low s r least v there h (t ∷ ts) s' run on w there' =
       let keeps = first_keeps seat t ts on in
-      let goes = turn_seat KeepsOn plan.last_card s seat v there t run.0 run.1 keeps.0 in
+      let goes = turn_seat KeepsOn plan s seat v there t run.0 run.1 keeps.0 in
       let one = run_goes plan s r r.stages r.invariant (t ∷ []) run.0 (run.0, run.1, refl) in
       let rise = one.1.words.next in
       hands seat old low run.0 one.0 (omega arith) goes.view goes.there (elim goes.made [
@@ -289,7 +289,7 @@ deletes_by s old new c (call.Backtrack d gp) true h pairs work = absurd (let w =
 deletes_by s old new c _ true h pairs work = absurd (not_in_none exchange.DChild [] refl h)
 
 module _ (plan : TablePlan) where
-  inserts_turn : (s : TableState) → HasMachine plan s → (t : Turn) (s' : TableState) → TableTurns plan.last_card s t s' → (c : ℕ) → InList exchange.IChild (turn_wins s t c)
+  inserts_turn : (s : TableState) → HasMachine plan s → (t : Turn) (s' : TableState) → TableTurns plan s t s' → (c : ℕ) → InList exchange.IChild (turn_wins s t c)
       → Inserts s (own_words s) (own_words s') c (turn_wins s t c)
   inserts_turn s r (Makes seat y) s' h c wins =
       inserts_by s (own_words s) (own_words s') c y (is_won (atomic_of y) (found_by s y)) wins (turn_lawful plan s r (Makes seat y) s' h).1.tree
@@ -297,7 +297,7 @@ module _ (plan : TablePlan) where
   inserts_turn s r (Splits seat left) s' h c wins = absurd (not_in_none exchange.IChild [] refl wins)
   inserts_turn s r (Joins seat other) s' h c wins = absurd (not_in_none exchange.IChild [] refl wins)
 
-  deletes_turn : (s : TableState) → HasMachine plan s → (t : Turn) (s' : TableState) → TableTurns plan.last_card s t s' → (c : ℕ) → InList exchange.DChild (turn_wins s t c)
+  deletes_turn : (s : TableState) → HasMachine plan s → (t : Turn) (s' : TableState) → TableTurns plan s t s' → (c : ℕ) → InList exchange.DChild (turn_wins s t c)
       → Deletes s (own_words s) (own_words s') c (turn_wins s t c)
   deletes_turn s r (Makes seat y) s' h c wins =
       deletes_by s (own_words s) (own_words s') c y (is_won (atomic_of y) (found_by s y)) wins (turn_lawful plan s r (Makes seat y) s' h).1.tree
@@ -317,7 +317,7 @@ module _ (plan : TablePlan) where
       (ap (λ (u : Worker). u.flagged) (mine_is plan s r seat v there) ∙ flagged)).0
 
   -- where a turn wins a dchild for a card, the card won its flag, and was claimed
-  pub dchild_flagged : (s : TableState) (r : HasMachine plan s) (t : Turn) (s' : TableState) → TableTurns plan.last_card s t s' → (c : ℕ)
+  pub dchild_flagged : (s : TableState) (r : HasMachine plan s) (t : Turn) (s' : TableState) → TableTurns plan s t s' → (c : ℕ)
       → turn_wins s t c ≡ exchange.DChild ∷ [] → delete_won (r.stages c) ≡ true
   dchild_flagged s r t s' now c wins =
       let work = (deletes_turn s r t s' now c (subst (InList exchange.DChild) (sym wins) (first exchange.DChild []))).work in
@@ -331,18 +331,18 @@ module _ (plan : TablePlan) where
   knows_in s r seat v there stage holds f knows =
       (holds.workers.each seat).facts f (ap (λ (u : Worker). u.knows f) (mine_is plan s r seat v there) ∙ knows)
 
-  module _ (begun : TableState) (r : HasMachine plan begun) (turns : List Turn) (s' : TableState) (run : TableRun plan.last_card begun turns s') (seat c : ℕ)
+  module _ (begun : TableState) (r : HasMachine plan begun) (turns : List Turn) (s' : TableState) (run : TableRun plan begun turns s') (seat c : ℕ)
       (late : r.words.next ≤ c) (v : View) (there : get_elem? s'.views seat ≡ some v) (has : v.worker.card ≡ Some c) (flagged : v.worker.flagged ≡ true) where
     -- nothing was won for the card before
     none_before : wins_of (r.stages c) ≡ []
     none_before = unclaimed-wins (r.stages c) (not_claimed r.words r.stages r.invariant.words c late)
 
     -- what was won for it in the run
-    won_here : (stage : Stages) (ks : List Exchange) → wins_of (stage c) ≡ wins_of (r.stages c) ++ run_wins plan.last_card begun turns s' run c → wins_of (stage c) ≡ ks
-        → run_wins plan.last_card begun turns s' run c ≡ ks
-    won_here stage ks goes is = sym (goes ∙ ap (λ l. l ++ run_wins plan.last_card begun turns s' run c) none_before) ∙ is
+    won_here : (stage : Stages) (ks : List Exchange) → wins_of (stage c) ≡ wins_of (r.stages c) ++ run_wins plan begun turns s' run c → wins_of (stage c) ≡ ks
+        → run_wins plan begun turns s' run c ≡ ks
+    won_here stage ks goes is = sym (goes ∙ ap (λ l. l ++ run_wins plan begun turns s' run c) none_before) ∙ is
 
-    put_point : (op : Op) (what : Put) → put_of op ≡ Some what → Does v op → Knows v (fact.IOver c) → TakesEffect plan.last_card op c begun turns s'
+    put_point : (op : Op) (what : Put) → put_of op ≡ Some what → Does v op → Knows v (fact.IOver c) → TakesEffect plan op c begun turns s'
     put_point op what puts does over =
         let goes = run_goes plan begun r r.stages r.invariant turns s' run in
         let end = over_insert (goes.1.stages c) (knows_in s' goes.0 seat v there goes.1.stages goes.1.invariant (fact.IOver c) over) in
@@ -379,7 +379,7 @@ module _ (plan : TablePlan) where
           finds = put_finds op what c (own_words f.state) puts;
         }
 
-    delete_point : (k : ℕ) → Does v (Delete k) → Knows v (fact.DOver c) → TakesEffect plan.last_card (Delete k) c begun turns s'
+    delete_point : (k : ℕ) → Does v (Delete k) → Knows v (fact.DOver c) → TakesEffect plan (Delete k) c begun turns s'
     delete_point k does over =
         let goes = run_goes plan begun r r.stages r.invariant turns s' run in
         let end = over_delete (goes.1.stages c) (knows_in s' goes.0 seat v there goes.1.stages goes.1.invariant (fact.DOver c) over) in
@@ -409,7 +409,7 @@ module _ (plan : TablePlan) where
           finds = subst (λ n. IsTreePair (own_words f.state) n (card_value (own_words f.state) c)) key does_it.takes.present;
         }
 
-    point : (op : Op) → Does v op → CardIsOver v op c → TakesEffect plan.last_card op c begun turns s'
+    point : (op : Op) → Does v op → CardIsOver v op c → TakesEffect plan op c begun turns s'
     point (Find k) does over = absurd over
     point (Insert k value) does over = put_point (Insert k value) (added k value) refl does over
     point (Swap k was value) does over = put_point (Swap k was value) (replacing k was value) refl does over
@@ -422,9 +422,9 @@ late_of (inr h) = h
 
 -- each call has its point: one that answers at a leaf a state, and one that answers by its card a turn
 pub point_of : (plan : TablePlan) (s : TableState) → HasMachine plan s → (seat : ℕ) (op : Op) (begun : TableState) (turns : List Turn) (s' : TableState) (said : Reply)
-    → (called : IsCalled plan.last_card s seat op begun turns s' said)
-    → (KnowsAnswerAtLeaf called.answers.view op said × SaysWhatWas plan.last_card op begun turns s' said)
-    ⊎ ((said ≡ reply_of_change op) × ((c : ℕ) × HoldsAtEnd s' seat c × TakesEffect plan.last_card op c begun turns s'))
+    → (called : IsCalled plan s seat op begun turns s' said)
+    → (KnowsAnswerAtLeaf called.answers.view op said × SaysWhatWas plan op begun turns s' said)
+    ⊎ ((said ≡ reply_of_change op) × ((c : ℕ) × HoldsAtEnd s' seat c × TakesEffect plan op c begun turns s'))
 point_of plan s r seat op begun turns s' said called =
     let real = (mine_sound plan s r seat called.begins.view called.begins.there).real (key_of op) called.begins.may.1 in
     let v = called.answers.view in
@@ -452,7 +452,7 @@ point_of plan s r seat op begun turns s' said called =
       )
     ]
   where
-    now : CallIsMade plan.last_card s seat (Begin op) begun → get_elem? begun.views seat ≡ some (view_after s called.begins.view (Begin op))
+    now : CallIsMade plan s seat (Begin op) begun → get_elem? begun.views seat ≡ some (view_after s called.begins.view (Begin op))
     now h = ap (λ (t : TableState). get_elem? t.views seat) called.begins.gives ∙ set_there s.views seat (view_after s called.begins.view (Begin op)) called.begins.view called.begins.there
 
 pub calls_have_their_point : CallsHaveTheirPoint

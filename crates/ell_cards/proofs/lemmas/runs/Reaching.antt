@@ -42,7 +42,7 @@ reached_first plan words may size are = record {
 
 -- wherever turns have led from a start, there is a machine
 pub led_kept : (plan : TablePlan) (first : TableState) → Starts plan first → (turns : List Turn) (s : TableState)
-    → TableRun plan.last_card first turns s → HasMachine plan s
+    → TableRun plan first turns s → HasMachine plan s
 led_kept plan first starts turns s run =
     (runs_are_lawful plan first (starts_are_kept plan first starts).kept turns s run).kept
 
@@ -59,12 +59,12 @@ module _ (plan : TablePlan) where
     reached_ran = runs_from_starts plan h.first h.starts h.turns s h.run
 
     -- a turn leads on
-    pub reached_on : (t : Turn) (s' : TableState) → TableTurns plan.last_card s t s' → IsReached plan s'
+    pub reached_on : (t : Turn) (s' : TableState) → TableTurns plan s t s' → IsReached plan s'
     reached_on t s' turn = record {
       first = h.first;
       starts = h.starts;
       turns = h.turns ++ t ∷ [];
-      run = one_more_turn plan.last_card h.first h.turns s t s' h.run turn;
+      run = one_more_turn plan h.first h.turns s t s' h.run turn;
     }
 
   -- no pass was told two keys of one node
@@ -82,8 +82,8 @@ module _ (plan : TablePlan) where
       }
 
   -- a step call is a turn, wherever turns have led the table, and leaves of its pass what the call says
-  taken : (c : Call) (v : View) (f : ℕ → ℕ) → ((n : ℕ) → f n ≡ left_by (atomic_of c) n) → May plan.last_card c v
-      → (id : ℕ) → Allows (IsReached plan) 0 id (v, []) (word_of c) f (λ n me. IsTaken plan.last_card c v n me.0 × (me.1 ≡ []))
+  taken : (c : Call) (v : View) (f : ℕ → ℕ) → ((n : ℕ) → f n ≡ left_by (atomic_of c) n) → May plan c v
+      → (id : ℕ) → Allows (IsReached plan) 0 id (v, []) (word_of c) f (λ n me. IsTaken plan c v n me.0 × (me.1 ≡ []))
   taken c v f same may id s h homes here small =
       let n = get_or s.words (word_of c) 0 in
       let w = after c n v in
@@ -114,16 +114,16 @@ module _ (plan : TablePlan) where
       )
 
   -- a load
-  pub may_load : (c : Call) (v : View) (word : ℕ) → word ≡ word_of c → atomic_of c ≡ Load → May plan.last_card c v
-      → MayLoad plan v word (IsTaken plan.last_card c v)
+  pub may_load : (c : Call) (v : View) (word : ℕ) → word ≡ word_of c → atomic_of c ≡ Load → May plan c v
+      → MayLoad plan v word (IsTaken plan c v)
   may_load c v word at loads may =
-      subst (λ i. MayLoad plan v i (IsTaken plan.last_card c v)) (sym at) (taken c v (λ n. n) (λ n. ap (λ a. left_by a n) (sym loads)) may)
+      subst (λ i. MayLoad plan v i (IsTaken plan c v)) (sym at) (taken c v (λ n. n) (λ n. ap (λ a. left_by a n) (sym loads)) may)
 
   -- the store of a fill
-  pub may_fill : (c : ℕ) (f : Field) (value : ℕ) (v : View) (word : ℕ) → word ≡ address c f → May plan.last_card (call.Fill c f value) v
-      → MayStore plan v word value (IsTaken plan.last_card (call.Fill c f value) v)
+  pub may_fill : (c : ℕ) (f : Field) (value : ℕ) (v : View) (word : ℕ) → word ≡ address c f → May plan (call.Fill c f value) v
+      → MayStore plan v word value (IsTaken plan (call.Fill c f value) v)
   may_fill c f value v word at may =
-      subst (λ i. MayStore plan v i value (IsTaken plan.last_card (call.Fill c f value) v)) (sym at)
+      subst (λ i. MayStore plan v i value (IsTaken plan (call.Fill c f value) v)) (sym at)
       (λ id s h homes here small.
       let x = taken (call.Fill c f value) v (λ n. value) (λ n. refl) may id s h homes here small in
       let t = x.4.0 in
@@ -135,9 +135,9 @@ module _ (plan : TablePlan) where
 
   -- an exchange
   pub may_exchange : (c : Call) (v : View) (word expected value : ℕ) → word ≡ word_of c
-      → atomic_of c ≡ Exchange expected value → May plan.last_card c v → MayExchange plan v word expected value (IsTaken plan.last_card c v)
+      → atomic_of c ≡ Exchange expected value → May plan c v → MayExchange plan v word expected value (IsTaken plan c v)
   may_exchange c v word expected value at exchanges may =
-      subst (λ i. MayExchange plan v i expected value (IsTaken plan.last_card c v)) (sym at)
+      subst (λ i. MayExchange plan v i expected value (IsTaken plan c v)) (sym at)
       (taken c v (λ n. either (n == expected) value n)
       (λ n. either_is (n == expected) value n ∙ ap (λ a. left_by a n) (sym exchanges)) may)
 

@@ -107,21 +107,21 @@ past_claim n m false c v e low read h =
     record { next = read_rises n m v.next low h.next; claims = ((omega arith), below_rises n m v.hindrances low h.claims) }
 
 -- so it stays after a call
-past_after : (last n m : ℕ) (c : Call) (found : ℕ) (v : View) → n ≤ m → (word_of c ≡ 0 → found ≡ n) → May last c v → IsPast n v → IsPast m (after c found v)
-past_after last n m (call.Begin op) found v low is may h = record { next = tt; claims = below_rises n m v.hindrances low h.claims }
-past_after last n m call.Again found v low is may h = record { next = tt; claims = below_rises n m (given_up v) low (past_given_up n v h) }
-past_after last n m call.Leave found v low is may h = record { next = read_rises n m v.next low h.next; claims = below_rises n m (given_up v) low (past_given_up n v h) }
-past_after last n m call.Next found v low is may h =
+past_after : (plan : TablePlan) (n m : ℕ) (c : Call) (found : ℕ) (v : View) → n ≤ m → (word_of c ≡ 0 → found ≡ n) → May plan c v → IsPast n v → IsPast m (after c found v)
+past_after plan n m (call.Begin op) found v low is may h = record { next = tt; claims = below_rises n m v.hindrances low h.claims }
+past_after plan n m call.Again found v low is may h = record { next = tt; claims = below_rises n m (given_up v) low (past_given_up n v h) }
+past_after plan n m call.Leave found v low is may h = record { next = read_rises n m v.next low h.next; claims = below_rises n m (given_up v) low (past_given_up n v h) }
+past_after plan n m call.Next found v low is may h =
     let same = is refl in record { next = (omega arith); claims = below_rises n m v.hindrances low h.claims }
-past_after last n m (call.Claim c) found v low is may h =
+past_after plan n m (call.Claim c) found v low is may h =
     subst (λ (k : ℕ). IsPast m (after_claim (k == c) c v)) (sym (is refl)) (past_claim n m (n == c) c v refl low may.0.read h)
-past_after last n m (call.IFlag c p from) found v low is may h =
+past_after plan n m (call.IFlag c p from) found v low is may h =
     let later_reading = past_flag m (found == packed from) (IFlagged c) p (unpacked found) v (past_rises n m v low h) in record { next = later_reading.next; claims = later_reading.claims }
-past_after last n m (call.DFlag c gp from) found v low is may h =
+past_after plan n m (call.DFlag c gp from) found v low is may h =
     let later_reading = past_flag m (found == packed from) (DFlagged c) gp (unpacked found) v (past_rises n m v low h) in record { next = later_reading.next; claims = later_reading.claims }
-past_after last n m (call.Mark c p was) found v low is may h =
+past_after plan n m (call.Mark c p was) found v low is may h =
     let later_reading = past_mark m (found == was) c p (unpacked found) v (past_rises n m v low h) in record { next = later_reading.next; claims = later_reading.claims }
-past_after last n m _ found v low is may h = record { next = read_rises n m v.next low h.next; claims = below_rises n m v.hindrances low h.claims }
+past_after plan n m _ found v low is may h = record { next = read_rises n m v.next low h.next; claims = below_rises n m v.hindrances low h.claims }
 
 -- what each pass knows of the claim word is past
 abbrev pub AllPast : TableState → Type 0
@@ -129,7 +129,7 @@ AllPast s = (j : ℕ) (v : View) → get_elem? s.views j ≡ some v → IsPast (
 
 module _ (plan : TablePlan) where
   -- the claim word rises
-  pub claim_word_rises : (s : TableState) → HasMachine plan s → (t : Turn) (s' : TableState) → TableTurns plan.last_card s t s' → get_or s.words 0 0 ≤ get_or s'.words 0 0
+  pub claim_word_rises : (s : TableState) → HasMachine plan s → (t : Turn) (s' : TableState) → TableTurns plan s t s' → get_or s.words 0 0 ≤ get_or s'.words 0 0
   claim_word_rises s r t s' turn =
       let goes = run_goes plan s r r.stages r.invariant (t ∷ []) s' (s', turn, refl) in
       let rises = goes.1.words.next in
@@ -137,7 +137,7 @@ module _ (plan : TablePlan) where
       let there = goes.0.next in
       omega arith
 
-  turn_past : (s : TableState) → HasMachine plan s → (t : Turn) (s' : TableState) → TableTurns plan.last_card s t s' → AllPast s → AllPast s'
+  turn_past : (s : TableState) → HasMachine plan s → (t : Turn) (s' : TableState) → TableTurns plan s t s' → AllPast s → AllPast s'
   turn_past s r (Makes id c) s' turn h = λ j u at.
       let n = get_or s.words 0 0 in
       let m = get_or s'.words 0 0 in
@@ -146,7 +146,7 @@ module _ (plan : TablePlan) where
       let there : get_elem? (set s.views id w) j ≡ some u = subst (λ (x : TableState). get_elem? x.views j ≡ some u) turn.gives at in
       ⊎_elim
       (λ (t : (j ≡ id) × (w ≡ u)). subst (IsPast m) t.1
-      (past_after plan.last_card n m c (found_by s c) turn.view low (λ e. ap (λ i. get_or s.words i 0) e) turn.may (h id turn.view turn.there)))
+      (past_after plan n m c (found_by s c) turn.view low (λ e. ap (λ i. get_or s.words i 0) e) turn.may (h id turn.view turn.there)))
       (λ (t : (j ≢ id) × (get_elem? s.views j ≡ some u)). past_rises n m u low (h j u t.1))
       (at_set s.views id j w u there)
   turn_past s r (Splits id chosen) s' turn h =
@@ -166,7 +166,7 @@ module _ (plan : TablePlan) where
       (record { next = read_later n v.next w.next a.next b.next; claims = below_both n v.hindrances w.hindrances a.claims b.claims })
       (record { next = tt; claims = tt }) h)
 
-  run_past : (s : TableState) → HasMachine plan s → (turns : List Turn) (s' : TableState) → TableRun plan.last_card s turns s' → AllPast s → AllPast s'
+  run_past : (s : TableState) → HasMachine plan s → (turns : List Turn) (s' : TableState) → TableRun plan s turns s' → AllPast s → AllPast s'
   run_past s r [] s' run h = subst AllPast (sym run) h
   run_past s r (t ∷ ts) s' run h =
       run_past run.0 (turn_lawful plan s r t run.0 run.1).0 ts s' run.2 (turn_past s r t run.0 run.1 h)

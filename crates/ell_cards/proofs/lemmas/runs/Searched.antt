@@ -158,7 +158,7 @@ module _ (plan : TablePlan) (seat key : ℕ) (real : key ≤ greatest_key) (aske
       was = λ op x d e. inr (same_Some x 0 (sym e ∙ root));
     }
 
-    goes_by : (c : Call) → KeepsOn c → May plan.last_card c at.view → Goes stood (view_after s at.view c)
+    goes_by : (c : Call) → KeepsOn c → May plan c at.view → Goes stood (view_after s at.view c)
     goes_by (call.Begin op) keeps may = absurd keeps
     goes_by call.Again keeps may = anew _ (λ op d. d) refl
     goes_by call.Leave keeps may = ends _ refl
@@ -206,17 +206,17 @@ module _ (plan : TablePlan) (seat key : ℕ) (real : key ≤ greatest_key) (aske
     goes_by (call.Backtrack c gp) keeps may = stays _ (λ op d. d) (λ op x d e. (d, e))
 
     -- where the search is after a turn that begins no operation of its pass
-    seat_goes : (t : Turn) (s' : TableState) (goes : SeatGoesOn KeepsOn plan.last_card s seat at.view t s') → Goes stood goes.view
+    seat_goes : (t : Turn) (s' : TableState) (goes : SeatGoesOn KeepsOn plan s seat at.view t s') → Goes stood goes.view
     seat_goes t s' goes = elim goes.made [
       | inl same ↦ subst (Goes stood) (sym same) (stays at.view (λ op d. d) (λ op x d e. (d, e)))
       | inr c ↦ subst (Goes stood) (sym c.3) (goes_by c.0 c.1 c.2)
     ]
 
-    turn_goes : (t : Turn) (s' : TableState) → TableTurns plan.last_card s t s' → Only KeepsOn seat t
+    turn_goes : (t : Turn) (s' : TableState) → TableTurns plan s t s' → Only KeepsOn seat t
         → (kept : HasMachine plan s') × Searches s' (λ x. met x ⊎ OnWalk kept.words key 0 x) (absent ⊎ ¬ IsTreeKey (own_words s') key)
     turn_goes t s' h on =
         let gone = gone_by plan key real s met at.kept at.stages at.holds at.are t s' h in
-        let goes = turn_seat KeepsOn plan.last_card s seat at.view at.there t s' h on in
+        let goes = turn_seat KeepsOn plan s seat at.view at.there t s' h on in
         let search = seat_goes t s' goes in (
           gone.0,
           record {
@@ -246,13 +246,13 @@ module _ (plan : TablePlan) (seat key : ℕ) (real : key ≤ greatest_key) (aske
 
   -- in a state of a run the tree lacked the key
   abbrev WasAbsent : TableState → List Turn → TableState → Type 0
-  WasAbsent s turns s' = WasSo plan.last_card s turns s' (HasThere key None)
+  WasAbsent s turns s' = WasSo plan s turns s' (HasThere key None)
 
-  absent_first : (s : TableState) (turns : List Turn) (s' : TableState) → TableRun plan.last_card s turns s' → ¬ IsTreeKey (own_words s) key → WasAbsent s turns s'
+  absent_first : (s : TableState) (turns : List Turn) (s' : TableState) → TableRun plan s turns s' → ¬ IsTreeKey (own_words s) key → WasAbsent s turns s'
   unfolding HasThere
   absent_first s turns s' run none = record { state = s; amid = record { first = 0; before = refl; after = run }; so = none }
 
-  absent_later : (s between : TableState) (t : Turn) (turns : List Turn) (s' : TableState) → TableTurns plan.last_card s t between → WasAbsent between turns s' → WasAbsent s (t ∷ turns) s'
+  absent_later : (s between : TableState) (t : Turn) (turns : List Turn) (s' : TableState) → TableTurns plan s t between → WasAbsent between turns s' → WasAbsent s (t ∷ turns) s'
   absent_later s between t turns s' turn was = record {
     state = was.state;
     amid = record { first = suc was.amid.first; before = (between, turn, was.amid.before); after = was.amid.after };
@@ -270,7 +270,7 @@ module _ (plan : TablePlan) (seat key : ℕ) (real : key ≤ greatest_key) (aske
     pub was : (op : Op) (x : ℕ) → Does v op → StandsAt v x
         → (met x ⊎ WasOn plan seat key real s turns s' x) ⊎ ((absent ⊎ WasAbsent s turns s') × LacksKey s' x)
 
-  pub run_comes : (s : TableState) (met : ℕ → Type 0) (absent : Type 0) → Searches s met absent → (turns : List Turn) (s' : TableState) → TableRun plan.last_card s turns s' → KeepOn seat turns
+  pub run_comes : (s : TableState) (met : ℕ → Type 0) (absent : Type 0) → Searches s met absent → (turns : List Turn) (s' : TableState) → TableRun plan s turns s' → KeepOn seat turns
       → (v : View) → get_elem? s'.views seat ≡ some v → Comes s turns s' met absent v
   run_comes s met absent at [] s' run on v there =
       let same : at.view ≡ v = some-injective at.view v (sym at.there ∙ (ap (λ (t : TableState). get_elem? t.views seat) (sym run) ∙ there)) in
@@ -303,7 +303,7 @@ module _ (plan : TablePlan) (seat key : ℕ) (real : key ≤ greatest_key) (aske
       }
 
   -- a search that begins stands at the root
-  pub search_begins : (s : TableState) → (r : HasMachine plan s) → (s1 : TableState) → CallIsMade plan.last_card s seat (call.Begin asked) s1
+  pub search_begins : (s : TableState) → (r : HasMachine plan s) → (s1 : TableState) → CallIsMade plan s seat (call.Begin asked) s1
       → (kept : HasMachine plan s1) × Searches s1 (OnWalk kept.words key 0) (¬ IsTreeKey (own_words s1) key)
   search_begins s r s1 h =
       let turn = turn_lawful plan s r (Makes seat (call.Begin asked)) s1 h in
@@ -328,7 +328,7 @@ module _ (plan : TablePlan) (seat key : ℕ) (real : key ≤ greatest_key) (aske
   -- what the search found at a leaf was so in one state
   pub found_there : (s : TableState) (turns : List Turn) (s' : TableState) → (v : View) → get_elem? s'.views seat ≡ some v
       → (leaf has_key : ℕ) (there : Option ℕ) → IsLeaf leaf → StandsAt v leaf → v.here ≡ Some has_key → TellsOf v leaf has_key key there
-      → WasOn plan seat key real s turns s' leaf → WasSo plan.last_card s turns s' (HasThere key there)
+      → WasOn plan seat key real s turns s' leaf → WasSo plan s turns s' (HasThere key there)
   unfolding HasThere
   found_there s turns s' v at leaf has_key there outer stands told tells was =
       let r = was.kept in
@@ -357,14 +357,14 @@ module _ (plan : TablePlan) (seat key : ℕ) (real : key ≤ greatest_key) (aske
   -- a leaf whose block lacks the key has another one
   not_there : (s : TableState) (turns : List Turn) (s' : TableState) → (v : View) → get_elem? s'.views seat ≡ some v
       → (leaf has_key : ℕ) (there : Option ℕ) → IsLeaf leaf → StandsAt v leaf → v.here ≡ Some has_key → TellsOf v leaf has_key key there
-      → LacksKey s' leaf → WasAbsent s turns s' → WasSo plan.last_card s turns s' (HasThere key there)
+      → LacksKey s' leaf → WasAbsent s turns s' → WasSo plan s turns s' (HasThere key there)
   not_there s turns s' v at leaf has_key None outer stands told tells lacks none = none
   not_there s turns s' v at leaf has_key (Some value) outer stands told tells lacks none =
       absurd (lacks.lacks (in_block-leaf lacks.kept.words leaf key outer (here_key plan s' lacks.kept seat v at leaf has_key stands told ∙ tells.0)))
 
 -- the operation that a pass has in hand is the one that it began
 pub still_does : (plan : TablePlan) (s : TableState) → HasMachine plan s → (seat : ℕ) (op : Op) → key_of op ≤ greatest_key
-    → (begun : TableState) → CallIsMade plan.last_card s seat (call.Begin op) begun → (turns : List Turn) (s' : TableState) → TableRun plan.last_card begun turns s'
+    → (begun : TableState) → CallIsMade plan s seat (call.Begin op) begun → (turns : List Turn) (s' : TableState) → TableRun plan begun turns s'
     → KeepOn seat turns → (v : View) → get_elem? s'.views seat ≡ some v → (o : Op) → Does v o → o ≡ op
 still_does plan s r seat op real begun begins turns s' run on v there =
     let first = search_begins plan seat (key_of op) real op refl s r begun begins in
@@ -372,9 +372,9 @@ still_does plan s r seat op real begun begins turns s' run on v there =
 
 -- an answer at the leaf where the search has come to is that on what was so in one state of the call
 pub leaf_answers_of_one_state : (plan : TablePlan) (s : TableState) → HasMachine plan s → (seat : ℕ) (op : Op) → key_of op ≤ greatest_key
-    → (begun : TableState) → CallIsMade plan.last_card s seat (call.Begin op) begun → (turns : List Turn) (s' : TableState) → TableRun plan.last_card begun turns s'
+    → (begun : TableState) → CallIsMade plan s seat (call.Begin op) begun → (turns : List Turn) (s' : TableState) → TableRun plan begun turns s'
     → KeepOn seat turns → (v : View) → get_elem? s'.views seat ≡ some v → Does v op → (said : Reply) → KnowsAnswerAtLeaf v op said
-    → SaysWhatWas plan.last_card op begun turns s' said
+    → SaysWhatWas plan op begun turns s' said
 leaf_answers_of_one_state plan s r seat op real begun begins turns s' run on v there does said knows =
     let key = key_of op in
     let first = search_begins plan seat key real op refl s r begun begins in

@@ -63,8 +63,8 @@ no_round : (n : ℕ) → n ≤ whole_share → n % 2 ^ 64 ≡ n
 no_round n low = mod-eq_of_lt (omega arith)
 
 -- a turn leaves the whole with the passes
-turn_shares : (cards : ℕ) (s : TableState) (t : Turn) (s' : TableState) → TableTurns cards s t s' → HaveTheWhole s → HaveTheWhole s'
-turn_shares cards s (Makes id c) s' turn h =
+turn_shares : (plan : TablePlan) (s : TableState) (t : Turn) (s' : TableState) → TableTurns plan s t s' → HaveTheWhole s → HaveTheWhole s'
+turn_shares plan s (Makes id c) s' turn h =
     let v = turn.view in
     let w = after c (found_by s c) v in
     let same = share_stays c (found_by s c) v in
@@ -79,7 +79,7 @@ turn_shares cards s (Makes id c) s' turn h =
           (λ (t : (j ≢ id) × (get_elem? s.views j ≡ some u)). h.each j u t.1 sharing)
           (at_set s.views id j w u at);
     })
-turn_shares cards s (Splits id chosen) s' turn h =
+turn_shares plan s (Splits id chosen) s' turn h =
     let v = turn.view in
     let left = left_view chosen v in
     let right = right_view chosen v in
@@ -94,7 +94,7 @@ turn_shares cards s (Splits id chosen) s' turn h =
           (λ sharing. (given_some v.share (turn.may sharing)).0)
           h.each;
     })
-turn_shares cards s (Joins id other) s' turn h =
+turn_shares plan s (Joins id other) s' turn h =
     let v = turn.view in
     let w = turn.view' in
     let both = joined_view v w in
@@ -119,13 +119,13 @@ turn_shares cards s (Joins id other) s' turn h =
     by (Some l) m ours theirs sharing same =
         let some = h.each id turn.view turn.there (λ none. some_not_none ours none) in omega arith
 
-run_shares : (cards : ℕ) (s : TableState) (turns : List Turn) (s' : TableState) → TableRun cards s turns s' → HaveTheWhole s → HaveTheWhole s'
-run_shares cards s [] s' run h = subst HaveTheWhole (sym run) h
-run_shares cards s (t ∷ ts) s' run h = run_shares cards run.0 ts s' run.2 (turn_shares cards s t run.0 run.1 h)
+run_shares : (plan : TablePlan) (s : TableState) (turns : List Turn) (s' : TableState) → TableRun plan s turns s' → HaveTheWhole s → HaveTheWhole s'
+run_shares plan s [] s' run h = subst HaveTheWhole (sym run) h
+run_shares plan s (t ∷ ts) s' run h = run_shares plan run.0 ts s' run.2 (turn_shares plan s t run.0 run.1 h)
 
 -- so it is wherever turns have led a table
 pub shares_add_up : SharesAddUp
-shares_add_up plan s h = run_shares plan.last_card h.first h.turns s h.run (subst HaveTheWhole (sym h.starts.is) (record {
+shares_add_up plan s h = run_shares plan h.first h.turns s h.run (subst HaveTheWhole (sym h.starts.is) (record {
   whole = omega arith;
   each = each_first (first_of plan) (λ u. u.worker.shared ≢ None → 1 ≤ u.share) (λ sharing. omega arith);
 }))

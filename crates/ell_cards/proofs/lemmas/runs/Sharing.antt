@@ -26,32 +26,32 @@ use Rattle.ell_cards.proofs.lemmas.runs.Reaching.{reached_kept}
 abbrev Closed : View → Type 0
 Closed v = v.worker.shared ≡ None
 
-turn_closed : (cards : ℕ) (s : TableState) (t : Turn) (s' : TableState) → TableTurns cards s t s' → NobodyShares s → NobodyShares s'
-turn_closed cards s (Makes id c) s' turn h = λ j u at.
+turn_closed : (plan : TablePlan) (s : TableState) (t : Turn) (s' : TableState) → TableTurns plan s t s' → NobodyShares s → NobodyShares s'
+turn_closed plan s (Makes id c) s' turn h = λ j u at.
     let w = after c (found_by s c) turn.view in
     let there : get_elem? (set s.views id w) j ≡ some u = subst (λ (x : TableState). get_elem? x.views j ≡ some u) turn.gives at in
     ⊎_elim
     (λ (t : (j ≡ id) × (w ≡ u)). subst Closed t.1 (owned_stays c (found_by s c) turn.view ∙ h id turn.view turn.there))
     (λ (t : (j ≢ id) × (get_elem? s.views j ≡ some u)). h j u t.1)
     (at_set s.views id j w u there)
-turn_closed cards s (Splits id chosen) s' turn h =
+turn_closed plan s (Splits id chosen) s' turn h =
     let left = left_view chosen turn.view in
     let right = right_view chosen turn.view in
     let none = h id turn.view turn.there in
     subst NobodyShares (sym turn.gives) (each_split s.views id turn.view turn.there left right Closed none none h)
-turn_closed cards s (Joins id other) s' turn h =
+turn_closed plan s (Joins id other) s' turn h =
     let both = joined_view turn.view turn.view' in
     subst NobodyShares (sym turn.gives)
     (each_joined s.views id other turn.view turn.view' turn.there turn.there' (λ e. turn.apart (sym e)) both Closed
     ((λ t. option_or (h id turn.view turn.there t) (h other turn.view' turn.there' t))) refl h)
 
-run_closed : (cards : ℕ) (s : TableState) (turns : List Turn) (s' : TableState) → TableRun cards s turns s' → NobodyShares s → NobodyShares s'
-run_closed cards s [] s' run h = subst NobodyShares (sym run) h
-run_closed cards s (t ∷ ts) s' run h = run_closed cards run.0 ts s' run.2 (turn_closed cards s t run.0 run.1 h)
+run_closed : (plan : TablePlan) (s : TableState) (turns : List Turn) (s' : TableState) → TableRun plan s turns s' → NobodyShares s → NobodyShares s'
+run_closed plan s [] s' run h = subst NobodyShares (sym run) h
+run_closed plan s (t ∷ ts) s' run h = run_closed plan run.0 ts s' run.2 (turn_closed plan s t run.0 run.1 h)
 
 -- so it is wherever turns have led a table where no key is shared
 pub reached_closed : (plan : TablePlan) (s : TableState) → plan.shared ≡ false → IsReached plan s → NobodyShares s
-reached_closed plan s closed h = run_closed plan.last_card h.first h.turns s h.run
+reached_closed plan s closed h = run_closed plan h.first h.turns s h.run
     (subst NobodyShares (sym h.starts.is) (each_first (first_of plan) Closed (ap (λ b. ownable_if b plan.keys) closed)))
 
 -- a key that some pass takes for a shared one is shared

@@ -25,6 +25,7 @@ use Rattle.ell_cards.specs.Starts.{Starts, StartWords, MayStart, IsSharedIn}
 use Rattle.ell_cards.specs.Turns.{Turn, Makes, Splits, Joins, TableTurns, TableRun, state_after, state_split, state_joined}
 use Rattle.ell_cards.specs.SmallRun.{small_plan, small_run, SmallRunIsMade, parting, delete_flags, insert_claims, insert_flags, mark_is_lost, insert_ends, delete_begins_anew, delete_ends, look, ending}
 use Rattle.ell_cards.proofs.lemmas.lifetimes.StartLists.{start_list_starts, small_list, small_words}
+use Rattle.ell_cards.specs.Models.{TablePlan}
 
 -- what the pass in a seat knows
 abbrev view_or : Option View → View
@@ -39,34 +40,34 @@ abbrev Sits : TableState → ℕ → Type 0
 Sits s seat = get_elem? s.views seat ≡ some (view_at s seat)
 
 -- what a turn asks, and the state to which it leads
-abbrev TurnAsks : ℕ → TableState → Turn → Type 0
-TurnAsks cards s (Makes seat c) = Sits s seat × May cards c (view_at s seat)
-TurnAsks cards s (Splits seat left) = Sits s seat × IsFree (view_at s seat) × MayPart (view_at s seat)
-TurnAsks cards s (Joins seat other) = Sits s seat × Sits s other × (seat ≢ other) × IsFree (view_at s seat) × IsFree (view_at s other)
+abbrev TurnAsks : TablePlan → TableState → Turn → Type 0
+TurnAsks plan s (Makes seat c) = Sits s seat × May plan c (view_at s seat)
+TurnAsks plan s (Splits seat left) = Sits s seat × IsFree (view_at s seat) × MayPart (view_at s seat)
+TurnAsks plan s (Joins seat other) = Sits s seat × Sits s other × (seat ≢ other) × IsFree (view_at s seat) × IsFree (view_at s other)
 
 abbrev turn_leads : TableState → Turn → TableState
 turn_leads s (Makes seat c) = state_after s seat (view_at s seat) c
 turn_leads s (Splits seat left) = state_split s seat (view_at s seat) left
 turn_leads s (Joins seat other) = state_joined s seat other (view_at s seat) (view_at s other)
 
-turn_made : (cards : ℕ) (s : TableState) (t : Turn) → TurnAsks cards s t → TableTurns cards s t (turn_leads s t)
-turn_made cards s (Makes seat c) h = record { view = view_at s seat; there = h.0; may = h.1; gives = refl }
-turn_made cards s (Splits seat left) h = record { view = view_at s seat; there = h.0; free = h.1; may = h.2; gives = refl }
-turn_made cards s (Joins seat other) h =
+turn_made : (plan : TablePlan) (s : TableState) (t : Turn) → TurnAsks plan s t → TableTurns plan s t (turn_leads s t)
+turn_made plan s (Makes seat c) h = record { view = view_at s seat; there = h.0; may = h.1; gives = refl }
+turn_made plan s (Splits seat left) h = record { view = view_at s seat; there = h.0; free = h.1; may = h.2; gives = refl }
+turn_made plan s (Joins seat other) h =
     record { view = view_at s seat; view' = view_at s other; there = h.0; there' = h.1; apart = h.2; free = h.3; free' = h.4; gives = refl }
 
 -- so do turns, one after the other
-abbrev RunAsks : ℕ → TableState → List Turn → Type 0
-RunAsks cards s [] = Unit {0}
-RunAsks cards s (t ∷ ts) = TurnAsks cards s t × RunAsks cards (turn_leads s t) ts
+abbrev RunAsks : TablePlan → TableState → List Turn → Type 0
+RunAsks plan s [] = Unit {0}
+RunAsks plan s (t ∷ ts) = TurnAsks plan s t × RunAsks plan (turn_leads s t) ts
 
 abbrev run_leads : TableState → List Turn → TableState
 run_leads s [] = s
 run_leads s (t ∷ ts) = run_leads (turn_leads s t) ts
 
-abbrev run_made : (cards : ℕ) (s : TableState) (ts : List Turn) → RunAsks cards s ts → TableRun cards s ts (run_leads s ts)
-run_made cards s [] h = refl
-run_made cards s (t ∷ ts) h = (turn_leads s t, turn_made cards s t h.0, run_made cards (turn_leads s t) ts h.1)
+abbrev run_made : (plan : TablePlan) (s : TableState) (ts : List Turn) → RunAsks plan s ts → TableRun plan s ts (run_leads s ts)
+run_made plan s [] h = refl
+run_made plan s (t ∷ ts) h = (turn_leads s t, turn_made plan s t h.0, run_made plan (turn_leads s t) ts h.1)
 
 -- what one turn asks, and what the turns after it do
 infixr 5 ◌▸◌
@@ -74,9 +75,9 @@ infixr 5 ◌▸◌
 h ▸ more = (h, more)
 
 -- and then more turns
-asks_more : (cards : ℕ) (s : TableState) (ts us : List Turn) → RunAsks cards s ts → RunAsks cards (run_leads s ts) us → RunAsks cards s (ts ++ us)
-asks_more cards s [] us h more = more
-asks_more cards s (t ∷ ts) us h more = (h.0, asks_more cards (turn_leads s t) ts us h.1 more)
+asks_more : (plan : TablePlan) (s : TableState) (ts us : List Turn) → RunAsks plan s ts → RunAsks plan (run_leads s ts) us → RunAsks plan s (ts ++ us)
+asks_more plan s [] us h more = more
+asks_more plan s (t ∷ ts) us h more = (h.0, asks_more plan (turn_leads s t) ts us h.1 more)
 
 -- a list tells what stands at a place of it
 abbrev IsToldAt : ℕ → List Told → Told → Type 0
@@ -170,7 +171,7 @@ starts_there = record {
 }
 
 -- the first pass is split: seat 0 has key 5 then, and seat 1 key 7
-parting_asks : RunAsks 4 at_0 parting
+parting_asks : RunAsks small_plan at_0 parting
 parting_asks =
     (refl, refl, λ sharing. omega arith)
     ▸ tt
@@ -179,7 +180,7 @@ abbrev at_1 : TableState
 at_1 = run_leads at_0 parting
 
 -- seat 0 begins to delete key 5: it searches, takes card 2, fills it, and flags the root
-delete_flags_asks : RunAsks 4 at_1 delete_flags
+delete_flags_asks : RunAsks small_plan at_1 delete_flags
 delete_flags_asks =
     (refl, (refl, inl (some_not_none refl)))
     ▸ (refl, record { stands = refl; inner = refl; unread = refl })
@@ -202,7 +203,7 @@ abbrev at_2 : TableState
 at_2 = run_leads at_1 delete_flags
 
 -- seat 1 begins to insert key 7: it goes past the flag, and takes card 3
-insert_claims_asks : RunAsks 4 at_2 insert_claims
+insert_claims_asks : RunAsks small_plan at_2 insert_claims
 insert_claims_asks =
     (refl, (refl, inl (some_not_none refl)))
     ▸ (refl, record { stands = refl; inner = refl; unread = refl })
@@ -221,7 +222,7 @@ abbrev at_3 : TableState
 at_3 = run_leads at_2 insert_claims
 
 -- it fills card 3, and flags the node that seat 0 is about to mark
-insert_flags_asks : RunAsks 4 at_3 insert_flags
+insert_flags_asks : RunAsks small_plan at_3 insert_flags
 insert_flags_asks =
     (refl, record { holds = refl; unflagged = refl })
     ▸ (refl, record { holds = refl; unflagged = refl })
@@ -240,7 +241,7 @@ abbrev at_4 : TableState
 at_4 = run_leads at_3 insert_flags
 
 -- seat 0 loses the mark, helps the insert to its end, and takes its own flag away
-mark_is_lost_asks : RunAsks 4 at_4 mark_is_lost
+mark_is_lost_asks : RunAsks small_plan at_4 mark_is_lost
 mark_is_lost_asks =
     (refl, (record { knows = refl; place = told_at 2 _ _ refl }, told_at 4 _ _ refl))
     ▸ (refl, (inl refl, refl))
@@ -255,7 +256,7 @@ abbrev at_5 : TableState
 at_5 = run_leads at_4 mark_is_lost
 
 -- seat 1 finds that its insert was made, and answers
-insert_ends_asks : RunAsks 4 at_5 insert_ends
+insert_ends_asks : RunAsks small_plan at_5 insert_ends
 insert_ends_asks =
     (refl, record { parent_key = infinity1; right_key = 7; left_key = 5; knows = refl; parent = told_at 1 _ _ refl; leaf = told_at 2 _ _ refl; expects = told_at 0 _ _ refl; told_parent = told_at 12 _ _ refl; told_right = told_at 5 _ _ refl; told_left = told_at 4 _ _ refl; brings = refl; side = refl })
     ▸ (refl, record { knows = refl; place = told_at 1 _ _ refl })
@@ -266,7 +267,7 @@ abbrev at_6 : TableState
 at_6 = run_leads at_5 insert_ends
 
 -- seat 0 tries again: it searches, and takes card 4
-delete_begins_anew_asks : RunAsks 4 at_6 delete_begins_anew
+delete_begins_anew_asks : RunAsks small_plan at_6 delete_begins_anew
 delete_begins_anew_asks =
     (refl, record { op = Delete 5; busy = refl; backed = λ c is flagged. of_card (λ d. Knows (view_at at_6 0) (Backed d)) 2 c is refl })
     ▸ (refl, record { stands = refl; inner = refl; unread = refl })
@@ -287,7 +288,7 @@ abbrev at_7 : TableState
 at_7 = run_leads at_6 delete_begins_anew
 
 -- it flags, marks, cuts the node out, and answers
-delete_ends_asks : RunAsks 4 at_7 delete_ends
+delete_ends_asks : RunAsks small_plan at_7 delete_ends
 delete_ends_asks =
     (refl, record { holds = refl; unflagged = refl })
     ▸ (refl, record { holds = refl; unflagged = refl })
@@ -306,7 +307,7 @@ abbrev at_8 : TableState
 at_8 = run_leads at_7 delete_ends
 
 -- seat 1 looks for key 7, and finds its value
-look_asks : RunAsks 4 at_8 look
+look_asks : RunAsks small_plan at_8 look
 look_asks =
     (refl, refl)
     ▸ (refl, record { come = record { glance = record { node = 4; low = 0; high = greatest_key + 1 }; among = latest _ _; there = refl; from = omega arith; upto = omega arith }; met = told_at 0 _ _ refl; inner = refl; told = told_at 14 _ _ refl })
@@ -318,7 +319,7 @@ abbrev at_9 : TableState
 at_9 = run_leads at_8 look
 
 -- it lays a find down, and both passes become one
-ending_asks : RunAsks 4 at_9 ending
+ending_asks : RunAsks small_plan at_9 ending
 ending_asks =
     (refl, (refl, inl (some_not_none refl)))
     ▸ (refl, record { op = Find 7; busy = refl; backed = λ c is flagged. absurd (some_not_none is refl) })
@@ -328,16 +329,16 @@ ending_asks =
 abbrev at_10 : TableState
 at_10 = run_leads at_9 ending
 
-all_asks : RunAsks 4 at_0 small_run
-all_asks = asks_more 4 at_0 parting (delete_flags ++ insert_claims ++ insert_flags ++ mark_is_lost ++ insert_ends ++ delete_begins_anew ++ delete_ends ++ look ++ ending) parting_asks
-    (asks_more 4 at_1 delete_flags (insert_claims ++ insert_flags ++ mark_is_lost ++ insert_ends ++ delete_begins_anew ++ delete_ends ++ look ++ ending) delete_flags_asks
-    (asks_more 4 at_2 insert_claims (insert_flags ++ mark_is_lost ++ insert_ends ++ delete_begins_anew ++ delete_ends ++ look ++ ending) insert_claims_asks
-    (asks_more 4 at_3 insert_flags (mark_is_lost ++ insert_ends ++ delete_begins_anew ++ delete_ends ++ look ++ ending) insert_flags_asks
-    (asks_more 4 at_4 mark_is_lost (insert_ends ++ delete_begins_anew ++ delete_ends ++ look ++ ending) mark_is_lost_asks
-    (asks_more 4 at_5 insert_ends (delete_begins_anew ++ delete_ends ++ look ++ ending) insert_ends_asks
-    (asks_more 4 at_6 delete_begins_anew (delete_ends ++ look ++ ending) delete_begins_anew_asks
-    (asks_more 4 at_7 delete_ends (look ++ ending) delete_ends_asks
-    (asks_more 4 at_8 look (ending) look_asks
+all_asks : RunAsks small_plan at_0 small_run
+all_asks = asks_more small_plan at_0 parting (delete_flags ++ insert_claims ++ insert_flags ++ mark_is_lost ++ insert_ends ++ delete_begins_anew ++ delete_ends ++ look ++ ending) parting_asks
+    (asks_more small_plan at_1 delete_flags (insert_claims ++ insert_flags ++ mark_is_lost ++ insert_ends ++ delete_begins_anew ++ delete_ends ++ look ++ ending) delete_flags_asks
+    (asks_more small_plan at_2 insert_claims (insert_flags ++ mark_is_lost ++ insert_ends ++ delete_begins_anew ++ delete_ends ++ look ++ ending) insert_claims_asks
+    (asks_more small_plan at_3 insert_flags (mark_is_lost ++ insert_ends ++ delete_begins_anew ++ delete_ends ++ look ++ ending) insert_flags_asks
+    (asks_more small_plan at_4 mark_is_lost (insert_ends ++ delete_begins_anew ++ delete_ends ++ look ++ ending) mark_is_lost_asks
+    (asks_more small_plan at_5 insert_ends (delete_begins_anew ++ delete_ends ++ look ++ ending) insert_ends_asks
+    (asks_more small_plan at_6 delete_begins_anew (delete_ends ++ look ++ ending) delete_begins_anew_asks
+    (asks_more small_plan at_7 delete_ends (look ++ ending) delete_ends_asks
+    (asks_more small_plan at_8 look (ending) look_asks
     ending_asks))))))))
 
 pub small_run_is_made : SmallRunIsMade
@@ -345,7 +346,7 @@ small_run_is_made = record {
   first = at_0;
   starts = starts_there;
   last = at_10;
-  run = run_made 4 at_0 small_run all_asks;
+  run = run_made small_plan at_0 small_run all_asks;
   delete_lost = refl;
   insert_made = refl;
   delete_made = refl;

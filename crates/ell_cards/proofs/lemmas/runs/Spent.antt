@@ -73,9 +73,9 @@ pub record IsSpent (v : View) : Type 0 where
 abbrev pub SpentAreSpent : TableState → Type 0
 SpentAreSpent s = (j : ℕ) (u : View) → get_elem? s.views j ≡ some u → u.worker.shared ≡ None → IsSpent u
 
-other : (last : ℕ) (c : Call) (n : ℕ) (v : View) → BeginsNothing c → AnswersNothing c → May last c v → IsSpent v → IsSpent (after c n v)
-other last c n v begins silent may spent =
-    let h = call_free last c n v begins may spent.free in
+other : (plan : TablePlan) (c : Call) (n : ℕ) (v : View) → BeginsNothing c → AnswersNothing c → May plan c v → IsSpent v → IsSpent (after c n v)
+other plan c n v begins silent may spent =
+    let h = call_free plan c n v begins may spent.free in
     record { free = h.free; ledger = h.ledger ∙ spent.ledger; answers = answers_stay c n v silent ∙ spent.answers }
 
 begins_none : (op : Op) (v : View) → MayChange (worker_of v.worker) (key_of op) → v.worker.shared ≡ None → v.worker.ledger ≡ [] → ⊥
@@ -83,29 +83,29 @@ begins_none op v (inl owns) none empty = owns (ap (λ (l : List (ℕ × Entry)).
 begins_none op v (inr shared) none empty = false≢true (sym (ap (λ o. shared_of o (key_of op)) none) ∙ shared)
 
 -- it may begin nothing, so it stays so
-call_spent : (last : ℕ) (c : Call) (n : ℕ) (v : View) → May last c v → v.worker.shared ≡ None → IsSpent v → IsSpent (after c n v)
-call_spent last (call.Begin op) n v may none spent = absurd (begins_none op v may.1 none spent.ledger)
-call_spent last call.Look n v may none spent = record { free = spent.free; ledger = spent.ledger; answers = spent.answers }
-call_spent last (call.Answer said) n v may none spent = absurd (some_not_none may.busy spent.free)
-call_spent last call.Again n v may none spent = absurd (some_not_none may.busy spent.free)
-call_spent last call.Leave n v may none spent = absurd (some_not_none may.busy spent.free)
-call_spent last (call.Claim c) n v may none spent = other last (call.Claim c) n v tt tt may spent
-call_spent last (call.IFlag c p from) n v may none spent = other last (call.IFlag c p from) n v tt tt may spent
-call_spent last (call.DFlag c gp from) n v may none spent = other last (call.DFlag c gp from) n v tt tt may spent
-call_spent last (call.Mark c p was) n v may none spent = other last (call.Mark c p was) n v tt tt may spent
-call_spent last _ n v may none spent = record { free = spent.free; ledger = spent.ledger; answers = spent.answers }
+call_spent : (plan : TablePlan) (c : Call) (n : ℕ) (v : View) → May plan c v → v.worker.shared ≡ None → IsSpent v → IsSpent (after c n v)
+call_spent plan (call.Begin op) n v may none spent = absurd (begins_none op v may.1 none spent.ledger)
+call_spent plan call.Look n v may none spent = record { free = spent.free; ledger = spent.ledger; answers = spent.answers }
+call_spent plan (call.Answer said) n v may none spent = absurd (some_not_none may.busy spent.free)
+call_spent plan call.Again n v may none spent = absurd (some_not_none may.busy spent.free)
+call_spent plan call.Leave n v may none spent = absurd (some_not_none may.busy spent.free)
+call_spent plan (call.Claim c) n v may none spent = other plan (call.Claim c) n v tt tt may spent
+call_spent plan (call.IFlag c p from) n v may none spent = other plan (call.IFlag c p from) n v tt tt may spent
+call_spent plan (call.DFlag c gp from) n v may none spent = other plan (call.DFlag c gp from) n v tt tt may spent
+call_spent plan (call.Mark c p was) n v may none spent = other plan (call.Mark c p was) n v tt tt may spent
+call_spent plan _ n v may none spent = record { free = spent.free; ledger = spent.ledger; answers = spent.answers }
 
-turn_spent : (last : ℕ) (s : TableState) (t : Turn) (s' : TableState) → TableTurns last s t s' → SpentAreSpent s → SpentAreSpent s'
-turn_spent last s (Makes id c) s' turn h = λ j u at none.
+turn_spent : (plan : TablePlan) (s : TableState) (t : Turn) (s' : TableState) → TableTurns plan s t s' → SpentAreSpent s → SpentAreSpent s'
+turn_spent plan s (Makes id c) s' turn h = λ j u at none.
     let w = after c (found_by s c) turn.view in
     let there : get_elem? (set s.views id w) j ≡ some u = subst (λ (x : TableState). get_elem? x.views j ≡ some u) turn.gives at in
     ⊎_elim
     (λ (t : (j ≡ id) × (w ≡ u)).
     let closed = sym (owned_stays c (found_by s c) turn.view) ∙ (ap (λ (x : View). x.worker.shared) t.1 ∙ none) in
-    subst IsSpent t.1 (call_spent last c (found_by s c) turn.view turn.may closed (h id turn.view turn.there closed)))
+    subst IsSpent t.1 (call_spent plan c (found_by s c) turn.view turn.may closed (h id turn.view turn.there closed)))
     (λ (t : (j ≢ id) × (get_elem? s.views j ≡ some u)). h j u t.1 none)
     (at_set s.views id j w u there)
-turn_spent last s (Splits id chosen) s' turn h =
+turn_spent plan s (Splits id chosen) s' turn h =
     let v = turn.view in
     subst SpentAreSpent (sym turn.gives) (each_split s.views id v turn.there (left_view chosen v) (right_view chosen v) (λ u. u.worker.shared ≡ None → IsSpent u)
     (λ none. let spent = h id v turn.there none in record {
@@ -119,7 +119,7 @@ turn_spent last s (Splits id chosen) s' turn h =
       answers = ap inherited spent.answers;
     })
     h)
-turn_spent last s (Joins id other) s' turn h =
+turn_spent plan s (Joins id other) s' turn h =
     let v = turn.view in
     let w = turn.view' in
     subst SpentAreSpent (sym turn.gives) (each_joined s.views id other v w turn.there turn.there' (λ e. turn.apart (sym e)) (joined_view v w)
@@ -139,13 +139,13 @@ turn_spent last s (Joins id other) s' turn h =
     neither None m e = (refl, e)
     neither (Some l) m e = absurd (some_not_none refl e)
 
-run_spent : (last : ℕ) (s : TableState) (turns : List Turn) (s' : TableState) → TableRun last s turns s' → SpentAreSpent s → SpentAreSpent s'
-run_spent last s [] s' run h = subst SpentAreSpent (sym run) h
-run_spent last s (t ∷ ts) s' run h = run_spent last run.0 ts s' run.2 (turn_spent last s t run.0 run.1 h)
+run_spent : (plan : TablePlan) (s : TableState) (turns : List Turn) (s' : TableState) → TableRun plan s turns s' → SpentAreSpent s → SpentAreSpent s'
+run_spent plan s [] s' run h = subst SpentAreSpent (sym run) h
+run_spent plan s (t ∷ ts) s' run h = run_spent plan run.0 ts s' run.2 (turn_spent plan s t run.0 run.1 h)
 
 -- so it is wherever turns have led a table that shares its keys
 pub spent_are_spent : (plan : TablePlan) (s : TableState) → plan.shared ≡ true → IsReached plan s → SpentAreSpent s
-spent_are_spent plan s mode h = run_spent plan.last_card h.first h.turns s h.run (subst SpentAreSpent (sym h.starts.is)
+spent_are_spent plan s mode h = run_spent plan h.first h.turns s h.run (subst SpentAreSpent (sym h.starts.is)
     (each_first (first_of plan) (λ u. u.worker.shared ≡ None → IsSpent u)
     (λ none. absurd (some_not_none (ap (λ b. ownable_if b plan.keys) mode) none))))
 

@@ -46,7 +46,7 @@ starts_have_their_keys plan s starts k value =
 -- nothing is in hand, and the key is owned or shared
 pub first_pass_may_begin : FirstPassMayBegin
 first_pass_may_begin plan s starts op has =
-    subst (λ x. MayBeginThere plan.last_card x op) (sym starts.is) (record {
+    subst (λ x. MayBeginThere plan x op) (sym starts.is) (record {
       after = state_after (opening s.words [] (first_of plan)) 0 (first_of plan) (call.Begin op);
       turn = record {
         view = first_of plan;
@@ -66,8 +66,8 @@ first_pass_may_begin plan s starts op has =
 
 module _ (plan : TablePlan) where
   -- a lawful turn does as turns do
-  turn_does : (s : TableState) (r : HasMachine plan s) (t : Turn) (s' : TableState) (r' : HasMachine plan s') (turn : TableTurns plan.last_card s t s')
-      → TurnIsLawful plan s r t s' r' → TurnDoes plan.last_card s t s' turn
+  turn_does : (s : TableState) (r : HasMachine plan s) (t : Turn) (s' : TableState) (r' : HasMachine plan s') (turn : TableTurns plan s t s')
+      → TurnIsLawful plan s r t s' r' → TurnDoes plan s t s' turn
   turn_does s r (Makes seat c) s' r' turn lawful = record {
     pairs = lawful.tree;
     won = table_changes_are_operations plan s r seat turn.view c turn.there turn.may;
@@ -78,7 +78,7 @@ module _ (plan : TablePlan) where
   turn_does s r (Joins seat other) s' r' turn lawful = record { pairs = lawful.tree; won = tt; ledger = tt; sound = lawful.sound }
 
   turns_do : (s : TableState) (r : HasMachine plan s) (turns : List Turn) (s' : TableState) (r' : HasMachine plan s')
-      (run : TableRun plan.last_card s turns s') → TurnsAreLawful plan s r turns s' r' run → TurnsDo plan.last_card s turns s' run
+      (run : TableRun plan s turns s') → TurnsAreLawful plan s r turns s' r' run → TurnsDo plan s turns s' run
   turns_do s r [] s' r' run lawful = tt
   turns_do s r (t ∷ ts) s' r' run lawful =
       (turn_does s r t run.0 lawful.0 run.1 lawful.1, turns_do run.0 lawful.0 ts s' r' run.2 lawful.2)
@@ -94,5 +94,5 @@ runs_from_starts plan s starts turns s' run =
       opens = starts_have_their_keys plan s starts;
       turns_do = turns_do plan s first.kept turns s' lawful.kept run lawful.lawful;
       sound = own_words_are_sound plan s' lawful.kept;
-      wins = λ c. subst (λ ks. InOrder (ks ++ run_wins plan.last_card s turns s' run c)) (first.unwon c) (wins.order turns s' run c);
+      wins = λ c. subst (λ ks. InOrder (ks ++ run_wins plan s turns s' run c)) (first.unwon c) (wins.order turns s' run c);
     }

@@ -29,7 +29,7 @@ stories_are_told plan s h seat v here = record {
 
 -- a load may tell it
 abbrev pub TellsStory : TablePlan → View → ℕ → View → Type 0
-TellsStory plan v n w = IsTaken plan.last_card call.Next v n w × HasStory plan w
+TellsStory plan v n w = IsTaken plan call.Next v n w × HasStory plan w
 
 pub may_tell : (plan : TablePlan) (v : View) → MayLoad plan v 0 (TellsStory plan v)
 may_tell plan v id s h homes here small =

@@ -78,14 +78,14 @@ unless_both true n e = absurd (omega arith)
 unless_both false n e = (refl, omega arith)
 
 -- in a run in which no exchange of a child is won, none is won for any card
-pub quiet_run : (cards : ℕ) (s : TableState) (turns : List Turn) (s' : TableState) (run : TableRun cards s turns s') → won_in is_change cards s turns s' run ≡ 0
-    → (d : ℕ) → sum_by child_changes (run_wins cards s turns s' run d) ≡ 0
-quiet_run cards s [] s' run none d = refl
-quiet_run cards s (t ∷ ts) s' run none d =
-    let still = unless_both (wins is_change s t) (won_in is_change cards run.0 ts s' run.2) none in
+pub quiet_run : (plan : TablePlan) (s : TableState) (turns : List Turn) (s' : TableState) (run : TableRun plan s turns s') → won_in is_change plan s turns s' run ≡ 0
+    → (d : ℕ) → sum_by child_changes (run_wins plan s turns s' run d) ≡ 0
+quiet_run plan s [] s' run none d = refl
+quiet_run plan s (t ∷ ts) s' run none d =
+    let still = unless_both (wins is_change s t) (won_in is_change plan run.0 ts s' run.2) none in
     let first = turn_unchanged s t still.0 d in
-    let rest = quiet_run cards run.0 ts s' run.2 still.1 d in
-    let parts = sum_append child_changes (turn_wins s t d) (run_wins cards run.0 ts s' run.2 d) in
+    let rest = quiet_run plan run.0 ts s' run.2 still.1 d in
+    let parts = sum_append child_changes (turn_wins s t d) (run_wins plan run.0 ts s' run.2 d) in
     omega arith
 
 module _ (plan : TablePlan) (s0 : TableState) (r0 : HasMachine plan s0) (first : Stages)
@@ -106,7 +106,7 @@ module _ (plan : TablePlan) (s0 : TableState) (r0 : HasMachine plan s0) (first :
         ≤ early_sum n m0.words first m0.words first (length s0.views) m0.worker
     pub flagged : flags ≤ how_many (plan.last_card + 1) (flag_since first went.stages)
 
-  module _ (s : TableState) (won : ℕ → List Exchange) (flags : ℕ) (at : Amid s won flags) (t : Turn) (s' : TableState) (turn : TableTurns plan.last_card s t s')
+  module _ (s : TableState) (won : ℕ → List Exchange) (flags : ℕ) (at : Amid s won flags) (t : Turn) (s' : TableState) (turn : TableTurns plan s t s')
       (quiet : (d : ℕ) → sum_by child_changes (won d) ≡ 0) (quiet_turn : (d : ℕ) → sum_by child_changes (turn_wins s t d) ≡ 0) where
     abbrev m : Machine
     m = machine_of_table plan s at.kept
@@ -277,20 +277,20 @@ module _ (plan : TablePlan) (s0 : TableState) (r0 : HasMachine plan s0) (first :
 
   -- and where it leads
   pub run_amid : (s : TableState) (won : ℕ → List Exchange) (flags : ℕ) → Amid s won flags → ((d : ℕ) → sum_by child_changes (won d) ≡ 0) → (turns : List Turn) (s' : TableState)
-      → (run : TableRun plan.last_card s turns s') → won_in is_change plan.last_card s turns s' run ≡ 0
-      → Amid s' (λ d. won d ++ run_wins plan.last_card s turns s' run d) (flags + won_in is_flag plan.last_card s turns s' run)
+      → (run : TableRun plan s turns s') → won_in is_change plan s turns s' run ≡ 0
+      → Amid s' (λ d. won d ++ run_wins plan s turns s' run d) (flags + won_in is_flag plan s turns s' run)
   run_amid s won flags at quiet [] s' run none =
       let same : flags ≡ flags + 0 = omega arith in
       subst (λ x. Amid x (λ d. won d ++ []) (flags + 0)) (sym run)
       (subst (Amid s (λ d. won d ++ [])) same (subst (λ (w : ℕ → List Exchange). Amid s w flags) (λ i d. sym (append-nil (won d)) i) at))
   run_amid s won flags at quiet (t ∷ ts) s' run none =
-      let still = unless_both (wins is_change s t) (won_in is_change plan.last_card run.0 ts s' run.2) none in
+      let still = unless_both (wins is_change s t) (won_in is_change plan run.0 ts s' run.2) none in
       let quiet_turn = turn_unchanged s t still.0 in
       let one = turn_amid s won flags at t run.0 run.1 quiet quiet_turn in
-      let sum : (flags + (if wins is_flag s t then 1 else 0)) + won_in is_flag plan.last_card run.0 ts s' run.2
-      ≡ flags + ((if wins is_flag s t then 1 else 0) + won_in is_flag plan.last_card run.0 ts s' run.2) = omega arith in
-      subst (Amid s' (λ d. won d ++ (turn_wins s t d ++ run_wins plan.last_card run.0 ts s' run.2 d))) sum
-      (subst (λ (w : ℕ → List Exchange). Amid s' w ((flags + (if wins is_flag s t then 1 else 0)) + won_in is_flag plan.last_card run.0 ts s' run.2))
-      (λ i d. append_assoc (won d) (turn_wins s t d) (run_wins plan.last_card run.0 ts s' run.2 d) i)
+      let sum : (flags + (if wins is_flag s t then 1 else 0)) + won_in is_flag plan run.0 ts s' run.2
+      ≡ flags + ((if wins is_flag s t then 1 else 0) + won_in is_flag plan run.0 ts s' run.2) = omega arith in
+      subst (Amid s' (λ d. won d ++ (turn_wins s t d ++ run_wins plan run.0 ts s' run.2 d))) sum
+      (subst (λ (w : ℕ → List Exchange). Amid s' w ((flags + (if wins is_flag s t then 1 else 0)) + won_in is_flag plan run.0 ts s' run.2))
+      (λ i d. append_assoc (won d) (turn_wins s t d) (run_wins plan run.0 ts s' run.2 d) i)
       (run_amid run.0 (λ d. won d ++ turn_wins s t d) (flags + (if wins is_flag s t then 1 else 0)) one
       (quiet_both s won flags at t run.0 run.1 quiet quiet_turn) ts s' run.2 still.1))

@@ -32,8 +32,8 @@ use Rattle.ell_cards.proofs.lemmas.runs.AsMap.{trees_are_of_one_thread, runs_on,
 use Rattle.ell_cards.proofs.lemmas.runs.Answering.{answers_with_card}
 
 -- the value that goes with a delete's card before its child exchange is the one that a pass is told of the card's leaf later
-pub told_is_value : (plan : TablePlan) (s : TableState) (r : HasMachine plan s) (t : Turn) (next : TableState) → TableTurns plan.last_card s t next → (c : ℕ)
-    → turn_wins s t c ≡ exchange.DChild ∷ [] → (turns : List Turn) (s' : TableState) → TableRun plan.last_card s turns s' → (seat : ℕ) (v : View) → get_elem? s'.views seat ≡ some v
+pub told_is_value : (plan : TablePlan) (s : TableState) (r : HasMachine plan s) (t : Turn) (next : TableState) → TableTurns plan s t next → (c : ℕ)
+    → turn_wins s t c ≡ exchange.DChild ∷ [] → (turns : List Turn) (s' : TableState) → TableRun plan s turns s' → (seat : ℕ) (v : View) → get_elem? s'.views seat ≡ some v
     → (leaf value : ℕ) → IsTold v (Info c field.L leaf) → IsTold v (Value leaf value) → card_value (own_words s) c ≡ value
 told_is_value plan s r t next now c wins turns s' run seat v there leaf value told_leaf told_value =
     let won = dchild_flagged plan s r t next now c wins in
@@ -59,10 +59,10 @@ deletes_take_the_told_value plan v key c leaf value last told_leaf told_value s 
     let a = answers_with_card plan v (Delete key) Yes (Some c) last s starts turns s' run seat there in
     let did = a.0 in
     let p = did.point in
-    let had = final (contents_of plan.start) (run_effects plan.last_card s p.all p.state p.led) in
+    let had = final (contents_of plan.start) (run_effects plan s p.all p.state p.led) in
     let map = trees_are_of_one_thread plan s starts p.all p.state p.led in
     let kept = run_kept plan s (starts_are_kept plan s starts).kept p.all p.state p.led in
-    let rest = runs_on plan.last_card p.state (drop p.first did.during) did.at (Makes seat (call.Answer Yes) ∷ did.later) s' p.after
+    let rest = runs_on plan p.state (drop p.first did.during) did.at (Makes seat (call.Answer Yes) ∷ did.later) s' p.after
     (did.called.ended, did.called.answers, did.since) in
     record {
       call = did;

@@ -113,18 +113,18 @@ taken_is v key c leaf value fixed at_leaf at_value =
     ∙ told_last (tells_value_of leaf) v.told value (λ e m has is. fixed.value leaf m value (subst (IsTold v) (value_is leaf e m is) has) at_value) (Value leaf value) at_value
     (ap (λ b. if b then Some value else None) (eq-eqb leaf leaf refl))
 
-module _ (plan : TablePlan) (opened : TableState) (starts : Starts plan opened) (turns : List Turn) (s' : TableState) (run : TableRun plan.last_card opened turns s') where
+module _ (plan : TablePlan) (opened : TableState) (starts : Starts plan opened) (turns : List Turn) (s' : TableState) (run : TableRun plan opened turns s') where
   abbrev state : ℕ → TableState
   state = after_turns plan opened starts turns s' run
 
   -- a call has taken this value: it changes the tree in a turn before which the tree has its key with the value
   pub record HasTaken (i : ℕ) (op : Op) (value : ℕ) : Type 0 where
     pub change : ℕ
-    pub changes : ChangesAt plan.last_card opened turns i change op
+    pub changes : ChangesAt plan opened turns i change op
     pub had : map_after plan opened starts turns s' run change (key_of op) ≡ Some value
 
   -- a delete that changes the tree has this card in hand, whose value is what its pass is told of the leaf later
-  by_change : (i q p : ℕ) (key : ℕ) (h : IsAnswered turns i p (Delete key) Yes) (g : ChangesAt plan.last_card opened turns i q (Delete key)) (v : View) → get_elem? (state p).views h.seat ≡ some v
+  by_change : (i q p : ℕ) (key : ℕ) (h : IsAnswered turns i p (Delete key) Yes) (g : ChangesAt plan opened turns i q (Delete key)) (v : View) → get_elem? (state p).views h.seat ≡ some v
       → Does v (Delete key) → (value : ℕ) → TakesBy (Delete key) v.worker.card Yes v.told value → HasTaken i (Delete key) value
   by_change i q p key h g v there does value told =
       let seat : g.by.work.seat ≡ h.seat = (same_begin turns i g.by.work.seat h.seat (Delete key) (Delete key) g.begins h.begins).0 in

@@ -123,11 +123,11 @@ module _ (plan : TablePlan) where
   abbrev last : ℕ
   last = plan.last_card
 
-  turn_grows : (s : TableState) → IsReached plan s → (seat : ℕ) (v : View) → get_elem? s.views seat ≡ some v → (t : Turn) (s' : TableState) (turn : TableTurns plan.last_card s t s')
-      → (goes : SeatGoesOn KeepsOn plan.last_card s seat v t s') → Grows s v s' goes.view
+  turn_grows : (s : TableState) → IsReached plan s → (seat : ℕ) (v : View) → get_elem? s.views seat ≡ some v → (t : Turn) (s' : TableState) (turn : TableTurns plan s t s')
+      → (goes : SeatGoesOn KeepsOn plan s seat v t s') → Grows s v s' goes.view
   turn_grows s reached seat v there t s' turn goes = record {
     next = claim_word_rises plan s (reached_kept plan s reached) t s' turn;
-    ended = λ c. let rise = ends_rise c plan.last_card s t s' turn in omega arith;
+    ended = λ c. let rise = ends_rise c plan s t s' turn in omega arith;
     own = λ c low. elim goes.made [
       | inl same ↦ ap (λ (u : View). times exchange.Claim c u.won) same
       | inr made ↦ ap (λ (u : View). times exchange.Claim c u.won) made.3 ∙ own_same s v made.0 c low
@@ -140,10 +140,10 @@ module _ (plan : TablePlan) where
     starts : Starts plan opened
     before : List Turn
     begun : TableState
-    led : TableRun plan.last_card opened before begun
+    led : TableRun plan opened before begun
     begins : BeginsHere begun seat
     meanwhile : List Turn
-    run : TableRun plan.last_card begun meanwhile s
+    run : TableRun plan begun meanwhile s
     keeps : KeepOn seat meanwhile
     first : Grows s0 v0 begun begins.view
     since : Grows begun begins.view s v
@@ -195,16 +195,16 @@ module _ (plan : TablePlan) where
       first = h.opened;
       starts = h.starts;
       turns = h.before ++ h.meanwhile;
-      run = run_append plan.last_card h.opened h.before h.begun h.meanwhile s h.led h.run;
+      run = run_append plan h.opened h.before h.begun h.meanwhile s h.led h.run;
     }
 
     -- the wins of a run, counted
     unended : (c : ℕ) → ended_before plan ran c ≡ false → ends c h.begun ≡ 0
     unended c none =
-        let wins = run_wins plan.last_card h.opened h.before h.begun h.led c in
-        let a = run_total exchange.IUnflag (omega arith) c plan.last_card h.opened h.before h.begun h.led in
-        let b = run_total exchange.DUnflag (omega arith) c plan.last_card h.opened h.before h.begun h.led in
-        let d = run_total exchange.Backtrack (omega arith) c plan.last_card h.opened h.before h.begun h.led in
+        let wins = run_wins plan h.opened h.before h.begun h.led c in
+        let a = run_total exchange.IUnflag (omega arith) c plan h.opened h.before h.begun h.led in
+        let b = run_total exchange.DUnflag (omega arith) c plan h.opened h.before h.begun h.led in
+        let d = run_total exchange.Backtrack (omega arith) c plan h.opened h.before h.begun h.led in
         let x = none_at_start plan h.opened h.starts exchange.IUnflag c in
         let y = none_at_start plan h.opened h.starts exchange.DUnflag c in
         let z = none_at_start plan h.opened h.starts exchange.Backtrack c in
@@ -213,10 +213,10 @@ module _ (plan : TablePlan) where
 
     ended_then : (c : ℕ) → ended_since plan ran c ≡ true → 0 < ends c s
     ended_then c has =
-        let wins = run_wins plan.last_card h.begun h.meanwhile s h.run c in
-        let a = run_total exchange.IUnflag (omega arith) c plan.last_card h.begun h.meanwhile s h.run in
-        let b = run_total exchange.DUnflag (omega arith) c plan.last_card h.begun h.meanwhile s h.run in
-        let d = run_total exchange.Backtrack (omega arith) c plan.last_card h.begun h.meanwhile s h.run in
+        let wins = run_wins plan h.begun h.meanwhile s h.run c in
+        let a = run_total exchange.IUnflag (omega arith) c plan h.begun h.meanwhile s h.run in
+        let b = run_total exchange.DUnflag (omega arith) c plan h.begun h.meanwhile s h.run in
+        let d = run_total exchange.Backtrack (omega arith) c plan h.begun h.meanwhile s h.run in
         let all = some_end wins has in
         omega arith
 
@@ -375,7 +375,7 @@ module _ (plan : TablePlan) where
     lost : AllUnclaimed w.won w.met
 
   module _ (s0 : TableState) (v0 : View) (seat : ℕ) (s : TableState) (v : View) (h : Searches s0 v0 seat s v) (there : get_elem? s.views seat ≡ some v)
-      (t : Turn) (s' : TableState) (turn : TableTurns plan.last_card s t s') (on : Only KeepsOn seat t) where
+      (t : Turn) (s' : TableState) (turn : TableTurns plan s t s') (on : Only KeepsOn seat t) where
     here : IsReached plan s
     here = comes s0 v0 seat s v h there
 
@@ -391,7 +391,7 @@ module _ (plan : TablePlan) where
       led = h.led;
       begins = h.begins;
       meanwhile = h.meanwhile ++ t ∷ [];
-      run = one_more_turn plan.last_card h.begun h.meanwhile s t s' h.run turn;
+      run = one_more_turn plan h.begun h.meanwhile s t s' h.run turn;
       keeps = keep_more seat h.meanwhile t h.keeps on;
       first = h.first;
       since = grows_on h.begun h.begins.view s v s' w h.since g;
@@ -430,7 +430,7 @@ module _ (plan : TablePlan) where
 
     module _ (c : Call) (made : t ≡ Makes seat c) (at : get_elem? s'.views seat ≡ some (view_after s v c)) where
       -- a claim
-      claim_rests : (d : ℕ) (b : Bool) → (found_by s (call.Claim d) == d) ≡ b → May plan.last_card (call.Claim d) v → Grows s v s' (after_claim b d v) → Rests s v s' (after_claim b d v)
+      claim_rests : (d : ℕ) (b : Bool) → (found_by s (call.Claim d) == d) ≡ b → May plan (call.Claim d) v → Grows s v s' (after_claim b d v) → Rests s v s' (after_claim b d v)
       claim_rests d true e may g = record {
         hindered = refl;
         operation = λ op busy. busy;
@@ -453,7 +453,7 @@ module _ (plan : TablePlan) where
           laid : (y : ℕ) → v.worker.card ≡ Some y → 0 < times exchange.Claim y w.won → w.worker.card ≢ Some y → IsAbandoned s' y
           laid y has own else_where =
               let was = hand_unended plan s here seat v there y has unflagged in
-              let rise = ends_rise y plan.last_card s t s' turn in
+              let rise = ends_rise y plan s t s' turn in
               let none = ends_none y in
               own_abandoned plan s' next_here seat w there_now y own else_where (omega arith)
 
@@ -504,7 +504,7 @@ module _ (plan : TablePlan) where
           omega arith
 
     -- each of its calls by which it goes on with its try
-    call_rests : (c : Call) → GoesOn c → t ≡ Makes seat c → May plan.last_card c v → get_elem? s'.views seat ≡ some (view_after s v c) → Grows s v s' (view_after s v c)
+    call_rests : (c : Call) → GoesOn c → t ≡ Makes seat c → May plan c v → get_elem? s'.views seat ≡ some (view_after s v c) → Grows s v s' (view_after s v c)
         → Rests s v s' (view_after s v c)
     call_rests (call.Begin op) goes made may at g = absurd goes
     call_rests call.Again goes made may at g = absurd goes
@@ -543,7 +543,7 @@ module _ (plan : TablePlan) where
       starts = h.starts;
       before = h.before ++ (h.meanwhile ++ t ∷ []);
       begun = s';
-      led = run_append plan.last_card h.opened h.before h.begun (h.meanwhile ++ t ∷ []) s' h.led (one_more_turn plan.last_card h.begun h.meanwhile s t s' h.run turn);
+      led = run_append plan h.opened h.before h.begun (h.meanwhile ++ t ∷ []) s' h.led (one_more_turn plan h.begun h.meanwhile s t s' h.run turn);
       begins = record {
         view = w;
         there = at;
@@ -568,8 +568,8 @@ module _ (plan : TablePlan) where
         by c own none (suc n) e = inl (omega arith)
 
     -- what a turn makes of a search
-    turn_searches : Searches s0 v0 seat s' (turn_seat KeepsOn plan.last_card s seat v there t s' turn on).view
-        ⊎ Stopped s0 v0 s' (turn_seat KeepsOn plan.last_card s seat v there t s' turn on).view
+    turn_searches : Searches s0 v0 seat s' (turn_seat KeepsOn plan s seat v there t s' turn on).view
+        ⊎ Stopped s0 v0 s' (turn_seat KeepsOn plan s seat v there t s' turn on).view
     turn_searches = elim goes.made [
       | inl same ↦ inl (rests w goes.there g (alike w g (ap (λ u. u.hindered) same) (ap (λ u. u.worker.operation) same) (ap (λ u. u.worker.card) same)
           (λ c. ap (λ u. times exchange.Claim c u.won) same) (subst (AllUnclaimed w.won) (sym (ap (λ (u : View). u.met) same)) (lost_on w.won g.own))))
@@ -577,8 +577,8 @@ module _ (plan : TablePlan) where
           (by made.0 made.1 made.2 made.4 (ap (get_elem? s'.views) refl ∙ (goes.there ∙ ap some made.3)) (subst (Grows s v s') made.3 g))
     ]
       where
-        goes : SeatGoesOn KeepsOn plan.last_card s seat v t s'
-        goes = turn_seat KeepsOn plan.last_card s seat v there t s' turn on
+        goes : SeatGoesOn KeepsOn plan s seat v t s'
+        goes = turn_seat KeepsOn plan s seat v there t s' turn on
 
         w : View
         w = goes.view
@@ -586,7 +586,7 @@ module _ (plan : TablePlan) where
         g : Grows s v s' w
         g = turn_grows s here seat v there t s' turn goes
 
-        by : (c : Call) → KeepsOn c → May plan.last_card c v → t ≡ Makes seat c → get_elem? s'.views seat ≡ some (view_after s v c) → Grows s v s' (view_after s v c)
+        by : (c : Call) → KeepsOn c → May plan c v → t ≡ Makes seat c → get_elem? s'.views seat ≡ some (view_after s v c) → Grows s v s' (view_after s v c)
             → Searches s0 v0 seat s' (view_after s v c) ⊎ Stopped s0 v0 s' (view_after s v c)
         by (call.Begin op) keeps may made at g = absurd keeps
         by call.Again keeps may made at g = inl (begins_anew (view_after s v call.Again) at g refl may)
@@ -605,7 +605,7 @@ module _ (plan : TablePlan) where
     how : Searches s0 v0 seat s view ⊎ Stopped s0 v0 s view
 
   -- a pass with nothing in hand has nothing in hand after a call, and has given no try up
-  call_stays : (c : Call) (n : ℕ) (v : View) → KeepsOn c → May plan.last_card c v → v.worker.operation ≡ None
+  call_stays : (c : Call) (n : ℕ) (v : View) → KeepsOn c → May plan c v → v.worker.operation ≡ None
       → ((after c n v).worker.operation ≡ None) × ((after c n v).hindered ≡ v.hindered)
   call_stays (call.Begin op) n v keeps may free = absurd keeps
   call_stays call.Again n v keeps may free = absurd (some_not_none may.busy free)
@@ -627,9 +627,9 @@ module _ (plan : TablePlan) where
   call_stays c n v keeps may free = (free, refl)
 
   turn_stopped : (s0 : TableState) (v0 : View) (seat : ℕ) (s : TableState) (v : View) → Stopped s0 v0 s v → get_elem? s.views seat ≡ some v
-      → (t : Turn) (s' : TableState) → TableTurns plan.last_card s t s' → Only KeepsOn seat t → Comes s0 v0 seat s'
+      → (t : Turn) (s' : TableState) → TableTurns plan s t s' → Only KeepsOn seat t → Comes s0 v0 seat s'
   turn_stopped s0 v0 seat s v h there t s' turn on =
-      let goes = turn_seat KeepsOn plan.last_card s seat v there t s' turn on in
+      let goes = turn_seat KeepsOn plan s seat v there t s' turn on in
       let g = turn_grows s h.reached seat v there t s' turn goes in
       let stays : (goes.view.worker.operation ≡ None) × (goes.view.hindered ≡ v.hindered) = elim goes.made [
         | inl same ↦ (ap (λ (u : View). u.worker.operation) same ∙ h.free, ap (λ (u : View). u.hindered) same)
@@ -649,16 +649,16 @@ module _ (plan : TablePlan) where
         });
       }
 
-  turn_comes : (s0 : TableState) (v0 : View) (seat : ℕ) (s : TableState) → Comes s0 v0 seat s → (t : Turn) (s' : TableState) → TableTurns plan.last_card s t s' → Only KeepsOn seat t
+  turn_comes : (s0 : TableState) (v0 : View) (seat : ℕ) (s : TableState) → Comes s0 v0 seat s → (t : Turn) (s' : TableState) → TableTurns plan s t s' → Only KeepsOn seat t
       → Comes s0 v0 seat s'
   turn_comes s0 v0 seat s at t s' turn on = elim at.how [
     | inl h ↦
-        let goes = turn_seat KeepsOn plan.last_card s seat at.view at.there t s' turn on in
+        let goes = turn_seat KeepsOn plan s seat at.view at.there t s' turn on in
         record { view = goes.view; there = goes.there; how = turn_searches s0 v0 seat s at.view h at.there t s' turn on }
     | inr h ↦ turn_stopped s0 v0 seat s at.view h at.there t s' turn on
   ]
 
-  run_comes : (s0 : TableState) (v0 : View) (seat : ℕ) (s : TableState) → Comes s0 v0 seat s → (turns : List Turn) (s' : TableState) → TableRun plan.last_card s turns s' → KeepOn seat turns
+  run_comes : (s0 : TableState) (v0 : View) (seat : ℕ) (s : TableState) → Comes s0 v0 seat s → (turns : List Turn) (s' : TableState) → TableRun plan s turns s' → KeepOn seat turns
       → Comes s0 v0 seat s'
   run_comes s0 v0 seat s at [] s' run on = subst (Comes s0 v0 seat) (sym run) at
   run_comes s0 v0 seat s at (t ∷ ts) s' run on =

@@ -16,25 +16,25 @@ use Rattle.ell_cards.proofs.lemmas.own_words.OwnWords.{own_words_are_sound}
 use Rattle.ell_cards.proofs.lemmas.own_words.OwnKeys.{table_pairs_change_at_wins}
 
 -- a run, and another after it
-pub run_append : (last : ℕ) (s : TableState) (turns : List Turn) (s' : TableState) (more : List Turn) (s'' : TableState) → TableRun last s turns s'
-    → TableRun last s' more s'' → TableRun last s (turns ++ more) s''
-run_append last s [] s' more s'' run rest = subst (λ x. TableRun last x more s'') run rest
-run_append last s (t ∷ ts) s' more s'' run rest = (run.0, run.1, run_append last run.0 ts s' more s'' run.2 rest)
+pub run_append : (plan : TablePlan) (s : TableState) (turns : List Turn) (s' : TableState) (more : List Turn) (s'' : TableState) → TableRun plan s turns s'
+    → TableRun plan s' more s'' → TableRun plan s (turns ++ more) s''
+run_append plan s [] s' more s'' run rest = subst (λ x. TableRun plan x more s'') run rest
+run_append plan s (t ∷ ts) s' more s'' run rest = (run.0, run.1, run_append plan run.0 ts s' more s'' run.2 rest)
 
 -- a run, and a turn after it
-pub one_more_turn : (last : ℕ) (s : TableState) (turns : List Turn) (s' : TableState) (t : Turn) (s'' : TableState) → TableRun last s turns s'
-    → TableTurns last s' t s'' → TableRun last s (turns ++ t ∷ []) s''
-one_more_turn last s [] s' t s'' run turn = (s'', subst (λ x. TableTurns last x t s'') run turn, refl)
-one_more_turn last s (u ∷ us) s' t s'' run turn = (run.0, run.1, one_more_turn last run.0 us s' t s'' run.2 turn)
+pub one_more_turn : (plan : TablePlan) (s : TableState) (turns : List Turn) (s' : TableState) (t : Turn) (s'' : TableState) → TableRun plan s turns s'
+    → TableTurns plan s' t s'' → TableRun plan s (turns ++ t ∷ []) s''
+one_more_turn plan s [] s' t s'' run turn = (s'', subst (λ x. TableTurns plan x t s'') run turn, refl)
+one_more_turn plan s (u ∷ us) s' t s'' run turn = (run.0, run.1, one_more_turn plan run.0 us s' t s'' run.2 turn)
 
 -- the word that a step call touches is in the table
 pub steps_stay_inside : InsideByMachine
 steps_stay_inside plan s r id v c here may =
-    subst (λ n. word_of c < n) (sym r.size) (word_fits plan.last_card c v (kept_named plan s r id v here) may)
+    subst (λ n. word_of c < n) (sym r.size) (word_fits plan c v (kept_named plan s r id v here) may)
 
 module _ (plan : TablePlan) where
   -- one turn
-  pub turn_lawful : (s : TableState) (r : HasMachine plan s) (t : Turn) (s' : TableState) → TableTurns plan.last_card s t s'
+  pub turn_lawful : (s : TableState) (r : HasMachine plan s) (t : Turn) (s' : TableState) → TableTurns plan s t s'
       → (k : HasMachine plan s') × TurnIsLawful plan s r t s' k
   turn_lawful s r (Makes seat c) s' h =
       let step = steps_are_events plan s r seat h.view c h.there h.may in

@@ -67,7 +67,7 @@ becomes_met key real met m stage i (Some a) said m' holds steps are =
 
 -- the machine after a turn, with the nodes that were met
 pub gone_by : (plan : TablePlan) (key : ℕ) → key ≤ greatest_key → (s : TableState) (met : ℕ → Type 0) (was : HasMachine plan s) (stages : Stages)
-    → Invariant (machine_of_table plan s was) stages → AreMet was.words stages key met → (t : Turn) (s' : TableState) → TableTurns plan.last_card s t s' → (kept : HasMachine plan s') × GoneOn key met was.words stages (machine_of_table plan s' kept)
+    → Invariant (machine_of_table plan s was) stages → AreMet was.words stages key met → (t : Turn) (s' : TableState) → TableTurns plan s t s' → (kept : HasMachine plan s') × GoneOn key met was.words stages (machine_of_table plan s' kept)
 gone_by plan key real s met was stage inv are (Makes other c) s' h =
     let turn = turn_lawful plan s was (Makes other c) s' h in (
       turn.0,
@@ -91,15 +91,15 @@ module _ (plan : TablePlan) (seat key : ℕ) (real : key ≤ greatest_key) where
   -- in a state of a run the walk for the key comes by a node
   pub record WasOn (s : TableState) (turns : List Turn) (s' : TableState) (x : ℕ) : Type 0 where
     pub state : TableState
-    pub amid : IsAmid plan.last_card s turns s' state
+    pub amid : IsAmid plan s turns s' state
     pub kept : HasMachine plan state
     pub on : OnWalk kept.words key 0 x
 
-  pub was_first : (s : TableState) (turns : List Turn) (s' : TableState) (x : ℕ) → TableRun plan.last_card s turns s' → (kept : HasMachine plan s) → OnWalk kept.words key 0 x
+  pub was_first : (s : TableState) (turns : List Turn) (s' : TableState) (x : ℕ) → TableRun plan s turns s' → (kept : HasMachine plan s) → OnWalk kept.words key 0 x
       → WasOn s turns s' x
   was_first s turns s' x run kept on = record { state = s; amid = record { first = 0; before = refl; after = run }; kept = kept; on = on }
 
-  pub was_later : (s between : TableState) (t : Turn) (turns : List Turn) (s' : TableState) (x : ℕ) → TableTurns plan.last_card s t between → WasOn between turns s' x
+  pub was_later : (s between : TableState) (t : Turn) (turns : List Turn) (s' : TableState) (x : ℕ) → TableTurns plan s t between → WasOn between turns s' x
       → WasOn s (t ∷ turns) s' x
   was_later s between t turns s' x turn was = record {
     state = was.state;

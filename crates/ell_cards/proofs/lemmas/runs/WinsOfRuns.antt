@@ -28,7 +28,7 @@ pub runs_are_schedules : RunsAreSchedules
 runs_are_schedules plan s r [] s' r' run calls lawful = lawful
 runs_are_schedules plan s r (Makes seat c ∷ ts) s' r' run calls lawful =
     after seat (act_of c (found_by s c)) (said_of c (found_by s c)) (machine_of_table plan s r) (machine_of_table plan run.0 lawful.0)
-    (events_in plan.last_card run.0 ts s' run.2) (shown_in plan.last_card run.0 ts s' run.2) (machine_of_table plan s' r') lawful.1.machine
+    (events_in plan run.0 ts s' run.2) (shown_in plan run.0 ts s' run.2) (machine_of_table plan s' r') lawful.1.machine
     (runs_are_schedules plan run.0 lawful.0 ts s' r' run.2 calls lawful.2)
 runs_are_schedules plan s r (Splits seat left ∷ ts) s' r' run calls lawful = absurd calls
 runs_are_schedules plan s r (Joins seat other ∷ ts) s' r' run calls lawful = absurd calls

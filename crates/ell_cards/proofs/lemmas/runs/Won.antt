@@ -20,6 +20,7 @@ use Rattle.ell_cards.specs.Calls.{atomic_of, is_won, after}
 use Rattle.ell_cards.specs.States.{TableState}
 use Rattle.ell_cards.specs.Turns.{Turn, Makes, Splits, Joins, TableTurns, TableRun, found_by}
 use Rattle.ell_cards.specs.TurnEffects.{win_of, turn_wins, run_wins}
+use Rattle.ell_cards.specs.Models.{TablePlan}
 
 -- a kind by a number: 0 for a claim, and 1 to 8 for what a card wins
 abbrev pub number : Exchange → ℕ
@@ -133,15 +134,15 @@ abbrev pub turn_won : TableState → Turn → List (Exchange × ℕ)
 turn_won s (Makes id c) = won_by c (found_by s c)
 turn_won s _ = []
 
-pub turn_total : (k : Exchange) (d cards : ℕ) (s : TableState) (t : Turn) (s' : TableState) → TableTurns cards s t s' → total k d s' ≡ total k d s + times k d (turn_won s t)
-turn_total k d cards s (Makes id c) s' turn =
+pub turn_total : (k : Exchange) (d : ℕ) (plan : TablePlan) (s : TableState) (t : Turn) (s' : TableState) → TableTurns plan s t s' → total k d s' ≡ total k d s + times k d (turn_won s t)
+turn_total k d plan s (Makes id c) s' turn =
     ap (λ (x : TableState). total k d x) turn.gives ∙ call_total k d s.views id turn.view c (found_by s c) turn.there
-turn_total k d cards s (Splits id chosen) s' turn =
+turn_total k d plan s (Splits id chosen) s' turn =
     let v = turn.view in
     let left = set_total k d s.views id v (left_view chosen v) turn.there in
     let more = in_append k d (set s.views id (left_view chosen v)) (right_view chosen v ∷ []) in
     ap (λ (x : TableState). total k d x) turn.gives ∙ omega arith
-turn_total k d cards s (Joins id other) s' turn =
+turn_total k d plan s (Joins id other) s' turn =
     let v = turn.view in
     let w = turn.view' in
     let both = joined_view v w in
@@ -188,12 +189,12 @@ turn_counts k more s (Splits id chosen) d = refl
 turn_counts k more s (Joins id other) d = refl
 
 -- what a run adds to it
-pub run_total : (k : Exchange) → 0 < number k → (d cards : ℕ) (s : TableState) (turns : List Turn) (s' : TableState) (run : TableRun cards s turns s')
-    → total k d s' ≡ total k d s + count k (run_wins cards s turns s' run d)
-run_total k more d cards s [] s' run = let same = ap (total k d) run in omega arith
-run_total k more d cards s (t ∷ ts) s' run =
-    let turn = turn_total k d cards s t run.0 run.1 in
+pub run_total : (k : Exchange) → 0 < number k → (d : ℕ) (plan : TablePlan) (s : TableState) (turns : List Turn) (s' : TableState) (run : TableRun plan s turns s')
+    → total k d s' ≡ total k d s + count k (run_wins plan s turns s' run d)
+run_total k more d plan s [] s' run = let same = ap (total k d) run in omega arith
+run_total k more d plan s (t ∷ ts) s' run =
+    let turn = turn_total k d plan s t run.0 run.1 in
     let is = turn_counts k more s t d in
-    let rest = run_total k more d cards run.0 ts s' run.2 in
-    let parts = count_append k (turn_wins s t d) (run_wins cards run.0 ts s' run.2 d) in
+    let rest = run_total k more d plan run.0 ts s' run.2 in
+    let parts = count_append k (turn_wins s t d) (run_wins plan run.0 ts s' run.2 d) in
     omega arith

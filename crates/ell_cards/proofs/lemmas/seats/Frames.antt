@@ -211,7 +211,7 @@ module _ (plan : TablePlan) (s : TableState) (r : HasMachine plan s) (id : ℕ) 
   -- a step call that is an event
   pub is_event : (c : Call) (a : core.Act) (said : Stepped) (new : Words)
       → IsReached (set s.words (word_of c) (left_by (atomic_of c) (found_by s c))) new (view_after s v c) a said
-      → act_of c (found_by s c) ≡ Some a → said_of c (found_by s c) ≡ said → Tells plan.last_card c v (found_by s c) → IsEvent plan s r id v c
+      → act_of c (found_by s c) ≡ Some a → said_of c (found_by s c) ≡ said → Tells plan c v (found_by s c) → IsEvent plan s r id v c
   is_event c a said new at acts says tells = record {
     kept = at.kept.kept;
     later = at.kept.later;
@@ -225,7 +225,7 @@ module _ (plan : TablePlan) (s : TableState) (r : HasMachine plan s) (id : ℕ) 
   -- a step call that leaves the machine
   pub is_no_event : (c : Call)
       → IsKept plan (state_after s id v c) r.words r.stages → (view_after s v c).worker ≡ v.worker
-      → act_of c (found_by s c) ≡ None → Tells plan.last_card c v (found_by s c) → IsEvent plan s r id v c
+      → act_of c (found_by s c) ≡ None → Tells plan c v (found_by s c) → IsEvent plan s r id v c
   is_no_event c at same none tells = record {
     kept = at.kept;
     later = at.later;

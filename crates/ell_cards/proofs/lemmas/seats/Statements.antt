@@ -22,20 +22,20 @@ SoundByMachine = (plan : TablePlan) (s : TableState) → HasMachine plan s → I
 
 abbrev pub InsideByMachine : Type 0
 InsideByMachine = (plan : TablePlan) (s : TableState) → HasMachine plan s → (id : ℕ) (v : View) (c : Call)
-    → get_elem? s.views id ≡ some v → May plan.last_card c v → word_of c < length s.words
+    → get_elem? s.views id ≡ some v → May plan c v → word_of c < length s.words
 
 abbrev pub PairsByMachine : Type 0
 PairsByMachine = (plan : TablePlan) (s : TableState) → HasMachine plan s → (id : ℕ) (v : View) (c : Call)
-    → get_elem? s.views id ≡ some v → May plan.last_card c v
+    → get_elem? s.views id ≡ some v → May plan c v
     → PairsChangeBy c (is_won (atomic_of c) (found_by s c)) (own_words s) (own_words (state_after s id v c))
 
 abbrev pub OperationsByMachine : Type 0
 OperationsByMachine = (plan : TablePlan) (s : TableState) → HasMachine plan s → (id : ℕ) (v : View) (c : Call)
-    → get_elem? s.views id ≡ some v → May plan.last_card c v → ChangeIsOf c (is_won (atomic_of c) (found_by s c)) s
+    → get_elem? s.views id ≡ some v → May plan c v → ChangeIsOf c (is_won (atomic_of c) (found_by s c)) s
 
 abbrev pub AnswersByMachine : Type 0
 AnswersByMachine = (plan : TablePlan) (s : TableState) → HasMachine plan s → (id : ℕ) (v : View) (c : Call)
-    → get_elem? s.views id ≡ some v → May plan.last_card c v → LedgerChangesBy c v (view_after s v c)
+    → get_elem? s.views id ≡ some v → May plan c v → LedgerChangesBy c v (view_after s v c)
 
 abbrev pub LedgersByMachine : Type 0
 LedgersByMachine = (plan : TablePlan) (s : TableState) → HasMachine plan s → (id : ℕ) (v : View)
@@ -48,4 +48,4 @@ OwnedByMachine = (plan : TablePlan) (s : TableState) → HasMachine plan s → (
 
 abbrev pub NodesByMachine : Type 0
 NodesByMachine = (plan : TablePlan) (s : TableState) → HasMachine plan s → (turns : List Turn) (s' : TableState)
-    → TableRun plan.last_card s turns s' → (x : ℕ) → Reached (own_words s) x → NodeGoesOn (own_words s) (own_words s') x
+    → TableRun plan s turns s' → (x : ℕ) → Reached (own_words s) x → NodeGoesOn (own_words s) (own_words s') x

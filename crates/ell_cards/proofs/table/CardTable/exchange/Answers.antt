@@ -6,13 +6,13 @@ use Rattle.ell_cards.proofs.table.CardTable.exchange.Goals as goal
 
 pub exchange_as-requires-clause-word : goal.exchange_as-requires-clause-word
 exchange_as-requires-clause-word g c = λ named. subst (λ (i : ℕ). i < table_size c.args.self.now.plan.last_card) (sym c.requires.word)
-    (word_fits c.args.self.now.plan.last_card c.args.call c.args.pass.now.view named c.requires.may)
+    (word_fits c.args.self.now.plan c.args.call c.args.pass.now.view named c.requires.may)
 
 pub exchange_as-requires-clause-rule : goal.exchange_as-requires-clause-rule
 exchange_as-requires-clause-rule g c = may_exchange c.args.self.now.plan c.args.call c.args.pass.now.view c.args.word c.args.expected c.args.value c.requires.word c.requires.atomic c.requires.may
 
 pub exchange_as-requires-clause-keeps : goal.exchange_as-requires-clause-keeps
-exchange_as-requires-clause-keeps g c = taken_keeps c.args.self.now.plan.last_card c.args.call c.args.pass.now.view
+exchange_as-requires-clause-keeps g c = taken_keeps c.args.self.now.plan c.args.call c.args.pass.now.view
 
 pub returns-clause-step : goal.returns-clause-step
 returns-clause-step g c = steps_by c.args.pass.now c.exchange_as.new.pass _ c.exchange_as.ensures.step c.exchange_as.ensures.told.view

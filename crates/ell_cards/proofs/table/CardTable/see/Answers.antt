@@ -6,13 +6,13 @@ use Rattle.ell_cards.proofs.table.CardTable.see.Goals as goal
 
 pub load_as-requires-clause-word : goal.load_as-requires-clause-word
 load_as-requires-clause-word g c = λ named. subst (λ (i : ℕ). i < table_size c.args.self.now.plan.last_card) (sym c.requires.word)
-    (word_fits c.args.self.now.plan.last_card c.args.call c.args.pass.now.view named c.requires.may)
+    (word_fits c.args.self.now.plan c.args.call c.args.pass.now.view named c.requires.may)
 
 pub load_as-requires-clause-rule : goal.load_as-requires-clause-rule
 load_as-requires-clause-rule g c = may_load c.args.self.now.plan c.args.call c.args.pass.now.view c.args.word c.requires.word c.requires.atomic c.requires.may
 
 pub load_as-requires-clause-keeps : goal.load_as-requires-clause-keeps
-load_as-requires-clause-keeps g c = taken_keeps c.args.self.now.plan.last_card c.args.call c.args.pass.now.view
+load_as-requires-clause-keeps g c = taken_keeps c.args.self.now.plan c.args.call c.args.pass.now.view
 
 pub returns-clause-step : goal.returns-clause-step
 returns-clause-step g c = sees_by c.args.pass.now c.load_as.new.pass _ c.load_as.ensures.step c.load_as.ensures.told.view

@@ -7,14 +7,14 @@ use Rattle.ell_cards.proofs.table.CardTable.store.Goals as goal
 
 pub store_as-requires-clause-word : goal.store_as-requires-clause-word
 store_as-requires-clause-word g c = λ named. subst (λ (i : ℕ). i < table_size c.args.self.now.plan.last_card) (sym c.requires.word)
-    (word_fits c.args.self.now.plan.last_card (call.Fill c.args.card c.args.field c.args.value) c.args.pass.now.view named c.requires.may)
+    (word_fits c.args.self.now.plan (call.Fill c.args.card c.args.field c.args.value) c.args.pass.now.view named c.requires.may)
 
 pub store_as-requires-clause-rule : goal.store_as-requires-clause-rule
 store_as-requires-clause-rule g c = may_fill c.args.self.now.plan c.args.card c.args.field c.args.value c.args.pass.now.view c.args.word
     c.requires.word c.requires.may
 
 pub store_as-requires-clause-keeps : goal.store_as-requires-clause-keeps
-store_as-requires-clause-keeps g c = taken_keeps c.args.self.now.plan.last_card (call.Fill c.args.card c.args.field c.args.value) c.args.pass.now.view
+store_as-requires-clause-keeps g c = taken_keeps c.args.self.now.plan (call.Fill c.args.card c.args.field c.args.value) c.args.pass.now.view
 
 pub returns : goal.returns
 returns g c = record { step = steps_by c.args.pass.now c.store_as.new.pass _ c.store_as.ensures.step c.store_as.ensures.told.view }

@@ -11,7 +11,7 @@ pub load_as-requires-clause-rule : goal.load_as-requires-clause-rule
 load_as-requires-clause-rule g c = may_tell c.args.self.now.plan c.args.pass.now.view
 
 pub load_as-requires-clause-keeps : goal.load_as-requires-clause-keeps
-load_as-requires-clause-keeps g c n w told = taken_keeps c.args.self.now.plan.last_card call.Next c.args.pass.now.view n w told.0
+load_as-requires-clause-keeps g c n w told = taken_keeps c.args.self.now.plan call.Next c.args.pass.now.view n w told.0
 
 pub returns-clause-story : goal.returns-clause-story
 returns-clause-story g c = c.load_as.ensures.told.1
