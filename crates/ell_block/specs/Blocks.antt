@@ -57,6 +57,13 @@ pub record InBlockOf (branch key : ℕ) : Type 0 where
   pub middle : branch ≡ middle_of block
   pub inside : InBlock block key
 
+-- the block of a branch begins with this key, and ends with that
+pub record HasEnds (branch first last : ℕ) : Type 0 where
+  pub block : Block
+  pub middle : branch ≡ middle_of block
+  pub from : first ≡ from_of block
+  pub upto : last + 1 ≡ end_of block
+
 -- each number but 0 is the middle of one block
 abbrev pub OneBlockEach : Type 0
 OneBlockEach = (number : ℕ) → 0 < number →

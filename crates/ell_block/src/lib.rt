@@ -9,5 +9,5 @@ mod laws;
 #[cfg(test)]
 mod tests;
 
-pub use branches::{branch, is_in_block};
+pub use branches::{block_ends, branch, is_in_block};
 pub use laws::{blocks_nest, branches_are_unique, branches_fit};

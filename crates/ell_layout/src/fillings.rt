@@ -1,10 +1,10 @@
 //! What fills a card when it is claimed.
 ghost use Rattle.std.specs.Prelude.{◌≡◌, ◌≤◌, ◌==◌};
 ghost use Rattle.ell_word.specs.Node.{greatest_card};
-ghost use Rattle.ell_layout.specs.Cards.{brought_by, insert_filling, delete_filling};
+ghost use Rattle.ell_layout.specs.Cards.{brought_by, insert_filling, delete_filling, left_of_card, right_of_card};
 
 use crate::field::{Field, update_word};
-use ell_word::{State, internal_of, left_leaf_of, right_leaf_of};
+use ell_word::{State, internal_of, is_internal, left_leaf_of, right_leaf_of};
 
 /// Returns the fields of an insert's card, for a key with its value at a leaf: an internal node with the greater key,
 /// over two new leaves, the lesser key on the left, each with its value. Condition: the card is at most `CARD_MAX`.
@@ -38,6 +38,24 @@ pub fn insert_filling(
         (Field::LeftValue, left_value),
         (Field::RightValue, right_value),
     ]
+}
+
+/// Returns the children of the node of an insert's card for a key above a node of this key, left and right: its own
+/// leaves, or an internal node in place of the leaf with its key. Condition: the card is at most `CARD_MAX`.
+pub fn card_children(card: u64, key: u64, below: u64, below_key: u64) -> (u64, u64)
+    requires { card ≤ greatest_card }
+    // Returns the left child and the right one.
+    ensures left { result.0 ≡ left_of_card card key below below_key }
+    ensures right { result.1 ≡ right_of_card card key below below_key }
+{
+    let (left, right) = (left_leaf_of(card), right_leaf_of(card));
+    if !is_internal(below) {
+        (left, right)
+    } else if key < below_key {
+        (left, below)
+    } else {
+        (below, right)
+    }
 }
 
 /// Returns the node that an insert's card brings to the parent, by the keys of its two leaves. If they are the same,

@@ -4,22 +4,23 @@ ghost use Rattle.ell_word.specs.Node.{greatest_card};
 ghost use Rattle.ell_layout.specs.Layout.{table_size};
 ghost use Rattle.ell_layout.specs.Words.{words_of};
 ghost use Rattle.ell_layout.specs.Cards.{table_filled};
-ghost use Rattle.ell_layout.specs.Start.{start_leaf, start_value, start_words, branch_filling};
+ghost use Rattle.ell_layout.specs.Start.{start_leaf, start_value, words_at_start, branch_filling};
 
 use crate::branch::{Branch, branch_of};
 use crate::field::{Field, update_word};
 use ell_word::{INF1, INF2, State, right_leaf_of};
 
-/// Writes the words of the opening tree over these start keys, ascending, with their values, into a table of zeros.
+/// Writes the words of the opening tree over these start keys, ascending, with their values, into a table of zeros, and
+/// whether the tree is flat: then each card after those of the opening tree has a block.
 /// Conditions: the number of the last card is at least the number of start keys and at most `CARD_MAX`; there are fewer
 /// start keys than `CARD_MAX`.
-pub fn write_opening(words: &mut [u64], start: &[(u64, u64)], last: u64)
+pub fn write_opening(words: &mut [u64], start: &[(u64, u64)], last: u64, flat: bool)
     requires zeros { words.old ≡ replicate (table_size last) 0 }
     requires room { length start.now ≤ last }
     requires most { last ≤ greatest_card }
     requires few { length start.now < greatest_card }
-    // The words become those of the balanced tree over the start keys.
-    ensures { words_of words.new ≡ start_words start.now }
+    // The words become those of the balanced tree over the start keys, which is flat or not.
+    ensures { words_of words.new ≡ words_at_start flat start.now }
 {
     let many = start.len() as u64;
     words[0] = many + 1;
@@ -43,6 +44,9 @@ pub fn write_opening(words: &mut [u64], start: &[(u64, u64)], last: u64)
     );
     for card in 1..many + 1 {
         write_branch(words, start, branch_of(many + 1, card));
+    }
+    if flat {
+        words[1] = many + 1;
     }
 }
 

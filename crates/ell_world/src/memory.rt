@@ -32,7 +32,7 @@ impl<A: Allocator + Copy> Memory<A> {
         ensures words { IfOk result (λ memory. words_in memory ≡ start_words start.now) }
     {
         let mut words = vec![in alloc; 0; table_size(last)]?;
-        write_opening(words.as_mut_slice(), start, last);
+        write_opening(words.as_mut_slice(), start, last, false);
         Ok(Memory {
             words,
             last_card: last,

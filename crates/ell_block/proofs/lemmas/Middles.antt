@@ -2,7 +2,7 @@ use Rattle.std.proofs.Common.{◌≡◌, ℕ, zero, suc, ◌+◌, ◌-◌, ◌*�
 use Rattle.std.proofs.Math.Nat.{two-pow-succ, lt_of_mul-lt-mul_right, mul-mod_left, mul_assoc}
 use Rattle.std.proofs.lemmas.Nat.{pow_pos, pow-add, div-add-mod'}
 use Rattle.std.proofs.lemmas.Bool.{cases_lt, cases_order}
-use Rattle.ell_block.specs.Blocks.{Block, middle_of, InBlock, InBlockOf, Parts, OneBlockEach, BitsCountZeros, OneBranchEach, MostZeros}
+use Rattle.ell_block.specs.Blocks.{HasEnds, Block, middle_of, InBlock, InBlockOf, Parts, OneBlockEach, BitsCountZeros, OneBranchEach, MostZeros}
 
 -- a multiple of 2 ^ bit by its quotient
 multiple : (number bit : ℕ) → number % 2 ^ bit ≡ 0 → number ≡ number / 2 ^ bit * 2 ^ bit
@@ -55,6 +55,17 @@ one_block block other same =
     (ap (λ n. (2 * other.place + 1) * 2 ^ n) (sym bit) ∙ sym same) in
     let place : other.place ≡ block.place = omega arith in
     ap₂ (λ b p. record { bit = b; place = p }) bit place
+
+-- a key in the block of a number is between the block's ends
+pub within_ends : (number first last key : ℕ) → HasEnds number first last → InBlockOf number key → (first ≤ key) × (key ≤ last)
+within_ends number first last key ends inside =
+    let same : inside.block ≡ ends.block = one_block ends.block inside.block (sym ends.middle ∙ inside.middle) in
+    let here : InBlock ends.block key = subst (λ b. InBlock b key) same inside.inside in
+    let low = here.from in
+    let high = here.before in
+    let begins = ends.from in
+    let stops = ends.upto in
+    (omega arith, omega arith)
 
 -- a key outside the block whose middle a branch is, is not in the block of the branch
 pub not_in_block : (block : Block) (key : ℕ) → ¬ InBlock block key → ¬ InBlockOf (middle_of block) key

@@ -1,12 +1,12 @@
-use Rattle.std.proofs.Common.{◌≡◌, ℕ, zero, suc, ◌+◌, ◌*◌, ◌/◌, ◌%◌, ◌^◌, ◌<◌, ◌≤◌, ◌↔◌, inl, inr, sym, ap, ap₂, ◌∙◌, subst, arith}
+use Rattle.std.proofs.Common.{◌≡◌, ℕ, zero, suc, ◌+◌, ◌-◌, ◌*◌, ◌/◌, ◌%◌, ◌^◌, ◌<◌, ◌≤◌, ◌↔◌, inl, inr, sym, ap, ap₂, ◌∙◌, subst, arith}
 use Rattle.std.specs.Prelude.{bit_xor}
 use Rattle.std.specs.Int.{bit_at}
 use Rattle.std.specs.Int.Bits.{xor_self, xor_zero_r, xor_assoc}
 use Rattle.std.proofs.Math.Nat.{lt_of_mul-lt-mul_right, mul-le-mul_right, mod-eq_of_lt, lt-div-mul-add, div-mul-le_self, two-pow-succ}
-use Rattle.std.proofs.lemmas.Nat.{pow_pos, xor_shr, shr-shr}
+use Rattle.std.proofs.lemmas.Nat.{pow_pos, pow-add, xor_shr, shr-shr}
 use Rattle.std.proofs.lemmas.Nat.Bits.{bit_at_lowest, bit_at-suc}
 use Rattle.std.proofs.lemmas.Bool.{cases_eq}
-use Rattle.ell_block.specs.Blocks.{Block, InBlock, IsBranchOf, InBlockOf}
+use Rattle.ell_block.specs.Blocks.{Block, InBlock, HasEnds, IsBranchOf, InBlockOf}
 use Rattle.ell_block.proofs.lemmas.Middles.{one_block}
 
 -- a number is in the row of 2 ^ bit numbers that its quotient names
@@ -83,6 +83,29 @@ middle_by_shifts : (number bit : ℕ) → bit_at number bit ≡ 1 → ((i : ℕ)
 middle_by_shifts number bit set none =
     let upper : number / 2 ^ bit ≡ 2 * (number / 2 ^ bit / 2) + 1 = omega arith in
     sym (multiple_from_bits bit number none) ∙ ap (λ n. n * 2 ^ bit) upper
+
+-- so its block has these ends
+pub ends_by_shifts : (number bit : ℕ) → bit_at number bit ≡ 1 → ((i : ℕ) → i < bit → bit_at number i ≡ 0)
+    → (2 ^ bit ≤ number) × HasEnds number (number - 2 ^ bit) (number + (2 ^ bit - 1))
+ends_by_shifts number bit set none =
+    let middle = middle_by_shifts number bit set none in
+    let some = pow_pos bit in (
+      omega arith,
+      record { block = record { bit = bit; place = number / 2 ^ bit / 2 }; middle = middle; from = omega arith; upto = omega arith },
+    )
+
+-- they are within 64 bits, as the number is
+pub ends_in_word : (number bit : ℕ) → bit_at number bit ≡ 1 → ((i : ℕ) → i < bit → bit_at number i ≡ 0) → number < 2 ^ 64 → bit < 64
+    → (1 * 2 ^ bit % 2 ^ 64 ≡ 2 ^ bit) × (number + 2 ^ bit ≤ 2 ^ 64)
+ends_in_word number bit set none below small =
+    let multiple = multiple_from_bits bit number none in
+    let low = (ends_by_shifts number bit set none).0 in
+    let all : 64 ≡ (64 - bit) + bit = omega arith in
+    let whole : 2 ^ 64 ≡ 2 ^ (64 - bit) * 2 ^ bit = ap (λ n. 2 ^ n) all ∙ pow-add 2 (64 - bit) bit in
+    let less : number / 2 ^ bit < 2 ^ (64 - bit) = lt_of_mul-lt-mul_right (2 ^ bit) {m = number / 2 ^ bit} {n = 2 ^ (64 - bit)} (omega arith) in
+    let next = mul-le-mul_right {m = number / 2 ^ bit + 1} {n = 2 ^ (64 - bit)} (2 ^ bit) (omega arith) in
+    let one : 1 * 2 ^ bit ≡ 2 ^ bit = omega arith in
+    (mod-eq_of_lt (omega arith) ∙ one, omega arith)
 
 -- a key is in a block exactly if it is the same as the middle above the block's bit
 pub in_block_by_shifts : (number key bit : ℕ) → bit_at number bit ≡ 1 → ((i : ℕ) → i < bit → bit_at number i ≡ 0)

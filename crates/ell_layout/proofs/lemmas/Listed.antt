@@ -27,6 +27,16 @@ pub listed_flat : (words : List ℕ) → (words_of words).flat_from ≡ slice_in
 unfolding words_of
 listed_flat words = refl
 
+-- A word that is written to word 1 says from where on the tree is flat.
+pub flat_written : (words : List ℕ) (from : ℕ) → 1 < length words → words_of (slice_set words 1 from) ≡ record (words_of words) { flat_from = from }
+unfolding words_of
+flat_written words from room =
+    let next : slice_index (slice_set words 1 from) 0 ≡ slice_index words 0 = get_or-set_other words 1 0 from 0 (omega arith) in
+    let fields : (c : ℕ) (f : Field) → listed (slice_set words 1 from) c f ≡ listed words c f =
+    λ c f. get_or-set_other words 1 (address c f) from 0 (omega arith) in
+    let flat : slice_index (slice_set words 1 from) 1 ≡ from = get_or-set_same words 1 from 0 room in
+    λ i. record (table_words (next i) (λ c f. fields c f i)) { flat_from = flat i }
+
 -- What is no node has no key in the words that a list is.
 pub listed_no_key : (words : List ℕ) (x : ℕ) → x % 4 ≡ 3 → (words_of words).key x ≡ 0
 unfolding words_of

@@ -1,4 +1,4 @@
-use Rattle.std.proofs.Common.{◌≡◌, ◌≢◌, ℕ, ◌+◌, ◌*◌, ◌%◌, ◌<◌, ◌≤◌, ◌==◌, if◌then◌else◌, Bool, true, not, inl, inr, refl, sym, ap, ◌∙◌, arith}
+use Rattle.std.proofs.Common.{◌≡◌, ◌≢◌, ℕ, ◌+◌, ◌*◌, ◌/◌, ◌%◌, ◌<◌, ◌≤◌, ◌==◌, if◌then◌else◌, Bool, true, not, inl, inr, refl, sym, ap, ◌∙◌, arith}
 use Rattle.std.proofs.lemmas.Bool.{cases_eq, cases_lt, eq-eqb, ne_eqb, false≢true}
 use Rattle.ell_word.specs.Node.{IsInternal, card}
 use Rattle.ell_layout.specs.Branches.{depth_of, greatest_depth}
@@ -68,6 +68,16 @@ ordered_flat w child top some trie ordered = record {
       let b = rank_flat w some (child x right) in
       omega arith);
 }
+
+-- in a flat tree no rank is more than this, and a leaf's is one more
+pub rank_flat_most : (w : Words) (x : ℕ) → 0 < w.flat_from → rank w x ≤ greatest_depth w.flat_from + 64 + (x % 4 + 3) / 4
+rank_flat_most w x some = elim (cases_eq (x % 4) 0) [
+  | inl inner ↦ (
+      let is = rank_flat w some x in
+      let most = paths.rank_most (opening_from w.flat_from) w.key x (depths_few w.flat_from x some) inner in
+      omega arith)
+  | inr outer ↦ (let is = rank_flat w some x in let leaf = paths.rank_leaf (opening_from w.flat_from) w.key x outer in omega arith)
+]
 
 -- a number that the ranks of nodes up to a card stay below
 pub rank_bound : Words → ℕ → ℕ

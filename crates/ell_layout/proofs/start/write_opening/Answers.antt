@@ -1,13 +1,14 @@
 -- Zeros, the claim word and the fields of card 0 begin the words, and each card's fields make them grow.
-use Rattle.std.proofs.Common.{◌<◌, ◌+◌, length, ap, ◌∙◌, length-set, arith}
+use Rattle.std.proofs.Common.{◌<◌, ◌+◌, length, sym, ap, ◌∙◌, length-set, arith}
 use Rattle.std.proofs.lemmas.List.{length-replicate}
 use Rattle.ell_layout.specs.Layout.{table_size}
-use Rattle.ell_layout.specs.Words.{words_of}
+use Rattle.ell_layout.specs.Words.{Words, words_of}
 use Rattle.ell_layout.specs.Cards.{table_filled}
 use Rattle.ell_layout.specs.declared.branch.Branch.{Branch}
 use Rattle.ell_layout.specs.Branches.{branch_of}
-use Rattle.ell_layout.specs.Start.{start_leaf, start_value, branch_filling}
+use Rattle.ell_layout.specs.Start.{start_leaf, start_value, branch_filling, words_at_start}
 use Rattle.ell_layout.proofs.lemmas.Branches.{branch_card, branch_holds, branch_within, cards_within}
+use Rattle.ell_layout.proofs.lemmas.Listed.{flat_written}
 use Rattle.ell_layout.proofs.lemmas.Growing.{begins, grows, grown_up}
 use Rattle.ell_layout.proofs.start.write_opening.Goals as goal
 
@@ -69,5 +70,17 @@ loop-card-preserved c =
     (branch_filling (start_leaf c.args.start.now) (start_value c.args.start.now) (branch_of (length c.args.start.now + 1) c.loop-card.card)))
     (branch_card (length c.args.start.now + 1) (omega arith) c.loop-card.card below)))
 
-pub returns : goal.returns
-returns c = c.loop-card.invariant ∙ grown_up c.args.start.now c.loop-card.card (omega arith)
+pub returns-else-flat : goal.returns-else-flat
+returns-else-flat c =
+    (c.loop-card.invariant ∙ grown_up c.args.start.now c.loop-card.card (omega arith))
+    ∙ ap (λ flat. words_at_start flat c.args.start.now) (sym c.if-flat.false)
+
+pub returns-then-flat : goal.returns-then-flat
+returns-then-flat c =
+    let size = ap length c.requires.zeros ∙ length-replicate (table_size c.args.last) 0 in
+    let set = length-set c.args.words.now 0 (length c.args.start.now + 1) in
+    let filled = c.write_fields.auto.words in
+    let same = c.loop-card.auto.words in
+    flat_written c.loop-card.words (length c.args.start.now + 1) (omega arith)
+    ∙ (ap (λ (w : Words). record w { flat_from = length c.args.start.now + 1 }) (c.loop-card.invariant ∙ grown_up c.args.start.now c.loop-card.card (omega arith))
+    ∙ ap (λ flat. words_at_start flat c.args.start.now) (sym c.if-flat.true))
