@@ -1,7 +1,8 @@
-use Rattle.std.specs.Prelude.{◌≡◌, ◌≢◌, ℕ, ◌+◌, ◌<◌, ◌≤◌, ◌==◌, ◌%◌, if◌then◌else◌, Bool, false, Option, Some, None, is_some, unwrap_or, [], ◌∷◌}
+use Rattle.std.specs.Prelude.{◌≡◌, ◌≢◌, ℕ, ◌+◌, ◌<◌, ◌≤◌, ◌==◌, ◌%◌, if◌then◌else◌, Bool, true, false, Option, Some, None, is_some, unwrap_or, [], ◌∷◌}
 use Rattle.ell_ops.specs.declared.op.Op.{Op}
 use Rattle.ell_ops.specs.Meaning.{key_of, greatest_key}
 use Rattle.ell_core.specs.declared.exchange.Exchange.TheVariants as exchange
+use Rattle.ell_block.specs.Blocks.{InBlockOf}
 use Rattle.ell_word.specs.Node.{IsInternal, card}
 use Rattle.ell_word.specs.Word.{packed, unpacked}
 use Rattle.ell_core.specs.declared.event.Act.{Act}
@@ -12,7 +13,7 @@ use Rattle.ell_core.specs.declared.fact.Fact.TheVariants as fact
 use Rattle.ell_layout.specs.declared.field.Field.{Field}
 use Rattle.ell_layout.specs.declared.field.Field.TheVariants as field
 use Rattle.ell_layout.specs.Layout.{address}
-use Rattle.ell_layout.specs.Words.{key_field, value_field, child_field, IsLeaf}
+use Rattle.ell_layout.specs.Words.{key_field, value_field, child_field, IsLeaf, has_block}
 use Rattle.ell_core.specs.state.Machine.{Machine, ledger_of, worker_of}
 use Rattle.ell_layout.specs.Cards.{iflag, dflag, marked, clean}
 use Rattle.ell_core.specs.acts.Searching.{MayStop, gone_down}
@@ -23,14 +24,13 @@ use Rattle.ell_cards.specs.declared.call.Call.{Call}
 use Rattle.ell_cards.specs.declared.call.Call.TheVariants as call
 use Rattle.ell_cards.specs.declared.view.Told.TheVariants.{Met, Key, Value, Frozen}
 use Rattle.ell_cards.specs.declared.view.View.{View}
-use Rattle.ell_cards.specs.Models.{IsTold, IsFree, Does, StandsAt, InTable, EndWasUnknown}
-use Rattle.ell_cards.specs.Changes.{counted, with_fact, if_won, exchanged, after_begin, after_again, after_leave, after_answer, after_upd, after_claim, after_flag, after_mark, glance_down, is_this, told_info, depth_there, after_fill}
+use Rattle.ell_cards.specs.Models.{TablePlan, flat_from, IsTold, IsFree, Does, StandsAt, InTable, EndWasUnknown}
+use Rattle.ell_cards.specs.Changes.{counted, with_fact, if_won, exchanged, after_begin, after_again, after_leave, after_answer, after_upd, after_claim, after_flag, after_mark, is_this, told_info, depth_there, after_fill}
 use Rattle.ell_cards.specs.Guards.{MayBegin, MayAnswer, MayRead, MayGoDown, MayAsk, KnowsPlace, MayLookDown, MayClaim, MayFill, MayIFlag, MayDFlag, MayIChild, MayMark, MayDChild}
 use Rattle.ell_cards.specs.Depths.{met_at, depth_told}
 use Rattle.ell_word.specs.declared.link.Link.{Link}
 use Rattle.ell_word.specs.Link.{linked, link_in}
 use Rattle.ell_core.specs.declared.view.Seen.{Seen}
-use Rattle.ell_cards.specs.Models.{TablePlan}
 
 -- the address of the update word of a node
 abbrev pub update_address : ℕ → ℕ
@@ -58,8 +58,8 @@ word_of (call.ValueOf x) = value_address x
 word_of (call.Info c f) = address c f
 word_of (call.FrozenChild c p right) = child_address p right
 word_of call.Look = child_address 0 false
-word_of (call.LookDown from key right) = child_address from.node right
-word_of (call.Claim c) = 0
+word_of (call.LookDown from to right) = child_address from.node right
+word_of (call.Claim c node_key) = 0
 word_of (call.Fill c f value) = address c f
 word_of (call.IFlag c p from) = update_address p
 word_of (call.IChild c p l q right) = child_address p right
@@ -83,7 +83,7 @@ next_link old node = record { node = node; tag = old.tag + 1 }
 
 -- what a call does to its word
 abbrev pub atomic_of : Call → Atomic
-atomic_of (call.Claim c) = Exchange c (c + 1)
+atomic_of (call.Claim c node_key) = Exchange c (c + 1)
 atomic_of (call.Fill c f value) = Store value
 atomic_of (call.IFlag c p from) = Exchange (packed from) (iflag c)
 atomic_of (call.IChild c p l q right) = Exchange (linked l) (linked (next_link l q))
@@ -136,14 +136,14 @@ after (call.FrozenChild c p right) n v =
     }
 after call.Look n v = counted (record v {
   told = met_at (depth_told v.told 0 + 1) (link_in n).node v.told;
-  glances = record { node = (link_in n).node; low = 0; high = greatest_key + 1 } ∷ [];
+  glances = record { node = (link_in n).node; low = 0; high = greatest_key + 1; whole = true } ∷ [];
   looks = v.looks + 1;
 })
-after (call.LookDown from key right) n v = counted (record v {
+after (call.LookDown from to right) n v = counted (record v {
   told = met_at (depth_told v.told from.node + 1) (link_in n).node v.told;
-  glances = glance_down from key right (link_in n).node ∷ v.glances;
+  glances = record { node = (link_in n).node; low = to.low; high = to.high; whole = to.whole } ∷ v.glances;
 })
-after (call.Claim c) n v = after_claim (n == c) c v
+after (call.Claim c node_key) n v = after_claim (n == c) c node_key v
 after (call.Fill c f value) n v = after_fill f value v
 after (call.IFlag c p from) n v =
     exchanged (if_won (n == packed from) exchange.IFlag c) n
@@ -175,8 +175,8 @@ May plan (call.ValueOf x) v = IsTold v (Met x) × IsLeaf x
 May plan (call.Info c f) v = MayAsk v c f
 May plan (call.FrozenChild c p right) v = KnowsPlace v (fact.Marked c) c field.P p
 May plan call.Look v = IsFree v
-May plan (call.LookDown from key right) v = MayLookDown v from key
-May plan (call.Claim c) v = MayClaim v c × (c ≤ plan.last_card)
+May plan (call.LookDown from to right) v = MayLookDown (flat_from plan) v from to right
+May plan (call.Claim c node_key) v = MayClaim (flat_from plan) v c node_key × (c ≤ plan.last_card)
 May plan (call.Fill c f value) v = MayFill v c
 May plan (call.IFlag c p from) v = MayIFlag v c p from
 May plan (call.IChild c p l q right) v = MayIChild v c p l q right
@@ -195,7 +195,7 @@ act_of call.Leave n = Some act.Leave
 act_of (call.Answer said) n = Some act.Answer
 act_of (call.Upd x) n = Some act.Upd
 act_of (call.Down x right) n = Some act.Down
-act_of (call.Claim c) n = if n == c then Some act.Claim else None
+act_of (call.Claim c node_key) n = if n == c then Some act.Claim else None
 act_of (call.IFlag c p from) n = Some act.IFlag
 act_of (call.IChild c p l q right) n = Some (act.IChild c)
 act_of (call.IUnflag c p) n = Some (act.IUnflag c)
@@ -214,7 +214,7 @@ said_by _ n = Moved
 -- what the machine answers to the act of a call
 abbrev pub said_of : Call → ℕ → Stepped
 said_of (call.Answer said) n = Answered said
-said_of (call.Claim c) n = Moved
+said_of (call.Claim c node_key) n = Moved
 said_of c n = said_by (atomic_of c) n
 
 -- an act of a worker leads from a machine to another with this answer; no act leaves the machine
@@ -223,11 +223,15 @@ Becomes i (Some a) said m m' = Steps m (record { worker = i; act = a }) said m'
 Becomes i None said m m' = m' ≡ m
 
 -- the key of a leaf where the pass stands is the operation's exactly where its ledger has that present, if it has the
--- key, and then the leaf has a grandparent
-pub record TellsLeaf (v : View) (x key : ℕ) : Type 0 where
+-- key, and then the leaf has a grandparent; where the pass stands at an internal node whose block lacks the operation's
+-- key, its ledger has that absent, if it has the key. The key of an internal node is in its block, if it has one
+pub record TellsKey (from : ℕ) (v : View) (x key : ℕ) : Type 0 where
   pub present : (op : Op) → Does v op → StandsAt v x → IsLeaf x → ledger_of v.worker.ledger (key_of op) ≢ None
       → is_some (contents_in (ledger_of v.worker.ledger) (key_of op)) ≡ (key == key_of op)
   pub deep : (op : Op) → Does v op → StandsAt v x → IsLeaf x → key ≡ key_of op → v.worker.search.grandparent ≢ None
+  pub edge : (op : Op) → Does v op → StandsAt v x → IsInternal x → has_block from x ≡ true → ¬ InBlockOf key (key_of op)
+      → ledger_of v.worker.ledger (key_of op) ≢ None → contents_in (ledger_of v.worker.ledger) (key_of op) ≡ None
+  pub own : IsInternal x → has_block from x ≡ true → InBlockOf key key
 
 -- the value of a leaf where the pass stands, whose key it was told to be the operation's, is that of its ledger, if it
 -- has the key
@@ -252,12 +256,12 @@ Tells plan call.Leave v n = v.next_at_least ≤ plan.last_card + 1
 Tells plan (call.Upd x) v n = ((unpacked n).card ≤ plan.last_card) × EndWasUnknown v (unpacked n).state (unpacked n).card
 Tells plan (call.Down x right) v n = InTable plan.last_card (link_in n).node
 Tells plan call.Next v n = (1 ≤ n) × (n ≤ plan.last_card + 1) × (v.next_at_least ≤ n)
-Tells plan (call.KeyOf x) v n = TellsLeaf v x n
+Tells plan (call.KeyOf x) v n = TellsKey (flat_from plan) v x n
 Tells plan (call.ValueOf x) v n = TellsLedgerValue v x n
 Tells plan (call.Info c f) v n = TellsNode plan.last_card f n
 Tells plan (call.FrozenChild c p right) v n = InTable plan.last_card (link_in n).node
 Tells plan call.Look v n = (0 < (link_in n).node) × InTable plan.last_card (link_in n).node
-Tells plan (call.LookDown from key right) v n = (0 < (link_in n).node) × InTable plan.last_card (link_in n).node
+Tells plan (call.LookDown from to right) v n = (0 < (link_in n).node) × InTable plan.last_card (link_in n).node
 Tells plan (call.IFlag c p from) v n = (unpacked n).card ≤ plan.last_card
 Tells plan (call.DFlag c gp from) v n = (unpacked n).card ≤ plan.last_card
 Tells plan (call.Mark c p was) v n = (unpacked n).card ≤ plan.last_card

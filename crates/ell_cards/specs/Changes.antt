@@ -16,18 +16,16 @@ use Rattle.ell_core.specs.declared.fact.Fact.TheVariants as fact
 use Rattle.ell_layout.specs.declared.field.Field.{Field}
 use Rattle.ell_layout.specs.declared.field.Field.TheVariants.{Gp, P, L}
 use Rattle.ell_core.specs.declared.view.Seen.{Seen}
-use Rattle.ell_layout.specs.Cards.{insert_filling, delete_filling, tagged_for, says_by}
+use Rattle.ell_layout.specs.Cards.{put_filling, delete_filling, tagged_for, says_by}
 use Rattle.ell_core.specs.state.Machine.{WorkerView, idle}
 use Rattle.ell_core.specs.acts.Searching.{with_read, begun, ended, with_card}
 use Rattle.ell_core.specs.acts.Exchanges.{knowing, off_the_tree}
 use Rattle.ell_core.specs.state.Opening.{keys_at_start}
-use Rattle.ell_core.specs.statements.Readers.{from_of, upto_of}
 use Rattle.ell_core.specs.statements.Told.{is_fixed}
 use Rattle.ell_cards.specs.declared.view.Told.{Told}
 use Rattle.ell_cards.specs.declared.view.Told.TheVariants.{Met, Value, Info, Expects}
 use Rattle.ell_cards.specs.declared.view.Hindrance.{Hindrance}
 use Rattle.ell_cards.specs.declared.view.Hindrance.TheVariants.{Claim, Found}
-use Rattle.ell_cards.specs.declared.glance.Glance.{Glance}
 use Rattle.ell_cards.specs.declared.view.View.{View}
 use Rattle.ell_cards.specs.Depths.{met_at, depth_under, tells_grandparent_of, tells_parent_of}
 use Rattle.ell_cards.specs.Models.{TablePlan, knows_end, whole_share, given_share}
@@ -271,31 +269,32 @@ told_info depth c L x told =
     Info c L (link_in x).node ∷ Expects c (link_in x).tag ∷ met_at depth (link_in x).node told
 told_info depth c f x told = Info c f (says_by f x) ∷ told
 
--- where those keys have come that go from a node with this key to this child, which is on this side
-abbrev pub glance_down : Glance → ℕ → Bool → ℕ → Glance
-glance_down g key right child = record { node = child; low = from_of right g.low key; high = upto_of right g.high key }
-
 -- the value that was told of a leaf the last time, or 0
 abbrev pub told_value : List Told → ℕ → ℕ
 told_value [] x = 0
 told_value (Value y value ∷ told) x = if y == x then value else told_value told x
 told_value (_ ∷ told) x = told_value told x
 
--- what fills a card, by the operation, the search, the key of the leaf and the values of leaves
-abbrev pub filling_for : ℕ → Option Op → Option ℕ → Option Seen → Option Seen → ℕ → (ℕ → ℕ) → List (Field × ℕ)
-filling_for c (Some (Insert k value)) (Some leaf) (Some parent) above key value_of =
-    insert_filling c k value parent.node leaf key (value_of leaf)
-filling_for c (Some (Swap k was value)) (Some leaf) (Some parent) above key value_of =
-    insert_filling c k value parent.node leaf key (value_of leaf)
-filling_for c (Some (Delete k)) (Some leaf) (Some parent) (Some above) key value_of =
+-- the value that was told of a leaf the last time; an internal node has none
+abbrev pub value_told : List Told → ℕ → ℕ
+value_told told x = if x % 4 == 0 then 0 else told_value told x
+
+-- what fills a card whose node gets this key, by the operation, the search, the key of the node where it stands and the
+-- values of leaves
+abbrev pub filling_for : ℕ → ℕ → Option Op → Option ℕ → Option Seen → Option Seen → ℕ → (ℕ → ℕ) → List (Field × ℕ)
+filling_for c node_key (Some (Insert k value)) (Some below) (Some parent) above key value_of =
+    put_filling c k value node_key parent.node below key (value_of below)
+filling_for c node_key (Some (Swap k was value)) (Some below) (Some parent) above key value_of =
+    put_filling c k value node_key parent.node below key (value_of below)
+filling_for c node_key (Some (Delete k)) (Some leaf) (Some parent) (Some above) key value_of =
     delete_filling above.node parent.node leaf parent.word
-filling_for c _ _ _ _ key value_of = []
+filling_for c node_key _ _ _ _ key value_of = []
 
 -- what fills card c, by what the pass knows
-abbrev pub filling_of : ℕ → View → List (Field × ℕ)
-filling_of c v =
-    filling_for c v.worker.operation v.worker.search.node v.worker.search.parent v.worker.search.grandparent
-    (unwrap_or v.here 0) (told_value v.told)
+abbrev pub filling_of : ℕ → ℕ → View → List (Field × ℕ)
+filling_of c node_key v =
+    filling_for c node_key v.worker.operation v.worker.search.node v.worker.search.parent v.worker.search.grandparent
+    (unwrap_or v.here 0) (value_told v.told)
 
 -- the tag that a card is to expect: that of the child word which is to be exchanged, as the search read it
 abbrev pub tag_of_claim : Option Op → Option Seen → Option Seen → ℕ
@@ -318,16 +317,16 @@ told_filling c (e ∷ es) told =
     if is_fixed e.0 then Info c e.0 e.1 ∷ told_filling c es told else told_filling c es told
 
 -- claim: the card is in hand, and its words are told; or it was lost, a hindrance
-abbrev pub after_claim : Bool → ℕ → View → View
-after_claim true c v = counted (record v {
+abbrev pub after_claim : Bool → ℕ → ℕ → View → View
+after_claim true c node_key v = counted (record v {
   worker = with_card c v.worker;
-  told = Expects c (expected_tag v) ∷ told_filling c (filling_of c v) v.told;
-  planned = tagged (expected_tag v) (filling_of c v);
+  told = Expects c (expected_tag v) ∷ told_filling c (filling_of c node_key v) v.told;
+  planned = tagged (expected_tag v) (filling_of c node_key v);
   stores = [];
   won = (exchange.Claim, c) ∷ v.won;
   next_at_least = c + 1;
 })
-after_claim false c v = counted (hindered_by (Claim c) (record v { next_at_least = c + 1 }))
+after_claim false c node_key v = counted (hindered_by (Claim c) (record v { next_at_least = c + 1 }))
 
 -- fill: a word of the card in hand was stored
 abbrev pub after_fill : Field → ℕ → View → View

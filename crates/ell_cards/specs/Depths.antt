@@ -1,6 +1,8 @@
-use Rattle.std.specs.Prelude.{ℕ, ◌+◌, ◌/◌, ◌%◌, ◌≤◌, ◌==◌, if◌then◌else◌, max, Option, Some, None, List, [], ◌∷◌}
+use Rattle.std.specs.Prelude.{ℕ, ◌+◌, ◌/◌, ◌%◌, ◌≤◌, ◌==◌, if◌then◌else◌, max, Option, Some, None, List, [], ◌∷◌, length}
 use Rattle.ell_word.specs.Node.{IsInternal, card}
+use Rattle.ell_layout.specs.Branches.{greatest_depth}
 use Rattle.ell_layout.specs.Words.{Words}
+use Rattle.ell_cards.specs.Models.{TablePlan}
 use Rattle.ell_core.specs.tree.Rank.{rank}
 use Rattle.ell_layout.specs.declared.field.Field.TheVariants.{Gp, P}
 use Rattle.ell_cards.specs.declared.view.Told.{Told}
@@ -48,6 +50,11 @@ level w x = if w.flat_from == 0 then most_depth (card x) x else rank w x
 -- how deep a node is, by all that a pass was told
 abbrev pub depth_of : View → ℕ → ℕ
 depth_of v x = depth_told v.told x
+
+-- the most internal nodes above an internal node of a table: in a flat tree 64 more than in its opening tree, in any
+-- other tree no more than there are cards beside card 0
+abbrev pub deepest : TablePlan → ℕ
+deepest plan = if plan.flat then greatest_depth (length plan.start + 1) + 64 else plan.last_card
 
 -- a pass was told no greater depth of a node than this, if that is internal, or one more
 pub record IsShallow (deepest : ℕ) (v : View) (x : ℕ) : Type 0 where

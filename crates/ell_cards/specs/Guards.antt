@@ -1,4 +1,4 @@
-use Rattle.std.specs.Prelude.{◌≡◌, ◌≢◌, ℕ, ◌⊎◌, ◌==◌, nat_le, Bool, true, false, Option, Some, None}
+use Rattle.std.specs.Prelude.{◌≡◌, ◌≢◌, ℕ, ◌≤◌, ◌⊎◌, ◌==◌, nat_le, Bool, true, false, Option, Some, None}
 use Rattle.ell_ops.specs.declared.op.Op.{Op}
 use Rattle.ell_ops.specs.declared.op.Op.TheVariants.{Find, Insert, Delete, Swap}
 use Rattle.ell_ops.specs.Meaning.{key_of}
@@ -14,12 +14,16 @@ use Rattle.ell_core.specs.declared.view.Seen.{Seen}
 use Rattle.ell_core.specs.state.Machine.{worker_of}
 use Rattle.ell_layout.specs.Cards.{stored, brought_by}
 use Rattle.ell_core.specs.acts.Searching.{put_of, IsClean, leaf_answer}
-use Rattle.ell_layout.specs.Words.{IsLeaf}
+use Rattle.ell_layout.specs.Words.{IsLeaf, has_block}
 use Rattle.ell_core.specs.statements.Told.{is_fixed}
+use Rattle.ell_core.specs.tree.Flat.{IsNodeKey}
+use Rattle.ell_block.specs.Blocks.{Block, InBlockOf, middle_of, half_from, half_end}
 use Rattle.ell_cards.specs.declared.view.Told.TheVariants.{Met, Key, Value, Info, Frozen, Expects}
+use Rattle.ell_core.specs.statements.Readers.{from_of, upto_of}
 use Rattle.ell_cards.specs.declared.glance.Glance.{Glance}
+use Rattle.ell_cards.specs.declared.glance.Stretch.{Stretch}
 use Rattle.ell_cards.specs.declared.view.View.{View}
-use Rattle.ell_cards.specs.Models.{IsTold, Knows, KnowsCard, Does, StandsAt, IsFree, HasCome, stored_at}
+use Rattle.ell_cards.specs.Models.{IsTold, Knows, KnowsCard, Does, StandsAt, IsFree, HasCome, HasComeWhole, stored_at}
 use Rattle.ell_ops.specs.declared.reply.Reply.{Reply}
 use Rattle.ell_core.specs.soundness.Sound.{MayChange}
 use Rattle.ell_core.specs.statements.Effects.{reply_of_change}
@@ -97,40 +101,82 @@ NamesNode _ = ⊥
 abbrev pub MayAsk : View → ℕ → Field → Type 0
 MayAsk v c f = KnowsCard v c × (is_fixed f ≡ true)
 
--- look_down: a look has come to this internal node by these keys, and the pass has met it and was told its key
-pub record MayLookDown (v : View) (from : Glance) (key : ℕ) : Type 0 where
-  pub come : HasCome v from.node from.low from.high
-  pub met : IsTold v (Met from.node)
-  pub inner : IsInternal from.node
-  pub told : IsTold v (Key from.node key)
+-- a stretch of keys is in a half of the block whose middle a number is
+pub record IsInHalf (number : ℕ) (right : Bool) (keys : Stretch) : Type 0 where
+  pub block : Block
+  pub middle : number ≡ middle_of block
+  pub from : half_from block right ≤ keys.low
+  pub upto : keys.high ≤ half_end block right
+
+-- these keys go on to the child on a side of a node with this key: they are some by which a look has come there, and
+-- which go to that side; where they go on as one, they have come so, and are of a node that has a block keys of that half
+-- of it
+pub record GoOnBy (from : ℕ) (glance : Glance) (key : ℕ) (right : Bool) (keys : Stretch) : Type 0 where
+  pub low : from_of right glance.low key ≤ keys.low
+  pub high : keys.high ≤ upto_of right glance.high key
+  pub whole : keys.whole ≡ true → (glance.whole ≡ true) × (has_block from glance.node ≡ true → IsInHalf key right keys)
+
+-- look_down, in a tree that is flat from a card on: a look has come to this internal node by these keys, the pass has met
+-- it and was told its key, and those keys go on to the child on a side
+pub record MayLookDown (from : ℕ) (v : View) (glance : Glance) (keys : Stretch) (right : Bool) : Type 0 where
+  pub come : HasCome v glance.node glance.low glance.high
+  pub as_one : glance.whole ≡ true → HasComeWhole v glance.node glance.low glance.high
+  pub met : IsTold v (Met glance.node)
+  pub inner : IsInternal glance.node
+  pub key : ℕ
+  pub told : IsTold v (Key glance.node key)
+  pub goes : GoOnBy from glance key right keys
 
 -- frozen_child, iunflag, dunflag and backtrack: a fact is known of the card, and this is its word in a field, a node
 pub record KnowsPlace (v : View) (known : Fact) (c : ℕ) (f : Field) (x : ℕ) : Type 0 where
   pub knows : Knows v known
   pub place : IsTold v (Info c f x)
 
--- what a claim wants of a leaf of this key: an insert another key, a swap its value, a delete a grandparent read clean
-abbrev pub Wants : View → Op → ℕ → ℕ → Type 0
-Wants v (Find k) leaf key = ⊥
-Wants v (Insert k value) leaf key = (key ≢ k) × ((leaf_value : ℕ) × IsTold v (Value leaf leaf_value))
-Wants v (Swap k was value) leaf key = (key ≡ k) × IsTold v (Value leaf was)
-Wants v (Delete k) leaf key = (key ≡ k) × ((gp : Seen) × (v.worker.search.grandparent ≡ Some gp) × IsClean gp.word)
+-- what an insert's claim wants of the node at which it ends, of this key, and of that one's parent: it is a leaf of
+-- another key, whose value was told, or an internal node whose block lacks the insert's key; the parent's has it; and the
+-- card's node gets the key that is for the two keys
+pub record WantsInsert (from : ℕ) (v : View) (k parent x key node_key : ℕ) : Type 0 where
+  pub leaf : IsLeaf x → (key ≢ k) × ((value : ℕ) × IsTold v (Value x value))
+  pub edge : IsInternal x → (has_block from x ≡ true) × (¬ InBlockOf key k)
+  pub fits : has_block from parent ≡ true → (above : ℕ) × IsTold v (Key parent above) × InBlockOf above k
+  pub named : IsNodeKey from k key node_key
 
--- claim: next read this card; the pass stands without a card at a leaf whose key it was told, behind a clean parent
-pub record MayClaim (v : View) (c : ℕ) : Type 0 where
+-- a swap's: it is a leaf of its key, and has the value that is to go; the card's node gets that key, and is not used
+pub record WantsSwap (v : View) (k was x key node_key : ℕ) : Type 0 where
+  pub outer : IsLeaf x
+  pub same : key ≡ k
+  pub value : IsTold v (Value x was)
+  pub named : node_key ≡ k
+
+-- a delete's: it is a leaf of its key, with a grandparent that was read clean
+pub record WantsDelete (v : View) (k x key : ℕ) : Type 0 where
+  pub outer : IsLeaf x
+  pub same : key ≡ k
+  pub above : Seen
+  pub grandparent : v.worker.search.grandparent ≡ Some above
+  pub calm : IsClean above.word
+
+abbrev pub Wants : ℕ → View → Op → ℕ → ℕ → ℕ → ℕ → Type 0
+Wants from v (Find k) parent x key node_key = ⊥
+Wants from v (Insert k value) parent x key node_key = WantsInsert from v k parent x key node_key
+Wants from v (Swap k was value) parent x key node_key = WantsSwap v k was x key node_key
+Wants from v (Delete k) parent x key node_key = WantsDelete v k x key
+
+-- claim, in a tree that is flat from a card on, for a card whose node gets this key: next read this card; the pass stands
+-- without a card at a node whose key it was told, behind a clean parent
+pub record MayClaim (from : ℕ) (v : View) (c node_key : ℕ) : Type 0 where
   pub op : Op
-  pub leaf : ℕ
+  pub below : ℕ
   pub key : ℕ
   pub parent : Seen
   pub read : v.next ≡ Some c
   pub no_card : v.worker.card ≡ None
   pub busy : Does v op
-  pub stands : StandsAt v leaf
-  pub outer : IsLeaf leaf
+  pub stands : StandsAt v below
   pub told : v.here ≡ Some key
   pub behind : v.worker.search.parent ≡ Some parent
   pub calm : IsClean parent.word
-  pub wants : Wants v op leaf key
+  pub wants : Wants from v op parent.node below key node_key
 
 -- fill: the card is in hand, not flagged
 pub record MayFill (v : View) (c : ℕ) : Type 0 where

@@ -1,8 +1,10 @@
-use Rattle.std.specs.Prelude.{◌≡◌, ◌≢◌, ℕ, ◌+◌, ◌<◌, ◌≤◌, ◌⊎◌, Option, Some, None, List, [], ◌∷◌, suc, take, drop}
+use Rattle.std.specs.Prelude.{◌≡◌, ◌≢◌, ℕ, ◌+◌, ◌<◌, ◌≤◌, ◌⊎◌, Option, Some, None, List, [], ◌∷◌, suc, take, drop, true}
 use mathlib.Core.Option.{some}
 use lib.ListN.{get_elem?}
 use Rattle.ell_layout.specs.declared.field.Field.TheVariants as field
-use Rattle.ell_layout.specs.Words.{Words, IsLeaf}
+use Rattle.ell_block.specs.Blocks.{InBlockOf}
+use Rattle.ell_word.specs.Node.{IsInternal}
+use Rattle.ell_layout.specs.Words.{Words, IsLeaf, has_block}
 use Rattle.ell_core.specs.state.Machine.{ledger_of}
 use Rattle.ell_core.specs.tree.Tree.{IsTreeKey, IsTreePair}
 use Rattle.ell_core.specs.statements.Effects.{contents_in}
@@ -10,7 +12,7 @@ use Rattle.ell_cards.specs.declared.call.Call.{Call}
 use Rattle.ell_cards.specs.declared.call.Call.TheVariants as call
 use Rattle.ell_cards.specs.declared.view.Told.TheVariants.{Info, Key, Value}
 use Rattle.ell_cards.specs.declared.view.View.{View}
-use Rattle.ell_cards.specs.Models.{TablePlan, IsTold, HasCome}
+use Rattle.ell_cards.specs.Models.{TablePlan, flat_from, IsTold, HasCome, HasComeWhole}
 use Rattle.ell_cards.specs.Guards.{TellsOf}
 use Rattle.ell_cards.specs.States.{TableState}
 use Rattle.ell_cards.specs.Turns.{Turn, Makes, Splits, Joins, CallIsMade, TableRun}
@@ -94,56 +96,76 @@ abbrev pub LooksAreOfOneState : Type 0
 LooksAreOfOneState = (plan : TablePlan) (v : View) (key : ℕ) (there : Option ℕ) → HasFound v key there
     → IsFoundInRuns plan v (HasThere key there)
 
--- what a pass was told of a leaf, with this key, about a stretch of keys: the leaf's key is one of them, with this
--- value, or none of them
-abbrev pub TellsBetween : View → ℕ → ℕ → ℕ → ℕ → Option (ℕ × ℕ) → Type 0
-TellsBetween v leaf leaf_key low high None = (leaf_key < low) ⊎ (high ≤ leaf_key)
-TellsBetween v leaf leaf_key low high (Some pair) =
-    (leaf_key ≡ pair.0) × (low ≤ pair.0) × (pair.0 < high) × IsTold v (Value leaf pair.1)
+-- the block of an internal node with this key, if the node has one, lacks all keys of a stretch
+abbrev pub LacksBetween : ℕ → ℕ → ℕ → ℕ → ℕ → Type 0
+LacksBetween from x key low high =
+    IsInternal x × (has_block from x ≡ true) × ((k : ℕ) → low ≤ k → k < high → ¬ InBlockOf key k)
 
--- what a pass has found of a stretch of keys by its look: the look has come to a leaf by all of them
-pub record HasFoundBetween (v : View) (low high : ℕ) (there : Option (ℕ × ℕ)) : Type 0 where
-  pub leaf : ℕ
-  pub leaf_key : ℕ
-  pub comes : HasCome v leaf low high
-  pub outer : IsLeaf leaf
-  pub told : IsTold v (Key leaf leaf_key)
-  pub tells : TellsBetween v leaf leaf_key low high there
+-- what a pass was told of a node, with this key, about a stretch of keys, in a tree that is flat from a card on: it is a
+-- leaf whose key is one of them, with this value, or none of them; or an internal node whose block lacks them all
+abbrev pub TellsBetween : ℕ → View → ℕ → ℕ → ℕ → ℕ → Option (ℕ × ℕ) → Type 0
+TellsBetween from v x key low high None =
+    (IsLeaf x × ((key < low) ⊎ (high ≤ key))) ⊎ LacksBetween from x key low high
+TellsBetween from v x key low high (Some pair) =
+    IsLeaf x × (key ≡ pair.0) × (low ≤ pair.0) × (pair.0 < high) × IsTold v (Value x pair.1)
+
+-- what a pass has found of a stretch of keys by its look: the look has come to a node by all of them as one, and the
+-- pass was told this of it
+pub record HasFoundBetween (from : ℕ) (v : View) (low high : ℕ) (there : Option (ℕ × ℕ)) : Type 0 where
+  pub node : ℕ
+  pub node_key : ℕ
+  pub comes : HasComeWhole v node low high
+  pub told : IsTold v (Key node node_key)
+  pub tells : TellsBetween from v node node_key low high there
 
 -- what any pass has found of any stretch of keys by its last look
 abbrev pub StretchesAreOfOneState : Type 0
 StretchesAreOfOneState = (plan : TablePlan) (v : View) (low high : ℕ) (there : Option (ℕ × ℕ))
-    → HasFoundBetween v low high there → IsFoundInRuns plan v (HasBetween low high there)
+    → HasFoundBetween (flat_from plan) v low high there → IsFoundInRuns plan v (HasBetween low high there)
 
 -- two looks, by one pass or by two, of which the second began after the first had come to its end: what the first has
 -- found was so before the second began, and what the second has found was so since
-abbrev pub ComeInOrder : {A : Type 0} → (View → A → Type 0) → (A → Words → Type 0) → Type 0
+abbrev pub ComeInOrder : {A : Type 0} → (TablePlan → View → A → Type 0) → (A → Words → Type 0) → Type 0
 ComeInOrder {A = A} finds what = (plan : TablePlan) (s : TableState) → Starts plan s
     → (turns : List Turn) (ended : TableState) → TableRun plan s turns ended
-    → (seat : ℕ) (v : View) → get_elem? ended.views seat ≡ some v → (first : A) → finds v first
+    → (seat : ℕ) (v : View) → get_elem? ended.views seat ≡ some v → (first : A) → finds plan v first
     → (other : ℕ) (begun : TableState) → CallIsMade plan ended other call.Look begun
     → (more : List Turn) (s' : TableState) → TableRun plan begun more s' → LooksOn other more
-    → (w : View) → get_elem? s'.views other ≡ some w → (second : A) → finds w second
+    → (w : View) → get_elem? s'.views other ≡ some w → (second : A) → finds plan w second
     → FoundInRun plan s turns ended seat (what first) × WasSo plan begun more s' (what second)
 
 -- so it is of two looks of one key or of two
 abbrev pub LooksAreInOrder : Type 0
-LooksAreInOrder = ComeInOrder {A = ℕ × Option ℕ} (λ v a. HasFound v a.0 a.1) (λ a. HasThere a.0 a.1)
+LooksAreInOrder = ComeInOrder {A = ℕ × Option ℕ} (λ plan v a. HasFound v a.0 a.1) (λ a. HasThere a.0 a.1)
 
 -- and of one stretch of keys or of two
 abbrev pub StretchesAreInOrder : Type 0
 StretchesAreInOrder =
-    ComeInOrder {A = ℕ × ℕ × Option (ℕ × ℕ)} (λ v a. HasFoundBetween v a.0 a.1 a.2) (λ a. HasBetween a.0 a.1 a.2)
+    ComeInOrder {A = ℕ × ℕ × Option (ℕ × ℕ)} (λ plan v a. HasFoundBetween (flat_from plan) v a.0 a.1 a.2) (λ a. HasBetween a.0 a.1 a.2)
 
 -- what a pass has found by a look of a key of its own is what its ledger has: it reads its own changes
 abbrev pub ReadsItsOwn : View → Type 0
 ReadsItsOwn v = (key : ℕ) (there : Option ℕ) → HasFound v key there → ledger_of v.worker.ledger key ≢ None
     → there ≡ contents_in (ledger_of v.worker.ledger) key
 
+-- what a pass has found missing by its look, in a tree that is flat from a card on: the look has come by the key, maybe
+-- with others, to an internal node whose block lacks it
+pub record HasMissed (from : ℕ) (v : View) (key : ℕ) : Type 0 where
+  pub node : ℕ
+  pub node_key : ℕ
+  pub comes : HasCome v node key (key + 1)
+  pub told : IsTold v (Key node node_key)
+  pub lacks : LacksBetween from node node_key key (key + 1)
+
+-- a key of its own that a pass has so found missing is one that its ledger has absent
+abbrev pub MissesItsOwn : ℕ → View → Type 0
+MissesItsOwn from v = (key : ℕ) → HasMissed from v key → ledger_of v.worker.ledger key ≢ None
+    → None ≡ contents_in (ledger_of v.worker.ledger) key
+
 -- so does each pass, wherever turns have led a table
 abbrev pub LooksReadTheirOwn : Type 0
 LooksReadTheirOwn = (plan : TablePlan) (s : TableState) → IsReached plan s → (seat : ℕ) (v : View)
-    → get_elem? s.views seat ≡ some v → ReadsItsOwn v
+    → get_elem? s.views seat ≡ some v → ReadsItsOwn v × MissesItsOwn (flat_from plan) v
 
 -- a pass was told no two keys of one node: the key of a node never changes
 abbrev pub KeysAreFixed : View → Type 0

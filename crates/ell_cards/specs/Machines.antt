@@ -16,7 +16,7 @@ use Rattle.ell_core.specs.history.Invariant.{Invariant}
 use Rattle.ell_core.specs.history.Stages.{Stages, Born, waits}
 use Rattle.ell_core.specs.statements.Told.{is_fixed}
 use Rattle.ell_core.specs.statements.Walks.{Avoids}
-use Rattle.ell_cards.specs.Models.{TablePlan}
+use Rattle.ell_cards.specs.Models.{TablePlan, flat_from}
 use Rattle.ell_cards.specs.declared.view.Told.TheVariants.{Met, Depth, Key, Value, Info, Frozen, Expects}
 use Rattle.ell_cards.specs.declared.view.Told.{Told}
 use Rattle.ell_cards.specs.declared.view.View.{View}
@@ -80,7 +80,7 @@ pub record HasMachine (plan : TablePlan) (s : TableState) : Type 0 where
   pub size : length s.words ≡ table_size plan.last_card
   pub next : slice_index s.words 0 ≡ words.next
   pub flat : slice_index s.words 1 ≡ words.flat_from
-  pub plain : words.flat_from ≡ 0
+  pub shape : words.flat_from ≡ flat_from plan
   pub settled : (c : ℕ) (f : Field) → waits (stages c) ≡ false → listed s.words c f ≡ table_word words c f
   pub views : (j : ℕ) (v : View) → get_elem? s.views j ≡ some v → ViewHolds s.words words stages v
   pub owned : (j k : ℕ) (v : View) → get_elem? s.views j ≡ some v → WorkerOwns (worker_of v.worker) k

@@ -1,4 +1,4 @@
-use Rattle.std.specs.Prelude.{◌≡◌, ◌≢◌, ℕ, ◌⊎◌, ◌+◌, ◌<◌, ◌≤◌, ◌*◌, ◌==◌, ◌||◌, ◌/◌, nat_le, if◌then◌else◌, Bool, true, Some, None, List, [], ◌∷◌, min}
+use Rattle.std.specs.Prelude.{◌≡◌, ◌≢◌, ℕ, ◌⊎◌, ◌+◌, ◌<◌, ◌≤◌, ◌*◌, ◌==◌, ◌||◌, ◌/◌, nat_le, if◌then◌else◌, Bool, true, Some, None, List, [], ◌∷◌, length, min}
 use Rattle.atomic_table.specs.Seated.{TableId}
 use Rattle.ell_ops.specs.declared.op.Op.{Op}
 use Rattle.ell_word.specs.Node.{most_cards}
@@ -19,12 +19,18 @@ use Rattle.ell_cards.specs.declared.glance.Glance.{Glance}
 use Rattle.ell_cards.specs.declared.view.Told.{Told}
 use Rattle.ell_cards.specs.declared.view.View.{View}
 
--- what a table opens with: the keys that may have owners, the start pairs, the last card, and if all others are shared
+-- what a table opens with: the keys that may have owners, the start pairs, the last card, if all other keys are shared,
+-- and if the tree is flat
 pub record TablePlan : Type 0 where
   pub keys : List ℕ
   pub start : List (ℕ × ℕ)
   pub last_card : ℕ
   pub shared : Bool
+  pub flat : Bool
+
+-- the first card that is not of the opening tree, if the tree of a table is flat, else 0
+abbrev pub flat_from : TablePlan → ℕ
+flat_from plan = if plan.flat then length plan.start + 1 else 0
 
 -- which table it is, and what it was opened with
 pub record TableModel : Type 0 where
@@ -87,13 +93,22 @@ pub data Has {A : Type 0} : List A → A → Type 0 where
 abbrev pub IsTold : View → Told → Type 0
 IsTold v e = Has v.told e
 
--- the look that a pass began last has come to a node by all keys from low on and below high: by these, or by more
+-- the look that a pass began last has come to a node by the keys from low on and below high: by these, or by more
 pub record HasCome (v : View) (node low high : ℕ) : Type 0 where
   pub glance : Glance
   pub among : Has v.glances glance
   pub there : glance.node ≡ node
   pub from : glance.low ≤ low
   pub upto : high ≤ glance.high
+
+-- and by all of them as one
+pub record HasComeWhole (v : View) (node low high : ℕ) : Type 0 where
+  pub glance : Glance
+  pub among : Has v.glances glance
+  pub there : glance.node ≡ node
+  pub from : glance.low ≤ low
+  pub upto : high ≤ glance.high
+  pub whole : glance.whole ≡ true
 
 -- the pass knows a fact
 abbrev pub Knows : View → Fact → Type 0

@@ -9,7 +9,6 @@ use Rattle.ell_core.specs.state.Facts.{card_of_fact}
 use Rattle.ell_cards.specs.declared.view.Told.{Told}
 use Rattle.ell_cards.specs.declared.view.Told.TheVariants.{Met, Depth, Key, Value, Info, Frozen, Expects}
 use Rattle.ell_cards.specs.declared.view.View.{View}
-use Rattle.ell_cards.specs.Depths.{most_depth}
 use Rattle.ell_cards.specs.Models.{IsTold, Knows}
 
 -- a word of a card that is a node is one of the table
@@ -19,10 +18,10 @@ InfoIsNamed last P x = card x ≤ last
 InfoIsNamed last L x = card x ≤ last
 InfoIsNamed last _ x = Unit {0}
 
--- what was told names nodes and cards of the table; a depth that was told is one that a node of the table may have
+-- what was told names nodes and cards of the table
 abbrev pub EntryIsNamed : ℕ → Told → Type 0
 EntryIsNamed last (Met x) = card x ≤ last
-EntryIsNamed last (Depth x d) = d ≤ most_depth last x
+EntryIsNamed last (Depth x d) = card x ≤ last
 EntryIsNamed last (Key x key) = card x ≤ last
 EntryIsNamed last (Value x value) = card x ≤ last
 EntryIsNamed last (Info c f x) = (c ≤ last) × InfoIsNamed last f x

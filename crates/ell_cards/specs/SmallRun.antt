@@ -7,7 +7,6 @@ use Rattle.ell_word.specs.declared.update.State.TheVariants as state
 use Rattle.ell_core.specs.declared.exchange.Exchange.TheVariants as exchange
 use Rattle.ell_layout.specs.declared.field.Field.TheVariants as field
 use Rattle.ell_core.specs.declared.view.Entry.TheVariants.{Absent, Present}
-use Rattle.ell_word.specs.Node.{infinity1}
 use Rattle.ell_cards.specs.declared.call.Call.TheVariants as call
 use Rattle.ell_cards.specs.declared.view.View.{View}
 use Rattle.ell_cards.specs.Models.{TablePlan}
@@ -20,7 +19,7 @@ use Rattle.ell_word.specs.Link.{linked}
 -- a small table: keys 5 and 7, of which key 5 is there at its start, and three cards to give out beside those of the
 -- start
 abbrev pub small_plan : TablePlan
-small_plan = record { keys = 5 ∷ 7 ∷ []; start = (5, 50) ∷ []; last_card = 4; shared = false }
+small_plan = record { keys = 5 ∷ 7 ∷ []; start = (5, 50) ∷ []; last_card = 4; shared = false; flat = false }
 
 -- the first pass is split: seat 0 has key 5 then, and seat 1 key 7
 abbrev pub parting : List Turn
@@ -33,7 +32,7 @@ delete_flags =
     Makes 0 (call.Begin (Delete 5)) ∷ Makes 0 (call.Upd 0) ∷ Makes 0 (call.KeyOf 0) ∷ Makes 0 (call.Down 0 false)
     ∷ Makes 0 (call.Upd 4) ∷
     Makes 0 (call.KeyOf 4) ∷ Makes 0 (call.Down 4 false) ∷ Makes 0 (call.KeyOf 5) ∷ Makes 0 call.Next ∷ Makes 0
-    (call.Claim 2) ∷
+    (call.Claim 2 0) ∷
     Makes 0 (call.Fill 2 field.Gp 0) ∷ Makes 0 (call.Fill 2 field.P 4) ∷ Makes 0 (call.Fill 2 field.L 5) ∷ Makes 0
     (call.Fill 2 field.Was 3) ∷
     Makes 0 (call.DFlag 2 0 (record { state = state.Clean; card = 0 })) ∷ []
@@ -45,7 +44,7 @@ insert_claims =
     ∷ Makes 1 (call.Upd 4) ∷
     Makes 1 (call.KeyOf 4) ∷ Makes 1 (call.Down 4 false) ∷ Makes 1 (call.KeyOf 5) ∷ Makes 1 (call.ValueOf 5)
     ∷ Makes 1 call.Next ∷
-    Makes 1 (call.Claim 3) ∷ []
+    Makes 1 (call.Claim 3 7) ∷ []
 
 -- it fills card 3, and flags the node that seat 0 is about to mark
 abbrev pub insert_flags : List Turn
@@ -77,7 +76,7 @@ delete_begins_anew =
     (call.Upd 4) ∷ Makes 0 (call.KeyOf 4) ∷
     Makes 0 (call.Down 4 false) ∷ Makes 0 (call.Upd 12) ∷ Makes 0 (call.KeyOf 12) ∷ Makes 0 (call.Down 12 false)
     ∷ Makes 0 (call.KeyOf 13) ∷
-    Makes 0 call.Next ∷ Makes 0 (call.Claim 4) ∷ []
+    Makes 0 call.Next ∷ Makes 0 (call.Claim 4 0) ∷ []
 
 -- it flags, marks, cuts the node out, and answers
 abbrev pub delete_ends : List Turn
@@ -92,7 +91,7 @@ delete_ends =
 -- seat 1 looks for key 7, and finds its value
 abbrev pub look : List Turn
 look =
-    Makes 1 call.Look ∷ Makes 1 (call.LookDown (record { node = 4; low = 7; high = 8 }) infinity1 false) ∷ Makes 1
+    Makes 1 call.Look ∷ Makes 1 (call.LookDown (record { node = 4; low = 7; high = 8; whole = false }) (record { low = 7; high = 8; whole = false }) false) ∷ Makes 1
     (call.KeyOf 14) ∷ Makes 1 (call.ValueOf 14) ∷ []
 
 -- it lays a find down, and both passes become one

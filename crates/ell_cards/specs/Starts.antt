@@ -9,7 +9,7 @@ use Rattle.ell_ops.specs.Contents.{contents_of}
 use Rattle.ell_ops.specs.Meaning.{greatest_key, key_of}
 use Rattle.ell_layout.specs.Layout.{table_size}
 use Rattle.ell_layout.specs.Words.{words_of}
-use Rattle.ell_layout.specs.Start.{start_words}
+use Rattle.ell_layout.specs.Start.{words_at_start}
 use Rattle.ell_core.specs.tree.Tree.{IsTreePair}
 use Rattle.ell_core.specs.soundness.Sound.{IsSound}
 use Rattle.ell_core.specs.acts.Wins.{InOrder}
@@ -38,10 +38,10 @@ pub record MayStart (plan : TablePlan) : Type 0 where
   pub few : length plan.start < greatest_card
   pub limit : plan.last_card ≤ greatest_card
 
--- the words of a table are at its start those of the opening tree over the start keys
+-- the words of a table are at its start those of the opening tree over the start keys, flat or not
 pub record StartWords (plan : TablePlan) (words : List ℕ) : Type 0 where
   pub size : length words ≡ table_size plan.last_card
-  pub are : words_of words ≡ start_words plan.start
+  pub are : words_of words ≡ words_at_start plan.flat plan.start
 
 -- a table as it starts: its words make the opening tree, and its one pass owns the plan's keys, the start keys present
 pub record Starts (plan : TablePlan) (s : TableState) : Type 0 where

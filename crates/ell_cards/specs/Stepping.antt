@@ -4,12 +4,13 @@ use Rattle.std.specs.List.Sorted.{IsStrictlyIncreasing}
 use Rattle.atomic_table.specs.Table.{Allows, Splits, Joins}
 use Rattle.ell_cards.specs.declared.call.Call.{Call}
 use Rattle.ell_cards.specs.declared.view.View.{View}
-use Rattle.ell_cards.specs.Models.{TablePlan, PassModel, one_more, given_share}
+use Rattle.ell_cards.specs.Models.{flat_from, TablePlan, PassModel, one_more, given_share}
 use Rattle.ell_cards.specs.Changes.{ledger_keys}
+use Rattle.ell_cards.specs.Depths.{deepest, IsShallow}
 use Rattle.ell_cards.specs.Naming.{IsNamed}
 use Rattle.ell_cards.specs.Calls.{after, Tells}
 use Rattle.ell_cards.specs.Starts.{IsReached}
-use Rattle.ell_cards.specs.Looking.{KeysAreFixed, ValuesAreFixed, ReadsItsOwn}
+use Rattle.ell_cards.specs.Looking.{KeysAreFixed, ValuesAreFixed, ReadsItsOwn, MissesItsOwn}
 use Rattle.ell_cards.specs.declared.share.Share.{Share}
 use Rattle.ell_cards.specs.Inside.{HasShare}
 
@@ -75,13 +76,16 @@ pub record StepsBy (old new : PassModel) : Type 0 where
 
 -- what a step call that found this word leaves of a pass: what it knows is as the call says, and what the call tells is
 -- so; what a look has found of its own keys is what its ledger has; it was told no two keys of one node, and no two
--- values; the pass owns the keys and has the share that it did, and names what is in its table
+-- values; the pass owns the keys and has the share that it did, names what is in its table, and was told no greater depth
+-- of a node than a node of the table may have
 pub record IsTaken (plan : TablePlan) (c : Call) (v : View) (n : ℕ) (w : View) : Type 0 where
   pub view : w ≡ after c n v
   pub tells : Tells plan c v n
   pub own : ReadsItsOwn w
+  pub missed : MissesItsOwn (flat_from plan) w
   pub fixed : KeysAreFixed w
   pub values : ValuesAreFixed w
   pub keys : ledger_keys w.worker.ledger ≡ ledger_keys v.worker.ledger
   pub share : SameShare v w
   pub named : IsNamed plan.last_card w
+  pub shallow : (x : ℕ) → IsShallow (deepest plan) w x

@@ -5,6 +5,7 @@ use Rattle.ell_core.specs.tree.Tree.{Leads}
 use Rattle.ell_cards.specs.declared.call.Call.{Call}
 use Rattle.ell_cards.specs.declared.call.Call.TheVariants as call
 use Rattle.ell_cards.specs.declared.view.View.{View}
+use Rattle.ell_cards.specs.Depths.{deepest}
 use Rattle.ell_cards.specs.Calls.{atomic_of, is_won}
 use Rattle.ell_cards.specs.Contention.{cards_in_hand}
 use Rattle.ell_cards.specs.States.{TableState}
@@ -40,9 +41,9 @@ won_in is_such plan s (t ∷ ts) s' run = (if wins is_such s t then 1 else 0) + 
 abbrev pub HasHeight : Words → ℕ → Type 0
 HasHeight w h = (path : List Bool) (x : ℕ) → Leads w 0 path x → IsInternal x → length path ≤ h
 
--- the tree of a table is no higher than the number of the table's last card
+-- the tree of a table is no higher than its internal nodes may be deep
 abbrev pub TablesHaveHeights : Type 0
-TablesHaveHeights = (plan : TablePlan) (s : TableState) → IsReached plan s → HasHeight (own_words s) plan.last_card
+TablesHaveHeights = (plan : TablePlan) (s : TableState) → IsReached plan s → HasHeight (own_words s) (deepest plan)
 
 -- a run of a table from its start, and after it a stretch of any turns of any passes in which no exchange of a child is
 -- won

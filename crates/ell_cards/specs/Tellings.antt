@@ -41,11 +41,11 @@ NoOtherOutcome = (plan : TablePlan) (s : TableState) → IsReached plan s → (i
     → is_won (atomic_of c) n ≢ is_won (atomic_of c) (found_by s c)
     → ¬ IsReached plan (told_of s id v c n)
 
--- nor can the claim of the next card be lost that was not tried
+-- nor can the claim of the next card be lost that was not tried, whatever key its node would get
 abbrev pub NoUntriedClaimLost : Type 0
 NoUntriedClaimLost = (plan : TablePlan) (s : TableState) → IsReached plan s → (id : ℕ) (v : View)
-    → get_elem? s.views id ≡ some v → ¬ IsReached plan (record {
+    → get_elem? s.views id ≡ some v → (node_key : ℕ) → ¬ IsReached plan (record {
       words = s.words;
       homes = s.homes;
-      views = slice_set s.views id (after_claim false (slice_index s.words 0) v);
+      views = slice_set s.views id (after_claim false (slice_index s.words 0) node_key v);
     })

@@ -1,5 +1,5 @@
 //! The step calls as data, so that a law can speak of all of them.
-use crate::glance::Glance;
+use crate::glance::{Glance, Stretch};
 use ell_layout::Field;
 use ell_ops::{Op, Reply};
 use ell_word::{Link, Update};
@@ -31,10 +31,10 @@ pub enum Call {
     FrozenChild(u64, u64, bool),
     /// Begins a look: reads the root's left child.
     Look,
-    /// Goes down in a look from a node to which it has come, whose key is this, to the right child or to the left one.
-    LookDown(Glance, u64, bool),
-    /// Takes a card.
-    Claim(u64),
+    /// Goes down in a look from a node to which it has come, by these keys, to the right child or to the left one.
+    LookDown(Glance, Stretch, bool),
+    /// Takes a card: card, the key that its node gets if it is an insert's or a swap's.
+    Claim(u64, u64),
     /// Stores a word of a card.
     Fill(u64, Field, u64),
     /// Flags the parent for an insert: card, parent, the update that was read there.

@@ -54,6 +54,7 @@ impl<A: Allocator + Copy> CardTable<A> {
             alloc: _,
             last_card,
             shared: _,
+            first_block: _,
         } = self;
         let Pass {
             keys: _,

@@ -7,7 +7,7 @@ ghost use Rattle.ell_word.specs.declared.link.Link.{Link};
 ghost use Rattle.ell_word.specs.Node.{greatest_card};
 ghost use Rattle.ell_core.specs.declared.exchange.Exchange.TheVariants as exchange;
 ghost use Rattle.ell_core.specs.declared.fact.Fact.TheVariants.{IChanged, IOver, Marked, Unmarkable, Cut, DOver, Backed};
-ghost use Rattle.ell_cards.specs.Depths.{IsShallow};
+ghost use Rattle.ell_cards.specs.Depths.{IsShallow, deepest};
 ghost use Rattle.ell_layout.specs.declared.field.Field.TheVariants.{Gp, P};
 ghost use Rattle.ell_layout.specs.Cards.{iflag, dflag, says_by};
 ghost use Rattle.ell_cards.specs.Models.{Steps, InTable};
@@ -50,7 +50,7 @@ impl<A: Allocator + Copy> CardTable<A> {
         // A node that the card names is one of the table, and no deeper than such a node may be: grandparent, parent,
         // leaf.
         ensures node { TellsNode self.now.plan.last_card field result }
-        ensures shallow { IsShallow self.now.plan.last_card pass.new.view (says_by field result) }
+        ensures shallow { IsShallow (deepest self.now.plan) pass.new.view (says_by field result) }
     {
         self.names(pass);
         self.load(pass, Call::Info(card, field), field.address(card))
@@ -64,7 +64,7 @@ impl<A: Allocator + Copy> CardTable<A> {
         // It makes one step and counts it. The pass then knows exactly what this call tells.
         ensures step { Steps pass.old pass.new (after (call.FrozenChild card parent right) (linked result) pass.old.view) }
         // The child is no deeper than a node of the table may be, and is one of the table.
-        ensures shallow { IsShallow self.now.plan.last_card pass.new.view result.node }
+        ensures shallow { IsShallow (deepest self.now.plan) pass.new.view result.node }
         ensures there { InTable self.now.plan.last_card result.node }
     {
         self.names(pass);

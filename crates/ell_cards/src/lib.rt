@@ -22,7 +22,7 @@ mod walking;
 pub use call::Call;
 pub use closed::Closed;
 pub use fault::{CardFault, SplitFault};
-pub use glance::Glance;
+pub use glance::{Glance, Stretch};
 pub use laws::{
     calls_have_their_point, histories_are_linearizable, laid_down_calls_change_nothing,
     looks_are_of_one_state, looks_have_places, readings_are_past, runs_are_lawful,

@@ -8,7 +8,8 @@ ghost use Rattle.ell_ops.specs.KeySet.{set_of};
 ghost use Rattle.ell_word.specs.Node.{greatest_card, most_start};
 ghost use Rattle.ell_core.specs.state.Opening.{last_card};
 ghost use Rattle.ell_core.specs.state.Machine.{ledger_of};
-ghost use Rattle.ell_cards.specs.Models.{Steps, IsFree, IsCardCount, MayPart, RefusesCards, SplitRefuses, one_more};
+ghost use Rattle.ell_layout.specs.Words.{has_block};
+ghost use Rattle.ell_cards.specs.Models.{flat_from, Steps, IsFree, IsCardCount, MayPart, RefusesCards, SplitRefuses, one_more};
 ghost use Rattle.ell_cards.specs.Changes.{first_of, left_view, right_view, joined_view};
 ghost use Rattle.ell_cards.specs.Inside.{IsNewTable};
 ghost use Rattle.ell_cards.specs.Stepping.{MaySplit, MayHave, PartsShare};
@@ -23,7 +24,7 @@ use crate::view::{Plan, View};
 use atomic_table::{Seat, Table};
 use ell_layout::{table_size, write_opening};
 use ell_ops::{NoMemory, united_keys};
-use ell_word::CARDS_MAX;
+use ell_word::{CARDS_MAX, card_of};
 use std::alloc::{AllocError, Allocator};
 use std::marker::Brand;
 
@@ -40,7 +41,7 @@ impl<A: Allocator + Copy> CardTable<A> {
         // The table has this plan, and the pass knows what a first pass does: it owns the keys, of which the start keys
         // are present, and has made no step.
         ensures opened { IfOk result (OpensBy
-            (record { keys = keys.now; start = []; last_card = cards; shared = false })) }
+            (record { keys = keys.now; start = []; last_card = cards; shared = false; flat = false })) }
         // `BadCards` is returned exactly if the number of cards is not 1 to 1,000,000; the only other error is
         // `NoMemory`.
         ensures refused { IfErr result (RefusesCards cards) }
@@ -69,7 +70,7 @@ impl<A: Allocator + Copy> CardTable<A> {
         // The table has this plan, and the pass knows what a first pass does: it owns the keys, of which the start keys
         // are present, and has made no step.
         ensures opened { IfOk result (OpensBy
-            (record { keys = keys.now; start = start.now; last_card = last_card start.now cards; shared = false })) }
+            (record { keys = keys.now; start = start.now; last_card = last_card start.now cards; shared = false; flat = false })) }
         // `BadCards` is returned exactly if the number of cards is not 1 to 1,000,000; the only other error is
         // `NoMemory`.
         ensures refused { IfErr result (RefusesCards cards) }
@@ -82,6 +83,7 @@ impl<A: Allocator + Copy> CardTable<A> {
             keys: copied(alloc, keys)?,
             start: copied(alloc, start)?,
             shared: false,
+            flat: false,
         };
         Ok(CardTable::open(alloc, plan)?)
     }
@@ -108,9 +110,58 @@ impl<A: Allocator + Copy> CardTable<A> {
         // The table has this plan, and the pass knows what a first pass does: it owns the keys, of which the start keys
         // are present, and has made no step.
         ensures opened { IfOk result (OpensBy
-            (record { keys = keys.now; start = start.now; last_card = last_card start.now cards; shared = true })) }
+            (record { keys = keys.now; start = start.now; last_card = last_card start.now cards; shared = true; flat = false })) }
         // `BadCards` is returned exactly if the number of cards is not 1 to 1,000,000; the only other error is
         // `NoMemory`.
+        ensures refused { IfErr result (RefusesCards cards) }
+    {
+        CardTable::reserve_of(alloc, start, keys, cards, false)
+    }
+
+    /// Creates a table of a tree of shared keys, as `reserve_shared` does, that is flat: each node that a card adds has
+    /// the branch of its two sides as its key, so that no internal node is more than 64 deeper than the tree of the
+    /// start keys, in whatever order keys come. Errors, the number of the last card and conditions are those of
+    /// `reserve_shared`.
+    pub fn reserve_flat(
+        alloc: A,
+        start: &[(u64, u64)],
+        keys: &[u64],
+        cards: u64,
+    ) -> Result<(CardTable<A>, Pass<A>), CardFault>
+        requires ascending { IsStrictlyIncreasing keys.now }
+        requires real { All (λ k. k ≤ greatest_key) keys.now }
+        requires start_ascending { IsStrictlyIncreasing (keys_of start.now) }
+        requires start_real { All (λ k. k ≤ greatest_key) (keys_of start.now) }
+        requires few { length start.now ≤ most_start }
+        // It succeeds only with 1 to 1,000,000 cards.
+        ensures cards { OnOk result (IsCardCount cards) }
+        // The table has this plan, and the pass knows what a first pass does: it owns the keys, of which the start keys
+        // are present, and has made no step.
+        ensures opened { IfOk result (OpensBy
+            (record { keys = keys.now; start = start.now; last_card = last_card start.now cards; shared = true; flat = true })) }
+        // `BadCards` is returned exactly if the number of cards is not 1 to 1,000,000; the only other error is
+        // `NoMemory`.
+        ensures refused { IfErr result (RefusesCards cards) }
+    {
+        CardTable::reserve_of(alloc, start, keys, cards, true)
+    }
+
+    // A table of shared keys, flat or not.
+    fn reserve_of(
+        alloc: A,
+        start: &[(u64, u64)],
+        keys: &[u64],
+        cards: u64,
+        flat: bool,
+    ) -> Result<(CardTable<A>, Pass<A>), CardFault>
+        requires ascending { IsStrictlyIncreasing keys.now }
+        requires real { All (λ k. k ≤ greatest_key) keys.now }
+        requires start_ascending { IsStrictlyIncreasing (keys_of start.now) }
+        requires start_real { All (λ k. k ≤ greatest_key) (keys_of start.now) }
+        requires few { length start.now ≤ most_start }
+        ensures cards { OnOk result (IsCardCount cards) }
+        ensures opened { IfOk result (OpensBy
+            (record { keys = keys.now; start = start.now; last_card = last_card start.now cards; shared = true; flat = flat })) }
         ensures refused { IfErr result (RefusesCards cards) }
     {
         if !is_card_count(cards) {
@@ -121,6 +172,7 @@ impl<A: Allocator + Copy> CardTable<A> {
             keys: copied(alloc, keys)?,
             start: copied(alloc, start)?,
             shared: true,
+            flat,
         };
         Ok(CardTable::open(alloc, plan)?)
     }
@@ -133,11 +185,13 @@ impl<A: Allocator + Copy> CardTable<A> {
         ensures opened { IfOk result (OpensBy plan) }
     {
         let (table, seat) = opened(alloc, &plan)?;
+        let first_block = first_block(&plan);
         let Plan {
             keys,
             start: _,
             last_card,
             shared,
+            flat: _,
         } = plan;
         let pass = Pass {
             keys,
@@ -154,6 +208,7 @@ impl<A: Allocator + Copy> CardTable<A> {
             alloc,
             last_card,
             shared,
+            first_block,
         };
         Ok((table, pass))
     }
@@ -166,6 +221,26 @@ impl<A: Allocator + Copy> CardTable<A> {
         ensures limit { result ≤ greatest_card }
     {
         self.last_card
+    }
+
+    /// Returns `true` if the tree is flat.
+    #[inline(always)]
+    pub fn is_flat(&self) -> bool
+        // Returns `true` exactly if there is a first card with a block.
+        ensures { IsTrue result ↔ (0 < flat_from self.now.plan) }
+    {
+        0 < self.first_block
+    }
+
+    /// Returns `true` if a node has a block: in a flat tree each has one that is not of the opening tree, and in any
+    /// other tree none.
+    #[inline(always)]
+    #[tactic(auto, unfolding(ell_layout::specs::Words::has_block))]
+    pub fn has_block(&self, node: u64) -> bool
+        // Returns `true` exactly if a node of the table with this number has a block.
+        ensures { result ≡ has_block (flat_from self.now.plan) node }
+    {
+        0 < self.first_block && self.first_block <= card_of(node)
     }
 
     /// Returns how many pairs of the tree to have room for if a pass owns this many keys: this many are enough if no
@@ -313,6 +388,17 @@ pub fn is_card_count(cards: u64) -> bool
     1 <= cards && cards <= CARDS_MAX
 }
 
+// The first card that is not of the opening tree, if the tree is to be flat, else 0.
+fn first_block<A: Allocator + Copy>(plan: &Plan<A>) -> u64
+    ensures { result ≡ flat_from plan.now }
+{
+    if plan.flat {
+        plan.start.len() as u64 + 1
+    } else {
+        0
+    }
+}
+
 // The opening table. It copies the words, and their first list goes at once.
 fn opened<A: Allocator + Copy>(
     alloc: A,
@@ -325,7 +411,12 @@ fn opened<A: Allocator + Copy>(
         (first_of plan.now) × (made.0.shared.key ≡ plan.now)) }
 {
     let mut words = zero_words(alloc, table_size(plan.last_card))?;
-    write_opening(words.as_mut_slice(), plan.start.as_slice(), plan.last_card);
+    write_opening(
+        words.as_mut_slice(),
+        plan.start.as_slice(),
+        plan.last_card,
+        plan.flat,
+    );
     Table::of_words(alloc, words.as_slice(), plan)
 }
 

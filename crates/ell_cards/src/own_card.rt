@@ -3,7 +3,7 @@ ghost use Rattle.std.specs.Prelude.{◌≡◌, ◌≢◌, ◌≤◌, is_ok, IfEr
 ghost use Rattle.ell_core.specs.declared.fact.Fact.TheVariants.{IFlagged, DFlagged};
 ghost use Rattle.ell_word.specs.Word.{packed};
 ghost use Rattle.ell_core.specs.declared.exchange.Exchange.TheVariants as exchange;
-ghost use Rattle.ell_cards.specs.Models.{Steps};
+ghost use Rattle.ell_cards.specs.Models.{Steps, flat_from};
 ghost use Rattle.ell_cards.specs.Changes.{after_claim, after_fill, after_flag, if_won, exchanged, found_update, found_word};
 ghost use Rattle.ell_cards.specs.Guards.{MayClaim, MayFill, MayIFlag, MayDFlag};
 
@@ -17,17 +17,18 @@ use ell_word::{State, Update, pack};
 use std::alloc::Allocator;
 
 impl<A: Allocator + Copy> CardTable<A> {
-    /// Takes the card that `next` read in this try, if it is still the next one. Returns `true` if it did.
+    /// Takes the card that `next` read in this try, if it is still the next one. Returns `true` if it did. The node of an
+    /// insert's or a swap's card gets this key: the greater one of its two keys, in a flat tree their branch.
     #[inline(always)]
-    pub fn claim(&self, pass: &mut Pass<A>, card: u64) -> bool
+    pub fn claim(&self, pass: &mut Pass<A>, card: u64, node_key: u64) -> bool
         requires own { pass.old.table ≡ self.now.id }
-        requires may { MayClaim pass.old.view card }
+        requires may { MayClaim (flat_from self.now.plan) pass.old.view card node_key }
         requires room { card ≤ self.now.plan.last_card }
         // It makes one step and counts it. The pass then knows exactly what this call tells.
-        ensures step { Steps pass.old pass.new (after_claim result card pass.old.view) }
+        ensures step { Steps pass.old pass.new (after_claim result card node_key pass.old.view) }
     {
         self.names(pass);
-        self.exchange(pass, Call::Claim(card), 0, card, card + 1) == card
+        self.exchange(pass, Call::Claim(card, node_key), 0, card, card + 1) == card
     }
 
     /// Stores a word of the card in hand, which is not flagged.

@@ -6,13 +6,13 @@ ghost use prog.Atomic.{either};
 ghost use Rattle.atomic_table.specs.Table.{Allows};
 ghost use Rattle.ell_word.specs.Node.{greatest_card};
 ghost use Rattle.ell_layout.specs.Layout.{address, table_size};
-ghost use Rattle.ell_cards.specs.Models.{Knows, Sees, TableModel, Steps};
+ghost use Rattle.ell_cards.specs.Models.{flat_from, Knows, Sees, TableModel, Steps};
 ghost use Rattle.ell_cards.specs.Changes.{after_fill};
 ghost use Rattle.ell_cards.specs.Naming.{IsNamed};
 ghost use Rattle.ell_cards.specs.Guards.{MayFill};
-ghost use Rattle.ell_cards.specs.Depths.{IsShallow};
+ghost use Rattle.ell_cards.specs.Depths.{IsShallow, deepest};
 ghost use Rattle.ell_cards.specs.Calls.{word_of, atomic_of, Load, Exchange, after, May, Tells};
-ghost use Rattle.ell_cards.specs.Looking.{KeysAreFixed, ValuesAreFixed, ReadsItsOwn};
+ghost use Rattle.ell_cards.specs.Looking.{KeysAreFixed, ValuesAreFixed, ReadsItsOwn, MissesItsOwn};
 ghost use Rattle.ell_cards.specs.Stepping.{MayLoad, MayStore, MayExchange, KeepsPass, SeesBy, StepsBy};
 
 use crate::call::Call;
@@ -31,6 +31,7 @@ pub struct CardTable<A: Allocator + Copy> {
     pub(crate) alloc: A,
     pub(crate) last_card: u64,
     pub(crate) shared: bool,
+    pub(crate) first_block: u64,
 }
 
 impl<A: Allocator + Copy> Model for CardTable<A> {
@@ -42,7 +43,9 @@ impl<A: Allocator + Copy> Model for CardTable<A> {
         × (t.table.shared.table_id.slots ≡ 0)
         × (t.table.shared.key.last_card ≤ greatest_card)
         × (t.last_card ≡ t.table.shared.key.last_card)
-        × (t.shared ≡ t.table.shared.key.shared) };
+        × (t.shared ≡ t.table.shared.key.shared)
+        × (t.first_block ≡ flat_from t.table.shared.key)
+        × (deepest t.table.shared.key ≤ greatest_card + 64) };
 }
 
 impl<A: Allocator + Copy> CardTable<A> {
@@ -64,8 +67,8 @@ impl<A: Allocator + Copy> CardTable<A> {
         // All that the pass knows is of cards of the table.
         ensures cards { (fact : Fact) → Knows pass.now.view fact → card_of_fact fact ≤ self.now.plan.last_card }
         ensures room { self.now.plan.last_card ≤ greatest_card }
-        // The pass was told no greater depth of a node than a node of the table may have.
-        ensures shallow { (x : ℕ) → IsShallow self.now.plan.last_card pass.now.view x }
+        // No internal node of the table is deeper than this.
+        ensures deep { deepest self.now.plan ≤ greatest_card + 64 }
     {
         self.names(pass);
     }
@@ -76,6 +79,7 @@ impl<A: Allocator + Copy> CardTable<A> {
         requires own { pass.now.table ≡ self.now.id }
         ensures named { IsNamed self.now.plan.last_card pass.now.view }
         ensures room { self.now.plan.last_card ≤ greatest_card }
+        ensures deep { deepest self.now.plan ≤ greatest_card + 64 }
     {
         let _ = &self.table;
         let _ = &pass.seat;
@@ -105,9 +109,11 @@ impl<A: Allocator + Copy> CardTable<A> {
         ensures step { Sees pass.old pass.new (after call result pass.old.view) }
         ensures tells { Tells self.now.plan call pass.old.view result }
         ensures looked { ReadsItsOwn pass.new.view }
+        ensures missed { MissesItsOwn (flat_from self.now.plan) pass.new.view }
         ensures fixed { KeysAreFixed pass.new.view }
         ensures values { ValuesAreFixed pass.new.view }
         ensures named { IsNamed self.now.plan.last_card pass.new.view }
+        ensures shallow { (x : ℕ) → IsShallow (deepest self.now.plan) pass.new.view x }
     {
         self.load_as::<Brand>(pass, call, word)
     }
@@ -123,6 +129,7 @@ impl<A: Allocator + Copy> CardTable<A> {
         ensures tells { Tells self.now.plan call pass.old.view result }
         ensures values { ValuesAreFixed pass.new.view }
         ensures named { IsNamed self.now.plan.last_card pass.new.view }
+        ensures shallow { (x : ℕ) → IsShallow (deepest self.now.plan) pass.new.view x }
     {
         let found = self.see(pass, call, word);
         pass.count(1);

@@ -120,6 +120,8 @@ pub struct Plan<A: Allocator + Copy> {
     pub last_card: u64,
     /// Whether every other key up to `KEY_MAX` is shared: any pass may change it.
     pub shared: bool,
+    /// Whether the tree is flat.
+    pub flat: bool,
 }
 
 impl<A: Allocator + Copy> Model for Plan<A> {
@@ -127,5 +129,5 @@ impl<A: Allocator + Copy> Model for Plan<A> {
 
     ghost Value = { TablePlan };
 
-    ghost view = { λ p. record { keys = p.keys.items; start = p.start.items; last_card = p.last_card; shared = p.shared } };
+    ghost view = { λ p. record { keys = p.keys.items; start = p.start.items; last_card = p.last_card; shared = p.shared; flat = p.flat } };
 }

@@ -1,22 +1,22 @@
 //! The step calls by which a pass begins, searches and ends its operation. Each is one atomic step. A search makes two or three at
 //! each node, so those calls leave it to their caller to count the step ([`Pass::count`]).
-ghost use Rattle.std.specs.Prelude.{◌≡◌, ◌≤◌, ◌<◌, ◌+◌, Some};
+ghost use Rattle.std.specs.Prelude.{◌≡◌, ◌≤◌, ◌<◌, ◌+◌, ℕ, Some};
 ghost use Rattle.ell_core.specs.state.Machine.{ledger_of, worker_of};
-ghost use Rattle.ell_cards.specs.Depths.{IsShallow};
+ghost use Rattle.ell_cards.specs.Depths.{IsShallow, deepest};
 ghost use Rattle.ell_word.specs.Link.{linked, IsLink};
 ghost use Rattle.ell_layout.specs.Words.{IsLeaf};
 ghost use Rattle.ell_core.specs.statements.Effects.{AnswersAsMap};
 ghost use Rattle.ell_core.specs.acts.Searching.{MayStop};
 ghost use Rattle.ell_cards.specs.declared.view.Told.TheVariants.{Met};
-ghost use Rattle.ell_cards.specs.Models.{Sees, Steps, IsTold, InTable, EndWasUnknown, IsFree};
+ghost use Rattle.ell_cards.specs.Models.{Sees, Steps, flat_from, IsTold, InTable, EndWasUnknown, IsFree};
 ghost use Rattle.ell_cards.specs.Changes.{after_begin, after_again, after_leave, after_answer, after_upd};
 ghost use Rattle.ell_cards.specs.declared.call.Call.TheVariants as call;
 ghost use Rattle.ell_cards.specs.Guards.{MayBegin, MayAnswer, MayRead, MayGoDown, MayLookDown};
-ghost use Rattle.ell_cards.specs.Calls.{after, TellsLeaf, TellsLedgerValue};
-ghost use Rattle.ell_cards.specs.Looking.{KeysAreFixed, ValuesAreFixed, ReadsItsOwn};
+ghost use Rattle.ell_cards.specs.Calls.{after, TellsKey, TellsLedgerValue};
+ghost use Rattle.ell_cards.specs.Looking.{KeysAreFixed, ValuesAreFixed, ReadsItsOwn, MissesItsOwn};
 
 use crate::call::Call;
-use crate::glance::Glance;
+use crate::glance::{Glance, Stretch};
 use crate::pass::Pass;
 use crate::places::{child_address, key_address, root_key, update_address, value_address};
 use crate::table::CardTable;
@@ -104,7 +104,7 @@ impl<A: Allocator + Copy> CardTable<A> {
         // It makes one step, which the caller has to count. The pass then knows exactly what this call tells.
         ensures step { Sees pass.old pass.new (after (call.Down node right) (linked result) pass.old.view) }
         // The child is no deeper than a node of the table may be, and is one of the table; the node and the tag have a word.
-        ensures shallow { IsShallow self.now.plan.last_card pass.new.view result.node }
+        ensures shallow { IsShallow (deepest self.now.plan) pass.new.view result.node }
         ensures there { InTable self.now.plan.last_card result.node }
         ensures word { IsLink result }
     {
@@ -136,34 +136,34 @@ impl<A: Allocator + Copy> CardTable<A> {
         ensures step { Sees pass.old pass.new (after call.Look (linked result) pass.old.view) }
         // The child is below the root, no deeper than a node of the table may be, and is one of the table.
         ensures below { 0 < result.node }
-        ensures shallow { IsShallow self.now.plan.last_card pass.new.view result.node }
+        ensures shallow { IsShallow (deepest self.now.plan) pass.new.view result.node }
         ensures there { InTable self.now.plan.last_card result.node }
     {
         self.names(pass);
         Link::of(self.see(pass, Call::Look, child_address(0, false)))
     }
 
-    /// Goes down in a look from an internal node to which it has come, now or earlier, with the node's key, to the
-    /// child on a side: a node of the table, a step deeper, to which those of the keys have come that go to this side.
-    /// Returns the child with its tag.
+    /// Goes down in a look from an internal node to which it has come, now or earlier, to the child on a side, by keys
+    /// that go to this side: a node of the table, a step deeper. Returns the child with its tag.
     #[inline(always)]
-    pub fn look_down(&self, pass: &mut Pass<A>, from: Glance, key: u64, right: bool) -> Link
+    pub fn look_down(&self, pass: &mut Pass<A>, from: Glance, keys: Stretch, right: bool) -> Link
         requires own { pass.old.table ≡ self.now.id }
-        requires may { MayLookDown pass.old.view from key }
+        requires may { MayLookDown (flat_from self.now.plan) pass.old.view from keys right }
         // It makes one step, which the caller has to count. The pass then knows exactly what this call tells.
-        ensures step { Sees pass.old pass.new (after (call.LookDown from key right) (linked result) pass.old.view) }
+        ensures step { Sees pass.old pass.new (after (call.LookDown from keys right) (linked result) pass.old.view) }
         // The child is below the root, no deeper than a node of the table may be, and is one of the table.
         ensures below { 0 < result.node }
-        ensures shallow { IsShallow self.now.plan.last_card pass.new.view result.node }
+        ensures shallow { IsShallow (deepest self.now.plan) pass.new.view result.node }
         ensures there { InTable self.now.plan.last_card result.node }
     {
         self.names(pass);
         let word = child_address(from.node, right);
-        Link::of(self.see(pass, Call::LookDown(from, key, right), word))
+        Link::of(self.see(pass, Call::LookDown(from, keys, right), word))
     }
 
     /// Reads the key of a node that the pass has met. For the leaf where the pass stands, it is the operation's key
-    /// exactly if the pass has that key present, and then the leaf has a grandparent. If a look for a key of the pass's
+    /// exactly if the pass has that key present, and then the leaf has a grandparent; if the pass stands at an internal
+    /// node whose block lacks the operation's key, the pass has that key absent. If a look for a key of the pass's
     /// own has come to its end by that, it has found what the pass has there. The key of a node never changes, so the
     /// pass was told no two different keys of one node (`fixed`).
     #[inline(always)]
@@ -173,12 +173,17 @@ impl<A: Allocator + Copy> CardTable<A> {
         // It makes one step, which the caller has to count. The pass then knows exactly what this call tells.
         ensures step { Sees pass.old pass.new (after (call.KeyOf node) result pass.old.view) }
         // The key of a leaf is the operation's own key exactly if the ledger has that key present. The leaf then has a
-        // grandparent.
-        ensures leaf { TellsLeaf pass.old.view node result }
-        // What a look has found of a key that the pass owns is what the ledger has.
+        // grandparent. Of an internal node whose block lacks that key, the ledger has it absent. The key of an internal
+        // node with a block is in that.
+        ensures leaf { TellsKey (flat_from self.now.plan) pass.old.view node result }
+        // What a look has found of a key that the pass owns is what the ledger has, and a key of its own that it has found
+        // missing is one that the ledger has absent.
         ensures looked { ReadsItsOwn pass.new.view }
+        ensures missed { MissesItsOwn (flat_from self.now.plan) pass.new.view }
         // The pass was told no two different keys of one node.
         ensures fixed { KeysAreFixed pass.new.view }
+        // It was told no greater depth of a node than a node of the table may have.
+        ensures shallow { (x : ℕ) → IsShallow (deepest self.now.plan) pass.new.view x }
     {
         self.names(pass);
         self.see(pass, Call::KeyOf(node), key_address(node))
@@ -196,8 +201,10 @@ impl<A: Allocator + Copy> CardTable<A> {
         ensures step { Sees pass.old pass.new (after (call.ValueOf leaf) result pass.old.view) }
         // The value of the operation's own key is that of the ledger.
         ensures value { TellsLedgerValue pass.old.view leaf result }
-        // What a look has found of a key that the pass owns is what the ledger has.
+        // What a look has found of a key that the pass owns is what the ledger has, and a key of its own that it has found
+        // missing is one that the ledger has absent.
         ensures looked { ReadsItsOwn pass.new.view }
+        ensures missed { MissesItsOwn (flat_from self.now.plan) pass.new.view }
         // The pass was told no two different keys of one node.
         ensures fixed { KeysAreFixed pass.new.view }
     {

@@ -1,6 +1,8 @@
 use Rattle.std.specs.Prelude.{ℕ, ◌+◌, ◌-◌, ◌*◌, ◌≤◌, List, [], ◌∷◌, length, max}
 use Rattle.std.specs.List.{sum_by}
 use Rattle.ell_parts.specs.PartedOps.{PartedOps, part}
+use Rattle.ell_cards.specs.Models.{TablePlan}
+use Rattle.ell_cards.specs.Depths.{deepest}
 use Rattle.ell_tree.specs.Ends.{try_steps}
 use Rattle.ell_tree.specs.Ledgers.{PassModel}
 use Rattle.ell_tree.specs.Milestones.{milestones_known}
@@ -8,15 +10,15 @@ use Rattle.ell_tree.specs.Milestones.{milestones_known}
 -- so many finds, inserts and deletes of a pass took the steps of one try each, and one step more, and those of another
 -- try only for each move that the pass came to know of; so by both counts, that of the steps in a row and that of all
 -- steps
-pub record IsPaid (cards calls : ℕ) (before after : PassModel) : Type 0 where
-  pub steps : after.steps + milestones_known cards before.view * try_steps cards ≤
-      before.steps + (milestones_known cards after.view + calls) * try_steps cards + calls
-  pub made : after.view.made + milestones_known cards before.view * try_steps cards ≤
-      before.view.made + (milestones_known cards after.view + calls) * try_steps cards + calls
+pub record IsPaid (plan : TablePlan) (calls : ℕ) (before after : PassModel) : Type 0 where
+  pub steps : after.steps + milestones_known plan.last_card before.view * try_steps (deepest plan) ≤
+      before.steps + (milestones_known plan.last_card after.view + calls) * try_steps (deepest plan) + calls
+  pub made : after.view.made + milestones_known plan.last_card before.view * try_steps (deepest plan) ≤
+      before.view.made + (milestones_known plan.last_card after.view + calls) * try_steps (deepest plan) + calls
 
 -- the most steps of a worker with so many operations: a try of each, and a try more for each move of a card
-abbrev pub worker_steps : ℕ → ℕ → ℕ
-worker_steps cards count = count * (try_steps cards + 1) + 2 * cards * try_steps cards
+abbrev pub worker_steps : TablePlan → ℕ → ℕ
+worker_steps plan count = count * (try_steps (deepest plan) + 1) + 2 * plan.last_card * try_steps (deepest plan)
 
 -- the most operations that one of these workers has
 abbrev pub longest : PartedOps → List ℕ → ℕ
@@ -25,17 +27,17 @@ longest parting (worker ∷ workers) = max (length (part parting worker)) (longe
 
 -- the most that the pass counts which comes back from these workers: the steps of the one with the most operations, and
 -- a split and a join for each worker beside the first
-abbrev pub work_steps : ℕ → PartedOps → List ℕ → ℕ
-work_steps cards parting workers = worker_steps cards (longest parting workers) + 2 * (length workers - 1)
+abbrev pub work_steps : TablePlan → PartedOps → List ℕ → ℕ
+work_steps plan parting workers = worker_steps plan (longest parting workers) + 2 * (length workers - 1)
 
 -- the most steps that these workers make together: of each, those of its operations, and a split and a join for each
 -- beside the first
-abbrev pub total_steps : ℕ → PartedOps → List ℕ → ℕ
-total_steps cards parting workers =
-    sum_by (λ worker. worker_steps cards (length (part parting worker))) workers + 2 * (length workers - 1)
+abbrev pub total_steps : TablePlan → PartedOps → List ℕ → ℕ
+total_steps plan parting workers =
+    sum_by (λ worker. worker_steps plan (length (part parting worker))) workers + 2 * (length workers - 1)
 
 -- workers that began with a pass made no more steps than they may, in a row and all together, as the pass counts that
 -- comes back from them
-pub record AreWithin (cards : ℕ) (parting : PartedOps) (workers : List ℕ) (before after : PassModel) : Type 0 where
-  pub bounded : after.steps ≤ before.steps + work_steps cards parting workers
-  pub total : after.view.made ≤ before.view.made + total_steps cards parting workers
+pub record AreWithin (plan : TablePlan) (parting : PartedOps) (workers : List ℕ) (before after : PassModel) : Type 0 where
+  pub bounded : after.steps ≤ before.steps + work_steps plan parting workers
+  pub total : after.view.made ≤ before.view.made + total_steps plan parting workers

@@ -8,6 +8,7 @@ use Rattle.ell_parts.specs.PartedOps.{PartedOps, IsLawful, part, keys_of_part}
 use Rattle.ell_tree.specs.Ledgers.{PassModel, TreeModel, Owns, IsIdle, answers, hindrances, present_in}
 use Rattle.ell_tree.specs.PassParts.{IsLeftPart, IsRightPart}
 use Rattle.ell_run.specs.ByParts.{ops_in}
+use Rattle.ell_cards.specs.Models.{TablePlan}
 use Rattle.ell_run.specs.Steps.{AreWithin, total_steps, work_steps}
 use Rattle.ell_run.specs.Pieces.{ArePieces, IsPiece, all_not_done, all_workers, busy, front, lists_of, one_not_done, ops_done}
 use Rattle.ell_ops.specs.declared.reply.Reply.{Reply}
@@ -85,22 +86,22 @@ label_after before [] = before.label
 label_after before (worker ∷ workers) = worker
 
 -- workers have worked with a pass, and made no more steps than they may
-pub record IsWorkedWithin (cards tries : ℕ) (parting : PartedOps) (workers : List ℕ) (before after : PassModel)
+pub record IsWorkedWithin (plan : TablePlan) (tries : ℕ) (parting : PartedOps) (workers : List ℕ) (before after : PassModel)
     (pieces : List (List (ℕ × Reply))) : Type 0 where
-  pub worked : IsWorked cards tries parting workers before after pieces
-  pub within : AreWithin cards parting workers before after
+  pub worked : IsWorked plan.last_card tries parting workers before after pieces
+  pub within : AreWithin plan parting workers before after
   pub label : after.label ≡ label_after before workers
 
 -- the same of a tree, where the pass that comes back and the pieces stand together
 abbrev pub HaveWorked : {Z : Type 0} → TreeModel → ℕ → PartedOps → List ℕ → PassModel → PassModel
     × Vec (Vec (ℕ × Reply) Z) Z → Type 0
 HaveWorked tree tries parting workers before done =
-    IsWorkedWithin tree.plan.last_card tries parting workers before done.0 (lists_of done.1.items)
+    IsWorkedWithin tree.plan tries parting workers before done.0 (lists_of done.1.items)
 
 -- all workers of a parting have worked with a pass, and made at most `more` steps above those that the ones with
 -- something to do may make
 pub record AllHaveWorked {Z : Type 0} (tree : TreeModel) (tries more : ℕ) (parting : PartedOps) (before : PassModel)
     (done : PassModel × Vec (Vec (ℕ × Reply) Z) Z) : Type 0 where
   pub worked : IsWorked tree.plan.last_card tries parting (all_workers parting) before done.0 (lists_of done.1.items)
-  pub bounded : done.0.steps ≤ before.steps + work_steps tree.plan.last_card parting (busy parting) + more
-  pub total : done.0.view.made ≤ before.view.made + total_steps tree.plan.last_card parting (busy parting) + more
+  pub bounded : done.0.steps ≤ before.steps + work_steps tree.plan parting (busy parting) + more
+  pub total : done.0.view.made ≤ before.view.made + total_steps tree.plan parting (busy parting) + more

@@ -36,7 +36,7 @@ pub(crate) fn work_off<A: Allocator + Copy, G: StepGate>(
         IsWorkedOff tree.now.plan.last_card tries part.now pass.old pass.new piece.items) }
     // It makes at most the steps of its part's operations, in a row and in all.
     ensures bounded { IfOk result (λ piece.
-        Took pass.old pass.new (worker_steps tree.now.plan.last_card (length part.now))) }
+        Took pass.old pass.new (worker_steps tree.now.plan (length part.now))) }
 {
     let mut piece = Vec::with_capacity(alloc, part.len())?;
     for (position, op) in part {
@@ -61,7 +61,7 @@ fn do_op<A: Allocator + Copy, G: StepGate>(
     requires may { MayDo tree.now (key_of op) pass.old }
     requires tries { 1 ≤ tries }
     ensures ends { Ends tree.now tries op pass.old pass.new result }
-    ensures paid { IsPaid tree.now.plan.last_card 1 pass.old pass.new }
+    ensures paid { IsPaid tree.now.plan 1 pass.old pass.new }
 {
     match op {
         Op::Find(key) => Ok(Reply::found(tree.find(pass, key, gate))),

@@ -5,6 +5,7 @@ ghost use Rattle.ell_ops.specs.KeySet.{Lists};
 ghost use Rattle.ell_ops.specs.Meaning.{key_of};
 ghost use Rattle.ell_parts.specs.PartedOps.{IsLawful, PartedOps, keys_of_ops};
 ghost use Rattle.ell_tree.specs.Ledgers.{IsIdlePassOf, Owns, PassModel};
+ghost use Rattle.ell_cards.specs.Models.{TablePlan};
 ghost use Rattle.ell_run.specs.Pieces.{busy, lists_of};
 ghost use Rattle.ell_run.specs.WorkFault.{StopsWork};
 ghost use Rattle.ell_run.specs.Work.{AllHaveWorked, AreHalves, AreReady, HaveWorked, IsWorkedWithin, keys_for, label_after};
@@ -23,7 +24,7 @@ use std::thread::{Threads, join};
 /// its replies, with their positions. The pass then has the number of the first worker with operations as its label, or
 /// its own label if there is none. After a fault the pass is gone; `TooManyPasses` is returned only for a tree that
 /// shares keys. However many tries there are, and however the workers' steps fall, a worker with n operations makes at
-/// most `n * (7 * cards + 28) + 2 * cards * (7 * cards + 27)` steps, where `cards` is the number of the last card; the
+/// most `n * (7 * depth + 28) + 2 * cards * (7 * depth + 27)` steps, `cards` and `depth` as for `Tree`; the
 /// pass that comes back has counted no more than the worker with the most operations may, and two for each busy worker
 /// other than the first. All workers together make at most the sum of what each may, and two for each busy worker other
 /// than the first: its split and its join (`total`).
@@ -224,12 +225,12 @@ fn both<A: Allocator + Copy>(
 ) -> Result<(Pass<A>, Vec<Piece<A>, A>), NoMemory>
     requires left { IsIdlePassOf tree.now first.0 }
     requires right { IsIdlePassOf tree.now second.0 }
-    ensures { (cards tries : ℕ) (parting : PartedOps) (low high : List ℕ) (pass left right : PassModel) →
+    ensures { (plan : TablePlan) (tries : ℕ) (parting : PartedOps) (low high : List ℕ) (pass left right : PassModel) →
         0 < length low → 0 < length high →
         AreReady tree.now parting (low ++ high) pass → AreHalves parting low pass left right →
-        IsWorkedWithin cards tries parting low left first.0 (lists_of first.1.items) →
-        IsWorkedWithin cards tries parting high right second.0 (lists_of second.1.items) →
-        IfOk result (λ done. IsWorkedWithin cards tries parting (low ++ high) pass done.0 (lists_of done.1.items)) }
+        IsWorkedWithin plan tries parting low left first.0 (lists_of first.1.items) →
+        IsWorkedWithin plan tries parting high right second.0 (lists_of second.1.items) →
+        IfOk result (λ done. IsWorkedWithin plan tries parting (low ++ high) pass done.0 (lists_of done.1.items)) }
 {
     let (left, mut pieces) = first;
     let (right, mut behind) = second;

@@ -36,6 +36,8 @@ pub mod Flagging
 pub mod PassParts
 -- how a tree ends
 pub mod Closing
+-- the bounds of a flat tree
+pub mod Flat
 -- what the steps of a look leave of a pass
 pub mod Looks
 -- a look that goes on, from the nodes that it keeps

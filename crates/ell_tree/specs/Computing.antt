@@ -159,12 +159,12 @@ whether_put (Err why) = Err why
 
 -- the most steps of one round: a try with its end, and a find
 abbrev pub round_steps : ℕ → ℕ
-round_steps last = try_steps last + find_steps last + 1
+round_steps most = try_steps most + find_steps most + 1
 
 -- the most steps of a call that tries so often: a find, and its rounds
 abbrev pub update_steps : ℕ → ℕ → ℕ
-update_steps last tries = find_steps last + tries * round_steps last
+update_steps most tries = find_steps most + tries * round_steps most
 
--- this bound is at most 64 (t + 1) (c + 2) with t tries, where c is the number of the last card
+-- this bound is at most 64 (t + 1) (c + 2) with t tries, where no internal node is below more than c
 abbrev pub UpdatesAreShort : Type 0
 UpdatesAreShort = (last tries : ℕ) → update_steps last tries ≤ 64 * (tries + 1) * (last + 2)

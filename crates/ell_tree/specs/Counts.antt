@@ -1,7 +1,8 @@
 use Rattle.std.specs.Prelude.{◌≡◌, ℕ, ◌+◌, ◌-◌, ◌*◌, ◌≤◌}
-use Rattle.ell_cards.specs.Models.{PassModel, some_more}
+use Rattle.ell_cards.specs.Models.{TablePlan, PassModel, some_more}
 use Rattle.ell_tree.specs.Ends.{try_steps}
 use Rattle.ell_tree.specs.Milestones.{milestones_known}
+use Rattle.ell_cards.specs.Depths.{deepest}
 
 -- a pass has at most so many steps more, by both its counts: the steps in a row that led to it, and all steps that were
 -- made, those of the passes that it was joined with too
@@ -20,8 +21,8 @@ pub record HasUncounted (old new : PassModel) (n : ℕ) : Type 0 where
 
 -- an insert or a delete took the steps of one try, and one step more, and those of another try only for each milestone
 -- that the pass came to know of
-pub record IsAmortized (last : ℕ) (old new : PassModel) : Type 0 where
-  pub steps : new.steps + milestones_known last old.view * try_steps last ≤ old.steps +
-      (milestones_known last new.view + 1) * try_steps last + 1
-  pub made : new.view.made + milestones_known last old.view * try_steps last ≤ old.view.made +
-      (milestones_known last new.view + 1) * try_steps last + 1
+pub record IsAmortized (plan : TablePlan) (old new : PassModel) : Type 0 where
+  pub steps : new.steps + milestones_known plan.last_card old.view * try_steps (deepest plan) ≤ old.steps +
+      (milestones_known plan.last_card new.view + 1) * try_steps (deepest plan) + 1
+  pub made : new.view.made + milestones_known plan.last_card old.view * try_steps (deepest plan) ≤ old.view.made +
+      (milestones_known plan.last_card new.view + 1) * try_steps (deepest plan) + 1

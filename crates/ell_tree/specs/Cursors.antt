@@ -1,15 +1,16 @@
-use Rattle.std.specs.Prelude.{◌≡◌, ℕ, ◌+◌, ◌<◌, ◌≤◌, ◌⊎◌, length, slice_index_or}
+use Rattle.std.specs.Prelude.{◌≡◌, ℕ, ◌+◌, ◌<◌, ◌≤◌, ◌⊎◌, false, Option, Some, None, length, slice_index_or}
 use Rattle.ell_ops.specs.Meaning.{greatest_key}
 use Rattle.ell_word.specs.Node.{IsInternal}
+use Rattle.ell_layout.specs.Words.{IsLeaf}
 use Rattle.ell_cards.specs.declared.glance.Glance.{Glance}
 use Rattle.ell_cards.specs.declared.view.Told.TheVariants.{Met, Key}
 use Rattle.ell_cards.specs.declared.view.View.{View}
-use Rattle.ell_cards.specs.Looking.{HasFoundBetween, ReadsItsOwn}
+use Rattle.ell_cards.specs.Looking.{TellsBetween, ReadsItsOwn}
 use Rattle.ell_cards.specs.Models.{HasCome, Has, InTable, IsTold, PassModel}
 use Rattle.ell_tree.specs.declared.cursor.About.{About}
 use Rattle.ell_tree.specs.declared.cursor.Cursor.{Cursor}
 use Rattle.ell_tree.specs.Looks.{OnlyLooks}
-use Rattle.ell_tree.specs.Scans.{IsAbout}
+use Rattle.ell_tree.specs.Scans.{HaveFound, IsAbout, value_there}
 use Rattle.ell_cards.specs.Depths.{depth_of}
 
 -- a pass was told of an inner node beside the root that has this key
@@ -38,10 +39,11 @@ pub record MayGoOnFrom (last : ℕ) (v : View) (g : Glance) : Type 0 where
   pub lower : IsLower last v g.low
   pub upper : IsUpper last v g.high
   pub real : g.high ≤ greatest_key + 1
+  pub apart : g.whole ≡ false
 
 -- a node that a cursor keeps, by its place
 abbrev pub kept_at : Cursor → ℕ → Glance
-kept_at c i = slice_index_or c.kept i (record { node = 0; low = 0; high = 0 })
+kept_at c i = slice_index_or c.kept i (record { node = 0; low = 0; high = 0; whole = false })
 
 -- so it may from where a cursor began, to which all real keys come, and from each node that it keeps
 pub record AreKept (last : ℕ) (v : View) (c : Cursor) : Type 0 where
@@ -66,10 +68,23 @@ pub record BeginsALook (old new : PassModel) : Type 0 where
   pub only : OnlyLooks old new 1
   pub one : new.view.looks ≡ old.view.looks + 1
 
--- what a look has found about a key
+-- what was told of a leaf says this about the keys by which a look has come there
+pub record TellsOfLeaf (from : ℕ) (v : View) (leaf : ℕ) (about : About) : Type 0 where
+  pub key : ℕ
+  pub outer : IsLeaf leaf
+  pub told : IsTold v (Key leaf key)
+  pub tells : TellsBetween from v leaf key about.low about.high about.found
+
+-- the pair that was found, if one was, has a key of the stretch
+abbrev pub IsWithin : ℕ → ℕ → Option (ℕ × ℕ) → Type 0
+IsWithin low high None = Unit {0}
+IsWithin low high (Some pair) = (low ≤ pair.0) × (pair.0 < high)
+
+-- what a look has found about a key, of each key of the stretch by itself
 pub record FindsAbout (last : ℕ) (v : View) (key : ℕ) (about : About) : Type 0 where
   pub within : IsAbout key about
-  pub found : HasFoundBetween v about.low about.high about.found
+  pub found : HaveFound v about.low about.high (value_there about.found)
+  pub pair : IsWithin about.low about.high about.found
   pub lower : IsLower last v about.low
   pub upper : IsUpper last v about.high
   pub own : ReadsItsOwn v

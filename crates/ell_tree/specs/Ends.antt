@@ -121,23 +121,23 @@ Ends t tries op old new (Ok said) = Answers t op said old new × Meets old.view 
 Ends t tries op old new (Err why) =
     LaidDown t op old new × NotDoneFor t.plan.last_card tries old new why × Meets old.view new.view
 
--- the most steps of a find in a tree with this last card
+-- the most steps of a find, where no internal node is below more internal nodes than this
 abbrev pub find_steps : ℕ → ℕ
-find_steps last = 3 * last + 7
+find_steps most = 3 * most + 7
 
 -- the most steps of one try of an insert, a delete or a swap, helping included
 abbrev pub try_steps : ℕ → ℕ
-try_steps last = 7 * last + 27
+try_steps most = 7 * most + 27
 
 -- the most steps of what one try does after its search
 abbrev pub rest_steps : ℕ → ℕ
-rest_steps last = 4 * last + 22
+rest_steps most = 4 * most + 22
 
 -- the most steps of so many tries
 abbrev pub change_steps : ℕ → ℕ → ℕ
-change_steps last tries = tries * try_steps last + 1
+change_steps most tries = tries * try_steps most + 1
 
--- these bounds are at most 64 (c + 2), and with t tries 64 (t + 1) (c + 2), where c is the number of the last card
+-- these bounds are at most 64 (c + 2), and with t tries 64 (t + 1) (c + 2), where no internal node is below more than c
 abbrev pub FindsAreShort : Type 0
 FindsAreShort = (last : ℕ) → find_steps last ≤ 64 * (last + 2)
 

@@ -7,7 +7,7 @@ use Rattle.ell_cards.specs.declared.view.Told.TheVariants.{Info, Expects, Key, M
 use Rattle.ell_cards.specs.declared.view.Hindrance.{Hindrance}
 use Rattle.ell_cards.specs.declared.view.Hindrance.TheVariants.{Found}
 use Rattle.ell_cards.specs.declared.view.View.{View}
-use Rattle.ell_cards.specs.Models.{PassModel, IsTold, Knows}
+use Rattle.ell_cards.specs.Models.{TablePlan, PassModel, IsTold, Knows}
 use Rattle.ell_cards.specs.Changes.{is_mark_of, is_this}
 use Rattle.ell_cards.specs.Guards.{IsSibling}
 use Rattle.ell_tree.specs.declared.steps.KeyedNode.{KeyedNode}
@@ -16,7 +16,7 @@ use Rattle.ell_tree.specs.declared.helping.Ending.{Ending}
 use Rattle.ell_tree.specs.declared.helping.Ending.TheVariants.{Done, Backed, Behind}
 use Rattle.ell_tree.specs.Hindrances.{Meets, MeetsUpTo}
 use Rattle.ell_tree.specs.Keeping.{KeepsAllButMet, IsInnerMet, IsSeenAt}
-use Rattle.ell_cards.specs.Depths.{depth_of}
+use Rattle.ell_cards.specs.Depths.{deepest, depth_of}
 
 -- the flag of an insert is known, and where its card goes
 pub record IsInsert (v : View) (c p : ℕ) (l : Link) (k j : ℕ) : Type 0 where
@@ -82,22 +82,22 @@ DeleteEnds last c p old new (Behind flag) =
     × IsFlag last new.view flag × (flag.grandparent ≡ p)
 
 -- one delete is helped to its end, which leads to another's flag that is deeper, or there is no more to do
-abbrev pub HelpEnds : ℕ → DeleteFlag → PassModel → PassModel → Ending → Type 0
-HelpEnds last flag old new Done =
-    KeepsAllButMet old new 12 × Meets old.view new.view × (depth_of old.view flag.grandparent + 1 ≤ last)
+abbrev pub HelpEnds : TablePlan → DeleteFlag → PassModel → PassModel → Ending → Type 0
+HelpEnds plan flag old new Done =
+    KeepsAllButMet old new 12 × Meets old.view new.view × (depth_of old.view flag.grandparent + 1 ≤ deepest plan)
     × Knows new.view (fact.DOver flag.card)
-HelpEnds last flag old new Backed =
-    KeepsAllButMet old new 12 × Meets old.view new.view × (depth_of old.view flag.grandparent + 1 ≤ last)
+HelpEnds plan flag old new Backed =
+    KeepsAllButMet old new 12 × Meets old.view new.view × (depth_of old.view flag.grandparent + 1 ≤ deepest plan)
     × Knows new.view (fact.Backed flag.card)
-HelpEnds last flag old new (Behind next) =
-    KeepsAllButMet old new 4 × MeetsUpTo next.card old.view new.view × IsFlag last new.view next
-    × (depth_of old.view flag.grandparent + 1 ≤ last) × (depth_of old.view flag.grandparent < depth_of new.view next.grandparent)
+HelpEnds plan flag old new (Behind next) =
+    KeepsAllButMet old new 4 × MeetsUpTo next.card old.view new.view × IsFlag plan.last_card new.view next
+    × (depth_of old.view flag.grandparent + 1 ≤ deepest plan) × (depth_of old.view flag.grandparent < depth_of new.view next.grandparent)
     × Knows new.view (fact.Backed flag.card)
 
 -- the most steps of a chain of helps that begins with a delete's flag at a node of this depth
 abbrev pub chain_steps : ℕ → ℕ → ℕ
-chain_steps last depth = 4 * (last - depth) + 8
+chain_steps most depth = 4 * (most - depth) + 8
 
 -- the most steps of a help
 abbrev pub help_steps : ℕ → ℕ
-help_steps last = 4 * last + 8
+help_steps most = 4 * most + 8

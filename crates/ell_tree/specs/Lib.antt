@@ -12,6 +12,8 @@ pub mod Closing
 pub mod Hindrances
 -- cards that are given out and come to their end, as a pass knows
 pub mod Milestones
+-- the bounds of a flat tree
+pub mod Flat
 -- how many steps a pass made
 pub mod Counts
 -- how many cards a pass took

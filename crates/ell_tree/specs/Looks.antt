@@ -30,13 +30,13 @@ pub record OnlyLooks (old new : PassModel) (n : ℕ) : Type 0 where
   pub steps : new.steps ≤ old.steps + n
   pub made : new.view.made ≤ old.view.made + n
 
--- the most steps of a look in a tree with this last card
+-- the most steps of a look, where no internal node is below more internal nodes than this
 abbrev pub look_steps : ℕ → ℕ
-look_steps last = 2 * last + 3
+look_steps most = 2 * most + 3
 
 -- of these one begins the look, and the others go down
 abbrev pub stretch_steps : ℕ → ℕ
-stretch_steps last = 2 * last + 2
+stretch_steps most = 2 * most + 2
 
 -- what a look found of a key was so in one state of the tree since it began, in every run in which its pass now knows
 -- this

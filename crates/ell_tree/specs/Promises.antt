@@ -8,6 +8,7 @@ use Rattle.ell_tree.specs.Ends.{CountsTries, change_steps}
 use Rattle.ell_tree.specs.Hindrances.{Meets}
 use Rattle.ell_tree.specs.Ledgers.{IsIdle, Owns, PassModel, TreeModel}
 use Rattle.ell_tree.specs.Milestones.{milestones_known}
+use Rattle.ell_cards.specs.Depths.{deepest}
 
 -- a pass may find or change a key of this tree: it is a pass of the tree, with nothing in hand, and owns the key, or
 -- the key is shared
@@ -20,8 +21,8 @@ pub record MayDo (t : TreeModel) (key : ℕ) (p : PassModel) : Type 0 where
 -- takes, and another for each milestone that its pass came to know of; and it counted no more tries as hindered than
 -- these
 pub record IsWithin (t : TreeModel) (tries : ℕ) (old new : PassModel) : Type 0 where
-  pub most : Took old new (change_steps t.plan.last_card tries)
-  pub amortized : IsAmortized t.plan.last_card old new
+  pub most : Took old new (change_steps (deepest t.plan) tries)
+  pub amortized : IsAmortized t.plan old new
   pub counted : CountsTries tries old new
 
 -- so many tries of a pass ended without an answer, and that is others' doing: each is counted as hindered; each showed

@@ -11,6 +11,8 @@ use Rattle.ell_tree.specs.declared.scanning.Pair.{Pair}
 use Rattle.ell_tree.specs.declared.scanning.Scanned.{Scanned}
 use Rattle.ell_tree.specs.Ledgers.{Owns, PassModel, TreeModel, present_in}
 use Rattle.ell_tree.specs.Looks.{IsFoundIn, stretch_steps}
+use Rattle.ell_cards.specs.Models.{TablePlan}
+use Rattle.ell_cards.specs.Depths.{deepest}
 
 -- a key lies in the stretch of keys about which a look has found something, all of which are real
 pub record IsAbout (key : ℕ) (about : About) : Type 0 where
@@ -50,10 +52,10 @@ pub record AreInOrder (from upto : ℕ) (pairs : List (ℕ × ℕ)) : Type 0 whe
   pub ascending : IsStrictlyIncreasing (keys_of pairs)
   pub within : All (λ key. (from ≤ key) × (key < upto)) (keys_of pairs)
 
--- the most steps of a scan in a tree with this last card: one to begin, and for each stretch at most two for each inner
+-- the most steps of a scan in a tree with this plan: one to begin, and for each stretch at most two for each inner
 -- node beside the root, and two for a leaf; there are no more stretches than one for each card and one more
-abbrev pub scan_steps : ℕ → ℕ
-scan_steps last = (last + 1) * stretch_steps last + 1
+abbrev pub scan_steps : TablePlan → ℕ
+scan_steps plan = (plan.last_card + 1) * stretch_steps (deepest plan) + 1
 
 -- what a look has found of each key from one on and below another, of some state each
 abbrev pub HaveFound : View → ℕ → ℕ → Contents → Type 0

@@ -1,5 +1,8 @@
-use Rattle.std.specs.Prelude.{◌≡◌, ◌≢◌, ◌≤◌, ℕ, ◌==◌, if◌then◌else◌, IfSome, Option, Some, None, []}
+use Rattle.std.specs.Prelude.{◌≡◌, ◌≢◌, ◌≤◌, ℕ, ◌==◌, if◌then◌else◌, true, IfSome, Option, Some, None, []}
 use Rattle.ell_ops.specs.declared.op.Op.{Op}
+use Rattle.ell_ops.specs.declared.op.Op.TheVariants.{Insert}
+use Rattle.ell_block.specs.Blocks.{InBlockOf}
+use Rattle.ell_word.specs.Node.{IsInternal}
 use Rattle.ell_ops.specs.Meaning.{key_of}
 use Rattle.ell_word.specs.Link.{greatest_tag}
 use Rattle.ell_word.specs.Word.{packed}
@@ -9,13 +12,13 @@ use Rattle.ell_core.specs.declared.view.Search.{Search}
 use Rattle.ell_core.specs.state.Machine.{ledger_of}
 use Rattle.ell_core.specs.statements.Effects.{contents_in}
 use Rattle.ell_core.specs.acts.Searching.{at_root}
-use Rattle.ell_layout.specs.Words.{IsLeaf}
-use Rattle.ell_cards.specs.declared.view.Told.TheVariants.{Met, Value}
+use Rattle.ell_layout.specs.Words.{IsLeaf, has_block}
+use Rattle.ell_cards.specs.declared.view.Told.TheVariants.{Met, Key, Value}
 use Rattle.ell_cards.specs.declared.view.View.{View}
-use Rattle.ell_cards.specs.Models.{IsTold, Does, InTable, EndWasUnknown}
-use Rattle.ell_cards.specs.Changes.{told_value}
+use Rattle.ell_cards.specs.Models.{TablePlan, flat_from, IsTold, Does, InTable, EndWasUnknown}
+use Rattle.ell_cards.specs.Changes.{value_told}
 use Rattle.ell_tree.specs.declared.searching.Passed.{Passed}
-use Rattle.ell_tree.specs.declared.searching.LeafFound.{LeafFound}
+use Rattle.ell_tree.specs.declared.searching.Place.{Place}
 use Rattle.ell_tree.specs.Keeping.{IsSeenAt}
 
 -- an operation is in hand, its search stands at the root, and its try has met nothing yet
@@ -48,39 +51,59 @@ pub record KnowsPassed (last : ℕ) (w : View) (x : Passed) : Type 0 where
 abbrev pub EndWasUnknownAt : View → Passed → Type 0
 EndWasUnknownAt w x = EndWasUnknown w x.update.state x.update.card
 
+-- a search for an operation ends at an internal node of this key, in a tree that is flat from a card on: an insert's does
+-- where the node's block lacks its key
+abbrev pub EndsAbove : ℕ → Op → ℕ → ℕ → Type 0
+EndsAbove from (Insert k value) x key = (has_block from x ≡ true) × (¬ InBlockOf key k)
+EndsAbove from _ x key = ⊥
+
+-- it may go on below such a node
+abbrev pub MayPass : ℕ → Op → ℕ → ℕ → Type 0
+MayPass from (Insert k value) x key = has_block from x ≡ true → InBlockOf key k
+MayPass from _ x key = Unit {0}
+
+-- it has gone on below a node whose key was told, so that an insert's key is in its block
+abbrev pub FitsBelow : ℕ → View → Op → ℕ → Type 0
+FitsBelow from w (Insert k value) x = has_block from x ≡ true → (key : ℕ) × IsTold w (Key x key) × InBlockOf key k
+FitsBelow from w _ x = Unit {0}
+
 -- a search stands at a node, below a parent and perhaps a grandparent
-pub record Stands (last : ℕ) (w : View) (node : ℕ) (parent : Passed) (grandparent : Option Passed) : Type 0 where
+pub record Stands (plan : TablePlan) (w : View) (op : Op) (node : ℕ) (parent : Passed) (grandparent : Option Passed) : Type 0 where
   pub search : w.worker.search ≡ below node parent (seen_any grandparent)
   pub met : IsTold w (Met node)
-  pub there : InTable last node
-  pub passed : KnowsPassed last w parent
-  pub passed_above : IfSome grandparent (λ x. KnowsPassed last w x)
+  pub there : InTable plan.last_card node
+  pub passed : KnowsPassed plan.last_card w parent
+  pub passed_above : IfSome grandparent (λ x. KnowsPassed plan.last_card w x)
+  pub fits : FitsBelow (flat_from plan) w op parent.node
   pub unknown : EndWasUnknownAt w parent
   pub unknown_above : IfSome grandparent (EndWasUnknownAt w)
 
--- a search stands at the leaf of a place, and was told its key and its value
-pub record IsAt (w : View) (place : LeafFound) : Type 0 where
-  pub search : w.worker.search ≡ below place.leaf place.parent (seen_any place.grandparent)
-  pub outer : IsLeaf place.leaf
+-- a search stands at the node of a place, and was told its key and, of a leaf, its value
+pub record IsAt (w : View) (place : Place) : Type 0 where
+  pub search : w.worker.search ≡ below place.node place.parent (seen_any place.grandparent)
   pub told : w.here ≡ Some place.key
-  pub value_told : IsTold w (Value place.leaf place.value)
-  pub value : told_value w.told place.leaf ≡ place.value
+  pub leaf : IsLeaf place.node → IsTold w (Value place.node place.value)
+  pub value : value_told w.told place.node ≡ place.value
 
--- what a place has of a key: its value, if its leaf has that key
-abbrev pub there_at : LeafFound → ℕ → Option ℕ
+-- what a place has of a key: its value, if its node has that key
+abbrev pub there_at : Place → ℕ → Option ℕ
 there_at place k = if place.key == k then Some place.value else None
 
--- the leaf of a place with a tag
-abbrev pub leaf_with : LeafFound → ℕ → Link
-leaf_with place tag = record { node = place.leaf; tag = tag }
+-- the node of a place with a tag
+abbrev pub node_with : Place → ℕ → Link
+node_with place tag = record { node = place.node; tag = tag }
 
--- a search ended at a place, which has of the operation's key what the ledger has, if that has the key; and if the
--- place has the key, there is a grandparent
-pub record EndsAt (last : ℕ) (w : View) (op : Op) (place : LeafFound) : Type 0 where
+-- a search ended at a place, which has of the operation's key what the ledger has, if that has the key. It is a leaf, or an
+-- internal node of another key at which a search for the operation ends; if it has the operation's key, there is a
+-- grandparent
+pub record EndsAt (plan : TablePlan) (w : View) (op : Op) (place : Place) : Type 0 where
   pub at : IsAt w place
-  pub leaf : InTable last place.leaf
-  pub passed : KnowsPassed last w place.parent
-  pub passed_above : IfSome place.grandparent (λ x. KnowsPassed last w x)
+  pub node : InTable plan.last_card place.node
+  pub edge : IsInternal place.node → EndsAbove (flat_from plan) op place.node place.key
+  pub outer : place.key ≡ key_of op → IsLeaf place.node
+  pub passed : KnowsPassed plan.last_card w place.parent
+  pub passed_above : IfSome place.grandparent (λ x. KnowsPassed plan.last_card w x)
+  pub fits : FitsBelow (flat_from plan) w op place.parent.node
   pub unknown : EndWasUnknownAt w place.parent
   pub unknown_above : IfSome place.grandparent (EndWasUnknownAt w)
   pub there : ledger_of w.worker.ledger (key_of op) ≢ None
@@ -88,8 +111,8 @@ pub record EndsAt (last : ℕ) (w : View) (op : Op) (place : LeafFound) : Type 0
   pub deep : place.key ≡ key_of op → place.grandparent ≢ None
 
 -- the search of a try has ended at a place; the try has met nothing yet, and has no card
-pub record HasSearched (last : ℕ) (op : Op) (place : LeafFound) (v : View) : Type 0 where
+pub record HasSearched (plan : TablePlan) (op : Op) (place : Place) (v : View) : Type 0 where
   pub busy : Does v op
-  pub ends : EndsAt last v op place
+  pub ends : EndsAt plan v op place
   pub no_card : v.worker.card ≡ None
   pub unmet : v.met ≡ []

@@ -7,7 +7,7 @@ use Rattle.ell_ops.specs.declared.reply.Reply.TheVariants.{Yes}
 use Rattle.ell_ops.specs.declared.reply.Reply.TheVariants as replaced
 use Rattle.ell_core.specs.declared.put.Put.{Put}
 use Rattle.ell_core.specs.acts.Searching.{put_of}
-use Rattle.ell_layout.specs.Cards.{insert_filling}
+use Rattle.ell_layout.specs.Cards.{put_filling}
 use Rattle.ell_core.specs.statements.Effects.{reply_of_change}
 use Rattle.ell_word.specs.declared.update.Update.{Update}
 use Rattle.ell_core.specs.declared.fact.Fact.{Fact}
@@ -21,7 +21,7 @@ use Rattle.ell_cards.specs.declared.view.View.{View}
 use Rattle.ell_cards.specs.Models.{PassModel, Has, IsTold, Knows, Does, StandsAt}
 use Rattle.ell_cards.specs.Changes.{expected_tag, told_filling, filling_of, tagged, with_stores, tries_hindered}
 use Rattle.ell_cards.specs.Guards.{IsFilled, MayFill}
-use Rattle.ell_tree.specs.declared.searching.LeafFound.{LeafFound}
+use Rattle.ell_tree.specs.declared.searching.Place.{Place}
 use Rattle.ell_tree.specs.declared.trying.Claimed.{Claimed}
 use Rattle.ell_tree.specs.declared.trying.Claimed.TheVariants as claimed
 use Rattle.ell_tree.specs.declared.trying.Tried.{Tried}
@@ -128,10 +128,10 @@ TryTakesValue t (Swap key was value) old new ended = Unit {0}
 
 -- a card was taken for an operation whose search ended at a place: it is to say this, and to expect this tag; nothing of
 -- it was stored, and what it says that never changes is told
-pub record HasCard (op : Op) (place : LeafFound) (tag : ℕ) (filling : List (Field × ℕ)) (v : View) (c : ℕ) : Type 0 where
+pub record HasCard (op : Op) (place : Place) (tag : ℕ) (filling : List (Field × ℕ)) (v : View) (c : ℕ) : Type 0 where
   pub busy : Does v op
   pub may : MayFill v c
-  pub stands : StandsAt v place.leaf
+  pub stands : StandsAt v place.node
   pub behind : v.worker.search.parent ≡ Some (seen place.parent)
   pub above : v.worker.search.grandparent ≡ seen_any place.grandparent
   pub says : v.planned ≡ tagged tag filling
@@ -145,7 +145,7 @@ found_for (Some was) there = there
 
 -- what is told of its key to whoever puts this, where a search ended: to a swap its value, if it is there; to an insert
 -- nothing
-abbrev pub told_of_put : Put → LeafFound → Option ℕ
+abbrev pub told_of_put : Put → Place → Option ℕ
 told_of_put what place = found_for what.was (there_at place what.key)
 
 -- and what is said once it is done: yes, or the value that was replaced
@@ -153,26 +153,26 @@ abbrev pub put_reply : Option ℕ → Reply
 put_reply None = Yes
 put_reply (Some was) = replaced.Found was
 
--- one was taken for an insert or a swap, that puts this
-pub record HasCardToPut (what : Put) (place : LeafFound) (v : View) (c : ℕ) : Type 0 where
+-- one was taken for an insert or a swap, that puts this; its node gets this key
+pub record HasCardToPut (what : Put) (place : Place) (node_key : ℕ) (v : View) (c : ℕ) : Type 0 where
   pub op : Op
   pub puts : put_of op ≡ Some what
   pub card : HasCard op place place.parent.tag
-      (insert_filling c what.key what.value place.parent.node place.leaf place.key place.value) v c
+      (put_filling c what.key what.value node_key place.parent.node place.node place.key place.value) v c
 
 -- no card was taken, and the search stands where it stood
 pub record HasNone (old new : PassModel) : Type 0 where
   pub no_card : new.view.worker.card ≡ None
   pub search : new.view.worker.search ≡ old.view.worker.search
 
--- what comes of asking for a card
-abbrev pub Claims : ℕ → Op → LeafFound → PassModel → PassModel → Claimed → Type 0
-Claims last op place old new (claimed.Card c) =
-    HasCard op place (expected_tag old.view) (filling_of c old.view) new.view c × (c ≤ last) × (new.view.hindrances ≡ old.view.hindrances)
+-- what comes of asking for a card, whose node gets this key
+abbrev pub Claims : ℕ → Op → Place → ℕ → PassModel → PassModel → Claimed → Type 0
+Claims last op place node_key old new (claimed.Card c) =
+    HasCard op place (expected_tag old.view) (filling_of c node_key old.view) new.view c × (c ≤ last) × (new.view.hindrances ≡ old.view.hindrances)
     × GivesOut last old.view new.view
-Claims last op place old new claimed.NoneLeft =
+Claims last op place node_key old new claimed.NoneLeft =
     HasNone old new × (new.view.next ≡ Some (last + 1)) × (new.view.hindrances ≡ old.view.hindrances)
-Claims last op place old new claimed.Lost =
+Claims last op place node_key old new claimed.Lost =
     HasNone old new × Meets old.view new.view × (length old.view.hindrances + 1 ≤ length new.view.hindrances)
     × GivesOut last old.view new.view
 

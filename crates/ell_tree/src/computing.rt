@@ -6,6 +6,7 @@ ghost use Rattle.ell_tree.specs.Ends.{CountsTries};
 ghost use Rattle.ell_tree.specs.Ledgers.{Owns};
 ghost use Rattle.ell_tree.specs.Promises.{IsOthersDoing, MayDo, SpendsCards};
 ghost use Rattle.ell_tree.specs.declared.operations.NotDone.TheVariants.{Busy};
+ghost use Rattle.ell_cards.specs.Depths.{deepest};
 
 use crate::gate::StepGate;
 use crate::operations::{NotDone, change, find};
@@ -48,7 +49,7 @@ pub(crate) fn compute<A: Allocator + Copy, G: StepGate, F: Fn(Option<u64>) -> Op
     ensures not_done { IfErr result (IsNotDone table.now key pass.old pass.new) }
     ensures tried { result ≡ Err Busy → AreTried tries pass.old pass.new }
     ensures others { Owns pass.old key → result ≡ Err Busy → IsOthersDoing table.now tries pass.old pass.new }
-    ensures steps { Took pass.old pass.new (update_steps table.now.plan.last_card tries) }
+    ensures steps { Took pass.old pass.new (update_steps (deepest table.now.plan) tries) }
     ensures counted { CountsTries tries pass.old pass.new }
     ensures cards { SpendsCards key tries pass.old pass.new (whether_made result) }
     ensures enough { Owns pass.old key → 2 * table.now.plan.last_card < tries → result ≢ Err Busy }
@@ -88,7 +89,7 @@ fn replace<A: Allocator + Copy, G: StepGate>(
     requires may { MayDo table.now key pass.old }
     ensures replaces { Replaces table.now key was value pass.old pass.new result }
     ensures others { result ≡ Err Busy → IsOthersDoing table.now 1 pass.old pass.new }
-    ensures steps { Took pass.old pass.new (round_steps table.now.plan.last_card) }
+    ensures steps { Took pass.old pass.new (round_steps (deepest table.now.plan)) }
     ensures counted { CountsTries 1 pass.old pass.new }
     ensures cards { SpendsCards key 1 pass.old pass.new (whether_done result) }
 {
@@ -114,7 +115,7 @@ fn add<A: Allocator + Copy, G: StepGate>(
     requires may { MayDo table.now key pass.old }
     ensures replaces { Replaces table.now key None value pass.old pass.new result }
     ensures others { result ≡ Err Busy → IsOthersDoing table.now 1 pass.old pass.new }
-    ensures steps { Took pass.old pass.new (round_steps table.now.plan.last_card) }
+    ensures steps { Took pass.old pass.new (round_steps (deepest table.now.plan)) }
     ensures counted { CountsTries 1 pass.old pass.new }
     ensures cards { SpendsCards key 1 pass.old pass.new (whether_done result) }
 {

@@ -3,11 +3,14 @@
 ghost use Rattle.std.specs.Prelude.{◌≡◌, ◌<◌, ◌≤◌, ◌+◌, ◌%◌, slice_set};
 ghost use Rattle.ell_ops.specs.Meaning.{greatest_key};
 ghost use Rattle.ell_layout.specs.Words.{IsLeaf};
-ghost use Rattle.ell_cards.specs.Looking.{KeysAreFixed};
+ghost use Rattle.ell_cards.specs.declared.view.Told.TheVariants.{Met};
+ghost use Rattle.ell_cards.specs.Models.{IsTold, flat_from};
+ghost use Rattle.ell_cards.specs.Looking.{KeysAreFixed, ReadsItsOwn, MissesItsOwn};
 ghost use Rattle.ell_tree.specs.Counts.{CountsAll, HasUncounted};
 ghost use Rattle.ell_tree.specs.Ledgers.{IsIdlePassOf};
 ghost use Rattle.ell_tree.specs.Looks.{stretch_steps};
-ghost use Rattle.ell_tree.specs.Cursors.{AreKept, BeginsALook, FindsAbout, IsAmong, MayGoOnFrom, KeepsLooking};
+ghost use Rattle.ell_tree.specs.Cursors.{AreKept, BeginsALook, FindsAbout, IsAmong, KeepsLooking, TellsOfLeaf};
+ghost use Rattle.ell_cards.specs.Depths.{deepest, IsShallow};
 
 use crate::gate::{Kind, StepGate};
 use ell_cards::{CardTable, Glance, Pass};
@@ -54,6 +57,7 @@ impl Cursor {
             node: child.node,
             low: 0,
             high: KEY_MAX + 1,
+            whole: false,
         };
         Cursor {
             first,
@@ -79,7 +83,7 @@ impl Cursor {
         ensures fixed { KeysAreFixed pass.new.view }
         // It counts each step that it makes.
         ensures counted { CountsAll pass.old pass.new }
-        ensures on { KeepsLooking pass.old pass.new (stretch_steps table.now.plan.last_card) }
+        ensures on { KeepsLooking pass.old pass.new (stretch_steps (deepest table.now.plan)) }
     {
         table.facts_stay_inside(pass);
         let label = pass.label();
@@ -93,11 +97,12 @@ impl Cursor {
                 self.keep(here);
             }
             gate.before(label, Kind::Look);
-            let child = table.look_down(pass, here, node_key, right);
-            here = here.down(node_key, right, child.node);
+            let keys = here.on_side(node_key, right);
+            let child = table.look_down(pass, here, keys, right);
+            here = keys.at(child.node);
             steps += 2;
         }
-        let (about, at_the_leaf) = found_at(table, pass, key, here, gate);
+        let (about, at_the_leaf) = found_at(table, pass, here, gate);
         pass.count(steps + at_the_leaf);
         about
     }
@@ -133,21 +138,22 @@ impl Cursor {
     }
 }
 
-// Returns what is around a key, at a leaf to which this key and others lead, and in how many steps. The steps are not
-// counted.
-fn found_at<A: Allocator + Copy, G: StepGate>(
+/// Returns what is found of the keys by which a look has come to a leaf, and in how many steps. The steps are not counted.
+pub(crate) fn found_at<A: Allocator + Copy, G: StepGate>(
     table: &CardTable<A>,
     pass: &mut Pass<A>,
-    key: u64,
     leaf: Glance,
     gate: &G,
 ) -> (About, u64)
     requires own { pass.old.table ≡ table.now.id }
     requires outer { IsLeaf leaf.node }
-    requires kept { MayGoOnFrom table.now.plan.last_card pass.old.view leaf }
-    requires from { leaf.low ≤ key }
-    requires upto { key < leaf.high }
-    ensures found { FindsAbout table.now.plan.last_card pass.new.view key result.0 }
+    requires met { IsTold pass.old.view (Met leaf.node) }
+    ensures tells { TellsOfLeaf (flat_from table.now.plan) pass.new.view leaf.node result.0 }
+    ensures low { result.0.low ≡ leaf.low }
+    ensures high { result.0.high ≡ leaf.high }
+    ensures mine { ReadsItsOwn pass.new.view }
+    ensures missed { MissesItsOwn (flat_from table.now.plan) pass.new.view }
+    ensures shallow { IsShallow (deepest table.now.plan) pass.old.view leaf.node }
     ensures fixed { KeysAreFixed pass.new.view }
     ensures uncounted { HasUncounted pass.old pass.new result.1 }
     ensures few { result.1 ≤ 2 }
@@ -155,7 +161,12 @@ fn found_at<A: Allocator + Copy, G: StepGate>(
 {
     gate.before(pass.label(), Kind::Look);
     let leaf_key = table.key_of(pass, leaf.node);
-    let Glance { node, low, high } = leaf;
+    let Glance {
+        node,
+        low,
+        high,
+        whole: _,
+    } = leaf;
     if leaf_key < low || high <= leaf_key {
         let none = About {
             low,

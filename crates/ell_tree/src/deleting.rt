@@ -15,12 +15,13 @@ ghost use Rattle.ell_tree.specs.Ends.{rest_steps, try_steps};
 ghost use Rattle.ell_tree.specs.Helps.{IsBacked, IsParent, help_steps};
 ghost use Rattle.ell_tree.specs.Hindrances.{Meets};
 ghost use Rattle.ell_tree.specs.Keeping.{Keeps, IsInnerMet, KeepsAllButMet};
-ghost use Rattle.ell_tree.specs.Searches.{AtRoot, HasSearched, leaf_with};
+ghost use Rattle.ell_tree.specs.Searches.{AtRoot, HasSearched, node_with};
 ghost use Rattle.ell_tree.specs.Tries.{Fills, Flags, HasCard, TryEnds, TryTook, TryTookThis};
+ghost use Rattle.ell_cards.specs.Depths.{deepest};
 
 use crate::gate::{Kind, StepGate};
 use crate::helping::{DeleteFlag, Ending, finish_delete, help, help_delete};
-use crate::searching::{LeafFound, Passed, leaf_with, search};
+use crate::searching::{Passed, Place, node_with, search};
 use crate::steps::answer;
 use crate::trying::{Claimed, Tried, fill, take_card};
 use ell_cards::{CardTable, Pass};
@@ -39,8 +40,8 @@ pub(crate) fn try_delete<A: Allocator + Copy, G: StepGate>(
 ) -> Tried
     requires own { pass.old.table ≡ table.now.id }
     requires root { AtRoot (Delete key) pass.old.view }
-    ensures steps { pass.new.steps + 1 ≤ pass.old.steps + try_steps table.now.plan.last_card }
-    ensures made { pass.new.view.made + 1 ≤ pass.old.view.made + try_steps table.now.plan.last_card }
+    ensures steps { pass.new.steps + 1 ≤ pass.old.steps + try_steps (deepest table.now.plan) }
+    ensures made { pass.new.view.made + 1 ≤ pass.old.view.made + try_steps (deepest table.now.plan) }
     ensures ends { TryEnds table.now (Delete key) pass.old pass.new result }
     ensures took { TryTook table.now key pass.old pass.new result }
     ensures taken { TryTakes (Delete key) pass.old pass.new result }
@@ -60,14 +61,14 @@ pub(crate) fn delete_at<A: Allocator + Copy, G: StepGate>(
     table: &CardTable<A>,
     pass: &mut Pass<A>,
     key: u64,
-    place: LeafFound,
+    place: Place,
     gate: &G,
 ) -> Tried
     requires own { pass.old.table ≡ table.now.id }
-    requires searched { HasSearched table.now.plan.last_card (Delete key) place pass.old.view }
+    requires searched { HasSearched table.now.plan (Delete key) place pass.old.view }
     requires key { place.key ≡ key }
-    ensures steps { pass.new.steps + 1 ≤ pass.old.steps + rest_steps table.now.plan.last_card }
-    ensures made { pass.new.view.made + 1 ≤ pass.old.view.made + rest_steps table.now.plan.last_card }
+    ensures steps { pass.new.steps + 1 ≤ pass.old.steps + rest_steps (deepest table.now.plan) }
+    ensures made { pass.new.view.made + 1 ≤ pass.old.view.made + rest_steps (deepest table.now.plan) }
     ensures ends { TryEnds table.now (Delete key) pass.old pass.new result }
     ensures took { TryTook table.now key pass.old pass.new result }
     ensures value { TryTookThis place.value result }
@@ -88,7 +89,7 @@ pub(crate) fn delete_at<A: Allocator + Copy, G: StepGate>(
         help(table, pass, parent.node, parent.update, gate);
         return Tried::Hindered;
     }
-    let card = match take_card(table, pass, Op::Delete(key), place, gate) {
+    let card = match take_card(table, pass, Op::Delete(key), place, 0, gate) {
         Claimed::Card(card) => card,
         Claimed::NoneLeft => return Tried::Spent,
         Claimed::Lost => return Tried::Hindered,
@@ -110,15 +111,15 @@ fn flag_delete<A: Allocator + Copy, G: StepGate>(
     pass: &mut Pass<A>,
     card: u64,
     above: Passed,
-    place: LeafFound,
+    place: Place,
     gate: &G,
 ) -> Result<(), Update>
     requires own { pass.old.table ≡ table.now.id }
     requires above { place.grandparent ≡ Some above }
     requires limit { place.parent.update.card ≤ greatest_card }
-    requires link { IsLink (leaf_with place above.tag) }
+    requires link { IsLink (node_with place above.tag) }
     requires card { (key : ℕ) × HasCard (Delete key) place above.tag
-        (delete_filling above.node place.parent.node place.leaf (packed place.parent.update)) pass.old.view card }
+        (delete_filling above.node place.parent.node place.node (packed place.parent.update)) pass.old.view card }
     requires node { IsInnerMet table.now.plan.last_card pass.old.view above.node }
     ensures keeps { Keeps pass.old pass.new 5 }
     ensures taken { TakesNoCard pass.old pass.new }
@@ -136,19 +137,19 @@ fn fill_delete<A: Allocator + Copy, G: StepGate>(
     pass: &mut Pass<A>,
     card: u64,
     above: Passed,
-    place: LeafFound,
+    place: Place,
     gate: &G,
 )
     requires own { pass.old.table ≡ table.now.id }
     requires limit { place.parent.update.card ≤ greatest_card }
-    requires link { IsLink (leaf_with place above.tag) }
+    requires link { IsLink (node_with place above.tag) }
     requires card { (key : ℕ) × HasCard (Delete key) place above.tag
-        (delete_filling above.node place.parent.node place.leaf (packed place.parent.update)) pass.old.view card }
+        (delete_filling above.node place.parent.node place.node (packed place.parent.update)) pass.old.view card }
     ensures { Fills pass.old pass.new 4 }
 {
     fill(table, pass, card, Field::Gp, above.node, gate);
     fill(table, pass, card, Field::P, place.parent.node, gate);
-    let leaf = leaf_with(place, above.tag).word();
+    let leaf = node_with(place, above.tag).word();
     fill(table, pass, card, Field::L, leaf, gate);
     let was = pack(place.parent.update);
     fill(table, pass, card, Field::Was, was, gate);
@@ -171,7 +172,7 @@ fn finish_own<A: Allocator + Copy, G: StepGate>(
     requires node { IsInnerMet table.now.plan.last_card pass.old.view grandparent }
     requires parent { IsParent table.now.plan.last_card pass.old.view card parent.node }
     requires read { IsTold pass.old.view (Info card field.Was (packed parent.update)) }
-    ensures keeps_but_met { KeepsAllButMet pass.old pass.new (help_steps table.now.plan.last_card + 2) }
+    ensures keeps_but_met { KeepsAllButMet pass.old pass.new (help_steps (deepest table.now.plan) + 2) }
     ensures meets { Meets pass.old.view pass.new.view }
     ensures done { OnTrue result (Knows pass.new.view (DOver card)) }
     ensures backed { OnFalse result (IsBacked card pass.old.view pass.new.view) }

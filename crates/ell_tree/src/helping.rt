@@ -7,7 +7,7 @@ ghost use Rattle.ell_core.specs.declared.fact.Fact.TheVariants as fact;
 ghost use Rattle.ell_layout.specs.declared.field.Field.TheVariants as field;
 ghost use Rattle.ell_cards.specs.declared.view.Told.TheVariants as told;
 ghost use Rattle.ell_cards.specs.Models.{IsTold, Knows};
-ghost use Rattle.ell_cards.specs.Depths.{depth_of};
+ghost use Rattle.ell_cards.specs.Depths.{deepest, depth_of};
 ghost use Rattle.ell_tree.specs.Helps.{DeleteEnds, HasSibling, HelpEnds, IsFlag, IsInsert, KnowsMark, IsParent, chain_steps, help_steps};
 ghost use Rattle.ell_tree.specs.Hindrances.{IsDeleteEnded, IsEnded, Meets};
 ghost use Rattle.ell_tree.specs.Keeping.{IsSeenAt, KeepsAll, KeepsAllButMet};
@@ -50,7 +50,7 @@ pub(crate) fn help<A: Allocator + Copy, G: StepGate>(
 )
     requires own { pass.old.table ≡ table.now.id }
     requires seen { IsSeenAt table.now.plan.last_card pass.old.view node update }
-    ensures keeps_but_met { KeepsAllButMet pass.old pass.new (help_steps table.now.plan.last_card) }
+    ensures keeps_but_met { KeepsAllButMet pass.old pass.new (help_steps (deepest table.now.plan)) }
     ensures meets { Meets pass.old.view pass.new.view }
     ensures ended { IsEnded pass.new.view update.state update.card }
 {
@@ -189,7 +189,7 @@ pub(crate) fn help_delete<A: Allocator + Copy, G: StepGate>(
 )
     requires own { pass.old.table ≡ table.now.id }
     requires flag { IsFlag table.now.plan.last_card pass.old.view flag }
-    ensures keeps_but_met { KeepsAllButMet pass.old pass.new (chain_steps table.now.plan.last_card (depth_of pass.old.view flag.grandparent)) }
+    ensures keeps_but_met { KeepsAllButMet pass.old pass.new (chain_steps (deepest table.now.plan) (depth_of pass.old.view flag.grandparent)) }
     ensures meets { Meets pass.old.view pass.new.view }
     ensures ended { IsDeleteEnded pass.new.view flag.card }
 {
@@ -208,7 +208,7 @@ fn help_one_delete<A: Allocator + Copy, G: StepGate>(
 ) -> Ending
     requires own { pass.old.table ≡ table.now.id }
     requires flag { IsFlag table.now.plan.last_card pass.old.view flag }
-    ensures { HelpEnds table.now.plan.last_card flag pass.old pass.new result }
+    ensures { HelpEnds table.now.plan flag pass.old pass.new result }
 {
     let parent = read_info(table, pass, flag.card, Field::P, gate);
     let was = read_info(table, pass, flag.card, Field::Was, gate);

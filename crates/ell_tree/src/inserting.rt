@@ -7,19 +7,23 @@ ghost use Rattle.ell_core.specs.declared.fact.Fact.TheVariants.{IFlagged};
 ghost use Rattle.ell_tree.specs.CardsTaken.{TakesNoCard, TryTakes};
 ghost use Rattle.ell_tree.specs.Ends.{try_steps};
 ghost use Rattle.ell_tree.specs.Keeping.{Keeps, IsInnerMet};
-ghost use Rattle.ell_tree.specs.Searches.{AtRoot, leaf_with};
+ghost use Rattle.ell_tree.specs.Searches.{AtRoot, node_with};
 ghost use Rattle.ell_tree.specs.Tries.{told_of_put, put_reply, Fills, Flags, HasCardToPut, TryEnds};
+ghost use Rattle.ell_core.specs.tree.Flat.{IsNodeKey};
+ghost use Rattle.ell_cards.specs.Models.{flat_from};
+ghost use Rattle.ell_cards.specs.Depths.{deepest};
 
 use crate::gate::{Kind, StepGate};
 use crate::helping::{finish_insert, help};
-use crate::searching::{LeafFound, leaf_with, search};
+use crate::searching::{Place, node_with, search};
 use crate::steps::answer;
 use crate::trying::{Claimed, Tried, fill, take_card};
+use ell_block::branch;
 use ell_cards::{CardTable, Pass};
 use ell_core::{Exchange, Put};
-use ell_layout::{Field, update_word};
+use ell_layout::{Field, card_children, update_word};
 use ell_ops::{Op, Reply};
-use ell_word::{State, Update, left_leaf_of, right_leaf_of};
+use ell_word::{State, Update};
 use std::alloc::Allocator;
 
 /// One try of an insert or a swap that puts this.
@@ -33,8 +37,8 @@ pub(crate) fn try_put<A: Allocator + Copy, G: StepGate>(
     requires own { pass.old.table ≡ table.now.id }
     requires puts { put_of op ≡ Some what }
     requires root { AtRoot op pass.old.view }
-    ensures steps { pass.new.steps + 1 ≤ pass.old.steps + try_steps table.now.plan.last_card }
-    ensures made { pass.new.view.made + 1 ≤ pass.old.view.made + try_steps table.now.plan.last_card }
+    ensures steps { pass.new.steps + 1 ≤ pass.old.steps + try_steps (deepest table.now.plan) }
+    ensures made { pass.new.view.made + 1 ≤ pass.old.view.made + try_steps (deepest table.now.plan) }
     ensures ends { TryEnds table.now op pass.old pass.new result }
     ensures taken { TryTakes op pass.old pass.new result }
     ensures least { pass.old.view.next_at_least ≤ pass.new.view.next_at_least }
@@ -51,16 +55,17 @@ pub(crate) fn try_put<A: Allocator + Copy, G: StepGate>(
         help(table, pass, parent, update, gate);
         return Tried::Hindered;
     }
-    let card = match take_card(table, pass, op, place, gate) {
+    let node_key = node_key(table, what.key, place.key);
+    let card = match take_card(table, pass, op, place, node_key, gate) {
         Claimed::Card(card) => card,
         Claimed::NoneLeft => return Tried::Spent,
         Claimed::Lost => return Tried::Hindered,
     };
-    match flag_insert(table, pass, card, what, place, gate) {
+    match flag_insert(table, pass, card, what, place, node_key, gate) {
         Ok(()) => {
             let (left_key, right_key) = (what.key.min(place.key), what.key.max(place.key));
-            let leaf = leaf_with(place, place.parent.tag);
-            finish_insert(table, pass, card, parent, leaf, right_key, left_key, gate);
+            let below = node_with(place, place.parent.tag);
+            finish_insert(table, pass, card, parent, below, right_key, left_key, gate);
             answer(table, pass, reply_once_done(what), gate);
             Tried::Answered(Some(what.was.unwrap_or(what.value)))
         }
@@ -71,8 +76,20 @@ pub(crate) fn try_put<A: Allocator + Copy, G: StepGate>(
     }
 }
 
+// The key of an internal node over two keys: the greater one, in a flat tree their branch, if they are two.
+fn node_key<A: Allocator + Copy>(table: &CardTable<A>, first: u64, second: u64) -> u64
+    ensures { IsNodeKey (flat_from table.now.plan) first second result }
+{
+    let (lesser, greater) = (first.min(second), first.max(second));
+    if table.is_flat() && lesser < greater {
+        branch(lesser, greater)
+    } else {
+        greater
+    }
+}
+
 // What a swap finds for its key at the leaf where its search ended; an insert is told nothing.
-fn told_of_put(what: Put, place: LeafFound) -> Option<u64>
+fn told_of_put(what: Put, place: Place) -> Option<u64>
     ensures { result ≡ told_of_put what place }
 {
     match what.was {
@@ -97,52 +114,56 @@ fn flag_insert<A: Allocator + Copy, G: StepGate>(
     pass: &mut Pass<A>,
     card: u64,
     what: Put,
-    place: LeafFound,
+    place: Place,
+    node_key: u64,
     gate: &G,
 ) -> Result<(), Update>
     requires own { pass.old.table ≡ table.now.id }
     requires limit { card ≤ greatest_card }
-    requires link { IsLink (leaf_with place place.parent.tag) }
-    requires card { HasCardToPut what place pass.old.view card }
+    requires link { IsLink (node_with place place.parent.tag) }
+    requires card { HasCardToPut what place node_key pass.old.view card }
     requires node { IsInnerMet table.now.plan.last_card pass.old.view place.parent.node }
     ensures keeps { Keeps pass.old pass.new 11 }
     ensures taken { TakesNoCard pass.old pass.new }
     ensures flags { Flags table.now.plan.last_card IFlagged card place.parent.node pass.old pass.new result }
 {
-    fill_insert(table, pass, card, what, place, gate);
+    fill_insert(table, pass, card, what, place, node_key, gate);
     gate.before(pass.label(), Kind::Exchange(Exchange::IFlag));
     table.iflag(pass, card, place.parent.node, place.parent.update)
 }
 
-// Fills the card of an insert or a swap: the leaf with the tag that its search read at the parent, an internal node, and below it the leaf of the key and a copy of the old leaf,
-// the lesser key left, each with its value.
+// Fills the card of an insert or a swap: the node where its search ended, with the tag that was read at the parent; an
+// internal node; and below it the leaf of the key and a copy of the old leaf, or the old node itself, the lesser key left,
+// each with its value.
 fn fill_insert<A: Allocator + Copy, G: StepGate>(
     table: &CardTable<A>,
     pass: &mut Pass<A>,
     card: u64,
     what: Put,
-    place: LeafFound,
+    place: Place,
+    node_key: u64,
     gate: &G,
 )
     requires own { pass.old.table ≡ table.now.id }
     requires limit { card ≤ greatest_card }
-    requires link { IsLink (leaf_with place place.parent.tag) }
-    requires card { HasCardToPut what place pass.old.view card }
+    requires link { IsLink (node_with place place.parent.tag) }
+    requires card { HasCardToPut what place node_key pass.old.view card }
     ensures { Fills pass.old pass.new 10 }
 {
     let Put { key, value, was: _ } = what;
     let (lesser, greater) = (key.min(place.key), key.max(place.key));
+    let (left, right) = card_children(card, key, place.node, place.key);
     let (left_value, right_value) = if key < place.key {
         (value, place.value)
     } else {
         (place.value, value)
     };
     fill(table, pass, card, Field::P, place.parent.node, gate);
-    let leaf = leaf_with(place, place.parent.tag).word();
-    fill(table, pass, card, Field::L, leaf, gate);
-    fill(table, pass, card, Field::Key, greater, gate);
-    fill(table, pass, card, Field::Left, left_leaf_of(card), gate);
-    fill(table, pass, card, Field::Right, right_leaf_of(card), gate);
+    let below = node_with(place, place.parent.tag).word();
+    fill(table, pass, card, Field::L, below, gate);
+    fill(table, pass, card, Field::Key, node_key, gate);
+    fill(table, pass, card, Field::Left, left, gate);
+    fill(table, pass, card, Field::Right, right, gate);
     let clean = update_word(State::Clean, 0);
     fill(table, pass, card, Field::Update, clean, gate);
     fill(table, pass, card, Field::LeftLeafKey, lesser, gate);

@@ -15,6 +15,7 @@ ghost use Rattle.ell_tree.specs.declared.operations.NotDone.TheVariants.{Busy};
 ghost use Rattle.ell_tree.specs.Promises.{IsOthersDoing, IsQuiet, IsWithin, MayDo, SpendsCards};
 ghost use Rattle.ell_tree.specs.Searches.{AtRoot};
 ghost use Rattle.ell_tree.specs.Tries.{Begins, IsChange, TryEnds, TryTakesValue};
+ghost use Rattle.ell_cards.specs.Depths.{deepest};
 
 use crate::deleting::try_delete;
 use crate::gate::{Kind, StepGate};
@@ -49,7 +50,7 @@ pub(crate) fn find<A: Allocator + Copy, G: StepGate>(
     requires may { MayDo table.now key pass.old }
     ensures answers { Answers table.now (Find key) (found result) pass.old pass.new }
     ensures quiet { IsQuiet table.now pass.old pass.new }
-    ensures steps { Took pass.old pass.new (find_steps table.now.plan.last_card) }
+    ensures steps { Took pass.old pass.new (find_steps (deepest table.now.plan)) }
     ensures cards { TakesNoCard pass.old pass.new }
 {
     let label = pass.label();
@@ -134,9 +135,9 @@ fn try_once<A: Allocator + Copy, G: StepGate>(
     requires own { pass.old.table ≡ table.now.id }
     requires change { IsChange op }
     requires root { AtRoot op pass.old.view }
-    // It makes at most `7 * cards + 26` steps.
-    ensures steps { pass.new.steps + 1 ≤ pass.old.steps + try_steps table.now.plan.last_card }
-    ensures made { pass.new.view.made + 1 ≤ pass.old.view.made + try_steps table.now.plan.last_card }
+    // It makes at most `7 * depth + 26` steps.
+    ensures steps { pass.new.steps + 1 ≤ pass.old.steps + try_steps (deepest table.now.plan) }
+    ensures made { pass.new.view.made + 1 ≤ pass.old.view.made + try_steps (deepest table.now.plan) }
     // It is answered as the operation, or has met something in its way and learned of a milestone, or finds no card
     // left. It takes one card at most.
     ensures ends { TryEnds table.now op pass.old pass.new result }

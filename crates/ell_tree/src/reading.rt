@@ -1,17 +1,24 @@
 //! Calls that only read: the look for any key, whichever pass owns it, what is around a key, and how many cards are
 //! left. They change nothing and help no other call.
-ghost use Rattle.std.specs.Prelude.{◌≡◌, ◌≤◌, ◌+◌};
+ghost use Rattle.std.specs.Prelude.{◌≡◌, ◌<◌, ◌≤◌, ◌+◌, ℕ, true, None, nat_le};
+ghost use Rattle.ell_block.specs.Blocks.{InBlockOf};
+ghost use Rattle.ell_layout.specs.Words.{has_block};
+ghost use Rattle.ell_cards.specs.Guards.{GoOnBy};
+ghost use Rattle.ell_cards.specs.Models.{flat_from};
 ghost use Rattle.ell_ops.specs.Meaning.{greatest_key};
-ghost use Rattle.ell_cards.specs.Looking.{HasFound, HasFoundBetween};
+ghost use Rattle.ell_cards.specs.Looking.{HasFound, HasFoundBetween, ReadsItsOwn, MissesItsOwn};
 ghost use Rattle.ell_tree.specs.CardsLeft.{ReadsCardsLeft};
 ghost use Rattle.ell_tree.specs.Counts.{CountsAll, HasUncounted};
 ghost use Rattle.ell_tree.specs.Ledgers.{IsIdlePassOf, Owns, present_in};
 ghost use Rattle.ell_tree.specs.Looks.{OnlyLooks, look_steps};
 ghost use Rattle.ell_tree.specs.Scans.{IsAbout, TellsItsOwn, value_there};
+ghost use Rattle.ell_cards.specs.Depths.{deepest};
 
-use crate::cursor::{About, Cursor};
+use crate::cursor::{About, found_at};
 use crate::gate::{Kind, StepGate};
-use ell_cards::{CardTable, Glance, Pass};
+use ell_block::{block_ends, is_in_block};
+use ell_cards::{CardTable, Glance, Pass, Stretch};
+use ell_ops::KEY_MAX;
 use ell_word::is_internal;
 use std::alloc::Allocator;
 
@@ -29,7 +36,7 @@ pub(crate) fn look<A: Allocator + Copy, G: StepGate>(
     ensures one { pass.new.view.looks ≡ pass.old.view.looks + 1 }
     ensures mine { Owns pass.old key → result ≡ present_in pass.old key }
     ensures counted { CountsAll pass.old pass.new }
-    ensures only { OnlyLooks pass.old pass.new (look_steps table.now.plan.last_card) }
+    ensures only { OnlyLooks pass.old pass.new (look_steps (deepest table.now.plan)) }
 {
     let (found, steps) = walk(table, pass, key, gate);
     pass.count(steps);
@@ -50,7 +57,7 @@ fn walk<A: Allocator + Copy, G: StepGate>(
     ensures one { pass.new.view.looks ≡ pass.old.view.looks + 1 }
     ensures mine { Owns pass.old key → result.0 ≡ present_in pass.old key }
     ensures uncounted { HasUncounted pass.old pass.new result.1 }
-    ensures only { OnlyLooks pass.old pass.new (look_steps table.now.plan.last_card) }
+    ensures only { OnlyLooks pass.old pass.new (look_steps (deepest table.now.plan)) }
 {
     table.facts_stay_inside(pass);
     let label = pass.label();
@@ -62,12 +69,12 @@ fn walk<A: Allocator + Copy, G: StepGate>(
         gate.before(label, Kind::Look);
         let node_key = table.key_of(pass, node);
         gate.before(label, Kind::Look);
-        let here = Glance {
-            node,
+        let alone = Stretch {
             low: key,
             high: key + 1,
+            whole: false,
         };
-        let child = table.look_down(pass, here, node_key, node_key <= key);
+        let child = table.look_down(pass, alone.at(node), alone, node_key <= key);
         node = child.node;
         steps += 2;
     }
@@ -89,14 +96,126 @@ pub(crate) fn look_about<A: Allocator + Copy, G: StepGate>(
 ) -> About
     requires may { IsIdlePassOf table.now pass.old }
     requires real { key ≤ greatest_key }
-    ensures found { HasFoundBetween pass.new.view result.low result.high result.found }
+    ensures found { HasFoundBetween (flat_from table.now.plan) pass.new.view result.low result.high result.found }
     ensures about { IsAbout key result }
     ensures one { pass.new.view.looks ≡ pass.old.view.looks + 1 }
     ensures mine { TellsItsOwn pass.old result.low result.high (value_there result.found) }
-    ensures only { OnlyLooks pass.old pass.new (look_steps table.now.plan.last_card) }
+    ensures only { OnlyLooks pass.old pass.new (look_steps (deepest table.now.plan)) }
 {
-    let mut cursor = Cursor::begin(table, pass, gate);
-    cursor.about(table, pass, key, gate)
+    let (about, steps) = walk_about(table, pass, key, gate);
+    pass.count(steps);
+    about
+}
+
+// The same, but the steps are not counted. Returns what is found, and how many steps there were. All keys of the stretch
+// come to each node as one, so at a node that has a block only those of a half of it go on.
+#[inline(always)]
+fn walk_about<A: Allocator + Copy, G: StepGate>(
+    table: &CardTable<A>,
+    pass: &mut Pass<A>,
+    key: u64,
+    gate: &G,
+) -> (About, u64)
+    requires may { IsIdlePassOf table.now pass.old }
+    requires real { key ≤ greatest_key }
+    ensures found { HasFoundBetween (flat_from table.now.plan) pass.new.view result.0.low result.0.high result.0.found }
+    ensures about { IsAbout key result.0 }
+    ensures one { pass.new.view.looks ≡ pass.old.view.looks + 1 }
+    ensures mine { ReadsItsOwn pass.new.view }
+    ensures missed { MissesItsOwn (flat_from table.now.plan) pass.new.view }
+    ensures uncounted { HasUncounted pass.old pass.new result.1 }
+    ensures only { OnlyLooks pass.old pass.new (look_steps (deepest table.now.plan)) }
+{
+    table.facts_stay_inside(pass);
+    let label = pass.label();
+    gate.before(label, Kind::Look);
+    let first = table.look(pass);
+    let mut here = Glance {
+        node: first.node,
+        low: 0,
+        high: KEY_MAX + 1,
+        whole: true,
+    };
+    let mut steps = 1;
+    while is_internal(here.node) {
+        gate.before(label, Kind::Look);
+        let node_key = table.key_of(pass, here.node);
+        if table.has_block(here.node) && !is_in_block(node_key, key) {
+            return (beside_block(here, node_key, key), steps + 1);
+        }
+        let right = node_key <= key;
+        let keys = keys_below(table, here, node_key, right);
+        gate.before(label, Kind::Look);
+        let child = table.look_down(pass, here, keys, right);
+        here = keys.at(child.node);
+        steps += 2;
+    }
+    let (about, at_the_leaf) = found_at(table, pass, here, gate);
+    (about, steps + at_the_leaf)
+}
+
+// What is found where the block of a node, which has this key, lacks the key that is sought: none of the keys that lie with
+// it on one side of the block.
+fn beside_block(here: Glance, node_key: u64, key: u64) -> About
+    requires some { 0 < node_key }
+    requires low { here.low ≤ key }
+    requires high { key < here.high }
+    requires lacks { ¬ InBlockOf node_key key }
+    ensures low { (here.low ≤ result.low) × (result.low ≤ key) }
+    ensures high { (key < result.high) × (result.high ≤ here.high) }
+    ensures none { result.found ≡ None }
+    ensures lacks { (k : ℕ) → result.low ≤ k → k < result.high → ¬ InBlockOf node_key k }
+{
+    let (first, last) = block_ends(node_key);
+    if key < first {
+        About {
+            low: here.low,
+            high: here.high.min(first),
+            found: None,
+        }
+    } else {
+        About {
+            low: here.low.max(last + 1),
+            high: here.high,
+            found: None,
+        }
+    }
+}
+
+// The keys that go on to a child of a node, which has this key, as one: of a node that has a block those in that half of it,
+// of another those on that side.
+fn keys_below<A: Allocator + Copy>(
+    table: &CardTable<A>,
+    here: Glance,
+    node_key: u64,
+    right: bool,
+) -> Stretch
+    requires some { has_block (flat_from table.now.plan) here.node ≡ true → 0 < node_key }
+    requires high { here.high ≤ greatest_key + 1 }
+    ensures goes { here.whole ≡ true → GoOnBy (flat_from table.now.plan) here node_key right result }
+    ensures whole { result.whole ≡ true }
+    ensures high { result.high ≤ here.high }
+    ensures with { (k : ℕ) → here.low ≤ k → k < here.high → right ≡ nat_le node_key k
+        → (has_block (flat_from table.now.plan) here.node ≡ true → InBlockOf node_key k) → (result.low ≤ k) × (k < result.high) }
+{
+    let Stretch {
+        low,
+        high,
+        whole: _,
+    } = here.on_side(node_key, right);
+    if !table.has_block(here.node) {
+        return Stretch {
+            low,
+            high,
+            whole: true,
+        };
+    }
+    let (first, last) = block_ends(node_key);
+    Stretch {
+        low: low.max(first),
+        high: if last < high { last + 1 } else { high },
+        whole: true,
+    }
 }
 
 /// Returns how many cards are not given out yet: those from the claim word on.

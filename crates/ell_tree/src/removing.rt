@@ -6,6 +6,7 @@ ghost use Rattle.ell_tree.specs.Ends.{CountsTries, change_steps, is_value, wheth
 ghost use Rattle.ell_tree.specs.Ledgers.{Owns};
 ghost use Rattle.ell_tree.specs.Promises.{IsOthersDoing, MayDo, SpendsCards};
 ghost use Rattle.ell_tree.specs.declared.operations.NotDone.TheVariants.{Busy};
+ghost use Rattle.ell_cards.specs.Depths.{deepest};
 
 use crate::computing::Replaced;
 use crate::deleting::delete_at;
@@ -35,7 +36,7 @@ pub(crate) fn remove_if<A: Allocator + Copy, G: StepGate>(
     ensures not_done { IfErr result (IsNotDone table.now key pass.old pass.new) }
     ensures tried { result ≡ Err Busy → AreTriedOrRead tries pass.old pass.new }
     ensures others { Owns pass.old key → result ≡ Err Busy → IsOthersDoing table.now tries pass.old pass.new }
-    ensures steps { Took pass.old pass.new (update_steps table.now.plan.last_card tries) }
+    ensures steps { Took pass.old pass.new (update_steps (deepest table.now.plan) tries) }
     ensures counted { CountsTries tries pass.old pass.new }
     ensures cards { SpendsCards key tries pass.old pass.new (whether_swapped was result) }
     ensures enough { Owns pass.old key → 2 * table.now.plan.last_card < tries → result ≢ Err Busy }
@@ -80,7 +81,7 @@ fn remove_or_read<A: Allocator + Copy, G: StepGate>(
     requires may { MayDo table.now key pass.old }
     ensures removes { RemovesOrReads table.now key was pass.old pass.new result }
     ensures others { result ≡ Err Busy → IsOthersDoing table.now 1 pass.old pass.new }
-    ensures steps { Took pass.old pass.new (round_steps table.now.plan.last_card) }
+    ensures steps { Took pass.old pass.new (round_steps (deepest table.now.plan)) }
     ensures counted { CountsTries 1 pass.old pass.new }
     ensures cards { SpendsCards key 1 pass.old pass.new (whether_done result) }
 {
@@ -103,7 +104,7 @@ fn remove_once<A: Allocator + Copy, G: StepGate>(
     requires may { MayDo table.now key pass.old }
     ensures removes { RemovesOnce table.now key was pass.old pass.new result }
     ensures others { result ≡ Err Busy → IsOthersDoing table.now 1 pass.old pass.new }
-    ensures steps { Took pass.old pass.new (change_steps table.now.plan.last_card 1) }
+    ensures steps { Took pass.old pass.new (change_steps (deepest table.now.plan) 1) }
     ensures counted { CountsTries 1 pass.old pass.new }
     ensures cards { SpendsCards key 1 pass.old pass.new result }
 {

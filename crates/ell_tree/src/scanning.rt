@@ -53,7 +53,7 @@ pub(crate) fn scan<A: Allocator + Copy, G: StepGate>(
     ensures rest { drop result.count room.new ≡ drop result.count room.old }
     ensures mine { TellsItsOwn pass.old from (end_of upto result) (contents_of (written room.new result)) }
     ensures one { pass.new.view.looks ≡ pass.old.view.looks + 1 }
-    ensures only { OnlyLooks pass.old pass.new (scan_steps table.now.plan.last_card) }
+    ensures only { OnlyLooks pass.old pass.new (scan_steps table.now.plan) }
 {
     let mut cursor = Cursor::begin(table, pass, gate);
     let mut at = from;
@@ -85,7 +85,7 @@ pub(crate) fn next_from<A: Allocator + Copy, G: StepGate>(
     requires may { IsIdlePassOf table.now pass.old }
     ensures found { HasFoundNext pass.new.view from result }
     ensures one { pass.new.view.looks ≡ pass.old.view.looks + 1 }
-    ensures only { OnlyLooks pass.old pass.new (scan_steps table.now.plan.last_card) }
+    ensures only { OnlyLooks pass.old pass.new (scan_steps table.now.plan) }
 {
     let mut room = [Pair { key: 0, value: 0 }];
     let scanned = scan(table, pass, from, KEY_MAX + 1, &mut room, gate);
@@ -107,7 +107,7 @@ pub(crate) fn last_below<A: Allocator + Copy, G: StepGate>(
     requires real { upto ≤ greatest_key + 1 }
     ensures found { HasFoundLast pass.new.view upto result }
     ensures one { pass.new.view.looks ≡ pass.old.view.looks + 1 }
-    ensures only { OnlyLooks pass.old pass.new (scan_steps table.now.plan.last_card) }
+    ensures only { OnlyLooks pass.old pass.new (scan_steps table.now.plan) }
 {
     let mut cursor = Cursor::begin(table, pass, gate);
     let mut below = upto;

@@ -1,13 +1,20 @@
 //! The search (paper of 2010, figure 8: Search).
-ghost use Rattle.std.specs.Prelude.{◌≡◌, ◌<◌, ◌+◌, ◌*◌, None};
-ghost use Rattle.ell_cards.specs.Depths.{IsShallow, depth_of};
-ghost use Rattle.ell_cards.specs.Models.{Does, InTable, IsTold, StandsAt};
+ghost use Rattle.std.specs.Prelude.{◌≡◌, ◌<◌, ◌+◌, ◌*◌, None, Some, true, false};
+ghost use Rattle.ell_cards.specs.Depths.{deepest, IsShallow, depth_of};
+ghost use Rattle.ell_cards.specs.Models.{Does, InTable, IsTold, Sees, StandsAt, flat_from};
+ghost use Rattle.ell_cards.specs.Calls.{after, TellsKey, TellsLedgerValue};
 ghost use Rattle.ell_cards.specs.declared.view.Told.TheVariants.{Met};
+ghost use Rattle.ell_cards.specs.declared.view.Told.TheVariants as told;
+ghost use Rattle.ell_cards.specs.declared.call.Call.TheVariants as call;
+ghost use Rattle.ell_layout.specs.Words.{IsLeaf};
+ghost use Rattle.ell_word.specs.Node.{IsInternal};
 ghost use Rattle.ell_tree.specs.Counts.{CountsAll, HasUncounted};
 ghost use Rattle.ell_tree.specs.Keeping.{IsInnerMet, KeepsAllButSearch};
-ghost use Rattle.ell_tree.specs.Searches.{AtRoot, EndsAt, EndWasUnknownAt, KnowsPassed, below, leaf_with};
+ghost use Rattle.ell_tree.specs.Searches.{AtRoot, EndsAbove, EndsAt, EndWasUnknownAt, FitsBelow, KnowsPassed, MayPass, below, node_with};
 
 use crate::gate::{Kind, StepGate};
+use crate::steps::KeyedNode;
+use ell_block::is_in_block;
 use ell_cards::{CardTable, Pass};
 use ell_ops::Op;
 use ell_word::{Link, Update, is_internal};
@@ -25,23 +32,36 @@ pub(crate) struct Passed {
     pub tag: u64,
 }
 
-/// Where a search ended: a leaf with its key and its value, its parent, and its grandparent if there is one.
+/// Where a search ended: a leaf with its key and its value, or, for an insert into a flat tree, an internal node whose
+/// block lacks the insert's key, with 0 for a value; the parent, and the grandparent if there is one.
 #[derive(Clone, Copy)]
-pub(crate) struct LeafFound {
-    pub leaf: u64,
+pub(crate) struct Place {
+    pub node: u64,
     pub key: u64,
     pub value: u64,
     pub parent: Passed,
     pub grandparent: Option<Passed>,
 }
 
-/// Returns the leaf of a place with a tag, as a card says it.
-pub(crate) fn leaf_with(place: LeafFound, tag: u64) -> Link
-    ensures { result ≡ leaf_with place tag }
+/// Returns the node of a place with a tag, as a card says it.
+pub(crate) fn node_with(place: Place, tag: u64) -> Link
+    ensures { result ≡ node_with place tag }
 {
     Link {
-        node: place.leaf,
+        node: place.node,
         tag,
+    }
+}
+
+// Whether a search ends at an internal node of this key: an insert's does at one whose block lacks its key.
+#[inline(always)]
+fn ends_at<A: Allocator + Copy>(table: &CardTable<A>, op: Op, node: u64, key: u64) -> bool
+    ensures ends { result ≡ true → EndsAbove (flat_from table.now.plan) op node key }
+    ensures goes { result ≡ false → MayPass (flat_from table.now.plan) op node key }
+{
+    match op {
+        Op::Insert(own, _) => table.has_block(node) && !is_in_block(key, own),
+        Op::Find(_) | Op::Delete(_) | Op::Swap(_, _, _) => false,
     }
 }
 
@@ -51,13 +71,13 @@ pub(crate) fn search<A: Allocator + Copy, G: StepGate>(
     pass: &mut Pass<A>,
     op: Op,
     gate: &G,
-) -> LeafFound
+) -> Place
     requires own { pass.old.table ≡ table.now.id }
     requires root { AtRoot op pass.old.view }
-    ensures keeps_but_search { KeepsAllButSearch pass.old pass.new (3 * table.now.plan.last_card + 5) }
+    ensures keeps_but_search { KeepsAllButSearch pass.old pass.new (3 * deepest table.now.plan + 5) }
     // It counts each step that it makes.
     ensures counted { CountsAll pass.old pass.new }
-    ensures ends { EndsAt table.now.plan.last_card pass.new.view op result }
+    ensures ends { EndsAt table.now.plan pass.new.view op result }
 {
     let (place, steps) = walk(table, pass, op, gate);
     pass.count(steps);
@@ -71,37 +91,79 @@ fn walk<A: Allocator + Copy, G: StepGate>(
     pass: &mut Pass<A>,
     op: Op,
     gate: &G,
-) -> (LeafFound, u64)
+) -> (Place, u64)
     requires own { pass.old.table ≡ table.now.id }
     requires root { AtRoot op pass.old.view }
-    ensures keeps_but_search { KeepsAllButSearch pass.old pass.new (3 * table.now.plan.last_card + 5) }
+    ensures keeps_but_search { KeepsAllButSearch pass.old pass.new (3 * deepest table.now.plan + 5) }
     ensures uncounted { HasUncounted pass.old pass.new result.1 }
-    ensures ends { EndsAt table.now.plan.last_card pass.new.view op result.0 }
+    ensures ends { EndsAt table.now.plan pass.new.view op result.0 }
 {
     table.facts_stay_inside(pass);
-    let (mut parent, mut node) = descend(table, pass, op, 0, gate);
+    let root_key = ask_key(table, pass, 0, gate);
+    let root = KeyedNode {
+        node: 0,
+        key: root_key,
+    };
+    let (mut parent, mut node) = pass_by(table, pass, op, root, gate);
     let mut grandparent = None;
-    let mut steps = STEPS_AT_A_NODE;
-    while is_internal(node) {
-        let (passed, child) = descend(table, pass, op, node, gate);
+    let mut key = ask_key(table, pass, node, gate);
+    let mut steps = STEPS_AT_A_NODE + 1;
+    while is_internal(node) && !ends_at(table, op, node, key) {
+        let (passed, child) = pass_by(table, pass, op, KeyedNode { node, key }, gate);
         grandparent = Some(rebuild(parent));
         parent = rebuild(passed);
         node = child;
+        key = ask_key(table, pass, node, gate);
         steps += STEPS_AT_A_NODE;
     }
-    let label = pass.label();
-    gate.before(label, Kind::Look);
-    let key = table.key_of(pass, node);
-    gate.before(label, Kind::Look);
-    let value = table.value_of(pass, node);
-    let place = LeafFound {
-        leaf: node,
+    let (value, at_the_end) = value_at(table, pass, node, gate);
+    let place = Place {
+        node,
         key,
         value,
         parent,
         grandparent,
     };
-    (place, steps + 2)
+    (place, steps + at_the_end)
+}
+
+// Asks the key of a node that the pass has met. The step is not counted.
+#[inline(always)]
+fn ask_key<A: Allocator + Copy, G: StepGate>(
+    table: &CardTable<A>,
+    pass: &mut Pass<A>,
+    node: u64,
+    gate: &G,
+) -> u64
+    requires own { pass.old.table ≡ table.now.id }
+    requires met { IsTold pass.old.view (Met node) }
+    ensures step { Sees pass.old pass.new (after (call.KeyOf node) result pass.old.view) }
+    ensures tells { TellsKey (flat_from table.now.plan) pass.old.view node result }
+{
+    gate.before(pass.label(), Kind::Look);
+    table.key_of(pass, node)
+}
+
+// Returns the value of a leaf that the pass has met, or 0 for an internal node, and in how many steps. They are not
+// counted.
+#[inline(always)]
+fn value_at<A: Allocator + Copy, G: StepGate>(
+    table: &CardTable<A>,
+    pass: &mut Pass<A>,
+    node: u64,
+    gate: &G,
+) -> (u64, u64)
+    requires own { pass.old.table ≡ table.now.id }
+    requires met { IsTold pass.old.view (Met node) }
+    ensures inner { IsInternal node → (result ≡ (0, 0)) × (pass.new ≡ pass.old) }
+    ensures outer { IsLeaf node → (result.1 ≡ 1) × Sees pass.old pass.new (after (call.ValueOf node) result.0 pass.old.view)
+        × TellsLedgerValue pass.old.view node result.0 }
+{
+    if is_internal(node) {
+        return (0, 0);
+    }
+    gate.before(pass.label(), Kind::Look);
+    (table.value_of(pass, node), 1)
 }
 
 // The same value, made from its parts. A move would also copy the unused bytes next to the state, and the processor
@@ -118,41 +180,43 @@ fn rebuild(passed: Passed) -> Passed
     }
 }
 
-// Goes down from an internal node, whose update it reads before the child word. Returns what it read there, and the
-// child. The steps are not counted.
-fn descend<A: Allocator + Copy, G: StepGate>(
+// Goes down from an internal node of this key, whose update it reads before the child word. Returns what it read there,
+// and the child. The steps are not counted.
+fn pass_by<A: Allocator + Copy, G: StepGate>(
     table: &CardTable<A>,
     pass: &mut Pass<A>,
     op: Op,
-    node: u64,
+    at: KeyedNode,
     gate: &G,
 ) -> (Passed, u64)
     requires own { pass.old.table ≡ table.now.id }
     requires busy { Does pass.old.view op }
-    requires stands { StandsAt pass.old.view node }
+    requires stands { StandsAt pass.old.view at.node }
     requires unread { pass.old.view.worker.search.read ≡ None }
     requires no_card { pass.old.view.worker.card ≡ None }
-    requires node { IsInnerMet table.now.plan.last_card pass.old.view node }
-    ensures keeps_but_search { KeepsAllButSearch pass.old pass.new 3 }
-    ensures uncounted { HasUncounted pass.old pass.new 3 }
-    ensures here { result.0.node ≡ node }
-    ensures deeper { depth_of pass.old.view node < depth_of pass.new.view result.1 }
-    ensures shallow { IsShallow table.now.plan.last_card pass.new.view result.1 }
+    requires node { IsInnerMet table.now.plan.last_card pass.old.view at.node }
+    requires here { pass.old.view.here ≡ Some at.key }
+    requires told { IsTold pass.old.view (told.Key at.node at.key) }
+    requires may { MayPass (flat_from table.now.plan) op at.node at.key }
+    ensures keeps_but_search { KeepsAllButSearch pass.old pass.new 2 }
+    ensures uncounted { HasUncounted pass.old pass.new 2 }
+    ensures here { result.0.node ≡ at.node }
+    ensures deeper { depth_of pass.old.view at.node < depth_of pass.new.view result.1 }
+    ensures shallow { IsShallow (deepest table.now.plan) pass.new.view result.1 }
     ensures there { InTable table.now.plan.last_card result.1 }
     ensures search { pass.new.view.worker.search ≡ below result.1 result.0 pass.old.view.worker.search.parent }
     ensures met { IsTold pass.new.view (Met result.1) }
     ensures passed { KnowsPassed table.now.plan.last_card pass.new.view result.0 }
+    ensures fits { FitsBelow (flat_from table.now.plan) pass.new.view op result.0.node }
     ensures unknown { EndWasUnknownAt pass.new.view result.0 }
 {
     let label = pass.label();
     gate.before(label, Kind::Look);
-    let update = table.upd(pass, node);
+    let update = table.upd(pass, at.node);
     gate.before(label, Kind::Look);
-    let node_key = table.key_of(pass, node);
-    gate.before(label, Kind::Look);
-    let child = table.down(pass, node, node_key <= op.key());
+    let child = table.down(pass, at.node, at.key <= op.key());
     let passed = Passed {
-        node,
+        node: at.node,
         update,
         tag: child.tag,
     };

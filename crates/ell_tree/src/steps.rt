@@ -11,7 +11,7 @@ ghost use Rattle.ell_layout.specs.Cards.{says_by};
 ghost use Rattle.ell_cards.specs.declared.view.Told.TheVariants as told;
 ghost use Rattle.ell_cards.specs.Models.{Does, IsFree, IsTold, Knows};
 ghost use Rattle.ell_cards.specs.Changes.{answered_so, depth_there, is_mark_of, taken_by, tries_hindered, with_answer};
-ghost use Rattle.ell_cards.specs.Depths.{IsShallow, depth_of};
+ghost use Rattle.ell_cards.specs.Depths.{deepest, IsShallow, depth_of};
 ghost use Rattle.ell_cards.specs.Guards.{KnowsPlace, MayAnswer, MayAsk, NamesNode};
 ghost use Rattle.ell_cards.specs.Calls.{TellsNode};
 ghost use Rattle.ell_cards.specs.Looking.{ValuesAreFixed};
@@ -144,7 +144,7 @@ pub(crate) fn read_info<A: Allocator + Copy, G: StepGate>(
     ensures told { IsTold pass.new.view (told.Info card field (says_by field result)) }
     ensures met { NamesNode field → IsTold pass.new.view (told.Met (says_by field result)) }
     ensures node { TellsNode table.now.plan.last_card field result }
-    ensures shallow { IsShallow table.now.plan.last_card pass.new.view (says_by field result) }
+    ensures shallow { IsShallow (deepest table.now.plan) pass.new.view (says_by field result) }
     ensures deeper { depth_there pass.old.view card field ≤ depth_of pass.new.view (says_by field result) }
 {
     gate.before(pass.label(), Kind::Look);

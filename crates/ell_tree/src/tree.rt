@@ -24,6 +24,7 @@ ghost use Rattle.ell_tree.specs.Scans.{AreFoundIn, AreInOrder, IsAbout, IsFoundA
 ghost use Rattle.ell_ops.specs.Contents.{contents_of};
 ghost use Rattle.ell_tree.specs.PassParts.{IsFirst, IsLeftPart, IsRightPart, IsUnion};
 ghost use Rattle.ell_tree.specs.Promises.{IsOthersDoing, IsQuiet, IsWithin, MayDo, SpendsCards};
+ghost use Rattle.ell_cards.specs.Depths.{deepest};
 
 use crate::computing::compute;
 use crate::cursor::About;
@@ -39,6 +40,11 @@ use std::marker::Model;
 
 /// A map from keys to values that many threads share, each through a pass of its own. A pass finds, inserts and deletes
 /// the keys that it owns, which no other pass does, and the shared ones, if the tree has any, as every pass does.
+///
+/// How many steps a call makes at most is told by two numbers of its tree. `cards` is the number of the last card: the
+/// number of cards that the tree was asked for, plus one for each of its start keys. `depth` is the most internal nodes
+/// above an internal node: in a flat tree (`reserve_flat`) 64 if there were no start keys, and 84 at most with a million
+/// of them; in any other tree, `cards`.
 #[derive(Drop)]
 pub struct Tree<A: Allocator + Copy> {
     pub(crate) table: CardTable<A>,
@@ -52,104 +58,6 @@ impl<A: Allocator + Copy> Model for Tree<A> {
 }
 
 impl<A: Allocator + Copy> Tree<A> {
-    /// Returns an empty tree with the given number of cards, and one pass that owns all these keys, each absent. Each
-    /// try of an insert or a delete that finds its way free takes a card, and no card is given back; `cards_left`
-    /// returns how many there are. `BadCards` is returned exactly if the number of cards is not 1 to 1,000,000, and
-    /// `NoMemory` if an allocation fails. Conditions: the keys are strictly ascending, and at most `KEY_MAX`.
-    pub fn reserve(alloc: A, keys: &[u64], cards: u64) -> Result<(Tree<A>, Pass<A>), CardFault>
-        requires ascending { IsStrictlyIncreasing keys.now }
-        requires real { All (λ k. k ≤ greatest_key) keys.now }
-        // It succeeds only with 1 to 1,000,000 cards.
-        ensures cards { OnOk result (IsCardCount cards) }
-        // The tree is empty and shares no key, and its last card has the number `cards`.
-        ensures tree { IfOk result (λ made.
-            made.0.plan ≡ record { keys = keys.now; start = []; last_card = cards; shared = false }) }
-        // The pass owns these keys, of which the start keys are present, has the whole share, and has made no step.
-        ensures pass { IfOk result (λ made. IsFirst made.0 made.1) }
-        // It was answered nothing.
-        ensures called { IfOk result (λ made. made.1.view.answers ≡ []) }
-        // `BadCards` is returned exactly if the number of cards is not 1 to 1,000,000, and otherwise only `NoMemory`.
-        ensures refused { IfErr result (RefusesCards cards) }
-    {
-        Tree::reserve_from(alloc, &[], keys, cards)
-    }
-
-    /// Returns a tree that has these start keys with their values from the beginning, balanced, and one pass that owns
-    /// all these keys: the start keys are present, the others absent. This saves inserting them: no operation is made
-    /// for them, and they take none of the cards asked for. Their tree has a card for each of them, so the number of
-    /// the last card, which bounds the steps of calls, is the number of cards asked for plus that of the start keys.
-    /// Errors are as for `reserve`. Conditions: those of `reserve`; the start keys are strictly ascending and among the
-    /// keys, and there are at most `START_MAX`, 1,000,000, of them.
-    pub fn reserve_from(
-        alloc: A,
-        start: &[(u64, u64)],
-        keys: &[u64],
-        cards: u64,
-    ) -> Result<(Tree<A>, Pass<A>), CardFault>
-        requires ascending { IsStrictlyIncreasing keys.now }
-        requires real { All (λ k. k ≤ greatest_key) keys.now }
-        requires start_ascending { IsStrictlyIncreasing (keys_of start.now) }
-        requires given { All (λ k. set_of keys.now k ≡ true) (keys_of start.now) }
-        requires few { length start.now ≤ most_start }
-        // It succeeds only with 1 to 1,000,000 cards.
-        ensures cards { OnOk result (IsCardCount cards) }
-        // The tree has the start pairs and shares no key. The number of its last card is `cards` plus the number of
-        // start keys.
-        ensures tree { IfOk result (λ made. made.0.plan ≡ record {
-          keys = keys.now;
-          start = start.now;
-          last_card = last_card start.now cards;
-          shared = false;
-        }) }
-        // The pass owns these keys, of which the start keys are present, has the whole share, and has made no step.
-        ensures pass { IfOk result (λ made. IsFirst made.0 made.1) }
-        // It was answered nothing.
-        ensures called { IfOk result (λ made. made.1.view.answers ≡ []) }
-        // `BadCards` is returned exactly if the number of cards is not 1 to 1,000,000, and otherwise only `NoMemory`.
-        ensures refused { IfErr result (RefusesCards cards) }
-    {
-        let (table, pass) = CardTable::reserve_from(alloc, start, keys, cards)?;
-        Ok((Tree { table, alloc }, pass))
-    }
-
-    /// Returns a tree of shared keys: every key up to `KEY_MAX` that is not among these keys, which may be none, is
-    /// shared, and any pass may change it. The tree has these start keys with their values from the beginning,
-    /// balanced, and one pass, which owns these keys: those among them that are start keys are present, the others
-    /// absent. Errors, and the number of the last card, are as for `reserve_from`. Conditions: the keys are strictly
-    /// ascending, and at most `KEY_MAX`; so are the start keys, which need not be among the keys; there are at most
-    /// `START_MAX` start keys.
-    pub fn reserve_shared(
-        alloc: A,
-        start: &[(u64, u64)],
-        keys: &[u64],
-        cards: u64,
-    ) -> Result<(Tree<A>, Pass<A>), CardFault>
-        requires ascending { IsStrictlyIncreasing keys.now }
-        requires real { All (λ k. k ≤ greatest_key) keys.now }
-        requires start_ascending { IsStrictlyIncreasing (keys_of start.now) }
-        requires start_real { All (λ k. k ≤ greatest_key) (keys_of start.now) }
-        requires few { length start.now ≤ most_start }
-        // It succeeds only with 1 to 1,000,000 cards.
-        ensures cards { OnOk result (IsCardCount cards) }
-        // The tree has the start pairs and shares each other key. The number of its last card is `cards` plus the
-        // number of start keys.
-        ensures tree { IfOk result (λ made. made.0.plan ≡ record {
-          keys = keys.now;
-          start = start.now;
-          last_card = last_card start.now cards;
-          shared = true;
-        }) }
-        // The pass owns these keys, of which the start keys are present, has the whole share, and has made no step.
-        ensures pass { IfOk result (λ made. IsFirst made.0 made.1) }
-        // It was answered nothing.
-        ensures called { IfOk result (λ made. made.1.view.answers ≡ []) }
-        // `BadCards` is returned exactly if the number of cards is not 1 to 1,000,000, and otherwise only `NoMemory`.
-        ensures refused { IfErr result (RefusesCards cards) }
-    {
-        let (table, pass) = CardTable::reserve_shared(alloc, start, keys, cards)?;
-        Ok((Tree { table, alloc }, pass))
-    }
-
     /// Splits a pass, so that two threads can work: the left part gets these of its keys, strictly ascending, and the
     /// right part gets the rest, and a part of the share. Both keep its label. `TooManyPasses` is returned exactly if
     /// some keys are shared and its share may not be split, and otherwise `NoMemory` if an allocation fails. Either way
@@ -201,9 +109,9 @@ impl<A: Allocator + Copy> Tree<A> {
     /// Returns the value of any key up to `KEY_MAX`, whichever pass owns it, if the key is present: the value that it
     /// had in one state of the tree between the first step of the look and its last, whatever other passes did in the
     /// meantime (`so`). A pass without keys may look too. The call writes nothing, helps no other call, waits for none,
-    /// and takes at most `2 * cards + 3` steps, where `cards` is the number of the last card. A key of the pass's own
-    /// is answered as `find` answers it. Two looks at two keys are of two states. It takes no card. The gate is told of
-    /// each step, as `Look`, and of neither a begin nor an end.
+    /// and takes at most `2 * depth + 3` steps. A key of the pass's own is answered as `find` answers it. Two looks at
+    /// two keys are of two states. It takes no card. The gate is told of each step, as `Look`, and of neither a begin
+    /// nor an end.
     pub fn look<G: StepGate>(&self, pass: &mut Pass<A>, key: u64, gate: &G) -> Option<u64>
         requires may { IsIdlePassOf self.now pass.old }
         requires real { key ≤ greatest_key }
@@ -212,8 +120,8 @@ impl<A: Allocator + Copy> Tree<A> {
         ensures one { pass.new.view.looks ≡ pass.old.view.looks + 1 }
         // For a key of the pass, it is what the pass has.
         ensures mine { Owns pass.old key → result ≡ present_in pass.old key }
-        // It only loads, and makes at most `2 * cards + 3` steps. Otherwise the pass is unchanged.
-        ensures only { OnlyLooks pass.old pass.new (look_steps self.now.plan.last_card) }
+        // It only loads, and makes at most `2 * depth + 3` steps. Otherwise the pass is unchanged.
+        ensures only { OnlyLooks pass.old pass.new (look_steps (deepest self.now.plan)) }
         // It takes no card.
         ensures cards { TakesNoCard pass.old pass.new }
     {
@@ -235,8 +143,8 @@ impl<A: Allocator + Copy> Tree<A> {
         ensures one { pass.new.view.looks ≡ pass.old.view.looks + 1 }
         // For the keys of the pass, it is what the pass has.
         ensures mine { TellsItsOwn pass.old result.low result.high (value_there result.found) }
-        // It only loads, and makes at most `2 * cards + 3` steps. Otherwise the pass is unchanged.
-        ensures only { OnlyLooks pass.old pass.new (look_steps self.now.plan.last_card) }
+        // It only loads, and makes at most `2 * depth + 3` steps. Otherwise the pass is unchanged.
+        ensures only { OnlyLooks pass.old pass.new (look_steps (deepest self.now.plan)) }
         // It takes no card.
         ensures cards { TakesNoCard pass.old pass.new }
     {
@@ -250,7 +158,7 @@ impl<A: Allocator + Copy> Tree<A> {
     /// last (`so`): what was present all along is written, what was absent all along is not, and each pair was there.
     /// Two keys may be of two states: a scan is not a snapshot. It writes nothing to the tree, helps no other call and
     /// waits for none. It takes about the steps of a walk over the part of the tree that has these keys, and in every
-    /// schedule at most `(cards + 1) * (2 * cards + 2) + 1`. It takes no card. The gate is told of each step, as
+    /// schedule at most `(cards + 1) * (2 * depth + 2) + 1`. It takes no card. The gate is told of each step, as
     /// `Look`.
     pub fn scan<G: StepGate>(
         &self,
@@ -275,8 +183,8 @@ impl<A: Allocator + Copy> Tree<A> {
         ensures one { pass.new.view.looks ≡ pass.old.view.looks + 1 }
         // For the keys of the pass, it tells what the pass has.
         ensures mine { TellsItsOwn pass.old from (end_of upto result) (contents_of (written room.new result)) }
-        // It only loads, and makes at most `(cards + 1) * (2 * cards + 2) + 1` steps. Otherwise the pass is unchanged.
-        ensures only { OnlyLooks pass.old pass.new (scan_steps self.now.plan.last_card) }
+        // It only loads, and makes at most `(cards + 1) * (2 * depth + 2) + 1` steps. Otherwise the pass is unchanged.
+        ensures only { OnlyLooks pass.old pass.new (scan_steps self.now.plan) }
         // It takes no card.
         ensures cards { TakesNoCard pass.old pass.new }
     {
@@ -297,8 +205,8 @@ impl<A: Allocator + Copy> Tree<A> {
         // since the call began, and each key before it was absent in one.
         ensures so { IsNextIn self.now pass.new.view key result }
         ensures one { pass.new.view.looks ≡ pass.old.view.looks + 1 }
-        // It only loads, and makes at most `(cards + 1) * (2 * cards + 2) + 1` steps. Otherwise the pass is unchanged.
-        ensures only { OnlyLooks pass.old pass.new (scan_steps self.now.plan.last_card) }
+        // It only loads, and makes at most `(cards + 1) * (2 * depth + 2) + 1` steps. Otherwise the pass is unchanged.
+        ensures only { OnlyLooks pass.old pass.new (scan_steps self.now.plan) }
         // It takes no card.
         ensures cards { TakesNoCard pass.old pass.new }
     {
@@ -318,8 +226,8 @@ impl<A: Allocator + Copy> Tree<A> {
         // call began, and each key before it was absent in one.
         ensures so { IsNextIn self.now pass.new.view (key + 1) result }
         ensures one { pass.new.view.looks ≡ pass.old.view.looks + 1 }
-        // It only loads, and makes at most `(cards + 1) * (2 * cards + 2) + 1` steps. Otherwise the pass is unchanged.
-        ensures only { OnlyLooks pass.old pass.new (scan_steps self.now.plan.last_card) }
+        // It only loads, and makes at most `(cards + 1) * (2 * depth + 2) + 1` steps. Otherwise the pass is unchanged.
+        ensures only { OnlyLooks pass.old pass.new (scan_steps self.now.plan) }
         // It takes no card.
         ensures cards { TakesNoCard pass.old pass.new }
     {
@@ -333,8 +241,8 @@ impl<A: Allocator + Copy> Tree<A> {
         // each key before it was absent in one.
         ensures so { IsNextIn self.now pass.new.view 0 result }
         ensures one { pass.new.view.looks ≡ pass.old.view.looks + 1 }
-        // It only loads, and makes at most `(cards + 1) * (2 * cards + 2) + 1` steps. Otherwise the pass is unchanged.
-        ensures only { OnlyLooks pass.old pass.new (scan_steps self.now.plan.last_card) }
+        // It only loads, and makes at most `(cards + 1) * (2 * depth + 2) + 1` steps. Otherwise the pass is unchanged.
+        ensures only { OnlyLooks pass.old pass.new (scan_steps self.now.plan) }
         // It takes no card.
         ensures cards { TakesNoCard pass.old pass.new }
     {
@@ -355,8 +263,8 @@ impl<A: Allocator + Copy> Tree<A> {
         // since the call began, and each key after it was absent in one.
         ensures so { IsLastIn self.now pass.new.view (key + 1) result }
         ensures one { pass.new.view.looks ≡ pass.old.view.looks + 1 }
-        // It only loads, and makes at most `(cards + 1) * (2 * cards + 2) + 1` steps. Otherwise the pass is unchanged.
-        ensures only { OnlyLooks pass.old pass.new (scan_steps self.now.plan.last_card) }
+        // It only loads, and makes at most `(cards + 1) * (2 * depth + 2) + 1` steps. Otherwise the pass is unchanged.
+        ensures only { OnlyLooks pass.old pass.new (scan_steps self.now.plan) }
         // It takes no card.
         ensures cards { TakesNoCard pass.old pass.new }
     {
@@ -376,8 +284,8 @@ impl<A: Allocator + Copy> Tree<A> {
         // call began, and each key after it was absent in one.
         ensures so { IsLastIn self.now pass.new.view key result }
         ensures one { pass.new.view.looks ≡ pass.old.view.looks + 1 }
-        // It only loads, and makes at most `(cards + 1) * (2 * cards + 2) + 1` steps. Otherwise the pass is unchanged.
-        ensures only { OnlyLooks pass.old pass.new (scan_steps self.now.plan.last_card) }
+        // It only loads, and makes at most `(cards + 1) * (2 * depth + 2) + 1` steps. Otherwise the pass is unchanged.
+        ensures only { OnlyLooks pass.old pass.new (scan_steps self.now.plan) }
         // It takes no card.
         ensures cards { TakesNoCard pass.old pass.new }
     {
@@ -391,8 +299,8 @@ impl<A: Allocator + Copy> Tree<A> {
         // each key after it was absent in one.
         ensures so { IsLastIn self.now pass.new.view (greatest_key + 1) result }
         ensures one { pass.new.view.looks ≡ pass.old.view.looks + 1 }
-        // It only loads, and makes at most `(cards + 1) * (2 * cards + 2) + 1` steps. Otherwise the pass is unchanged.
-        ensures only { OnlyLooks pass.old pass.new (scan_steps self.now.plan.last_card) }
+        // It only loads, and makes at most `(cards + 1) * (2 * depth + 2) + 1` steps. Otherwise the pass is unchanged.
+        ensures only { OnlyLooks pass.old pass.new (scan_steps self.now.plan) }
         // It takes no card.
         ensures cards { TakesNoCard pass.old pass.new }
     {
@@ -418,8 +326,7 @@ impl<A: Allocator + Copy> Tree<A> {
     }
 
     /// Returns the value of a key of the pass, or of a shared one, if the key is present. The call helps no other call,
-    /// nothing is in its way, and it takes no card and at most `3 * cards + 7` steps, where `cards` is the number of
-    /// the last card: the number of cards that the tree was asked for, plus one for each of its start keys.
+    /// nothing is in its way, and it takes no card and at most `3 * depth + 7` steps.
     pub fn find<G: StepGate>(&self, pass: &mut Pass<A>, key: u64, gate: &G) -> Option<u64>
         requires may { MayDo self.now key pass.old }
         // On a key of the pass, the answer is the value that the pass has. On any key, it is that of one thread at one
@@ -429,8 +336,8 @@ impl<A: Allocator + Copy> Tree<A> {
         ensures called { IsCalled (Find key) pass.old pass.new (Ok (found result)) }
         // Nothing is in its way, and no try is counted as hindered.
         ensures quiet { IsQuiet self.now pass.old pass.new }
-        // It makes at most `3 * cards + 7` steps.
-        ensures steps { Took pass.old pass.new (find_steps self.now.plan.last_card) }
+        // It makes at most `3 * depth + 7` steps.
+        ensures steps { Took pass.old pass.new (find_steps (deepest self.now.plan)) }
         // It takes no card.
         ensures cards { TakesNoCard pass.old pass.new }
     {
@@ -444,11 +351,9 @@ impl<A: Allocator + Copy> Tree<A> {
     /// is over by then: a card that another pass took first, or a change of a neighbor, which was helped to its end if
     /// no other call had ended it.
     ///
-    /// The bounds are as follows, where `cards` is the number of the last card: the number of cards that the tree was
-    /// asked for, plus one for each of its start keys. A call takes at most `tries * (7 * cards + 27) + 1` steps. Each
-    /// try that ends without an answer shows the pass a card given out, or come to its end, that it did not know of,
+    /// A call takes at most `tries * (7 * depth + 27) + 1` steps. Each try that ends without an answer shows the pass a card given out, or come to its end, that it did not know of,
     /// and no card does either twice: so with more than `2 * cards` tries it is never `Busy`, and all calls of a pass
-    /// together take at most `7 * cards + 28` steps each, and `2 * cards * (7 * cards + 27)` more, in every schedule. A
+    /// together take at most `7 * depth + 28` steps each, and `2 * cards * (7 * depth + 27)` more, in every schedule. A
     /// call that is `Busy` counts all its tries as hindered, and in every run of the tree they are at most two for each
     /// card that was given out to another pass while it went on, and one for each card that some pass had in hand when
     /// it began. A call that changes the map takes one card, and at most one more for each try that something hindered;
@@ -473,7 +378,7 @@ impl<A: Allocator + Copy> Tree<A> {
         // A `Busy` call counts each of its tries as hindered. Each shows the pass a milestone that it did not know, and
         // in every run they are no more than others' acts allow.
         ensures others { result ≡ Err Busy → IsOthersDoing self.now tries pass.old pass.new }
-        // It makes at most `tries * (7 * cards + 27) + 1` steps, and also at most `7 * cards + 28`, and `7 * cards +
+        // It makes at most `tries * (7 * depth + 27) + 1` steps, and also at most `7 * depth + 28`, and `7 * depth +
         // 27` for each milestone that the pass comes to know. It counts at most `tries` tries.
         ensures steps { IsWithin self.now tries pass.old pass.new }
         // It takes one card if it changes the map, at most one more for each hindered try, and never more than `tries`.
@@ -509,7 +414,7 @@ impl<A: Allocator + Copy> Tree<A> {
         // A `Busy` call counts each of its tries as hindered. Each shows the pass a milestone that it did not know, and
         // in every run they are no more than others' acts allow.
         ensures others { result ≡ Err Busy → IsOthersDoing self.now tries pass.old pass.new }
-        // It makes at most `tries * (7 * cards + 27) + 1` steps, and also at most `7 * cards + 28`, and `7 * cards +
+        // It makes at most `tries * (7 * depth + 27) + 1` steps, and also at most `7 * depth + 28`, and `7 * depth +
         // 27` for each milestone that the pass comes to know. It counts at most `tries` tries.
         ensures steps { IsWithin self.now tries pass.old pass.new }
         // It takes one card if it finds `was`, at most one more for each hindered try, and never more than `tries`. If
@@ -528,8 +433,7 @@ impl<A: Allocator + Copy> Tree<A> {
     /// `Spent` if a try finds all cards given out: after either, the call has changed nothing, and nothing of it is
     /// under way.
     ///
-    /// A call takes at most `3 * cards + 7` steps, and `10 * cards + 35` more for each try, where `cards` is the number
-    /// of the last card. No other pass changes anything about a key of the pass, so with more than `2 * cards` tries it
+    /// A call takes at most `3 * depth + 7` steps, and `10 * depth + 35` more for each try. No other pass changes anything about a key of the pass, so with more than `2 * cards` tries it
     /// is never `Busy`; on a shared key, each try that finds it changed is the success of another call. A call that
     /// ends takes one card, and at most one more for each try that something hindered.
     pub fn put<G: StepGate>(
@@ -555,8 +459,8 @@ impl<A: Allocator + Copy> Tree<A> {
         ensures tried { result ≡ Err Busy → AreTried tries pass.old pass.new }
         // On a key of the pass, a `Busy` call counts each of its tries as hindered, because of what others did.
         ensures others { Owns pass.old key → result ≡ Err Busy → IsOthersDoing self.now tries pass.old pass.new }
-        // It makes at most `3 * cards + 7` steps, and `10 * cards + 35` for each try. It counts at most `tries` tries.
-        ensures steps { Took pass.old pass.new (update_steps self.now.plan.last_card tries) }
+        // It makes at most `3 * depth + 7` steps, and `10 * depth + 35` for each try. It counts at most `tries` tries.
+        ensures steps { Took pass.old pass.new (update_steps (deepest self.now.plan) tries) }
         ensures counted { CountsTries tries pass.old pass.new }
         // It takes one card if it puts a value, at most one more for each hindered try, and never more than `tries`.
         ensures cards { SpendsCards key tries pass.old pass.new (whether_put result) }
@@ -595,8 +499,8 @@ impl<A: Allocator + Copy> Tree<A> {
         ensures tried { result ≡ Err Busy → AreTried tries pass.old pass.new }
         // On a key of the pass, a `Busy` call counts each of its tries as hindered, because of what others did.
         ensures others { Owns pass.old key → result ≡ Err Busy → IsOthersDoing self.now tries pass.old pass.new }
-        // It makes at most `3 * cards + 7` steps, and `10 * cards + 35` for each try. It counts at most `tries` tries.
-        ensures steps { Took pass.old pass.new (update_steps self.now.plan.last_card tries) }
+        // It makes at most `3 * depth + 7` steps, and `10 * depth + 35` for each try. It counts at most `tries` tries.
+        ensures steps { Took pass.old pass.new (update_steps (deepest self.now.plan) tries) }
         ensures counted { CountsTries tries pass.old pass.new }
         // It takes one card if it puts a value, at most one more for each hindered try, and never more than `tries`.
         ensures cards { SpendsCards key tries pass.old pass.new (whether result) }
@@ -637,8 +541,8 @@ impl<A: Allocator + Copy> Tree<A> {
         ensures tried { result ≡ Err Busy → AreTried tries pass.old pass.new }
         // On a key of the pass, a `Busy` call counts each of its tries as hindered, because of what others did.
         ensures others { Owns pass.old key → result ≡ Err Busy → IsOthersDoing self.now tries pass.old pass.new }
-        // It makes at most `3 * cards + 7` steps, and `10 * cards + 35` for each try. It counts at most `tries` tries.
-        ensures steps { Took pass.old pass.new (update_steps self.now.plan.last_card tries) }
+        // It makes at most `3 * depth + 7` steps, and `10 * depth + 35` for each try. It counts at most `tries` tries.
+        ensures steps { Took pass.old pass.new (update_steps (deepest self.now.plan) tries) }
         ensures counted { CountsTries tries pass.old pass.new }
         // It takes one card if it puts a value, at most one more for each hindered try, and never more than `tries`.
         ensures cards { SpendsCards key tries pass.old pass.new (whether result) }
@@ -676,7 +580,7 @@ impl<A: Allocator + Copy> Tree<A> {
         // A `Busy` call counts each of its tries as hindered. Each shows the pass a milestone that it did not know, and
         // in every run they are no more than others' acts allow.
         ensures others { result ≡ Err Busy → IsOthersDoing self.now tries pass.old pass.new }
-        // It makes at most `tries * (7 * cards + 27) + 1` steps, and also at most `7 * cards + 28`, and `7 * cards +
+        // It makes at most `tries * (7 * depth + 27) + 1` steps, and also at most `7 * depth + 28`, and `7 * depth +
         // 27` for each milestone that the pass comes to know. It counts at most `tries` tries.
         ensures steps { IsWithin self.now tries pass.old pass.new }
         // It takes one card if it changes the map, at most one more for each hindered try, and never more than `tries`.
@@ -714,7 +618,7 @@ impl<A: Allocator + Copy> Tree<A> {
         // A `Busy` call counts each of its tries as hindered. Each shows the pass a milestone that it did not know, and
         // in every run they are no more than others' acts allow.
         ensures others { result ≡ Err Busy → IsOthersDoing self.now tries pass.old pass.new }
-        // It makes at most `tries * (7 * cards + 27) + 1` steps, and also at most `7 * cards + 28`, and `7 * cards +
+        // It makes at most `tries * (7 * depth + 27) + 1` steps, and also at most `7 * depth + 28`, and `7 * depth +
         // 27` for each milestone that the pass comes to know. It counts at most `tries` tries.
         ensures steps { IsWithin self.now tries pass.old pass.new }
         // It takes one card if it changes the map, at most one more for each hindered try, and never more than `tries`.
@@ -755,8 +659,8 @@ impl<A: Allocator + Copy> Tree<A> {
         ensures tried { result ≡ Err Busy → AreTriedOrRead tries pass.old pass.new }
         // On a key of the pass, a `Busy` call counts each of its tries as hindered, because of what others did.
         ensures others { Owns pass.old key → result ≡ Err Busy → IsOthersDoing self.now tries pass.old pass.new }
-        // It makes at most `3 * cards + 7` steps, and `10 * cards + 35` for each try. It counts at most `tries` tries.
-        ensures steps { Took pass.old pass.new (update_steps self.now.plan.last_card tries) }
+        // It makes at most `3 * depth + 7` steps, and `10 * depth + 35` for each try. It counts at most `tries` tries.
+        ensures steps { Took pass.old pass.new (update_steps (deepest self.now.plan) tries) }
         ensures counted { CountsTries tries pass.old pass.new }
         // It takes one card if it removes the key, at most one more for each hindered try, and never more than `tries`.
         // If it removes nothing of a key of the pass, it takes none.

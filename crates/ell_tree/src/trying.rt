@@ -2,7 +2,7 @@
 ghost use Rattle.std.specs.Prelude.{◌≡◌, ◌≤◌, None};
 ghost use Rattle.ell_word.specs.declared.update.State.TheVariants.{Clean};
 ghost use Rattle.ell_word.specs.Node.{greatest_card};
-ghost use Rattle.ell_cards.specs.Models.{Does, Steps};
+ghost use Rattle.ell_cards.specs.Models.{Does, Steps, flat_from};
 ghost use Rattle.ell_cards.specs.Guards.{MayFill, Wants};
 ghost use Rattle.ell_cards.specs.Changes.{after_fill};
 ghost use Rattle.ell_tree.specs.CardsTaken.{AskTakes};
@@ -11,7 +11,7 @@ ghost use Rattle.ell_tree.specs.Searches.{IsAt};
 ghost use Rattle.ell_tree.specs.Tries.{Claims};
 
 use crate::gate::{Kind, StepGate};
-use crate::searching::LeafFound;
+use crate::searching::Place;
 use ell_cards::{CardTable, Pass};
 use ell_core::Exchange;
 use ell_layout::Field;
@@ -40,11 +40,13 @@ pub(crate) enum Claimed {
 }
 
 /// Takes the next card for an operation whose search ended at a place, if one is left and no other pass takes it first.
+/// The node of an insert's or a swap's card gets this key.
 pub(crate) fn take_card<A: Allocator + Copy, G: StepGate>(
     table: &CardTable<A>,
     pass: &mut Pass<A>,
     op: Op,
-    place: LeafFound,
+    place: Place,
+    node_key: u64,
     gate: &G,
 ) -> Claimed
     requires own { pass.old.table ≡ table.now.id }
@@ -52,9 +54,9 @@ pub(crate) fn take_card<A: Allocator + Copy, G: StepGate>(
     requires no_card { pass.old.view.worker.card ≡ None }
     requires at { IsAt pass.old.view place }
     requires calm { place.parent.update.state ≡ Clean }
-    requires wants { Wants pass.old.view op place.leaf place.key }
+    requires wants { Wants (flat_from table.now.plan) pass.old.view op place.parent.node place.node place.key node_key }
     ensures keeps { Keeps pass.old pass.new 2 }
-    ensures claims { Claims table.now.plan.last_card op place pass.old pass.new result }
+    ensures claims { Claims table.now.plan.last_card op place node_key pass.old pass.new result }
     ensures taken { AskTakes pass.old pass.new result }
     ensures limit { table.now.plan.last_card ≤ greatest_card }
 {
@@ -65,7 +67,7 @@ pub(crate) fn take_card<A: Allocator + Copy, G: StepGate>(
         return Claimed::NoneLeft;
     }
     gate.before(label, Kind::Exchange(Exchange::Claim));
-    if table.claim(pass, card) {
+    if table.claim(pass, card, node_key) {
         Claimed::Card(card)
     } else {
         Claimed::Lost

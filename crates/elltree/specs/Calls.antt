@@ -17,7 +17,7 @@ use Rattle.ell_tree.specs.declared.operations.NotDone.{NotDone}
 use Rattle.ell_tree.specs.declared.operations.NotDone.TheVariants as not_done
 use Rattle.ell_tree.specs.declared.scanning.Pair.{Pair}
 use Rattle.ell_tree.specs.declared.scanning.Scanned.{Scanned}
-use Rattle.elltree.specs.Handles.{last_card_of, tree_of}
+use Rattle.elltree.specs.Handles.{deepest_of, last_card_of, tree_of}
 use Rattle.elltree.specs.declared.handle.Handle.{Handle}
 use Rattle.elltree.specs.declared.refusal.Refusal.{Refusal}
 use Rattle.elltree.specs.declared.refusal.Refusal.TheVariants.{BadKey, Busy, NoTries, Spent}
@@ -26,7 +26,7 @@ use Rattle.elltree.specs.declared.refusal.Refusal.TheVariants.{BadKey, Busy, NoT
 pub record Finds (key : ℕ) (old new : Handle) (there : Option ℕ) : Type 0 where
   pub answers : key ≤ greatest_key → Answers (tree_of old) (Find key) (found there) old.pass new.pass
   pub quiet : IsQuiet (tree_of old) old.pass new.pass
-  pub steps : Took old.pass new.pass (find_steps (last_card_of old))
+  pub steps : Took old.pass new.pass (find_steps (deepest_of old))
   pub cards : TakesNoCard old.pass new.pass
   pub beyond : greatest_key < key → (there ≡ None) × (new ≡ old)
   pub tree : new.tree ≡ old.tree
@@ -35,14 +35,14 @@ pub record Finds (key : ℕ) (old new : Handle) (there : Option ℕ) : Type 0 wh
 pub record LooksUp (key : ℕ) (old new : Handle) (there : Option ℕ) : Type 0 where
   pub so : key ≤ greatest_key → IsFoundIn (tree_of old) new.pass.view key there
   pub one : key ≤ greatest_key → new.pass.view.looks ≡ old.pass.view.looks + 1
-  pub only : OnlyLooks old.pass new.pass (look_steps (last_card_of old))
+  pub only : OnlyLooks old.pass new.pass (look_steps (deepest_of old))
   pub cards : TakesNoCard old.pass new.pass
   pub beyond : greatest_key < key → (there ≡ None) × (new ≡ old)
   pub tree : new.tree ≡ old.tree
 
 -- a call that only looks, once, and makes no more steps than a scan
 pub record OnlyScans (old new : Handle) : Type 0 where
-  pub only : OnlyLooks old.pass new.pass (scan_steps (last_card_of old))
+  pub only : OnlyLooks old.pass new.pass (scan_steps (tree_of old).plan)
   pub cards : TakesNoCard old.pass new.pass
   pub tree : new.tree ≡ old.tree
 
@@ -113,7 +113,7 @@ pub record Computes (key tries : ℕ) (Does : Handle → Handle → Option ℕ �
   pub does : IfOk result (Does old new)
   pub unanswered : IfErr result (IsNotDone (tree_of old) key old.pass new.pass)
   pub tried : result ≡ Err not_done.Busy → AreMade tries old.pass new.pass
-  pub steps : Took old.pass new.pass (update_steps (last_card_of old) tries)
+  pub steps : Took old.pass new.pass (update_steps (deepest_of old) tries)
   pub counted : CountsTries tries old.pass new.pass
   pub cards : SpendsCards key tries old.pass new.pass (made result)
   pub tree : new.tree ≡ old.tree

@@ -5,6 +5,7 @@ use Rattle.std.specs.List.Sorted.{IsStrictlyIncreasing}
 use Rattle.std.specs.Map.{keys_of}
 use Rattle.ell_ops.specs.Meaning.{greatest_key}
 use Rattle.ell_core.specs.state.Opening.{last_card}
+use Rattle.ell_cards.specs.Depths.{deepest}
 use Rattle.ell_tree.specs.Node.{most_start}
 use Rattle.ell_cards.specs.Models.{IsCardCount, MayPart}
 use Rattle.ell_tree.specs.Ledgers.{TreeModel}
@@ -22,14 +23,19 @@ tree_of h = arc_value h.tree
 abbrev pub last_card_of : Handle → ℕ
 last_card_of h = (arc_value h.tree).plan.last_card
 
+-- the most internal nodes above an internal node of a handle's tree
+abbrev pub deepest_of : Handle → ℕ
+deepest_of h = deepest (arc_value h.tree).plan
+
 -- pairs of a host as the tree has them
 abbrev pub as_pairs : List Pair → List (ℕ × ℕ)
 as_pairs pairs = map (λ pair. (pair.key, pair.value)) pairs
 
--- a handle is the first of a new tree in which every key is shared, with these start keys, and so many cards besides; it
--- has the whole share of the tree
+-- a handle is the first of a new flat tree in which every key is shared, with these start keys, and so many cards besides;
+-- it has the whole share of the tree
 pub record IsOpened (start : List (ℕ × ℕ)) (cards : ℕ) (h : Handle) : Type 0 where
-  pub plan : (tree_of h).plan ≡ record { keys = []; start = start; last_card = last_card start cards; shared = true }
+  pub plan : (tree_of h).plan
+      ≡ record { keys = []; start = start; last_card = last_card start cards; shared = true; flat = true }
   pub first : IsFirst (tree_of h) h.pass
 
 -- a tree may begin with these start keys

@@ -1,10 +1,13 @@
-use Rattle.std.proofs.Common.{◌≡◌, ℕ, ◌+◌, ◌<◌, ◌≤◌, ◌==◌, if◌then◌else◌, inl, inr, refl, ap, eq-eqb, arith}
-use Rattle.std.proofs.lemmas.Bool.{cases_eq, ne_eqb}
+use Rattle.std.proofs.Common.{◌≡◌, ℕ, zero, suc, ◌+◌, ◌-◌, ◌/◌, ◌<◌, ◌≤◌, ◌==◌, nat_lt, Bool, true, false, if◌then◌else◌, inl, inr, length, refl, ap, ◌∙◌, eq-eqb, arith}
+use Rattle.std.proofs.lemmas.Bool.{cases_Bool, cases_eq, ne_eqb}
 use Rattle.ell_word.specs.Node.{IsInternal, card}
 use Rattle.ell_layout.specs.Words.{Words}
 use Rattle.ell_core.specs.tree.Rank.{rank}
-use Rattle.ell_core.proofs.lemmas.tree.Ranks.{rank_plain, rank_same}
-use Rattle.ell_cards.specs.Depths.{level, most_depth}
+use Rattle.ell_core.proofs.lemmas.tree.Ranks.{rank_plain, rank_same, rank_flat_most}
+use Rattle.ell_cards.specs.Depths.{level, most_depth, deepest}
+use Rattle.ell_cards.specs.Models.{TablePlan, flat_from}
+use Rattle.ell_layout.specs.Branches.{greatest_depth, halvings_of}
+use Rattle.ell_word.specs.Node.{greatest_card}
 
 -- in a tree that is not flat a node of a greater rank has a greater number
 pub number_rises : (w : Words) → w.flat_from ≡ 0 → (x y : ℕ) → rank w x < rank w y → x < y
@@ -28,6 +31,38 @@ level_rises w x y inner less = elim (cases_eq w.flat_from 0) [
   | inr some ↦ (let a = level_flat w (omega arith) x in let b = level_flat w (omega arith) y in omega arith)
 ]
 
--- the level of a node of a table whose tree is not flat
-pub level_within : (w : Words) → w.flat_from ≡ 0 → (last x : ℕ) → card x ≤ last → level w x ≤ most_depth last x
-level_within w plain last x low = let is = level_plain w plain x in omega arith
+-- no table's internal nodes are deeper than this
+halvings_few : (n leaves : ℕ) → halvings_of n leaves ≤ n
+unfolding halvings_of
+halvings_few zero leaves = omega arith
+halvings_few (suc n) leaves = by (nat_lt 1 leaves) (halvings_few n (leaves - leaves / 2))
+  where
+    by : (b : Bool) → halvings_of n (leaves - leaves / 2) ≤ n → (if b then suc (halvings_of n (leaves - leaves / 2)) else 0) ≤ suc n
+    by true rest = omega arith
+    by false rest = omega arith
+
+pub deepest_most : (plan : TablePlan) → plan.last_card ≤ greatest_card → length plan.start < greatest_card → deepest plan ≤ greatest_card + 64
+deepest_most plan room few = elim (cases_Bool plan.flat) [
+  | inl flat ↦ (
+      let most = ap (λ b. if b then greatest_depth (length plan.start + 1) + 64 else plan.last_card) flat in
+      let halved = halvings_few (length plan.start + 1) (length plan.start + 1) in
+      omega arith)
+  | inr not_flat ↦ (let most = ap (λ b. if b then greatest_depth (length plan.start + 1) + 64 else plan.last_card) not_flat in omega arith)
+]
+
+-- the level of a node of a table
+pub level_within : (plan : TablePlan) (w : Words) → w.flat_from ≡ flat_from plan → (x : ℕ) → card x ≤ plan.last_card → level w x ≤ most_depth (deepest plan) x
+level_within plan w shape x low = elim (cases_Bool plan.flat) [
+  | inl flat ↦ (
+      let from = shape ∙ ap (λ b. if b then length plan.start + 1 else 0) flat in
+      let most = ap (λ b. if b then greatest_depth (length plan.start + 1) + 64 else plan.last_card) flat in
+      let greatest = ap greatest_depth from in
+      let is = level_flat w (omega arith) x in
+      let rank = rank_flat_most w x (omega arith) in
+      omega arith)
+  | inr not_flat ↦ (
+      let from = shape ∙ ap (λ b. if b then length plan.start + 1 else 0) not_flat in
+      let most = ap (λ b. if b then greatest_depth (length plan.start + 1) + 64 else plan.last_card) not_flat in
+      let is = level_plain w from x in
+      omega arith)
+]

@@ -5,6 +5,8 @@ use Rattle.std.proofs.lemmas.List.Sums.{sum_by-append}
 use Rattle.ell_ops.specs.declared.op.Op.{Op}
 use Rattle.ell_parts.specs.PartedOps.{PartedOps, part}
 use Rattle.ell_tree.specs.Counts.{Took}
+use Rattle.ell_cards.specs.Models.{TablePlan}
+use Rattle.ell_cards.specs.Depths.{deepest}
 use Rattle.ell_tree.specs.Ends.{find_steps, try_steps}
 use Rattle.ell_tree.specs.Ledgers.{PassModel}
 use Rattle.ell_tree.specs.Milestones.{milestones_known}
@@ -13,29 +15,29 @@ use Rattle.ell_run.specs.Steps.{AreWithin, IsPaid, longest, worker_steps}
 use Rattle.ell_run.specs.Work.{AreHalves}
 
 -- a find
-pub paid_find : (cards : ℕ) (before after : PassModel) → Took before after (find_steps cards) →
-    milestones_known cards before.view ≤ milestones_known cards after.view → IsPaid cards 1 before after
-paid_find cards before after few more =
-    let all = mul-le-mul_right {m = milestones_known cards before.view} {n = milestones_known cards after.view} (try_steps cards) more in
+pub paid_find : (plan : TablePlan) (before after : PassModel) → Took before after (find_steps (deepest plan)) →
+    milestones_known plan.last_card before.view ≤ milestones_known plan.last_card after.view → IsPaid plan 1 before after
+paid_find plan before after few more =
+    let all = mul-le-mul_right {m = milestones_known plan.last_card before.view} {n = milestones_known plan.last_card after.view} (try_steps (deepest plan)) more in
     record { steps = omega (arith, few.steps, all); made = omega (arith, few.made, all) }
 
 -- one call more
-pub paid_more : (cards calls : ℕ) (before mid after : PassModel) → IsPaid cards calls before mid → IsPaid cards 1 mid after →
-    IsPaid cards (calls + 1) before after
-paid_more cards calls before mid after h one =
+pub paid_more : (plan : TablePlan) (calls : ℕ) (before mid after : PassModel) → IsPaid plan calls before mid → IsPaid plan 1 mid after →
+    IsPaid plan (calls + 1) before after
+paid_more plan calls before mid after h one =
     record { steps = omega (arith, h.steps, one.steps); made = omega (arith, h.made, one.made) }
 
 -- of more calls
-pub paid_within : (cards calls count : ℕ) (before after : PassModel) → calls ≤ count → IsPaid cards calls before after → IsPaid cards count before after
-paid_within cards calls count before after few h =
-    let all = mul-le-mul_right {m = milestones_known cards after.view + calls} {n = milestones_known cards after.view + count} (try_steps cards) (omega (arith, few)) in
+pub paid_within : (plan : TablePlan) (calls count : ℕ) (before after : PassModel) → calls ≤ count → IsPaid plan calls before after → IsPaid plan count before after
+paid_within plan calls count before after few h =
+    let all = mul-le-mul_right {m = milestones_known plan.last_card after.view + calls} {n = milestones_known plan.last_card after.view + count} (try_steps (deepest plan)) (omega (arith, few)) in
     record { steps = omega (arith, h.steps, all, few); made = omega (arith, h.made, all, few) }
 
 -- the steps of a worker, whose pass knows of two moves of each card at most
-pub paid_steps : (cards calls : ℕ) (before after : PassModel) → IsPaid cards calls before after → milestones_known cards after.view ≤ 2 * cards →
-    Took before after (worker_steps cards calls)
-paid_steps cards calls before after h few =
-    let all = mul-le-mul_right {m = milestones_known cards after.view} {n = 2 * cards} (try_steps cards) few in
+pub paid_steps : (plan : TablePlan) (calls : ℕ) (before after : PassModel) → IsPaid plan calls before after → milestones_known plan.last_card after.view ≤ 2 * plan.last_card →
+    Took before after (worker_steps plan calls)
+paid_steps plan calls before after h few =
+    let all = mul-le-mul_right {m = milestones_known plan.last_card after.view} {n = 2 * plan.last_card} (try_steps (deepest plan)) few in
     record { steps = omega (arith, h.steps, all); made = omega (arith, h.made, all) }
 
 -- the longest part of two rows
@@ -44,38 +46,38 @@ longest_both parting [] high = omega arith
 longest_both parting (worker ∷ low) high = let rest = longest_both parting low high in omega (arith, rest)
 
 -- fewer operations take no more steps
-pub worker_steps_within : (cards few many : ℕ) → few ≤ many → worker_steps cards few ≤ worker_steps cards many
-worker_steps_within cards few many h =
-    let all = mul-le-mul_right {m = few} {n = many} (try_steps cards + 1) h in
+pub worker_steps_within : (plan : TablePlan) (few many : ℕ) → few ≤ many → worker_steps plan few ≤ worker_steps plan many
+worker_steps_within plan few many h =
+    let all = mul-le-mul_right {m = few} {n = many} (try_steps (deepest plan) + 1) h in
     omega (arith, all)
 
 -- two rows of workers, of which each has one
-pub within_both : (cards : ℕ) (parting : PartedOps) (low high : List ℕ) (pass left right first second both : PassModel) → 0 < length low → 0 < length high →
-    AreHalves parting low pass left right → AreWithin cards parting low left first → AreWithin cards parting high right second → IsUnion first second both →
-    AreWithin cards parting (low ++ high) pass both
-within_both cards parting low high pass left right first second both some_low some_high halves did other union =
+pub within_both : (plan : TablePlan) (parting : PartedOps) (low high : List ℕ) (pass left right first second both : PassModel) → 0 < length low → 0 < length high →
+    AreHalves parting low pass left right → AreWithin plan parting low left first → AreWithin plan parting high right second → IsUnion first second both →
+    AreWithin plan parting (low ++ high) pass both
+within_both plan parting low high pass left right first second both some_low some_high halves did other union =
     let most = longest_both parting low high in
-    let front = worker_steps_within cards (longest parting low) (longest parting (low ++ high)) (omega (arith, most)) in
-    let back = worker_steps_within cards (longest parting high) (longest parting (low ++ high)) (omega (arith, most)) in
+    let front = worker_steps_within plan (longest parting low) (longest parting (low ++ high)) (omega (arith, most)) in
+    let back = worker_steps_within plan (longest parting high) (longest parting (low ++ high)) (omega (arith, most)) in
     let count = length-append low high in
-    let sum = sum_by-append (λ worker. worker_steps cards (length (part parting worker))) low high in
+    let sum = sum_by-append (λ worker. worker_steps plan (length (part parting worker))) low high in
     record {
       bounded = omega (arith, front, back, count, did.bounded, other.bounded, union.steps, halves.on_left.steps, halves.on_right.steps, some_low, some_high);
       total = omega (arith, sum, count, did.total, other.total, union.made, halves.on_left.made, halves.on_right.made, some_low, some_high);
     }
 
 -- one worker, by a pass that got another label
-pub within_one : (cards : ℕ) (parting : PartedOps) (workers : List ℕ) (d : ℕ) (before told after : PassModel) (items : List (ℕ × Op)) →
+pub within_one : (plan : TablePlan) (parting : PartedOps) (workers : List ℕ) (d : ℕ) (before told after : PassModel) (items : List (ℕ × Op)) →
     0 < length workers → length workers < 2 → (label : ℕ) → told ≡ record before { label = label } → items ≡ part parting (get_or workers 0 d) →
-    Took told after (worker_steps cards (length items)) → AreWithin cards parting workers before after
-within_one cards parting [] d before told after items some few label same own h = absurd (omega arith)
-within_one cards parting (w ∷ v ∷ ws) d before told after items some few label same own h = absurd (omega arith)
-within_one cards parting (w ∷ []) d before told after items some few label same own h =
+    Took told after (worker_steps plan (length items)) → AreWithin plan parting workers before after
+within_one plan parting [] d before told after items some few label same own h = absurd (omega arith)
+within_one plan parting (w ∷ v ∷ ws) d before told after items some few label same own h = absurd (omega arith)
+within_one plan parting (w ∷ []) d before told after items some few label same own h =
     let kept = ap (λ (p : PassModel). p.steps) same in
     let still = ap (λ (p : PassModel). p.view.made) same in
     let count = ap length own in
-    let within = worker_steps_within cards (length items) (longest parting (w ∷ [])) (omega (arith, count)) in
-    let alone = ap (worker_steps cards) count in
+    let within = worker_steps_within plan (length items) (longest parting (w ∷ [])) (omega (arith, count)) in
+    let alone = ap (worker_steps plan) count in
     record { bounded = omega (arith, kept, within, h.steps); total = omega (arith, still, alone, h.made) }
 
 -- a row of two workers or more, parted in the middle

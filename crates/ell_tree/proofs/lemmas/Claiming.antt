@@ -17,7 +17,7 @@ use Rattle.ell_cards.proofs.lemmas.words.Updates.{clean_word}
 use Rattle.ell_cards.proofs.lemmas.views.Entries.{filling_more}
 use Rattle.ell_cards.proofs.lemmas.views.Steps.{view_after}
 use Rattle.ell_cards.proofs.lemmas.views.Searches.{may_claim}
-use Rattle.ell_tree.specs.declared.searching.LeafFound.{LeafFound}
+use Rattle.ell_tree.specs.declared.searching.Place.{Place}
 use Rattle.ell_tree.specs.CardsTaken.{claims_in, TakesNoCard, TakesOneCard}
 use Rattle.ell_tree.specs.Hindrances.{Meets}
 use Rattle.ell_tree.specs.Keeping.{LosesNothing, Keeps}
@@ -50,36 +50,37 @@ told_filling_over c [] es e h = elim h [ ]
 told_filling_over c (f ∷ fs) es e h =
     told_fixed_over c f.0 f.1 (told_filling c fs []) (told_filling c fs es) e (λ d. told_filling_over c fs es d) h
 
-won_keeps : (c : ℕ) (v : View) → v.next_at_least ≤ c → LosesNothing v (after_claim true c v)
-won_keeps c v low = record {
+won_keeps : (c node_key : ℕ) (v : View) → v.next_at_least ≤ c → LosesNothing v (after_claim true c node_key v)
+won_keeps c node_key v low = record {
   ledger = refl;
   operation = refl;
   answers = refl;
   share = record { share = refl; ownable = refl };
   knows = λ f h. h;
-  told = λ e h. earlier e _ _ (filling_more c (filling_of c v) v.told e h);
+  told = λ e h. earlier e _ _ (filling_more c (filling_of c node_key v) v.told e h);
   before = refl;
   least = omega arith;
   hindered = refl;
   earlier = λ hs e. e;
 }
 
-lost_keeps : (c : ℕ) (v : View) → v.next_at_least ≤ c → LosesNothing v (after_claim false c v)
-lost_keeps c v low = record { ledger = refl; operation = refl; answers = refl; share = record { share = refl; ownable = refl }; knows = λ f h. h; told = λ e h. h; before = refl; least = omega arith; hindered = refl; earlier = λ hs e. ap (λ hs. Claim c ∷ hs) e }
+lost_keeps : (c node_key : ℕ) (v : View) → v.next_at_least ≤ c → LosesNothing v (after_claim false c node_key v)
+lost_keeps c node_key v low = record { ledger = refl; operation = refl; answers = refl; share = record { share = refl; ownable = refl }; knows = λ f h. h; told = λ e h. h; before = refl; least = omega arith; hindered = refl; earlier = λ hs e. ap (λ hs. Claim c ∷ hs) e }
 
--- where a search stands at a leaf, and the claim word was read, a claim may be made
-pub may_claim_at : (old new : PassModel) (c : ℕ) (op : Op) (place : LeafFound) → Steps old new (after_next c old.view) → Does old.view op
-    → old.view.worker.card ≡ None → IsAt old.view place → place.parent.update.state ≡ state.Clean → Wants old.view op place.leaf place.key → MayClaim new.view c
-may_claim_at old new c op place s busy no_card at calm wants =
-    may_claim old new op c place.leaf place.key (seen place.parent) s busy no_card (ap (λ (r : Search). r.node) at.search) at.outer at.told
+-- where a search stands at a node, and the claim word was read, a claim may be made
+pub may_claim_at : (from : ℕ) (old new : PassModel) (c node_key : ℕ) (op : Op) (place : Place) → Steps old new (after_next c old.view) → Does old.view op
+    → old.view.worker.card ≡ None → IsAt old.view place → place.parent.update.state ≡ state.Clean
+    → Wants from old.view op place.parent.node place.node place.key node_key → MayClaim from new.view c node_key
+may_claim_at from old new c node_key op place s busy no_card at calm wants =
+    may_claim from old new op c place.node place.key node_key (seen place.parent) s busy no_card (ap (λ (r : Search). r.node) at.search) at.told
     (ap (λ (r : Search). r.parent) at.search) (clean_word place.parent.update.state place.parent.update.card calm) wants
 
-module _ (a b d : PassModel) (c : ℕ) (read : Steps a b (after_next c a.view)) (low : a.view.next_at_least ≤ c) where
+module _ (a b d : PassModel) (c node_key : ℕ) (read : Steps a b (after_next c a.view)) (low : a.view.next_at_least ≤ c) where
   low_there : b.view.next_at_least ≤ c
   low_there = subst (λ (w : View). w.next_at_least ≤ c) (sym (view_after a b (after_next c a.view) read)) low
 
   -- the card is given out then, whoever took it
-  pub given_out : (won : Bool) (cards : ℕ) → Steps b d (after_claim won c b.view) → 1 ≤ c → c ≤ cards → GivesOut cards a.view d.view
+  pub given_out : (won : Bool) (cards : ℕ) → Steps b d (after_claim won c node_key b.view) → 1 ≤ c → c ≤ cards → GivesOut cards a.view d.view
   given_out won cards s first last = record {
     card = c;
     first = omega arith;
@@ -88,21 +89,21 @@ module _ (a b d : PassModel) (c : ℕ) (read : Steps a b (after_next c a.view)) 
     after = (let now = is won s in omega arith);
   }
     where
-      is : (t : Bool) → Steps b d (after_claim t c b.view) → d.view.next_at_least ≡ c + 1
-      is true s = ap (λ (w : View). w.next_at_least) (view_after b d (after_claim true c b.view) s)
-      is false s = ap (λ (w : View). w.next_at_least) (view_after b d (after_claim false c b.view) s)
+      is : (t : Bool) → Steps b d (after_claim t c node_key b.view) → d.view.next_at_least ≡ c + 1
+      is true s = ap (λ (w : View). w.next_at_least) (view_after b d (after_claim true c node_key b.view) s)
+      is false s = ap (λ (w : View). w.next_at_least) (view_after b d (after_claim false c node_key b.view) s)
 
-  pub won_goes : Steps b d (after_claim true c b.view) → Keeps a d 2
+  pub won_goes : Steps b d (after_claim true c node_key b.view) → Keeps a d 2
   won_goes s =
       keeps_trans a b d 1 1 2 (keeps_step a b (after_next c a.view) read (next_keeps c a.view) refl)
-      (keeps_step b d (after_claim true c b.view) s (won_keeps c b.view low_there) refl) (omega arith)
+      (keeps_step b d (after_claim true c node_key b.view) s (won_keeps c node_key b.view low_there) refl) (omega arith)
 
   -- the card is in hand then
-  pub has_card : (op : Op) (place : LeafFound) → Steps b d (after_claim true c b.view) → Does a.view op → IsAt a.view place
-      → HasCard op place (expected_tag a.view) (filling_of c a.view) d.view c
+  pub has_card : (op : Op) (place : Place) → Steps b d (after_claim true c node_key b.view) → Does a.view op → IsAt a.view place
+      → HasCard op place (expected_tag a.view) (filling_of c node_key a.view) d.view c
   has_card op place s busy at =
-      subst (λ (w : View). HasCard op place (expected_tag a.view) (filling_of c a.view) w c)
-      (sym (view_after b d (after_claim true c b.view) s ∙ ap (after_claim true c) (view_after a b (after_next c a.view) read)))
+      subst (λ (w : View). HasCard op place (expected_tag a.view) (filling_of c node_key a.view) w c)
+      (sym (view_after b d (after_claim true c node_key b.view) s ∙ ap (after_claim true c node_key) (view_after a b (after_next c a.view) read)))
       (record {
         busy = busy;
         may = record { holds = refl; unflagged = refl };
@@ -111,37 +112,37 @@ module _ (a b d : PassModel) (c : ℕ) (read : Steps a b (after_next c a.view)) 
         above = ap (λ (r : Search). r.grandparent) at.search;
         says = refl;
         empty = refl;
-        told = λ e h. earlier e _ _ (told_filling_over c (filling_of c a.view) a.view.told e h);
+        told = λ e h. earlier e _ _ (told_filling_over c (filling_of c node_key a.view) a.view.told e h);
         expects = latest _ _;
       })
 
   -- and the pass took it
-  pub won_takes : Steps b d (after_claim true c b.view) → TakesOneCard a d
+  pub won_takes : Steps b d (after_claim true c node_key b.view) → TakesOneCard a d
   won_takes s =
       ap (λ (w : View). claims_in w.won)
-      (view_after b d (after_claim true c b.view) s ∙ ap (after_claim true c) (view_after a b (after_next c a.view) read))
+      (view_after b d (after_claim true c node_key b.view) s ∙ ap (after_claim true c node_key) (view_after a b (after_next c a.view) read))
 
-  pub lost_takes : Steps b d (after_claim false c b.view) → TakesNoCard a d
+  pub lost_takes : Steps b d (after_claim false c node_key b.view) → TakesNoCard a d
   lost_takes s =
       ap (λ (w : View). claims_in w.won)
-      (view_after b d (after_claim false c b.view) s ∙ ap (after_claim false c) (view_after a b (after_next c a.view) read))
+      (view_after b d (after_claim false c node_key b.view) s ∙ ap (after_claim false c node_key) (view_after a b (after_next c a.view) read))
 
-  pub lost_goes : Steps b d (after_claim false c b.view) → Keeps a d 2
+  pub lost_goes : Steps b d (after_claim false c node_key b.view) → Keeps a d 2
   lost_goes s =
       keeps_trans a b d 1 1 2 (keeps_step a b (after_next c a.view) read (next_keeps c a.view) refl)
-      (keeps_step b d (after_claim false c b.view) s (lost_keeps c b.view low_there) refl) (omega arith)
+      (keeps_step b d (after_claim false c node_key b.view) s (lost_keeps c node_key b.view low_there) refl) (omega arith)
 
   -- and nothing was in the way
-  pub won_calm : Steps b d (after_claim true c b.view) → d.view.hindrances ≡ a.view.hindrances
+  pub won_calm : Steps b d (after_claim true c node_key b.view) → d.view.hindrances ≡ a.view.hindrances
   won_calm s =
       ap (λ (w : View). w.hindrances)
-      (view_after b d (after_claim true c b.view) s ∙ ap (after_claim true c) (view_after a b (after_next c a.view) read))
+      (view_after b d (after_claim true c node_key b.view) s ∙ ap (after_claim true c node_key) (view_after a b (after_next c a.view) read))
 
-  pub lost_claims : Steps b d (after_claim false c b.view) → a.view.worker.card ≡ None
+  pub lost_claims : Steps b d (after_claim false c node_key b.view) → a.view.worker.card ≡ None
       → HasNone a d × Meets a.view d.view × (length a.view.hindrances + 1 ≤ length d.view.hindrances)
   lost_claims s none =
       subst (λ (p : PassModel). HasNone a p × Meets a.view p.view × (length a.view.hindrances + 1 ≤ length p.view.hindrances))
-      (sym (s ∙ ap (λ (p : PassModel). record { table = p.table; view = after_claim false c p.view; steps = one_step_more p.steps; label = p.label }) read)) (
+      (sym (s ∙ ap (λ (p : PassModel). record { table = p.table; view = after_claim false c node_key p.view; steps = one_step_more p.steps; label = p.label }) read)) (
         record { no_card = none; search = refl },
         record { met = Claim c ∷ []; list = refl; over = (tt, tt); knows = λ f h. h },
         omega arith,

@@ -10,22 +10,23 @@ use Rattle.ell_core.specs.statements.Readers.{from_of, upto_of}
 use Rattle.ell_core.proofs.lemmas.following.Stretches.{upto_real}
 use Rattle.ell_core.proofs.lemmas.runs.Stretches.{key_from, key_upto}
 use Rattle.ell_cards.specs.declared.glance.Glance.{Glance}
+use Rattle.ell_cards.specs.declared.glance.Stretch.{Stretch}
 use Rattle.ell_cards.specs.declared.view.Told.TheVariants.{Met, Key, Value}
 use Rattle.ell_cards.specs.declared.view.View.{View}
-use Rattle.ell_cards.specs.Changes.{glance_down}
 use Rattle.ell_cards.proofs.lemmas.views.Afters.{after_look, after_look_down, after_key_of, after_value_of}
 use Rattle.ell_cards.specs.Guards.{MayLookDown, TellsOf}
-use Rattle.ell_cards.specs.Looking.{HasFound, HasFoundBetween, ReadsItsOwn}
-use Rattle.ell_cards.specs.Models.{PassModel, Counts, Sees, Has, HasCome, latest, earlier, IsTold, InTable}
+use Rattle.ell_cards.specs.Looking.{HasFound, HasFoundBetween, TellsBetween, ReadsItsOwn, MissesItsOwn}
+use Rattle.ell_cards.specs.Models.{PassModel, Counts, Sees, Has, HasCome, HasComeWhole, latest, earlier, IsTold, InTable}
 use Rattle.ell_cards.proofs.lemmas.views.Steps.{view_seen}
 use Rattle.ell_tree.specs.Counts.{HasUncounted}
 use Rattle.ell_tree.proofs.lemmas.Counts.{uncounted_one}
 use Rattle.ell_tree.specs.declared.cursor.About.{About}
 use Rattle.ell_tree.specs.declared.cursor.Cursor.{Cursor}
-use Rattle.ell_tree.specs.Cursors.{AreKept, BeginsALook, FindsAbout, IsAmong, MayGoOnFrom, kept_at, IsLower, IsNodeKey, IsUpper, KeepsLooking}
+use Rattle.ell_tree.specs.Cursors.{AreKept, BeginsALook, FindsAbout, IsAmong, MayGoOnFrom, kept_at, IsLower, IsNodeKey, IsUpper, KeepsLooking, IsWithin, TellsOfLeaf}
+use Rattle.ell_tree.specs.Ledgers.{present_in}
 use Rattle.ell_tree.specs.Looks.{stretch_steps}
 use Rattle.ell_tree.specs.Scans.{TellsItsOwn, value_there}
-use Rattle.ell_tree.proofs.lemmas.Looks.{come_part, reads_mine, only_trans, only_none_yet, look_only, down_only, key_only, value_only, only_counted}
+use Rattle.ell_tree.proofs.lemmas.Looks.{come_part, whole_part, reads_mine, misses_mine, only_trans, only_none_yet, look_only, down_only, key_only, value_only, only_counted}
 use Rattle.ell_cards.specs.Depths.{depth_of, IsShallow}
 use Rattle.ell_cards.proofs.lemmas.views.Depths.{depth_more, went_deeper}
 
@@ -61,12 +62,12 @@ value_on old new x value s =
       looks = ap (λ (v : View). v.looks) view;
     }
 
-pub down_on : (old new : PassModel) (from : Glance) (k : ℕ) (right : Bool) (n : ℕ) → Sees old new (after_look_down from k right n old.view) → KeepsLooking old new 1
-down_on old new from k right n s =
-    let view = view_seen old new (after_look_down from k right n old.view) s in
+pub down_on : (old new : PassModel) (from : Glance) (to : Stretch) (right : Bool) (n : ℕ) → Sees old new (after_look_down from to right n old.view) → KeepsLooking old new 1
+down_on old new from to right n s =
+    let view = view_seen old new (after_look_down from to right n old.view) s in
     record {
-      only = down_only old new from k right n s;
-      glances = λ g has. subst (λ (v : View). Has v.glances g) (sym view) (earlier g (glance_down from k right (link_in n).node) old.view.glances has);
+      only = down_only old new from to right n s;
+      glances = λ g has. subst (λ (v : View). Has v.glances g) (sym view) (earlier g _ old.view.glances has);
       looks = ap (λ (v : View). v.looks) view;
     }
 
@@ -106,6 +107,7 @@ kept_on cards p q n g h k = record {
   lower = lower_on cards p q n g.low h k.lower;
   upper = upper_on cards p q n g.high h k.upper;
   real = k.real;
+  apart = k.apart;
 }
 
 pub all_on : (cards : ℕ) (p q : PassModel) (n : ℕ) (c : Cursor) → KeepsLooking p q n → AreKept cards p.view c → AreKept cards q.view c
@@ -125,10 +127,10 @@ begins_look old seen new n s counts = record {
 }
 
 pub first_kept : (cards : ℕ) (old new : PassModel) (n child : ℕ) → (link_in n).node ≡ child → Sees old new (after_look n old.view) → 0 < child → InTable cards child
-    → MayGoOnFrom cards new.view (record { node = child; low = 0; high = greatest_key + 1 })
+    → MayGoOnFrom cards new.view (record { node = child; low = 0; high = greatest_key + 1; whole = false })
 first_kept cards old new n child says s low there =
     let view = view_seen old new (after_look n old.view) s in
-    let g : Glance = record { node = (link_in n).node; low = 0; high = greatest_key + 1 } in
+    let g : Glance = record { node = (link_in n).node; low = 0; high = greatest_key + 1; whole = true } in
     record {
       come = subst (λ (v : View). HasCome v child 0 (greatest_key + 1)) (sym view)
           (record { glance = g; among = latest _ _; there = says; from = omega arith; upto = omega arith });
@@ -139,10 +141,11 @@ first_kept cards old new n child says s low there =
       lower = inl refl;
       upper = inl refl;
       real = omega arith;
+      apart = refl;
     }
 
 abbrev nowhere : Glance
-nowhere = record { node = 0; low = 0; high = 0 }
+nowhere = record { node = 0; low = 0; high = 0; whole = false }
 
 pub begin_kept : (cards : ℕ) (v : View) (c : Cursor) (g : Glance) → c.first ≡ g → c.kept ≡ replicate 32 g → g.low ≡ 0 → g.high ≡ greatest_key + 1
     → MayGoOnFrom cards v g → AreKept cards v c
@@ -193,21 +196,19 @@ pub record GoesDown (cards : ℕ) (old new : PassModel) (key : ℕ) (here : Glan
   pub count : ℕ
   pub on : KeepsLooking old new count
   pub few : count + 2 ≤ 2 * depth_of new.view here.node
-  pub shallow : IsShallow cards new.view here.node
   pub stands : MayGoOnFrom cards new.view here
   pub from : here.low ≤ key
   pub upto : key < here.high
   pub kept : AreKept cards new.view cursor
 
 pub keeps_first : (cards : ℕ) (old : PassModel) (key : ℕ) (here : Glance) (c d : Cursor) → AreKept cards old.view c → IsAmong c here → here.low ≤ key → key < here.high
-    → d.first ≡ c.first → d.kept ≡ c.kept → ((x : ℕ) → IsShallow cards old.view x) → GoesDown cards old old key here d
-keeps_first cards old key here c d kept among from upto first same shallow =
+    → d.first ≡ c.first → d.kept ≡ c.kept → GoesDown cards old old key here d
+keeps_first cards old key here c d kept among from upto first same =
     let stands = among_kept cards old.view c here kept among in
     record {
       count = 0;
       on = on_none old;
       few = (let deep = stands.deep in omega arith);
-      shallow = shallow here.node;
       stands = stands;
       from = from;
       upto = upto;
@@ -252,125 +253,173 @@ module _ (cards : ℕ) (old a b : PassModel) (key : ℕ) (here : Glance) (cursor
   pub kept_still : AreKept cards b.view cursor
   kept_still = all_on cards a b 1 cursor asked_on at.kept
 
-  pub may_go_down : IsInternal here.node → MayLookDown b.view here k
-  may_go_down inner = record { come = stands_still.come; met = stands_still.met; inner = inner; told = told_key }
+  -- by the keys that go to a side it may go on
+  pub may_go_down : (from : ℕ) (to : Stretch) (right : Bool) → IsInternal here.node → to.low ≡ from_of right here.low k → to.high ≡ upto_of right here.high k → to.whole ≡ false
+      → MayLookDown from b.view here to right
+  may_go_down from to right inner low high apart = record {
+    come = stands_still.come;
+    as_one = λ whole. absurd (false≢true (sym stands_still.apart ∙ whole));
+    met = stands_still.met;
+    inner = inner;
+    key = k;
+    told = told_key;
+    goes = record { low = omega arith; high = omega arith; whole = λ whole. absurd (false≢true (sym apart ∙ whole)) };
+  }
 
   -- the child to which it goes down is deeper
-  pub child_deeper : (d : PassModel) (right : Bool) (n child : ℕ) → (link_in n).node ≡ child → Sees b d (after_look_down here k right n b.view)
+  pub child_deeper : (d : PassModel) (to : Stretch) (right : Bool) (n child : ℕ) → (link_in n).node ≡ child → Sees b d (after_look_down here to right n b.view)
       → depth_of a.view here.node < depth_of d.view child
-  child_deeper d right n child says s =
-      let after = after_look_down here k right n b.view in
+  child_deeper d to right n child says s =
+      let after = after_look_down here to right n b.view in
       let still = depth_more a.view.told b.view.told asked_on.only.told here.node in
       let deep = went_deeper b.view d.view after here.node (link_in n).node child (view_seen b d after s) says refl in
       omega arith
 
-  pub goes_down : (d : PassModel) (right : Bool) (n child : ℕ) (after : Cursor) → (link_in n).node ≡ child → Sees b d (after_look_down here k right n b.view) → IsInternal here.node
-      → 0 < child → IsShallow cards d.view child → InTable cards child → right ≡ nat_le k key → AreKept cards b.view after → GoesDown cards old d key (glance_down here k right child) after
-  goes_down d right n child after says s inner low shallow there side kept =
-      let view = view_seen b d (after_look_down here k right n b.view) s in
-      let on = down_on b d here k right n s in
-      let deep = child_deeper d right n child says s in
+  pub goes_down : (d : PassModel) (to : Stretch) (right : Bool) (n child : ℕ) (after : Cursor) → (link_in n).node ≡ child → Sees b d (after_look_down here to right n b.view)
+      → IsInternal here.node → 0 < child → InTable cards child → right ≡ nat_le k key → to.low ≡ from_of right here.low k → to.high ≡ upto_of right here.high k
+      → to.whole ≡ false → AreKept cards b.view after → GoesDown cards old d key (record { node = child; low = to.low; high = to.high; whole = to.whole }) after
+  goes_down d to right n child after says s inner low there side first last apart kept =
+      let view = view_seen b d (after_look_down here to right n b.view) s in
+      let on = down_on b d here to right n s in
+      let deep = child_deeper d to right n child says s in
       let is : IsNodeKey cards d.view k = record { node = here.node; inner = inner; there = at.stands.there; below = at.stands.below; told = on.only.told (Key here.node k) told_key } in
       record {
         count = at.count + 2;
         on = on_trans old a d at.count 2 (at.count + 2) at.on (on_trans a b d 1 1 2 asked_on on (omega arith)) (omega arith);
         few = (let few = at.few in omega arith);
-        shallow = shallow;
         stands = record {
-          come = subst (λ (v : View). HasCome v child (from_of right here.low k) (upto_of right here.high k)) (sym view)
-              (record { glance = glance_down here k right (link_in n).node; among = latest _ _; there = says; from = omega arith; upto = omega arith });
+          come = subst (λ (v : View). HasCome v child to.low to.high) (sym view)
+              (record { glance = record { node = (link_in n).node; low = to.low; high = to.high; whole = to.whole }; among = latest _ _; there = says; from = omega arith; upto = omega arith });
           met = subst (λ x. IsTold d.view (Met x)) says (subst (λ (v : View). IsTold v (Met (link_in n).node)) (sym view) (latest _ _));
           there = there;
           below = low;
           deep = omega arith;
-          lower = lower_down right cards d.view here.low k (lower_on cards b d 1 here.low on stands_still.lower) is;
-          upper = upper_down right cards d.view here.high k (upper_on cards b d 1 here.high on stands_still.upper) is;
-          real = upto_real right here.high k (greatest_key + 1) at.stands.real;
+          lower = subst (IsLower cards d.view) (sym first) (lower_down right cards d.view here.low k (lower_on cards b d 1 here.low on stands_still.lower) is);
+          upper = subst (IsUpper cards d.view) (sym last) (upper_down right cards d.view here.high k (upper_on cards b d 1 here.high on stands_still.upper) is);
+          real = (let most = upto_real right here.high k (greatest_key + 1) at.stands.real in omega arith);
+          apart = apart;
         };
-        from = subst (λ r. from_of r here.low k ≤ key) (sym side) (key_from k here.low key at.from);
-        upto = subst (λ r. key < upto_of r here.high k) (sym side) (key_upto k here.high key at.upto);
+        from = (let low_on = subst (λ r. from_of r here.low k ≤ key) (sym side) (key_from k here.low key at.from) in omega arith);
+        upto = (let high_on = subst (λ r. key < upto_of r here.high k) (sym side) (key_upto k here.high key at.upto) in omega arith);
         kept = all_on cards b d 1 after on kept;
       }
 
+-- who asks the key of a node was told no depth of it
+pub asked_shallow : (most : ℕ) (a b : PassModel) (x k : ℕ) → Sees a b (after_key_of x k a.view) → IsShallow most b.view x → IsShallow most a.view x
+asked_shallow most a b x k asked h =
+    let same = ap (λ (v : View). depth_of v x) (view_seen a b (after_key_of x k a.view) asked) in
+    record { inner = λ inner. (let low = h.inner inner in omega arith); any = let low = h.any in omega arith }
+
 -- what is found at a leaf
-module _ (cards : ℕ) (a b : PassModel) (key : ℕ) (leaf : Glance) (k : ℕ) (stands : MayGoOnFrom cards a.view leaf) (from : leaf.low ≤ key) (upto : key < leaf.high)
-    (outer : IsLeaf leaf.node) (asked : Sees a b (after_key_of leaf.node k a.view)) where
+module _ (from : ℕ) (a b : PassModel) (leaf : Glance) (k : ℕ) (outer : IsLeaf leaf.node) (asked : Sees a b (after_key_of leaf.node k a.view)) where
   key_told : IsTold b.view (Key leaf.node k)
   key_told = subst (λ (v : View). IsTold v (Key leaf.node k)) (sym (view_seen a b (after_key_of leaf.node k a.view) asked)) (latest (Key leaf.node k) a.view.told)
 
-  leaf_on : KeepsLooking a b 1
-  leaf_on = key_on a b leaf.node k asked
+  pub tells_none : (k < leaf.low) ⊎ (leaf.high ≤ k) → TellsOfLeaf from b.view leaf.node (record { low = leaf.low; high = leaf.high; found = None })
+  tells_none out = record { key = k; outer = outer; told = key_told; tells = inl (outer, out) }
 
-  pub leaf_stands : MayGoOnFrom cards b.view leaf
-  leaf_stands = kept_on cards a b 1 leaf leaf_on stands
-
-  pub finds_none : ReadsItsOwn b.view → (k < leaf.low) ⊎ (leaf.high ≤ k) → FindsAbout cards b.view key (record { low = leaf.low; high = leaf.high; found = None })
-  finds_none own out = record {
-    within = record { from = from; upto = upto; real = stands.real };
-    found = record { leaf = leaf.node; leaf_key = k; comes = leaf_stands.come; outer = outer; told = key_told; tells = out };
-    lower = leaf_stands.lower;
-    upper = leaf_stands.upper;
-    own = own;
+  pub tells_one : (d : PassModel) (value : ℕ) → Sees b d (after_value_of leaf.node value b.view) → leaf.low ≤ k → k < leaf.high
+      → TellsOfLeaf from d.view leaf.node (record { low = leaf.low; high = leaf.high; found = Some (k, value) })
+  tells_one d value s low high = record {
+    key = k;
+    outer = outer;
+    told = (value_on b d leaf.node value s).only.told (Key leaf.node k) key_told;
+    tells = (
+      outer,
+      refl,
+      low,
+      high,
+      subst (λ (v : View). IsTold v (Value leaf.node value)) (sym (view_seen b d (after_value_of leaf.node value b.view) s))
+          (latest (Value leaf.node value) b.view.told),
+    );
   }
 
-  pub finds_one : (d : PassModel) (value : ℕ) → Sees b d (after_value_of leaf.node value b.view) → ReadsItsOwn d.view → leaf.low ≤ k → k < leaf.high
-      → FindsAbout cards d.view key (record { low = leaf.low; high = leaf.high; found = Some (k, value) })
-  finds_one d value s own low high =
-      let on = value_on b d leaf.node value s in
-      let there = kept_on cards b d 1 leaf on leaf_stands in
-      record {
-        within = record { from = from; upto = upto; real = stands.real };
-        found = record {
-          leaf = leaf.node;
-          leaf_key = k;
-          comes = there.come;
-          outer = outer;
-          told = on.only.told (Key leaf.node k) key_told;
-          tells = (
-            refl,
-            low,
-            high,
-            subst (λ (v : View). IsTold v (Value leaf.node value)) (sym (view_seen b d (after_value_of leaf.node value b.view) s))
-                (latest (Value leaf.node value) b.view.told),
-          );
-        };
-        lower = there.lower;
-        upper = there.upper;
-        own = own;
-      }
-
 -- a stretch is found in at most so many steps
-pub keeps_found : (cards : ℕ) (old a b : PassModel) (key : ℕ) (here : Glance) (cursor : Cursor) → GoesDown cards old a key here cursor → KeepsLooking a b 2
-    → KeepsLooking old b (stretch_steps cards)
-keeps_found cards old a b key here cursor at on =
-    on_trans old a b at.count 2 (stretch_steps cards) at.on on (let few = at.few in let room = at.shallow.any in omega arith)
+pub keeps_found : (cards most : ℕ) (old a b : PassModel) (key : ℕ) (here : Glance) (cursor : Cursor) → GoesDown cards old a key here cursor → IsShallow most a.view here.node
+    → KeepsLooking a b 2 → KeepsLooking old b (stretch_steps most)
+keeps_found cards most old a b key here cursor at shallow on =
+    on_trans old a b at.count 2 (stretch_steps most) at.on on (let few = at.few in let room = shallow.any in omega arith)
 
--- what a look has found of a stretch it has found of each key of it
-pub found_of_key : (v : View) (low high key : ℕ) (there : Option (ℕ × ℕ)) → HasFoundBetween v low high there → low ≤ key → key < high
-    → HasFound v key (value_there there key)
-found_of_key v low high key None f from upto = record {
-  leaf = f.leaf;
-  leaf_key = f.leaf_key;
-  comes = come_part v f.leaf low high key (key + 1) from (omega arith) f.comes;
+-- what a leaf tells of a stretch it tells of each key of it
+leaf_tells : (from : ℕ) (v : View) (leaf leaf_key low high key : ℕ) (there : Option (ℕ × ℕ)) → IsLeaf leaf → TellsBetween from v leaf leaf_key low high there
+    → low ≤ key → key < high → TellsOf v leaf leaf_key key (value_there there key)
+leaf_tells from v leaf leaf_key low high key None outer tells a b = λ same. elim tells [
+  | inl at ↦ elim at.1 [ inl less ↦ absurd (omega arith) | inr more ↦ absurd (omega arith) ]
+  | inr edge ↦ absurd (outer edge.0)
+]
+leaf_tells from v leaf leaf_key low high key (Some pair) outer tells a b = one (pair.0 == key) refl
+  where
+    one : (b : Bool) → (pair.0 == key) ≡ b → TellsOf v leaf leaf_key key (if b then Some pair.1 else None)
+    one true is = (tells.1 ∙ eqb-true pair.0 key is, tells.4)
+    one false is = λ e. absurd (false≢true (sym is ∙ eq-eqb pair.0 key (sym tells.1 ∙ e)))
+
+pub found_of_key : (from : ℕ) (v : View) (leaf : ℕ) (about : About) (key : ℕ) → TellsOfLeaf from v leaf about → HasCome v leaf about.low about.high
+    → about.low ≤ key → key < about.high → HasFound v key (value_there about.found key)
+found_of_key from v leaf about key f come low high = record {
+  leaf = leaf;
+  leaf_key = f.key;
+  comes = come_part v leaf about.low about.high key (key + 1) low (omega arith) come;
   outer = f.outer;
   told = f.told;
-  tells = λ same. elim f.tells [ inl less ↦ absurd (omega arith) | inr more ↦ absurd (omega arith) ];
+  tells = leaf_tells from v leaf f.key about.low about.high key about.found f.outer f.tells low high;
 }
-found_of_key v low high key (Some pair) f from upto = record {
-  leaf = f.leaf;
-  leaf_key = f.leaf_key;
-  comes = come_part v f.leaf low high key (key + 1) from (omega arith) f.comes;
-  outer = f.outer;
-  told = f.told;
-  tells = by (pair.0 == key) refl;
+
+-- what a look has found about a key
+pub finds_about : (cards from : ℕ) (v : View) (key : ℕ) (leaf : Glance) (about : About) → TellsOfLeaf from v leaf.node about → about.low ≡ leaf.low → about.high ≡ leaf.high
+    → MayGoOnFrom cards v leaf → leaf.low ≤ key → key < leaf.high → ReadsItsOwn v → FindsAbout cards v key about
+finds_about cards from v key leaf about f low high stands least most own = record {
+  within = record { from = omega arith; upto = omega arith; real = (let real = stands.real in omega arith) };
+  found = λ k a b. found_of_key from v leaf.node about k f (come_part v leaf.node leaf.low leaf.high about.low about.high (omega arith) (omega arith) stands.come) a b;
+  pair = within about.found f.tells;
+  lower = subst (IsLower cards v) (sym low) stands.lower;
+  upper = subst (IsUpper cards v) (sym high) stands.upper;
+  own = own;
 }
   where
-    by : (b : Bool) → (pair.0 == key) ≡ b → TellsOf v f.leaf f.leaf_key key (if b then Some pair.1 else None)
-    by true is = (f.tells.0 ∙ eqb-true pair.0 key is, f.tells.3)
-    by false is = λ same. absurd (false≢true (sym is ∙ eq-eqb pair.0 key (sym f.tells.0 ∙ same)))
+    within : (o : Option (ℕ × ℕ)) → TellsBetween from v leaf.node f.key about.low about.high o → IsWithin about.low about.high o
+    within None tells = tt
+    within (Some pair) tells = (tells.2, tells.3)
 
--- of its own keys in a stretch it has found what the pass has
-pub about_mine : (cards : ℕ) (old new : PassModel) (key : ℕ) (about : About) → FindsAbout cards new.view key about → new.view.worker ≡ old.view.worker
-    → TellsItsOwn old about.low about.high (value_there about.found)
-about_mine cards old new key about f same k a b owns =
-    reads_mine old new k (value_there about.found k) f.own (found_of_key new.view about.low about.high k about.found f.found a b) same owns
+-- and what it has found of a stretch as one
+pub found_between : (from : ℕ) (v : View) (leaf : Glance) (about : About) → TellsOfLeaf from v leaf.node about → about.low ≡ leaf.low → about.high ≡ leaf.high
+    → HasComeWhole v leaf.node leaf.low leaf.high → HasFoundBetween from v about.low about.high about.found
+found_between from v leaf about f low high come = record {
+  node = leaf.node;
+  node_key = f.key;
+  comes = whole_part v leaf.node leaf.low leaf.high about.low about.high (omega arith) (omega arith) come;
+  told = f.told;
+  tells = f.tells;
+}
+
+-- of the pass's own keys in a stretch it has found what the pass has
+pub about_mine : (from : ℕ) (old new : PassModel) (about : About) → HasFoundBetween from new.view about.low about.high about.found → ReadsItsOwn new.view
+    → MissesItsOwn from new.view → new.view.worker ≡ old.view.worker → TellsItsOwn old about.low about.high (value_there about.found)
+about_mine from old new about f own missed same key a b owns = by about.found f.tells
+  where
+    come : HasCome new.view f.node key (key + 1)
+    come = let c = f.comes in let low = c.from in let high = c.upto in
+        record { glance = c.glance; among = c.among; there = c.there; from = omega arith; upto = omega arith }
+
+    at_leaf : (o : Option (ℕ × ℕ)) → IsLeaf f.node → TellsBetween from new.view f.node f.node_key about.low about.high o
+        → value_there o key ≡ present_in old key
+    at_leaf o outer tells = reads_mine old new key (value_there o key) own
+        (record {
+          leaf = f.node;
+          leaf_key = f.node_key;
+          comes = come;
+          outer = outer;
+          told = f.told;
+          tells = leaf_tells from new.view f.node f.node_key about.low about.high key o outer tells a b;
+        }) same owns
+
+    by : (o : Option (ℕ × ℕ)) → TellsBetween from new.view f.node f.node_key about.low about.high o → value_there o key ≡ present_in old key
+    by None (inl leaf) = at_leaf None leaf.0 (inl leaf)
+    by None (inr edge) = misses_mine from old new key missed
+        (record {
+          node = f.node;
+          node_key = f.node_key;
+          comes = come;
+          told = f.told;
+          lacks = (edge.0, edge.1, λ k low high. edge.2 k (omega arith) (omega arith));
+        }) same owns
+    by (Some pair) tells = at_leaf (Some pair) tells.0 tells

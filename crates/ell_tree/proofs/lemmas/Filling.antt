@@ -11,38 +11,40 @@ use Rattle.ell_core.specs.declared.view.Seen.{Seen}
 use Rattle.ell_core.specs.declared.put.Put.{Put}
 use Rattle.ell_core.specs.acts.Searching.{put_of}
 use Rattle.ell_cards.proofs.lemmas.stepping.Claiming.{put_filling}
-use Rattle.ell_layout.specs.Cards.{insert_filling, delete_filling}
+use Rattle.ell_layout.specs.Words.{IsLeaf}
+use Rattle.ell_layout.specs.Cards as layout
+use Rattle.ell_layout.specs.Cards.{delete_filling}
 use Rattle.ell_cards.specs.declared.view.Told.TheVariants.{Met, Info}
 use Rattle.ell_cards.specs.declared.view.View.{View}
 use Rattle.ell_cards.specs.Models.{latest, earlier, Does, IsTold, Knows}
-use Rattle.ell_cards.specs.Changes.{expected_tag, tag_of_claim, told_value, filling_for, filling_of}
+use Rattle.ell_cards.specs.Changes.{expected_tag, tag_of_claim, value_told, filling_for, filling_of}
 use Rattle.ell_cards.specs.Guards.{Wants}
 use Rattle.ell_cards.proofs.lemmas.words.Updates.{clean_word}
 use Rattle.ell_cards.proofs.lemmas.views.Searches.{filling_at}
 use Rattle.ell_tree.specs.declared.searching.Passed.{Passed}
-use Rattle.ell_tree.specs.declared.searching.LeafFound.{LeafFound}
+use Rattle.ell_tree.specs.declared.searching.Place.{Place}
 use Rattle.ell_tree.specs.Keeping.{LosesNothing, IsInnerMet}
-use Rattle.ell_tree.specs.Searches.{seen, seen_any, leaf_with, IsAt}
+use Rattle.ell_tree.specs.Searches.{seen, seen_any, node_with, IsAt}
 use Rattle.ell_tree.specs.Helps.{IsInsert, IsParent}
 use Rattle.ell_tree.specs.Tries.{HasCard}
 use Rattle.ell_tree.proofs.lemmas.Keeping.{inner_kept}
 
 -- what fills a card, by a search that stands at a place
-filling_there : (c : ℕ) (op : Op) (v : View) (place : LeafFound) → Does v op → IsAt v place
-    → filling_of c v ≡ filling_for c (Some op) (Some place.leaf) (Some (seen place.parent)) (seen_any place.grandparent) place.key (told_value v.told)
-filling_there c op v place busy at = filling_at v op c place.leaf place.key (seen place.parent) (seen_any place.grandparent) busy
+filling_there : (c node_key : ℕ) (op : Op) (v : View) (place : Place) → Does v op → IsAt v place
+    → filling_of c node_key v ≡ filling_for c node_key (Some op) (Some place.node) (Some (seen place.parent)) (seen_any place.grandparent) place.key (value_told v.told)
+filling_there c node_key op v place busy at = filling_at v op c node_key place.node place.key (seen place.parent) (seen_any place.grandparent) busy
     (ap (λ (s : Search). s.node) at.search) at.told (ap (λ (s : Search). s.parent) at.search) (ap (λ (s : Search). s.grandparent) at.search)
 
 -- for an insert or a swap
-put_fills : (c : ℕ) (op : Op) (what : Put) (v : View) (place : LeafFound) → put_of op ≡ Some what → Does v op → IsAt v place
-    → filling_of c v ≡ insert_filling c what.key what.value place.parent.node place.leaf place.key place.value
-put_fills c op what v place is busy at =
-    filling_there c op v place busy at
-    ∙ (sym (put_filling op what is c place.leaf (seen place.parent) (seen_any place.grandparent) place.key (told_value v.told))
-    ∙ ap (insert_filling c what.key what.value place.parent.node place.leaf place.key) at.value)
+put_fills : (c node_key : ℕ) (op : Op) (what : Put) (v : View) (place : Place) → put_of op ≡ Some what → Does v op → IsAt v place
+    → filling_of c node_key v ≡ layout.put_filling c what.key what.value node_key place.parent.node place.node place.key place.value
+put_fills c node_key op what v place is busy at =
+    filling_there c node_key op v place busy at
+    ∙ (sym (put_filling op what is c node_key place.node (seen place.parent) (seen_any place.grandparent) place.key (value_told v.told))
+    ∙ ap (layout.put_filling c what.key what.value node_key place.parent.node place.node place.key) at.value)
 
 -- the tag that a card expects, by a search that stands at a place
-tag_there : (op : Op) (v : View) (place : LeafFound) → Does v op → IsAt v place
+tag_there : (op : Op) (v : View) (place : Place) → Does v op → IsAt v place
     → expected_tag v ≡ tag_of_claim (Some op) (Some (seen place.parent)) (seen_any place.grandparent)
 tag_there op v place busy at = ap (λ o. tag_of_claim o v.worker.search.parent v.worker.search.grandparent) busy
     ∙ ap (λ (s : Search). tag_of_claim (Some op) s.parent s.grandparent) at.search
@@ -55,42 +57,47 @@ put_tag (Delete k) what is parent above = absurd cc
 put_tag (Swap k was value) what is parent above = refl
 
 -- so that is the card
-pub put_card : (v t : View) (c : ℕ) (op : Op) (what : Put) (place : LeafFound) → put_of op ≡ Some what → Does v op → IsAt v place
-    → HasCard op place (expected_tag v) (filling_of c v) t c
-    → HasCard op place place.parent.tag (insert_filling c what.key what.value place.parent.node place.leaf place.key place.value) t c
-put_card v t c op what place is busy at h =
-    subst (λ tag. HasCard op place tag (insert_filling c what.key what.value place.parent.node place.leaf place.key place.value) t c)
+pub put_card : (v t : View) (c node_key : ℕ) (op : Op) (what : Put) (place : Place) → put_of op ≡ Some what → Does v op → IsAt v place
+    → HasCard op place (expected_tag v) (filling_of c node_key v) t c
+    → HasCard op place place.parent.tag (layout.put_filling c what.key what.value node_key place.parent.node place.node place.key place.value) t c
+put_card v t c node_key op what place is busy at h =
+    subst (λ tag. HasCard op place tag (layout.put_filling c what.key what.value node_key place.parent.node place.node place.key place.value) t c)
     (tag_there op v place busy at ∙ put_tag op what is (seen place.parent) (seen_any place.grandparent))
-    (subst (λ (es : List (Field × ℕ)). HasCard op place (expected_tag v) es t c) (put_fills c op what v place is busy at) h)
+    (subst (λ (es : List (Field × ℕ)). HasCard op place (expected_tag v) es t c) (put_fills c node_key op what v place is busy at) h)
 
 -- for a delete it is the grandparent's
-pub delete_card : (v t : View) (c k : ℕ) (place : LeafFound) (above : Passed) → place.grandparent ≡ Some above → Does v (Delete k) → IsAt v place
-    → HasCard (Delete k) place (expected_tag v) (filling_of c v) t c
-    → HasCard (Delete k) place above.tag (delete_filling above.node place.parent.node place.leaf (packed place.parent.update)) t c
-delete_card v t c k place above is busy at h =
-    subst (λ tag. HasCard (Delete k) place tag (delete_filling above.node place.parent.node place.leaf (packed place.parent.update)) t c)
+pub delete_card : (v t : View) (c node_key k : ℕ) (place : Place) (above : Passed) → place.grandparent ≡ Some above → Does v (Delete k) → IsAt v place
+    → HasCard (Delete k) place (expected_tag v) (filling_of c node_key v) t c
+    → HasCard (Delete k) place above.tag (delete_filling above.node place.parent.node place.node (packed place.parent.update)) t c
+delete_card v t c node_key k place above is busy at h =
+    subst (λ tag. HasCard (Delete k) place tag (delete_filling above.node place.parent.node place.node (packed place.parent.update)) t c)
     (tag_there (Delete k) v place busy at ∙ ap (λ (o : Option Passed). tag_of_claim (Some (Delete k)) (Some (seen place.parent)) (seen_any o)) is)
     (subst (λ (es : List (Field × ℕ)). HasCard (Delete k) place (expected_tag v) es t c)
-    (filling_there c (Delete k) v place busy at
-    ∙ ap (λ (o : Option Passed). filling_for c (Some (Delete k)) (Some place.leaf) (Some (seen place.parent)) (seen_any o) place.key (told_value v.told)) is) h)
+    (filling_there c node_key (Delete k) v place busy at
+    ∙ ap (λ (o : Option Passed). filling_for c node_key (Some (Delete k)) (Some place.node) (Some (seen place.parent)) (seen_any o) place.key (value_told v.told)) is) h)
 
 -- a delete wants a card at a leaf of its key whose grandparent was read clean
-pub delete_wants : (v : View) (k : ℕ) (place : LeafFound) (above : Passed) → IsAt v place → place.key ≡ k → place.grandparent ≡ Some above
-    → above.update.state ≡ state.Clean → Wants v (Delete k) place.leaf place.key
-delete_wants v k place above at same is calm =
-    (same, (seen above, ap (λ (s : Search). s.grandparent) at.search ∙ ap seen_any is, clean_word above.update.state above.update.card calm))
+pub delete_wants : (from node_key : ℕ) (v : View) (k : ℕ) (place : Place) (above : Passed) → IsAt v place → IsLeaf place.node → place.key ≡ k → place.grandparent ≡ Some above
+    → above.update.state ≡ state.Clean → Wants from v (Delete k) place.parent.node place.node place.key node_key
+delete_wants from node_key v k place above at outer same is calm = record {
+  outer = outer;
+  same = same;
+  above = seen above;
+  grandparent = ap (λ (s : Search). s.grandparent) at.search ∙ ap seen_any is;
+  calm = clean_word above.update.state above.update.card calm;
+}
 
-module _ (t f : View) (c : ℕ) (place : LeafFound) (loses : LosesNothing t f) where
+module _ (t f : View) (c : ℕ) (place : Place) (loses : LosesNothing t f) where
   -- what the card of an insert or a swap tells is told still after its flag
-  pub is_insert : (op : Op) (what : Put)
-      → HasCard op place place.parent.tag (insert_filling c what.key what.value place.parent.node place.leaf place.key place.value) t c
+  pub is_insert : (node_key : ℕ) (op : Op) (what : Put)
+      → HasCard op place place.parent.tag (layout.put_filling c what.key what.value node_key place.parent.node place.node place.key place.value) t c
       → Knows f (fact.IFlagged c) → IsTold t (Met place.parent.node)
-      → IsInsert f c place.parent.node (leaf_with place place.parent.tag) (max what.key place.key) (min what.key place.key)
-  is_insert op what h knows met = record {
+      → IsInsert f c place.parent.node (node_with place place.parent.tag) (max what.key place.key) (min what.key place.key)
+  is_insert node_key op what h knows met = record {
     knows = knows;
     met = loses.told (Met place.parent.node) met;
     parent = loses.told _ (h.told (Info c field.P place.parent.node) (latest _ _));
-    leaf = loses.told _ (h.told (Info c field.L place.leaf) (earlier _ _ _ (latest _ _)));
+    leaf = loses.told _ (h.told (Info c field.L place.node) (earlier _ _ _ (latest _ _)));
     expects = loses.told _ h.expects;
     right_key = loses.told _ (h.told (Info c field.RightLeafKey (max what.key place.key)) (earlier _ _ _ (earlier _ _ _ (earlier _ _ _ (earlier _ _ _ (latest _ _))))));
     left_key = loses.told _ (h.told (Info c field.LeftLeafKey (min what.key place.key)) (earlier _ _ _ (earlier _ _ _ (earlier _ _ _ (latest _ _)))));
@@ -98,14 +105,14 @@ module _ (t f : View) (c : ℕ) (place : LeafFound) (loses : LosesNothing t f) w
 
   -- and so is what a delete's tells
   module _ (k : ℕ) (above : Passed)
-      (h : HasCard (Delete k) place above.tag (delete_filling above.node place.parent.node place.leaf (packed place.parent.update)) t c) where
+      (h : HasCard (Delete k) place above.tag (delete_filling above.node place.parent.node place.node (packed place.parent.update)) t c) where
     pub told_grandparent : IsTold f (Info c field.Gp above.node)
     told_grandparent = loses.told _ (h.told _ (latest _ _))
 
     pub told_parent : (cards : ℕ) → IsInnerMet cards t place.parent.node → IsParent cards f c place.parent.node
     told_parent cards node = record { told = loses.told _ (h.told _ (earlier _ _ _ (latest _ _))); node = inner_kept cards t f place.parent.node loses node }
 
-    pub told_leaf : IsTold f (Info c field.L place.leaf)
+    pub told_leaf : IsTold f (Info c field.L place.node)
     told_leaf = loses.told _ (h.told _ (earlier _ _ _ (earlier _ _ _ (latest _ _))))
 
     pub told_was : IsTold f (Info c field.Was (packed place.parent.update))

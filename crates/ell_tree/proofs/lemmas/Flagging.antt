@@ -17,7 +17,7 @@ use Rattle.ell_cards.proofs.lemmas.views.Facts.{knows_new, knows_more, facts_by_
 use Rattle.ell_cards.proofs.lemmas.views.Entries.{places_more}
 use Rattle.ell_cards.proofs.lemmas.views.Steps.{view_after}
 use Rattle.ell_tree.specs.declared.searching.Passed.{Passed}
-use Rattle.ell_tree.specs.declared.searching.LeafFound.{LeafFound}
+use Rattle.ell_tree.specs.declared.searching.Place.{Place}
 use Rattle.ell_tree.specs.CardsTaken.{claims_in, TakesNoCard}
 use Rattle.ell_cards.specs.Contention.{is_claim}
 use Rattle.ell_tree.specs.Counts.{Took}
@@ -36,13 +36,13 @@ may_fill_still a b n c fills may = record {
 }
 
 -- an insert's card that is filled may flag the parent
-pub may_iflag : (a b : PassModel) (n c : ℕ) (what : Put) (place : LeafFound) → HasCardToPut what place a.view c → Fills a b n
+pub may_iflag : (a b : PassModel) (n c node_key : ℕ) (what : Put) (place : Place) → HasCardToPut what place node_key a.view c → Fills a b n
     → MayIFlag b.view c place.parent.node place.parent.update
-may_iflag a b n c what place h fills = record {
+may_iflag a b n c node_key what place h fills = record {
   op = h.op;
   what = what;
   puts = h.puts;
-  leaf = place.leaf;
+  leaf = place.node;
   busy = ap (λ (u : View). u.worker.operation) fills.view ∙ h.card.busy;
   may = may_fill_still a b n c fills h.card.may;
   parent = seen place.parent;
@@ -54,12 +54,12 @@ may_iflag a b n c what place h fills = record {
 }
 
 -- a delete's the grandparent
-pub may_dflag : (a b : PassModel) (n c k : ℕ) (place : LeafFound) (above : Passed) → place.grandparent ≡ Some above
-    → HasCard (Delete k) place above.tag (delete_filling above.node place.parent.node place.leaf (packed place.parent.update)) a.view c
+pub may_dflag : (a b : PassModel) (n c k : ℕ) (place : Place) (above : Passed) → place.grandparent ≡ Some above
+    → HasCard (Delete k) place above.tag (delete_filling above.node place.parent.node place.node (packed place.parent.update)) a.view c
     → Fills a b n → MayDFlag b.view c above.node above.update
 may_dflag a b n c k place above is h fills = record {
   key = k;
-  leaf = place.leaf;
+  leaf = place.node;
   parent = seen place.parent;
   grandparent = seen above;
   busy = ap (λ (u : View). u.worker.operation) fills.view ∙ h.busy;

@@ -1,18 +1,19 @@
-use Rattle.std.proofs.Common.{◌≡◌, ◌≢◌, ℕ, ◌+◌, ◌*◌, ◌<◌, ◌≤◌, Bool, nat_le, Option, Some, None, List, refl, sym, ap, ◌∙◌, subst, arith}
+use Rattle.std.proofs.Common.{◌≡◌, ◌≢◌, ℕ, ◌+◌, ◌*◌, ◌<◌, ◌≤◌, Bool, true, false, inr, Option, Some, None, List, refl, sym, ap, ◌∙◌, subst, arith}
 use Rattle.ell_ops.specs.Meaning.{greatest_key}
 use Rattle.ell_word.specs.Link.{link_in}
 use Rattle.ell_word.specs.Node.{IsInternal}
-use Rattle.ell_core.specs.statements.Readers.{from_of, upto_of}
-use Rattle.ell_core.proofs.lemmas.runs.Stretches.{key_from, key_upto}
-use Rattle.ell_layout.specs.Words.{IsLeaf}
+use Rattle.std.proofs.lemmas.Bool.{false≢true}
+use Rattle.ell_block.specs.Blocks.{InBlockOf}
+use Rattle.ell_layout.specs.Words.{IsLeaf, has_block}
 use Rattle.ell_cards.specs.declared.view.Told.{Told}
 use Rattle.ell_cards.specs.declared.view.Told.TheVariants.{Met, Key, Value}
 use Rattle.ell_cards.specs.declared.glance.Glance.{Glance}
+use Rattle.ell_cards.specs.declared.glance.Stretch.{Stretch}
 use Rattle.ell_cards.specs.declared.view.View.{View}
-use Rattle.ell_cards.specs.Models.{PassModel, Counts, Sees, some_more, Has, HasCome, latest, earlier, IsTold, InTable}
+use Rattle.ell_cards.specs.Models.{TablePlan, flat_from, PassModel, Counts, Sees, some_more, Has, HasCome, HasComeWhole, latest, earlier, IsTold, InTable}
 use Rattle.ell_cards.proofs.lemmas.views.Afters.{after_look, after_look_down, after_key_of, after_value_of}
-use Rattle.ell_cards.specs.Guards.{MayLookDown}
-use Rattle.ell_cards.specs.Looking.{HasFound, ReadsItsOwn}
+use Rattle.ell_cards.specs.Guards.{GoOnBy, MayLookDown}
+use Rattle.ell_cards.specs.Looking.{HasFound, HasFoundBetween, ReadsItsOwn, MissesItsOwn, HasMissed}
 use Rattle.ell_core.specs.state.Machine.{WorkerView}
 use Rattle.ell_core.specs.state.Machine.{ledger_of}
 use Rattle.ell_core.specs.statements.Effects.{contents_in}
@@ -21,7 +22,7 @@ use Rattle.ell_tree.proofs.lemmas.Counts.{took_counted}
 use Rattle.ell_tree.specs.Ledgers.{Owns, present_in}
 use Rattle.ell_cards.proofs.lemmas.views.Steps.{view_seen}
 use Rattle.ell_tree.specs.Looks.{OnlyLooks, look_steps}
-use Rattle.ell_cards.specs.Depths.{depth_of, IsShallow}
+use Rattle.ell_cards.specs.Depths.{deepest, depth_of, IsShallow}
 use Rattle.ell_cards.proofs.lemmas.views.Depths.{depth_more, met_more, went_deeper}
 
 pub only_trans : (a b c : PassModel) (m n k : ℕ) → OnlyLooks a b m → OnlyLooks b c n → m + n ≤ k → OnlyLooks a c k
@@ -126,9 +127,9 @@ only_counted a b c n k h u s =
 pub look_only : (old new : PassModel) (n : ℕ) → Sees old new (after_look n old.view) → OnlyLooks old new 1
 look_only old new n s = only_step old new _ _ _ _ s (met_more _ _ _)
 
-pub down_only : (old new : PassModel) (from : Glance) (k : ℕ) (right : Bool) (n : ℕ) → Sees old new (after_look_down from k right n old.view)
+pub down_only : (old new : PassModel) (from : Glance) (to : Stretch) (right : Bool) (n : ℕ) → Sees old new (after_look_down from to right n old.view)
     → OnlyLooks old new 1
-down_only old new from k right n s = only_step old new _ _ _ _ s (met_more _ _ _)
+down_only old new from to right n s = only_step old new _ _ _ _ s (met_more _ _ _)
 
 pub key_only : (old new : PassModel) (x key : ℕ) → Sees old new (after_key_of x key old.view) → OnlyLooks old new 1
 key_only old new x key s = only_step old new _ _ _ _ s (λ e h. earlier e _ _ h)
@@ -136,28 +137,39 @@ key_only old new x key s = only_step old new _ _ _ _ s (λ e h. earlier e _ _ h)
 pub value_only : (old new : PassModel) (x value : ℕ) → Sees old new (after_value_of x value old.view) → OnlyLooks old new 1
 value_only old new x value s = only_step old new _ _ _ _ s (λ e h. earlier e _ _ h)
 
--- a look for a key has come to a node, in at most two steps for each internal node that there is down to it
-pub record Comes (cards : ℕ) (old new : PassModel) (key node : ℕ) : Type 0 where
+-- a look for a key has come to a node by it, and maybe others, in at most two steps for each internal node that there is down to it
+pub record Comes (plan : TablePlan) (old new : PassModel) (key : ℕ) (here : Glance) : Type 0 where
   pub count : ℕ
   pub only : OnlyLooks old new count
-  pub few : count + 1 ≤ 2 * depth_of new.view node
-  pub shallow : IsShallow cards new.view node
-  pub come : HasCome new.view node key (key + 1)
-  pub met : IsTold new.view (Met node)
-  pub there : InTable cards node
+  pub few : count + 1 ≤ 2 * depth_of new.view here.node
+  pub shallow : IsShallow (deepest plan) new.view here.node
+  pub come : HasCome new.view here.node here.low here.high
+  pub as_one : here.whole ≡ true → HasComeWhole new.view here.node here.low here.high
+  pub from : here.low ≤ key
+  pub upto : key < here.high
+  pub real : here.high ≤ greatest_key + 1
+  pub met : IsTold new.view (Met here.node)
+  pub there : InTable plan.last_card here.node
   pub one : new.view.looks ≡ old.view.looks + 1
 
-pub comes_first : (cards : ℕ) (old new : PassModel) (key n child : ℕ) → (link_in n).node ≡ child → key ≤ greatest_key → Sees old new (after_look n old.view)
-    → IsShallow cards new.view child → InTable cards child → Comes cards old new key child
-comes_first cards old new key n child says real s shallow there =
+pub comes_first : (plan : TablePlan) (old new : PassModel) (key n child : ℕ) → (link_in n).node ≡ child → key ≤ greatest_key → Sees old new (after_look n old.view)
+    → IsShallow (deepest plan) new.view child → InTable plan.last_card child
+    → Comes plan old new key (record { node = child; low = 0; high = greatest_key + 1; whole = true })
+comes_first plan old new key n child says real s shallow there =
     let view = view_seen old new (after_look n old.view) s in
+    let glance : Glance = record { node = (link_in n).node; low = 0; high = greatest_key + 1; whole = true } in
     record {
       count = 1;
       only = look_only old new n s;
       few = (let deep = went_deeper old.view new.view (after_look n old.view) 0 (link_in n).node child view says refl in omega arith);
       shallow = shallow;
-      come = subst (λ (v : View). HasCome v child key (key + 1)) (sym view)
-          (record { glance = record { node = (link_in n).node; low = 0; high = greatest_key + 1 }; among = latest _ _; there = says; from = omega arith; upto = omega arith });
+      come = subst (λ (v : View). HasCome v child 0 (greatest_key + 1)) (sym view)
+          (record { glance = glance; among = latest _ _; there = says; from = omega arith; upto = omega arith });
+      as_one = λ whole. subst (λ (v : View). HasComeWhole v child 0 (greatest_key + 1)) (sym view)
+          (record { glance = glance; among = latest _ _; there = says; from = omega arith; upto = omega arith; whole = refl });
+      from = omega arith;
+      upto = omega arith;
+      real = omega arith;
       met = subst (λ x. IsTold new.view (Met x)) says (subst (λ (v : View). IsTold v (Met (link_in n).node)) (sym view) (latest _ _));
       there = there;
       one = ap (λ (v : View). v.looks) view;
@@ -173,12 +185,44 @@ come_part v node low high from upto a b c = record {
   upto = (let u = c.upto in omega arith);
 }
 
-module _ (cards : ℕ) (old a b : PassModel) (key node k : ℕ) (at : Comes cards old a key node) (asked : Sees a b (after_key_of node k a.view)) where
-  asked_view : b.view ≡ after_key_of node k a.view
-  asked_view = view_seen a b (after_key_of node k a.view) asked
+pub whole_part : (v : View) (node low high from upto : ℕ) → low ≤ from → upto ≤ high → HasComeWhole v node low high → HasComeWhole v node from upto
+whole_part v node low high from upto a b c = record {
+  glance = c.glance;
+  among = c.among;
+  there = c.there;
+  from = (let f = c.from in omega arith);
+  upto = (let u = c.upto in omega arith);
+  whole = c.whole;
+}
 
-  come_still : HasCome b.view node key (key + 1)
-  come_still = subst (λ (v : View). HasCome v node key (key + 1)) (sym asked_view) (record {
+-- so it has come by the key alone
+pub comes_alone : (plan : TablePlan) (old new : PassModel) (key node low high : ℕ) (whole : Bool)
+    → Comes plan old new key (record { node = node; low = low; high = high; whole = whole })
+    → Comes plan old new key (record { node = node; low = key; high = key + 1; whole = false })
+comes_alone plan old new key node low high whole c =
+    let from = c.from in
+    let upto = c.upto in
+    let real = c.real in record {
+      count = c.count;
+      only = c.only;
+      few = c.few;
+      shallow = c.shallow;
+      come = come_part new.view node low high key (key + 1) from (omega arith) c.come;
+      as_one = λ is. absurd (false≢true is);
+      from = omega arith;
+      upto = omega arith;
+      real = omega arith;
+      met = c.met;
+      there = c.there;
+      one = c.one;
+    }
+
+module _ (plan : TablePlan) (old a b : PassModel) (key : ℕ) (here : Glance) (k : ℕ) (at : Comes plan old a key here) (asked : Sees a b (after_key_of here.node k a.view)) where
+  asked_view : b.view ≡ after_key_of here.node k a.view
+  asked_view = view_seen a b (after_key_of here.node k a.view) asked
+
+  come_still : HasCome b.view here.node here.low here.high
+  come_still = subst (λ (v : View). HasCome v here.node here.low here.high) (sym asked_view) (record {
     glance = at.come.glance;
     among = at.come.among;
     there = at.come.there;
@@ -186,88 +230,124 @@ module _ (cards : ℕ) (old a b : PassModel) (key node k : ℕ) (at : Comes card
     upto = at.come.upto;
   })
 
-  told_key : IsTold b.view (Key node k)
-  told_key = subst (λ (v : View). IsTold v (Key node k)) (sym asked_view) (latest (Key node k) a.view.told)
+  pub one_still : here.whole ≡ true → HasComeWhole b.view here.node here.low here.high
+  one_still whole =
+      let c = at.as_one whole in
+      subst (λ (v : View). HasComeWhole v here.node here.low here.high) (sym asked_view) (record {
+        glance = c.glance;
+        among = c.among;
+        there = c.there;
+        from = c.from;
+        upto = c.upto;
+        whole = c.whole;
+      })
 
-  pub met_still : IsTold b.view (Met node)
-  met_still = (key_only a b node k asked).told (Met node) at.met
+  alone_still : HasCome b.view here.node key (key + 1)
+  alone_still = let from = at.from in let upto = at.upto in come_part b.view here.node here.low here.high key (key + 1) from (omega arith) come_still
 
-  pub deep_still : depth_of a.view node ≤ depth_of b.view node
-  deep_still = depth_more a.view.told b.view.told (key_only a b node k asked).told node
+  pub told_key : IsTold b.view (Key here.node k)
+  told_key = subst (λ (v : View). IsTold v (Key here.node k)) (sym asked_view) (latest (Key here.node k) a.view.told)
+
+  pub met_still : IsTold b.view (Met here.node)
+  met_still = (key_only a b here.node k asked).told (Met here.node) at.met
+
+  pub deep_still : depth_of a.view here.node ≤ depth_of b.view here.node
+  deep_still = depth_more a.view.told b.view.told (key_only a b here.node k asked).told here.node
 
   pub one_none : b.view.looks ≡ old.view.looks + 1
   one_none = ap (λ (v : View). v.looks) asked_view ∙ at.one
 
-  pub may_down : IsInternal node → MayLookDown b.view (record { node = node; low = key; high = key + 1 }) k
-  may_down inner = record { come = come_still; met = met_still; inner = inner; told = told_key }
+  pub may_down : IsInternal here.node → (to : Stretch) (right : Bool) → GoOnBy (flat_from plan) here k right to → MayLookDown (flat_from plan) b.view here to right
+  may_down inner to right goes = record { come = come_still; as_one = one_still; met = met_still; inner = inner; key = k; told = told_key; goes = goes }
 
   -- the child to which it goes down is deeper
-  pub down_deeper : (d : PassModel) (n child : ℕ) → (link_in n).node ≡ child
-      → Sees b d (after_look_down (record { node = node; low = key; high = key + 1 }) k (nat_le k key) n b.view) → depth_of a.view node < depth_of d.view child
-  down_deeper d n child says s =
-      let after = after_look_down (record { node = node; low = key; high = key + 1 }) k (nat_le k key) n b.view in
+  pub down_deeper : (d : PassModel) (to : Stretch) (right : Bool) (n child : ℕ) → (link_in n).node ≡ child
+      → Sees b d (after_look_down here to right n b.view) → depth_of a.view here.node < depth_of d.view child
+  down_deeper d to right n child says s =
+      let after = after_look_down here to right n b.view in
       let still = deep_still in
-      let deep = went_deeper b.view d.view after node (link_in n).node child (view_seen b d after s) says refl in
+      let deep = went_deeper b.view d.view after here.node (link_in n).node child (view_seen b d after s) says refl in
       omega arith
 
-  pub comes_down : (d : PassModel) (n child : ℕ) → (link_in n).node ≡ child
-      → Sees b d (after_look_down (record { node = node; low = key; high = key + 1 }) k (nat_le k key) n b.view) → IsInternal node → IsShallow cards d.view child
-      → InTable cards child → Comes cards old d key child
-  comes_down d n child says s inner shallow there =
-      let from : Glance = record { node = node; low = key; high = key + 1 } in
-      let view = view_seen b d (after_look_down from k (nat_le k key) n b.view) s in
-      let next : Glance = record { node = (link_in n).node; low = from_of (nat_le k key) key k; high = upto_of (nat_le k key) (key + 1) k } in
-      let low = key_from k key key (omega arith) in
-      let high = key_upto k (key + 1) key (omega arith) in
+  pub comes_down : (d : PassModel) (to : Stretch) (right : Bool) (n child : ℕ) → (link_in n).node ≡ child
+      → Sees b d (after_look_down here to right n b.view) → IsInternal here.node → IsShallow (deepest plan) d.view child
+      → InTable plan.last_card child → to.low ≤ key → key < to.high → to.high ≤ greatest_key + 1
+      → Comes plan old d key (record { node = child; low = to.low; high = to.high; whole = to.whole })
+  comes_down d to right n child says s inner shallow there low high real =
+      let view = view_seen b d (after_look_down here to right n b.view) s in
+      let next : Glance = record { node = (link_in n).node; low = to.low; high = to.high; whole = to.whole } in
       record {
         count = at.count + 2;
         only = only_trans old a d at.count 2 (at.count + 2) at.only
-            (only_trans a b d 1 1 2 (key_only a b node k asked) (down_only b d from k (nat_le k key) n s) (omega arith)) (omega arith);
-        few = (let few = at.few in let deep = down_deeper d n child says s in omega arith);
+            (only_trans a b d 1 1 2 (key_only a b here.node k asked) (down_only b d here to right n s) (omega arith)) (omega arith);
+        few = (let few = at.few in let deep = down_deeper d to right n child says s in omega arith);
         shallow = shallow;
-        come = subst (λ (v : View). HasCome v child key (key + 1)) (sym view)
-            (record { glance = next; among = latest _ _; there = says; from = low; upto = omega arith });
+        come = subst (λ (v : View). HasCome v child to.low to.high) (sym view)
+            (record { glance = next; among = latest _ _; there = says; from = omega arith; upto = omega arith });
+        as_one = λ whole. subst (λ (v : View). HasComeWhole v child to.low to.high) (sym view)
+            (record { glance = next; among = latest _ _; there = says; from = omega arith; upto = omega arith; whole = whole });
+        from = low;
+        upto = high;
+        real = real;
         met = subst (λ x. IsTold d.view (Met x)) says (subst (λ (v : View). IsTold v (Met (link_in n).node)) (sym view) (latest _ _));
         there = there;
         one = ap (λ (v : View). v.looks) view ∙ one_none;
       }
 
-  pub found_none : IsLeaf node → k ≢ key → HasFound b.view key None
-  found_none outer other = record { leaf = node; leaf_key = k; comes = come_still; outer = outer; told = told_key; tells = other }
+  -- a stretch that the node's block lacks, around the key
+  pub found_beside : (low high : ℕ) → here.whole ≡ true → IsInternal here.node → has_block (flat_from plan) here.node ≡ true → here.low ≤ low → high ≤ here.high
+      → ((j : ℕ) → low ≤ j → j < high → ¬ InBlockOf k j) → HasFoundBetween (flat_from plan) b.view low high None
+  found_beside low high whole inner has from upto lacks = record {
+    node = here.node;
+    node_key = k;
+    comes = whole_part b.view here.node here.low here.high low high from upto (one_still whole);
+    told = told_key;
+    tells = inr (inner, has, lacks);
+  }
 
-  pub only_none : OnlyLooks old b (look_steps cards)
-  only_none = only_trans old a b at.count 1 (look_steps cards) at.only (key_only a b node k asked)
+  pub found_none : IsLeaf here.node → k ≢ key → HasFound b.view key None
+  found_none outer other = record { leaf = here.node; leaf_key = k; comes = alone_still; outer = outer; told = told_key; tells = other }
+
+  pub only_none : OnlyLooks old b (look_steps (deepest plan))
+  only_none = only_trans old a b at.count 1 (look_steps (deepest plan)) at.only (key_only a b here.node k asked)
       (let few = at.few in let room = at.shallow.any in omega arith)
 
-  pub found_some : (d : PassModel) (value : ℕ) → Sees b d (after_value_of node value b.view) → IsLeaf node → k ≡ key → HasFound d.view key (Some value)
+  pub found_some : (d : PassModel) (value : ℕ) → Sees b d (after_value_of here.node value b.view) → IsLeaf here.node → k ≡ key → HasFound d.view key (Some value)
   found_some d value s outer same =
-      let view = view_seen b d (after_value_of node value b.view) s in
+      let view = view_seen b d (after_value_of here.node value b.view) s in
       record {
-        leaf = node;
+        leaf = here.node;
         leaf_key = k;
-        comes = subst (λ (v : View). HasCome v node key (key + 1)) (sym view) (record {
-          glance = come_still.glance;
-          among = come_still.among;
-          there = come_still.there;
-          from = come_still.from;
-          upto = come_still.upto;
+        comes = subst (λ (v : View). HasCome v here.node key (key + 1)) (sym view) (record {
+          glance = alone_still.glance;
+          among = alone_still.among;
+          there = alone_still.there;
+          from = alone_still.from;
+          upto = alone_still.upto;
         });
         outer = outer;
-        told = (value_only b d node value s).told (Key node k) told_key;
-        tells = (same, subst (λ (v : View). IsTold v (Value node value)) (sym view) (latest (Value node value) b.view.told));
+        told = (value_only b d here.node value s).told (Key here.node k) told_key;
+        tells = (same, subst (λ (v : View). IsTold v (Value here.node value)) (sym view) (latest (Value here.node value) b.view.told));
       }
 
-  pub only_some : (d : PassModel) (value : ℕ) → Sees b d (after_value_of node value b.view) → OnlyLooks old d (look_steps cards)
-  only_some d value s = only_trans old a d at.count 2 (look_steps cards) at.only
-      (only_trans a b d 1 1 2 (key_only a b node k asked) (value_only b d node value s) (omega arith))
+  pub only_some : (d : PassModel) (value : ℕ) → Sees b d (after_value_of here.node value b.view) → OnlyLooks old d (look_steps (deepest plan))
+  only_some d value s = only_trans old a d at.count 2 (look_steps (deepest plan)) at.only
+      (only_trans a b d 1 1 2 (key_only a b here.node k asked) (value_only b d here.node value s) (omega arith))
       (let few = at.few in let room = at.shallow.any in omega arith)
 
-  pub one_some : (d : PassModel) (value : ℕ) → Sees b d (after_value_of node value b.view) → d.view.looks ≡ old.view.looks + 1
-  one_some d value s = ap (λ (v : View). v.looks) (view_seen b d (after_value_of node value b.view) s) ∙ one_none
+  pub one_some : (d : PassModel) (value : ℕ) → Sees b d (after_value_of here.node value b.view) → d.view.looks ≡ old.view.looks + 1
+  one_some d value s = ap (λ (v : View). v.looks) (view_seen b d (after_value_of here.node value b.view) s) ∙ one_none
 
 -- what a look has found of a key of the pass's own is what its ledger had
 pub reads_mine : (old new : PassModel) (key : ℕ) (there : Option ℕ) → ReadsItsOwn new.view → HasFound new.view key there → new.view.worker ≡ old.view.worker
     → Owns old key → there ≡ present_in old key
 reads_mine old new key there reads found same owns =
     reads key there found (subst (λ (w : WorkerView). ledger_of w.ledger key ≢ None) (sym same) owns)
+    ∙ ap (λ (w : WorkerView). contents_in (ledger_of w.ledger) key) same
+
+-- and what it has found missing of its own keys its ledger had absent
+pub misses_mine : (from : ℕ) (old new : PassModel) (key : ℕ) → MissesItsOwn from new.view → HasMissed from new.view key → new.view.worker ≡ old.view.worker
+    → Owns old key → None ≡ present_in old key
+misses_mine from old new key misses missed same owns =
+    misses key missed (subst (λ (w : WorkerView). ledger_of w.ledger key ≢ None) (sym same) owns)
     ∙ ap (λ (w : WorkerView). contents_in (ledger_of w.ledger) key) same

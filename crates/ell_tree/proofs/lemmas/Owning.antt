@@ -12,11 +12,11 @@ use Rattle.std.proofs.lemmas.Option.{same_Some}
 use Rattle.ell_core.specs.declared.put.Put.{Put}
 use Rattle.ell_core.specs.acts.Searching.{put_of, TakesPut}
 use Rattle.ell_core.proofs.lemmas.keeping.Puts.{added, replacing}
-use Rattle.ell_cards.specs.Models.{PassModel, ledger}
+use Rattle.ell_cards.specs.Models.{TablePlan, PassModel, ledger}
 use Rattle.ell_cards.specs.Stepping.{SameShare}
 use Rattle.ell_cards.specs.declared.view.Deed.{Deed}
 use Rattle.ell_cards.specs.Accounts.{own_calls}
-use Rattle.ell_tree.specs.declared.searching.LeafFound.{LeafFound}
+use Rattle.ell_tree.specs.declared.searching.Place.{Place}
 use Rattle.ell_tree.specs.declared.trying.Tried.TheVariants.{Answered}
 use Rattle.ell_tree.specs.Called.{ByItsDeed}
 use Rattle.ell_tree.specs.Ends.{Answers, TakesIfDelete, TakesValue}
@@ -77,23 +77,23 @@ keeps_answers t op said p q r n keeps h = answers_before t op said p q r keeps.t
 
 -- an insert whose search ended at another key would add its own; a swap whose search ended at its key and its first value would swap it; a delete
 -- whose search ended at its key would take it away
-module _ (cards : ℕ) (p q : PassModel) (same : q.view.worker.ledger ≡ p.view.worker.ledger) (place : LeafFound) where
-  pub has_there : (op : Op) → EndsAt cards q.view op place → Owns p (key_of op) → present_in p (key_of op) ≡ there_at place (key_of op)
+module _ (plan : TablePlan) (p q : PassModel) (same : q.view.worker.ledger ≡ p.view.worker.ledger) (place : Place) where
+  pub has_there : (op : Op) → EndsAt plan q.view op place → Owns p (key_of op) → present_in p (key_of op) ≡ there_at place (key_of op)
   has_there op ends owns =
       sym (ap (λ (l : List (ℕ × Entry)). contents_in (ledger_of l) (key_of op)) same) ∙ ends.there (still_owned (key_of op) p q same owns)
 
-  would_insert : (key value : ℕ) → EndsAt cards q.view (Insert key value) place → place.key ≢ key → Owns p key
+  would_insert : (key value : ℕ) → EndsAt plan q.view (Insert key value) place → place.key ≢ key → Owns p key
       → reply_of (Insert key value) (present_in p) ≡ Yes
   would_insert key value ends other owns =
       ap (λ o. yes_if (not (is_some o))) (has_there (Insert key value) ends owns ∙ ap (λ b. if b then Some place.value else None) (ne_eqb place.key key other))
 
-  would_swap : (key was value : ℕ) → EndsAt cards q.view (Swap key was value) place → place.key ≡ key → place.value ≡ was → Owns p key
+  would_swap : (key was value : ℕ) → EndsAt plan q.view (Swap key was value) place → place.key ≡ key → place.value ≡ was → Owns p key
       → reply_of (Swap key was value) (present_in p) ≡ Found was
   would_swap key was value ends own same_value owns =
       ap found (has_there (Swap key was value) ends owns
       ∙ (ap (λ b. if b then Some place.value else None) (eq-eqb place.key key own) ∙ ap Some same_value))
 
-  pub would_put : (op : Op) (what : Put) → put_of op ≡ Some what → EndsAt cards q.view op place → TakesPut what place.key place.value → Owns p (key_of op)
+  pub would_put : (op : Op) (what : Put) → put_of op ≡ Some what → EndsAt plan q.view op place → TakesPut what place.key place.value → Owns p (key_of op)
       → reply_of op (present_in p) ≡ reply_of_change op
   would_put (Find key) what is ends takes owns = absurd cc
   would_put (Insert key value) what is ends takes owns =
@@ -104,12 +104,12 @@ module _ (cards : ℕ) (p q : PassModel) (same : q.view.worker.ledger ≡ p.view
       would_swap key was value ends at.0 at.1 owns
 
   -- what it took was there, and nothing was where its search ended at another key
-  pub had_value : (key : ℕ) → EndsAt cards q.view (Delete key) place → place.key ≡ key → Owns p key → Some place.value ≡ present_in p key
+  pub had_value : (key : ℕ) → EndsAt plan q.view (Delete key) place → place.key ≡ key → Owns p key → Some place.value ≡ present_in p key
   had_value key ends own owns = sym (has_there (Delete key) ends owns ∙ ap (λ b. if b then Some place.value else None) (eq-eqb place.key key own))
 
-  pub had_none : (key : ℕ) → EndsAt cards q.view (Delete key) place → place.key ≢ key → Owns p key → None ≡ present_in p key
+  pub had_none : (key : ℕ) → EndsAt plan q.view (Delete key) place → place.key ≢ key → Owns p key → None ≡ present_in p key
   had_none key ends other owns = sym (has_there (Delete key) ends owns ∙ ap (λ b. if b then Some place.value else None) (ne_eqb place.key key other))
 
-  pub would_delete : (key : ℕ) → EndsAt cards q.view (Delete key) place → place.key ≡ key → Owns p key → reply_of (Delete key) (present_in p) ≡ Yes
+  pub would_delete : (key : ℕ) → EndsAt plan q.view (Delete key) place → place.key ≡ key → Owns p key → reply_of (Delete key) (present_in p) ≡ Yes
   would_delete key ends own owns =
       ap (λ o. yes_if (is_some o)) (has_there (Delete key) ends owns ∙ ap (λ b. if b then Some place.value else None) (eq-eqb place.key key own))

@@ -1,4 +1,4 @@
-use Rattle.std.proofs.Common.{◌≡◌, ℕ, if◌then◌else◌, true, false, Some, None, inl, inr, eq-eqb, refl, sym, ap, ◌∙◌, subst}
+use Rattle.std.proofs.Common.{◌≡◌, ℕ, if◌then◌else◌, true, false, Some, None, inl, inr, eq-eqb, refl, sym, ap, ◌∙◌, subst, arith}
 use Rattle.std.specs.Prelude.{unwrap_or}
 use Rattle.std.proofs.lemmas.Bool.{cases_eq, ne_eqb}
 use Rattle.std.proofs.lemmas.Option.{same_Some}
@@ -13,31 +13,60 @@ use Rattle.ell_core.specs.statements.Effects.{reply_of_change}
 use Rattle.ell_core.proofs.lemmas.keeping.Puts.{added, replacing}
 use Rattle.ell_cards.specs.declared.view.View.{View}
 use Rattle.ell_cards.specs.declared.view.Told.TheVariants.{Value}
-use Rattle.ell_cards.specs.Models.{IsTold, Knows}
+use Rattle.ell_cards.specs.Models.{TablePlan, flat_from, IsTold, Knows}
 use Rattle.ell_cards.specs.Guards.{CardIsOver, Wants}
-use Rattle.ell_tree.specs.declared.searching.LeafFound.{LeafFound}
+use Rattle.ell_tree.specs.declared.searching.Place.{Place}
 use Rattle.ell_tree.specs.Ends.{changes_by, reply_by}
-use Rattle.ell_tree.specs.Searches.{IsAt, there_at}
+use Rattle.ell_core.specs.tree.Flat.{IsNodeKey}
+use Rattle.ell_layout.specs.Words.{IsLeaf}
+use Rattle.ell_tree.specs.Searches.{EndsAt, there_at}
 use Rattle.ell_tree.specs.Tries.{told_of_put, put_reply}
 
 -- an insert or a swap, that puts this, and a place where its search ended
-module _ (place : LeafFound) where
+module _ (place : Place) where
   -- it wants a card at a place that it may take
-  insert_wants : (k value : ℕ) (v : View) → IsAt v place → TakesPut (added k value) place.key place.value → Wants v (Insert k value) place.leaf place.key
-  insert_wants k value v at takes = (takes, (place.value, at.value_told))
+  insert_wants : (plan : TablePlan) (k value node_key : ℕ) (v : View) → EndsAt plan v (Insert k value) place → TakesPut (added k value) place.key place.value
+      → IsNodeKey (flat_from plan) k place.key node_key → Wants (flat_from plan) v (Insert k value) place.parent.node place.node place.key node_key
+  insert_wants plan k value node_key v ends takes named = record {
+    leaf = λ outer. (takes, (place.value, ends.at.leaf outer));
+    edge = λ inner. ends.edge inner;
+    fits = λ has. ends.fits has;
+    named = named;
+  }
 
-  swap_wants : (k was value : ℕ) (v : View) → IsAt v place → TakesPut (replacing k was value) place.key place.value
-      → Wants v (Swap k was value) place.leaf place.key
-  swap_wants k was value v at takes = (takes.0, subst (λ n. IsTold v (Value place.leaf n)) takes.1 at.value_told)
+  swap_wants : (plan : TablePlan) (k was value node_key : ℕ) (v : View) → EndsAt plan v (Swap k was value) place → TakesPut (replacing k was value) place.key place.value
+      → IsNodeKey (flat_from plan) k place.key node_key → Wants (flat_from plan) v (Swap k was value) place.parent.node place.node place.key node_key
+  swap_wants plan k was value node_key v ends takes named =
+      let outer = ends.outer takes.0 in record {
+        outer = outer;
+        same = takes.0;
+        value = subst (λ n. IsTold v (Value place.node n)) takes.1 (ends.at.leaf outer);
+        named = (let is = named.greater (inr (sym takes.0)) in let same = takes.0 in omega arith);
+      }
 
-  pub put_wants : (op : Op) (what : Put) → put_of op ≡ Some what → (v : View) → IsAt v place → TakesPut what place.key place.value
-      → Wants v op place.leaf place.key
-  put_wants (Find k) what is v at takes = absurd cc
-  put_wants (Insert k value) what is v at takes =
-      insert_wants k value v at (subst (λ (t : Put). TakesPut t place.key place.value) (sym (same_Some (added k value) what is)) takes)
-  put_wants (Delete k) what is v at takes = absurd cc
-  put_wants (Swap k was value) what is v at takes =
-      swap_wants k was value v at (subst (λ (t : Put). TakesPut t place.key place.value) (sym (same_Some (replacing k was value) what is)) takes)
+  pub put_wants : (plan : TablePlan) (op : Op) (what : Put) → put_of op ≡ Some what → (node_key : ℕ) (v : View) → EndsAt plan v op place → TakesPut what place.key place.value
+      → IsNodeKey (flat_from plan) what.key place.key node_key → Wants (flat_from plan) v op place.parent.node place.node place.key node_key
+  put_wants plan (Find k) what is node_key v ends takes named = absurd cc
+  put_wants plan (Insert k value) what is node_key v ends takes named =
+      let same = sym (same_Some (added k value) what is) in
+      insert_wants plan k value node_key v ends (subst (λ (t : Put). TakesPut t place.key place.value) same takes)
+      (subst (λ (t : Put). IsNodeKey (flat_from plan) t.key place.key node_key) same named)
+  put_wants plan (Delete k) what is node_key v ends takes named = absurd cc
+  put_wants plan (Swap k was value) what is node_key v ends takes named =
+      let same = sym (same_Some (replacing k was value) what is) in
+      swap_wants plan k was value node_key v ends (subst (λ (t : Put). TakesPut t place.key place.value) same takes)
+      (subst (λ (t : Put). IsNodeKey (flat_from plan) t.key place.key node_key) same named)
+
+  -- one that it may not take is a leaf
+  pub refused_outer : (plan : TablePlan) (op : Op) (what : Put) → put_of op ≡ Some what → (v : View) → EndsAt plan v op place → ¬ TakesPut what place.key place.value
+      → IsLeaf place.node
+  refused_outer plan (Find k) what is v ends not = absurd cc
+  refused_outer plan (Insert k value) what is v ends not = elim (cases_eq place.key k) [
+    | inl same ↦ ends.outer same
+    | inr apart ↦ absurd (not (subst (λ (t : Put). TakesPut t place.key place.value) (same_Some (added k value) what is) apart))
+  ]
+  refused_outer plan (Delete k) what is v ends not = absurd cc
+  refused_outer plan (Swap k was value) what is v ends not = λ inner. ends.edge inner
 
   -- where it may not take it, this is its answer, which changes nothing
   pub record IsRefused (op : Op) (what : Put) : Type 0 where

@@ -9,8 +9,8 @@ use Rattle.ell_core.proofs.lemmas.outcomes.Decide.{some_not_none}
 use Rattle.ell_cards.proofs.lemmas.runs.LayingDown.{laid_down_last_changes_nothing}
 use Rattle.ell_cards.specs.declared.view.View.{View}
 use Rattle.ell_cards.specs.Accounts.{own_calls}
-use Rattle.ell_cards.specs.Models.{PassModel}
-use Rattle.ell_tree.specs.declared.searching.LeafFound.{LeafFound}
+use Rattle.ell_cards.specs.Models.{TablePlan, PassModel}
+use Rattle.ell_tree.specs.declared.searching.Place.{Place}
 use Rattle.ell_tree.specs.Called.{IsTakeCalled}
 use Rattle.ell_tree.specs.Computing.{IsUntouched, RemovesIf}
 use Rattle.ell_tree.specs.Ends.{Answers, LaidDown, TakesValue, is_value}
@@ -38,7 +38,7 @@ that_or_other was o = by (is_value was o) refl
     by false e = inr (is_other was o e)
 
 -- so was it where a search ended
-pub at_that : (place : LeafFound) (key was : ℕ) → is_value was (there_at place key) ≡ true → (place.key ≡ key) × (place.value ≡ was)
+pub at_that : (place : Place) (key was : ℕ) → is_value was (there_at place key) ≡ true → (place.key ≡ key) × (place.value ≡ was)
 at_that place key was e = by (place.key == key) refl e
   where
     by : (t : Bool) → (place.key == key) ≡ t → is_value was (if t then Some place.value else None) ≡ true → (place.key ≡ key) × (place.value ≡ was)
@@ -46,14 +46,14 @@ at_that place key was e = by (place.key == key) refl e
     by false k h = absurd (false≢true h)
 
 -- and if it was not, a pass that owns the key has another value there, or none
-pub not_at : (cards : ℕ) (p q : PassModel) (place : LeafFound) (key was : ℕ) → q.view.worker.ledger ≡ p.view.worker.ledger → EndsAt cards q.view (Delete key) place
+pub not_at : (plan : TablePlan) (p q : PassModel) (place : Place) (key was : ℕ) → q.view.worker.ledger ≡ p.view.worker.ledger → EndsAt plan q.view (Delete key) place
     → is_value was (there_at place key) ≡ false → Owns p key → present_in p key ≢ Some was
-not_at cards p q place key was same ends e owns = λ had.
-    is_other was (there_at place key) e (sym (has_there cards p q same place (Delete key) ends owns) ∙ had)
+not_at plan p q place key was same ends e owns = λ had.
+    is_other was (there_at place key) e (sym (has_there plan p q same place (Delete key) ends owns) ∙ had)
 
 -- an operation whose search has ended, without a card, may be laid down
-pub searched_stops : (cards : ℕ) (op : Op) (place : LeafFound) (v : View) → HasSearched cards op place v → MayStop (worker_of v.worker)
-searched_stops cards op place v h = record { op = op; busy = h.busy; backed = λ c is flagged. absurd (some_not_none is h.no_card) }
+pub searched_stops : (plan : TablePlan) (op : Op) (place : Place) (v : View) → HasSearched plan op place v → MayStop (worker_of v.worker)
+searched_stops plan op place v h = record { op = op; busy = h.busy; backed = λ c is flagged. absurd (some_not_none is h.no_card) }
 
 -- an operation that begins, halts at its only try, and is laid down
 pub halts_laid : (t : TreeModel) (op : Op) (p q r s : PassModel) (n : ℕ) → Begins op [] n p q → Halts op q r → Lays op r s → LaidDown t op p s

@@ -11,17 +11,18 @@ use Rattle.ell_ops.specs.Meaning.{greatest_key}
 use Rattle.ell_cards.specs.declared.view.Told.TheVariants.{Key, Value}
 use Rattle.ell_cards.specs.declared.view.View.{View}
 use Rattle.ell_cards.specs.Guards.{TellsOf}
-use Rattle.ell_cards.specs.Looking.{HasFound, HasFoundBetween, KeysAreFixed, ReadsItsOwn}
-use Rattle.ell_cards.specs.Models.{PassModel}
+use Rattle.ell_cards.specs.Looking.{HasFound, KeysAreFixed, ReadsItsOwn}
+use Rattle.ell_cards.specs.Models.{TablePlan, PassModel}
 use Rattle.ell_cards.proofs.lemmas.runs.Beginnings.{looks_are_of_one_state}
 use Rattle.ell_tree.specs.declared.scanning.Pair.{Pair}
 use Rattle.ell_tree.specs.declared.cursor.About.{About}
-use Rattle.ell_tree.specs.Cursors.{BeginsALook, FindsAbout, IsLower, IsNodeKey, IsUpper, KeepsLooking}
+use Rattle.ell_tree.specs.Cursors.{BeginsALook, FindsAbout, IsWithin, IsLower, IsNodeKey, IsUpper, KeepsLooking}
 use Rattle.ell_tree.specs.Ledgers.{TreeModel}
 use Rattle.ell_tree.specs.Looks.{stretch_steps}
 use Rattle.ell_tree.specs.Scans.{AreFoundIn, AreInOrder, HaveFound, HasFoundLast, HasFoundNext, IsLastIn, IsNextIn, value_there}
-use Rattle.ell_tree.proofs.lemmas.Cursors.{come_on, found_of_key}
+use Rattle.ell_tree.proofs.lemmas.Cursors.{come_on}
 use Rattle.ell_tree.proofs.lemmas.Stretching.{Stretches, stretches_none, stretches_more}
+use Rattle.ell_cards.specs.Depths.{deepest}
 
 -- what a look has found of a key stays found while it goes on
 pub found_on : (old new : PassModel) (n key : ℕ) (there : Option ℕ) → KeepsLooking old new n → HasFound old.view key there → HasFound new.view key there
@@ -131,7 +132,7 @@ abbrev pub gathered : ℕ → List Pair → List (ℕ × ℕ)
 gathered count room = map (λ pair. (pair.key, pair.value)) (take count room)
 
 -- how a scan goes on: it has come to this key, and has written so many pairs; the rest of the room is as it was
-pub record Scans (cards : ℕ) (old now : PassModel) (from at upto count : ℕ) (before room : List Pair) : Type 0 where
+pub record Scans (plan : TablePlan) (old now : PassModel) (from at upto count : ℕ) (before room : List Pair) : Type 0 where
   pub began : from ≤ at
   pub gathers : Gathers now.view from at upto (gathered count room)
   pub fits : count ≤ length room
@@ -139,12 +140,12 @@ pub record Scans (cards : ℕ) (old now : PassModel) (from at upto count : ℕ) 
   pub rest : drop count room ≡ drop count before
   pub own : from < at → ReadsItsOwn now.view
   pub one : now.view.looks ≡ old.view.looks + 1
-  pub stretches : Stretches cards (λ key. nat_le key at) (at < upto) old now
+  pub stretches : Stretches plan (λ key. nat_le key at) (at < upto) old now
 
 -- as it begins
-pub scans_first : (cards : ℕ) (old now : PassModel) (from upto : ℕ) (before : List Pair) → BeginsALook old now
-    → Scans cards old now from from upto 0 before before
-scans_first cards old now from upto before begins = record {
+pub scans_first : (plan : TablePlan) (old now : PassModel) (from upto : ℕ) (before : List Pair) → BeginsALook old now
+    → Scans plan old now from from upto 0 before before
+scans_first plan old now from upto before begins = record {
   began = omega arith;
   gathers = gathers_none now.view from upto;
   fits = omega arith;
@@ -152,33 +153,33 @@ scans_first cards old now from upto before begins = record {
   rest = refl;
   own = λ less. absurd (omega arith);
   one = begins.one;
-  stretches = stretches_none cards (λ key. nat_le key from) (from < upto) old now begins;
+  stretches = stretches_none plan (λ key. nat_le key from) (from < upto) old now begins;
 }
 
-module _ (cards : ℕ) (old now new : PassModel) (from at upto count : ℕ) (before room : List Pair) (s : Scans cards old now from at upto count before room)
-    (about : About) (more : at < upto) (real : upto ≤ greatest_key + 1) (finds : FindsAbout cards new.view at about) (fixed : KeysAreFixed new.view)
-    (on : KeepsLooking now new (stretch_steps cards)) where
+module _ (plan : TablePlan) (old now new : PassModel) (from at upto count : ℕ) (before room : List Pair) (s : Scans plan old now from at upto count before room)
+    (about : About) (more : at < upto) (real : upto ≤ greatest_key + 1) (finds : FindsAbout plan.last_card new.view at about) (fixed : KeysAreFixed new.view)
+    (on : KeepsLooking now new (stretch_steps (deepest plan))) where
   -- a scan's stretch is one more
-  one_stretch : Stretches cards (λ key. nat_le key about.high) (about.high < upto) old new
+  one_stretch : Stretches plan (λ key. nat_le key about.high) (about.high < upto) old new
   one_stretch =
       let deeper = finds.within.upto in
-      stretches_more cards (λ key. nat_le key at) (λ key. nat_le key about.high) (at < upto) (about.high < upto) old now new s.stretches more on
+      stretches_more plan (λ key. nat_le key at) (λ key. nat_le key about.high) (at < upto) (about.high < upto) old now new s.stretches more on
       (λ key low. let least = leb-true key at low in le-leb key about.high (omega arith)) fixed about.high (ends finds.upper)
       (lt-leb about.high at deeper) (le-leb about.high about.high (omega arith))
     where
-      ends : IsUpper cards new.view about.high → (¬ (about.high < upto)) ⊎ IsNodeKey cards new.view about.high
+      ends : IsUpper plan.last_card new.view about.high → (¬ (about.high < upto)) ⊎ IsNodeKey plan.last_card new.view about.high
       ends (inl last) = inl (λ keeps. absurd (omega arith))
       ends (inr there) = inr there
 
   -- what it has found of a key of its stretch
   found_here : (key : ℕ) → at ≤ key → key < about.high → HasFound new.view key (value_there about.found key)
-  found_here key after less = let low = finds.within.from in found_of_key new.view about.low about.high key about.found finds.found (omega arith) less
+  found_here key after less = let low = finds.within.from in finds.found key (omega arith) less
 
   -- where it writes nothing
-  pub scans_past : ((key : ℕ) → at ≤ key → key < upto → value_there about.found key ≡ None) → Scans cards old new from about.high upto count before room
+  pub scans_past : ((key : ℕ) → at ≤ key → key < upto → value_there about.found key ≡ None) → Scans plan old new from about.high upto count before room
   scans_past nothing = record {
     began = (let began = s.began in let deeper = finds.within.upto in omega arith);
-    gathers = gathers_past now new (stretch_steps cards) from at about.high upto (gathered count room) s.gathers on s.began finds.within.upto
+    gathers = gathers_past now new (stretch_steps (deepest plan)) from at about.high upto (gathered count room) s.gathers on s.began finds.within.upto
         (λ key after less most. subst (λ (o : Option ℕ). HasFound new.view key o) (nothing key after most) (found_here key after less));
     fits = s.fits;
     long = s.long;
@@ -190,13 +191,13 @@ module _ (cards : ℕ) (old now new : PassModel) (from at upto count : ℕ) (bef
 
   -- where it writes a pair
   pub scans_pair : (pair : Pair) → about.found ≡ Some (pair.key, pair.value) → at ≤ pair.key → pair.key < upto → count < length room
-      → Scans cards old new from about.high upto (count + 1) before (set room count pair)
+      → Scans plan old new from about.high upto (count + 1) before (set room count pair)
   scans_pair pair is least most low = record {
     began = (let began = s.began in let deeper = finds.within.upto in omega arith);
     gathers = subst (λ (pairs : List (ℕ × ℕ)). Gathers new.view from about.high upto pairs) (sym wrote)
-        (gathers_pair now new (stretch_steps cards) from at about.high upto (gathered count room) s.gathers on s.began finds.within.upto (pair.key, pair.value)
+        (gathers_pair now new (stretch_steps (deepest plan)) from at about.high upto (gathered count room) s.gathers on s.began finds.within.upto (pair.key, pair.value)
         (λ key after less. subst (λ (o : Option (ℕ × ℕ)). HasFound new.view key (value_there o key)) is (found_here key after less))
-        least (inside (subst (λ (o : Option (ℕ × ℕ)). HasFoundBetween new.view about.low about.high o) is finds.found)) most);
+        least (inside (subst (λ (o : Option (ℕ × ℕ)). IsWithin about.low about.high o) is finds.pair)) most);
     fits = (let same = length-set room count pair in omega arith);
     long = length-set room count pair ∙ s.long;
     rest = drop-set-lt (count + 1) room count pair (omega arith) ∙ drops;
@@ -209,53 +210,53 @@ module _ (cards : ℕ) (old now new : PassModel) (from at upto count : ℕ) (bef
       wrote = ap (map (λ (p : Pair). (p.key, p.value))) (take_more_set room count pair low)
           ∙ map_push (λ (p : Pair). (p.key, p.value)) (take count room) pair
 
-      inside : HasFoundBetween new.view about.low about.high (Some (pair.key, pair.value)) → pair.key < about.high
-      inside f = f.tells.2
+      inside : IsWithin about.low about.high (Some (pair.key, pair.value)) → pair.key < about.high
+      inside f = f.1
 
       drops : drop (count + 1) room ≡ drop (count + 1) before
       drops = sym (drop-drop 1 count room) ∙ (ap (drop 1) s.rest ∙ drop-drop 1 count before)
 
 -- how the search for the last key below another goes on: it has come down to this key, and found each key from there on absent
-pub record Descends (cards : ℕ) (old now : PassModel) (below upto : ℕ) : Type 0 where
+pub record Descends (plan : TablePlan) (old now : PassModel) (below upto : ℕ) : Type 0 where
   pub most : below ≤ upto
   pub found : (key : ℕ) → below ≤ key → key < upto → HasFound now.view key None
   pub one : now.view.looks ≡ old.view.looks + 1
-  pub stretches : Stretches cards (λ key. nat_le below key) (0 < below) old now
+  pub stretches : Stretches plan (λ key. nat_le below key) (0 < below) old now
 
 -- as it begins
-pub descends_first : (cards : ℕ) (old now : PassModel) (upto : ℕ) → BeginsALook old now → Descends cards old now upto upto
-descends_first cards old now upto begins = record {
+pub descends_first : (plan : TablePlan) (old now : PassModel) (upto : ℕ) → BeginsALook old now → Descends plan old now upto upto
+descends_first plan old now upto begins = record {
   most = omega arith;
   found = λ key low less. absurd (omega arith);
   one = begins.one;
-  stretches = stretches_none cards (λ key. nat_le upto key) (0 < upto) old now begins;
+  stretches = stretches_none plan (λ key. nat_le upto key) (0 < upto) old now begins;
 }
 
-module _ (cards : ℕ) (old now new : PassModel) (below upto : ℕ) (d : Descends cards old now below upto) (about : About) (more : 0 < below)
-    (finds : FindsAbout cards new.view (below - 1) about) (fixed : KeysAreFixed new.view) (on : KeepsLooking now new (stretch_steps cards)) where
+module _ (plan : TablePlan) (old now new : PassModel) (below upto : ℕ) (d : Descends plan old now below upto) (about : About) (more : 0 < below)
+    (finds : FindsAbout plan.last_card new.view (below - 1) about) (fixed : KeysAreFixed new.view) (on : KeepsLooking now new (stretch_steps (deepest plan))) where
   -- its stretch is one more
-  pub one_down : Stretches cards (λ key. nat_le about.low key) (0 < about.low) old new
+  pub one_down : Stretches plan (λ key. nat_le about.low key) (0 < about.low) old new
   one_down =
       let least = finds.within.from in
-      stretches_more cards (λ key. nat_le below key) (λ key. nat_le about.low key) (0 < below) (0 < about.low) old now new d.stretches more on
+      stretches_more plan (λ key. nat_le below key) (λ key. nat_le about.low key) (0 < below) (0 < about.low) old now new d.stretches more on
       (λ key low. let most = leb-true below key low in le-leb about.low key (omega arith)) fixed about.low (ends finds.lower)
       (lt-leb below about.low (omega arith)) (le-leb about.low about.low (omega arith))
     where
-      ends : IsLower cards new.view about.low → (¬ (0 < about.low)) ⊎ IsNodeKey cards new.view about.low
+      ends : IsLower plan.last_card new.view about.low → (¬ (0 < about.low)) ⊎ IsNodeKey plan.last_card new.view about.low
       ends (inl first) = inl (λ keeps. absurd (omega arith))
       ends (inr there) = inr there
 
   -- what it has found of a key of its stretch
   found_down : (key : ℕ) → about.low ≤ key → key < below → HasFound new.view key (value_there about.found key)
-  found_down key after less = let high = finds.within.upto in found_of_key new.view about.low about.high key about.found finds.found after (omega arith)
+  found_down key after less = let high = finds.within.upto in finds.found key after (omega arith)
 
   -- where none of its keys is present
-  pub descends_past : ((key : ℕ) → key < below → value_there about.found key ≡ None) → Descends cards old new about.low upto
+  pub descends_past : ((key : ℕ) → key < below → value_there about.found key ≡ None) → Descends plan old new about.low upto
   descends_past nothing = record {
     most = (let most = d.most in let least = finds.within.from in omega arith);
     found = λ key low less. elim (cases_lt key below) [
       | inl here ↦ subst (λ (o : Option ℕ). HasFound new.view key o) (nothing key here) (found_down key low here)
-      | inr before ↦ found_on now new (stretch_steps cards) key None on (d.found key before less)
+      | inr before ↦ found_on now new (stretch_steps (deepest plan)) key None on (d.found key before less)
     ];
     one = on.looks ∙ d.one;
     stretches = one_down;
@@ -266,13 +267,13 @@ module _ (cards : ℕ) (old now new : PassModel) (below upto : ℕ) (d : Descend
   descends_pair pair is low = let most = d.most in (
     omega arith,
     subst (λ (o : Option ℕ). HasFound new.view pair.0 o) (here ∙ ap (λ (b : Bool). if b then Some pair.1 else None) (eq-eqb pair.0 pair.0 refl))
-        (found_down pair.0 (least (subst (λ (o : Option (ℕ × ℕ)). HasFoundBetween new.view about.low about.high o) is finds.found)) low),
+        (found_down pair.0 (least (subst (λ (o : Option (ℕ × ℕ)). IsWithin about.low about.high o) is finds.pair)) low),
     λ key after less. elim (cases_lt key below) [
       | inl inner ↦
           subst (λ (o : Option ℕ). HasFound new.view key o)
           (there key ∙ ap (λ (b : Bool). if b then Some pair.1 else None) (ne_eqb pair.0 key (λ same. absurd (omega arith))))
-          (found_down key (let from = least (subst (λ (o : Option (ℕ × ℕ)). HasFoundBetween new.view about.low about.high o) is finds.found) in omega arith) inner)
-      | inr before ↦ found_on now new (stretch_steps cards) key None on (d.found key before less)
+          (found_down key (let from = least (subst (λ (o : Option (ℕ × ℕ)). IsWithin about.low about.high o) is finds.pair) in omega arith) inner)
+      | inr before ↦ found_on now new (stretch_steps (deepest plan)) key None on (d.found key before less)
     ],
   )
     where
@@ -282,8 +283,8 @@ module _ (cards : ℕ) (old now new : PassModel) (below upto : ℕ) (d : Descend
       here : value_there about.found pair.0 ≡ value_there (Some pair) pair.0
       here = there pair.0
 
-      least : HasFoundBetween new.view about.low about.high (Some pair) → about.low ≤ pair.0
-      least f = f.tells.1
+      least : IsWithin about.low about.high (Some pair) → about.low ≤ pair.0
+      least f = f.0
 
 -- a stretch that has one key tells of another that it is absent
 pub other_absent : (found : Option (ℕ × ℕ)) (pair : ℕ × ℕ) (key : ℕ) → found ≡ Some pair → pair.0 ≢ key → value_there found key ≡ None

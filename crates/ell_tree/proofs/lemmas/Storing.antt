@@ -1,9 +1,8 @@
 use Rattle.std.proofs.Common.{◌≡◌, ℕ, ◌+◌, if◌then◌else◌, nat_lt, min, max, List, [], ◌∷◌, refl, sym, ◌∙◌, ap, subst, arith}
-use Rattle.ell_word.specs.Node.{left_leaf, right_leaf}
 use Rattle.ell_layout.specs.declared.field.Field.{Field}
 use Rattle.ell_layout.specs.declared.field.Field.TheVariants as field
 use Rattle.ell_word.specs.Link.{linked}
-use Rattle.ell_layout.specs.Cards.{clean, stored, insert_filling, delete_filling}
+use Rattle.ell_layout.specs.Cards.{clean, stored, put_filling, left_of_card, right_of_card, delete_filling}
 use Rattle.ell_cards.specs.declared.view.View.{View}
 use Rattle.ell_cards.specs.Models.{PassModel, Steps, stored_at}
 use Rattle.ell_cards.specs.Changes.{after_fill, tagged, with_stores}
@@ -39,28 +38,28 @@ stores_more a b d stores n f x h s = record {
 }
 
 -- what is stored of an insert's card
-abbrev pub insert_stores : ℕ → ℕ → ℕ → ℕ → ℕ → ℕ → ℕ → ℕ → ℕ → List (Field × ℕ)
-insert_stores parent leaf lesser greater left right update left_value right_value =
+abbrev pub insert_stores : ℕ → ℕ → ℕ → ℕ → ℕ → ℕ → ℕ → ℕ → ℕ → ℕ → List (Field × ℕ)
+insert_stores parent below node_key lesser greater left right update left_value right_value =
     (field.RightValue, right_value) ∷ (field.LeftValue, left_value) ∷ (field.RightLeafKey, greater) ∷ (field.LeftLeafKey, lesser)
-    ∷ (field.Update, update) ∷ (field.Right, right) ∷ (field.Left, left) ∷ (field.Key, greater) ∷ (field.L, leaf) ∷ (field.P, parent) ∷ []
+    ∷ (field.Update, update) ∷ (field.Right, right) ∷ (field.Left, left) ∷ (field.Key, node_key) ∷ (field.L, below) ∷ (field.P, parent) ∷ []
 
 -- it is what the card is to say
-stored_of_insert : (c k value parent leaf tag leaf_key leaf_value : ℕ) (f : Field)
-    → stored_at (insert_stores parent (linked (record { node = leaf; tag = tag })) (min k leaf_key) (max k leaf_key) (left_leaf c) (right_leaf c) (clean 0)
-    (if nat_lt k leaf_key then value else leaf_value) (if nat_lt k leaf_key then leaf_value else value)) f
-    ≡ stored (tagged tag (insert_filling c k value parent leaf leaf_key leaf_value)) f 0
-stored_of_insert c k value parent leaf tag leaf_key leaf_value field.Gp = refl
-stored_of_insert c k value parent leaf tag leaf_key leaf_value field.P = refl
-stored_of_insert c k value parent leaf tag leaf_key leaf_value field.L = refl
-stored_of_insert c k value parent leaf tag leaf_key leaf_value field.Was = refl
-stored_of_insert c k value parent leaf tag leaf_key leaf_value field.Key = refl
-stored_of_insert c k value parent leaf tag leaf_key leaf_value field.Left = refl
-stored_of_insert c k value parent leaf tag leaf_key leaf_value field.Right = refl
-stored_of_insert c k value parent leaf tag leaf_key leaf_value field.Update = refl
-stored_of_insert c k value parent leaf tag leaf_key leaf_value field.LeftLeafKey = refl
-stored_of_insert c k value parent leaf tag leaf_key leaf_value field.RightLeafKey = refl
-stored_of_insert c k value parent leaf tag leaf_key leaf_value field.LeftValue = refl
-stored_of_insert c k value parent leaf tag leaf_key leaf_value field.RightValue = refl
+stored_of_insert : (c k value node_key parent below tag below_key below_value : ℕ) (f : Field)
+    → stored_at (insert_stores parent (linked (record { node = below; tag = tag })) node_key (min k below_key) (max k below_key) (left_of_card c k below below_key)
+    (right_of_card c k below below_key) (clean 0) (if nat_lt k below_key then value else below_value) (if nat_lt k below_key then below_value else value)) f
+    ≡ stored (tagged tag (put_filling c k value node_key parent below below_key below_value)) f 0
+stored_of_insert c k value node_key parent below tag below_key below_value field.Gp = refl
+stored_of_insert c k value node_key parent below tag below_key below_value field.P = refl
+stored_of_insert c k value node_key parent below tag below_key below_value field.L = refl
+stored_of_insert c k value node_key parent below tag below_key below_value field.Was = refl
+stored_of_insert c k value node_key parent below tag below_key below_value field.Key = refl
+stored_of_insert c k value node_key parent below tag below_key below_value field.Left = refl
+stored_of_insert c k value node_key parent below tag below_key below_value field.Right = refl
+stored_of_insert c k value node_key parent below tag below_key below_value field.Update = refl
+stored_of_insert c k value node_key parent below tag below_key below_value field.LeftLeafKey = refl
+stored_of_insert c k value node_key parent below tag below_key below_value field.RightLeafKey = refl
+stored_of_insert c k value node_key parent below tag below_key below_value field.LeftValue = refl
+stored_of_insert c k value node_key parent below tag below_key below_value field.RightValue = refl
 
 -- a card of which all that it is to say was stored is filled
 fills : (a b : PassModel) (n : ℕ) (stores says : List (Field × ℕ)) → Stores a b stores n → a.view.planned ≡ says
@@ -76,18 +75,18 @@ fills a b n stores says h planned same =
     }
 
 -- an insert's card is filled by ten stores
-pub fills_insert : (a b : PassModel) (c k value parent leaf tag leaf_key leaf_value word lesser greater left right update left_value right_value : ℕ)
-    → Stores a b (insert_stores parent word lesser greater left right update left_value right_value) 10
-    → a.view.planned ≡ tagged tag (insert_filling c k value parent leaf leaf_key leaf_value)
-    → word ≡ linked (record { node = leaf; tag = tag })
-    → lesser ≡ min k leaf_key → greater ≡ max k leaf_key → left ≡ left_leaf c → right ≡ right_leaf c → update ≡ clean 0
-    → left_value ≡ (if nat_lt k leaf_key then value else leaf_value) → right_value ≡ (if nat_lt k leaf_key then leaf_value else value)
+pub fills_insert : (a b : PassModel) (c k value node_key parent below tag below_key below_value word lesser greater left right update left_value right_value : ℕ)
+    → Stores a b (insert_stores parent word node_key lesser greater left right update left_value right_value) 10
+    → a.view.planned ≡ tagged tag (put_filling c k value node_key parent below below_key below_value)
+    → word ≡ linked (record { node = below; tag = tag })
+    → lesser ≡ min k below_key → greater ≡ max k below_key → left ≡ left_of_card c k below below_key → right ≡ right_of_card c k below below_key → update ≡ clean 0
+    → left_value ≡ (if nat_lt k below_key then value else below_value) → right_value ≡ (if nat_lt k below_key then below_value else value)
     → Fills a b 10
-fills_insert a b c k value parent leaf tag leaf_key leaf_value word lesser greater left right update left_value right_value h says w low high l r u lv rv =
-    fills a b 10 (insert_stores parent word lesser greater left right update left_value right_value)
-    (tagged tag (insert_filling c k value parent leaf leaf_key leaf_value)) h says
-    (λ f. (λ t. stored_at (insert_stores parent (w t) (low t) (high t) (l t) (r t) (u t) (lv t) (rv t)) f)
-    ∙ stored_of_insert c k value parent leaf tag leaf_key leaf_value f)
+fills_insert a b c k value node_key parent below tag below_key below_value word lesser greater left right update left_value right_value h says w low high l r u lv rv =
+    fills a b 10 (insert_stores parent word node_key lesser greater left right update left_value right_value)
+    (tagged tag (put_filling c k value node_key parent below below_key below_value)) h says
+    (λ f. (λ t. stored_at (insert_stores parent (w t) node_key (low t) (high t) (l t) (r t) (u t) (lv t) (rv t)) f)
+    ∙ stored_of_insert c k value node_key parent below tag below_key below_value f)
 
 -- what is stored of a delete's card is what it is to say
 abbrev pub delete_stores : ℕ → ℕ → ℕ → ℕ → List (Field × ℕ)

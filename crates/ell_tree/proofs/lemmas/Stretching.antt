@@ -5,12 +5,13 @@ use Rattle.ell_cards.specs.declared.view.Told.{Told}
 use Rattle.ell_cards.specs.declared.view.Told.TheVariants.{Met, Depth, Key, Value, Info, Expects, Frozen}
 use Rattle.ell_cards.specs.Contention.{how_many}
 use Rattle.ell_cards.specs.Looking.{KeysAreFixed}
-use Rattle.ell_cards.specs.Models.{Has, latest, earlier, PassModel}
+use Rattle.ell_cards.specs.Models.{TablePlan, Has, latest, earlier, PassModel}
 use Rattle.ell_cards.proofs.lemmas.runs.HowMany.{many_most, many_where}
 use Rattle.ell_tree.specs.Cursors.{BeginsALook, IsNodeKey, KeepsLooking}
 use Rattle.ell_tree.specs.Looks.{OnlyLooks, stretch_steps}
 use Rattle.ell_tree.specs.Scans.{scan_steps}
 use Rattle.ell_tree.proofs.lemmas.Looks.{only_none_yet, only_trans}
+use Rattle.ell_cards.specs.Depths.{deepest}
 
 -- where both of two tests pass, each does
 both : (a b : Bool) → (a && b) ≡ true → (a ≡ true) × (b ≡ true)
@@ -112,45 +113,45 @@ keys_more cards old new was is more passes fixed key at before after =
 
 -- a look has gone on through some stretches of keys: through no more than there are cards of which it was told a key that passes a test, or,
 -- where it does not go on any more, through one more
-pub record Stretches (cards : ℕ) (test : ℕ → Bool) (More : Type 0) (old now : PassModel) : Type 0 where
+pub record Stretches (plan : TablePlan) (test : ℕ → Bool) (More : Type 0) (old now : PassModel) : Type 0 where
   pub count : ℕ
-  pub only : OnlyLooks old now (count * stretch_steps cards + 1)
-  pub few : count ≤ keys_told cards test now.view.told + 1
-  pub fewer : More → count ≤ keys_told cards test now.view.told
+  pub only : OnlyLooks old now (count * stretch_steps (deepest plan) + 1)
+  pub few : count ≤ keys_told plan.last_card test now.view.told + 1
+  pub fewer : More → count ≤ keys_told plan.last_card test now.view.told
 
 -- as it begins, through none
-pub stretches_none : (cards : ℕ) (test : ℕ → Bool) (More : Type 0) (old now : PassModel) → BeginsALook old now → Stretches cards test More old now
-stretches_none cards test More old now begins = record {
+pub stretches_none : (plan : TablePlan) (test : ℕ → Bool) (More : Type 0) (old now : PassModel) → BeginsALook old now → Stretches plan test More old now
+stretches_none plan test More old now begins = record {
   count = 0;
-  only = only_trans old now now 1 0 (0 * stretch_steps cards + 1) begins.only (only_none_yet now) (omega arith);
+  only = only_trans old now now 1 0 (0 * stretch_steps (deepest plan) + 1) begins.only (only_none_yet now) (omega arith);
   few = omega arith;
   fewer = λ more. omega arith;
 }
 
 -- then through one more, which ends at the key of an inner node that passes only now, or the look goes on no more
-pub stretches_more : (cards : ℕ) (was is : ℕ → Bool) (More Then : Type 0) (old now new : PassModel) → Stretches cards was More old now → More
-    → KeepsLooking now new (stretch_steps cards) → ((key : ℕ) → was key ≡ true → is key ≡ true) → KeysAreFixed new.view
-    → (key : ℕ) → (¬ Then) ⊎ IsNodeKey cards new.view key → was key ≡ false → is key ≡ true → Stretches cards is Then old new
-stretches_more cards was is More Then old now new s more on passes fixed key ends before after = record {
+pub stretches_more : (plan : TablePlan) (was is : ℕ → Bool) (More Then : Type 0) (old now new : PassModel) → Stretches plan was More old now → More
+    → KeepsLooking now new (stretch_steps (deepest plan)) → ((key : ℕ) → was key ≡ true → is key ≡ true) → KeysAreFixed new.view
+    → (key : ℕ) → (¬ Then) ⊎ IsNodeKey plan.last_card new.view key → was key ≡ false → is key ≡ true → Stretches plan is Then old new
+stretches_more plan was is More Then old now new s more on passes fixed key ends before after = record {
   count = s.count + 1;
-  only = only_trans old now new (s.count * stretch_steps cards + 1) (stretch_steps cards) ((s.count + 1) * stretch_steps cards + 1) s.only on.only
+  only = only_trans old now new (s.count * stretch_steps (deepest plan) + 1) (stretch_steps (deepest plan)) ((s.count + 1) * stretch_steps (deepest plan) + 1) s.only on.only
       (omega arith);
-  few = (let still = s.fewer more in let least = keys_still cards now new was is on.only.told passes in omega arith);
+  few = (let still = s.fewer more in let least = keys_still plan.last_card now new was is on.only.told passes in omega arith);
   fewer = λ keeps. elim ends [
     | inl none ↦ absurd (none keeps)
     | inr at ↦
         let still = s.fewer more in
-        let one = keys_more cards now new was is on.only.told passes fixed key at before after in
+        let one = keys_more plan.last_card now new was is on.only.told passes fixed key at before after in
         omega arith
   ];
 }
 
 -- all in all it takes no more steps than a scan may
-pub stretches_steps : (cards : ℕ) (test : ℕ → Bool) (More : Type 0) (old now : PassModel) → Stretches cards test More old now
-    → OnlyLooks old now (scan_steps cards)
-stretches_steps cards test More old now s =
-    let most = how_many_most cards (λ c. told_key test (4 * (c + 1)) now.view.told) in
+pub stretches_steps : (plan : TablePlan) (test : ℕ → Bool) (More : Type 0) (old now : PassModel) → Stretches plan test More old now
+    → OnlyLooks old now (scan_steps plan)
+stretches_steps plan test More old now s =
+    let most = how_many_most plan.last_card (λ c. told_key test (4 * (c + 1)) now.view.told) in
     let few = s.few in
-    let count : s.count ≤ cards + 1 = omega arith in
-    let all = mul-le-mul_right (stretch_steps cards) count in
-    only_trans old now now (s.count * stretch_steps cards + 1) 0 (scan_steps cards) s.only (only_none_yet now) (omega (arith, all))
+    let count : s.count ≤ plan.last_card + 1 = omega arith in
+    let all = mul-le-mul_right (stretch_steps (deepest plan)) count in
+    only_trans old now now (s.count * stretch_steps (deepest plan) + 1) 0 (scan_steps plan) s.only (only_none_yet now) (omega (arith, all))

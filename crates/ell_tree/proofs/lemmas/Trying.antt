@@ -3,8 +3,8 @@ use Rattle.std.proofs.lemmas.List.{append_cancel_right}
 use Rattle.ell_ops.specs.declared.op.Op.{Op}
 use Rattle.ell_core.specs.declared.fact.Fact.{Fact}
 use Rattle.ell_cards.specs.declared.view.Hindrance.{Hindrance}
-use Rattle.ell_cards.specs.Models.{PassModel, EndedBy}
-use Rattle.ell_tree.specs.declared.searching.LeafFound.{LeafFound}
+use Rattle.ell_cards.specs.Models.{TablePlan, PassModel, EndedBy}
+use Rattle.ell_tree.specs.declared.searching.Place.{Place}
 use Rattle.ell_tree.specs.declared.trying.Tried.{Tried}
 use Rattle.ell_tree.specs.declared.trying.Tried.TheVariants.{Answered, Hindered, Spent}
 use Rattle.ell_tree.specs.CardsTaken.{TakesOneIf, TryTakes}
@@ -22,9 +22,9 @@ use Rattle.ell_tree.proofs.lemmas.Meeting.{meets_trans}
 use Rattle.ell_tree.proofs.lemmas.Owning.{keeps_answers, takes_before, would_before}
 
 -- a search from the root leaves the try as it was: it has met nothing, and has no card
-pub searched : (cards : ℕ) (op : Op) (place : LeafFound) (p q : PassModel) (n : ℕ) → KeepsAllButSearch p q n → AtRoot op p.view → EndsAt cards q.view op place
-    → HasSearched cards op place q.view
-searched cards op place p q n k at ends = record {
+pub searched : (plan : TablePlan) (op : Op) (place : Place) (p q : PassModel) (n : ℕ) → KeepsAllButSearch p q n → AtRoot op p.view → EndsAt plan q.view op place
+    → HasSearched plan op place q.view
+searched plan op place p q n k at ends = record {
   busy = k.keeps.view.operation ∙ at.busy;
   ends = ends;
   no_card = k.card ∙ at.no_card;

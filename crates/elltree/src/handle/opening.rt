@@ -12,12 +12,12 @@ use std::alloc::{AllocError, Global};
 use std::sync::Arc;
 
 impl Handle {
-    /// Opens a tree with the given number of cards that has the start keys with their values, and returns its first
+    /// Opens a flat tree with the given number of cards that has the start keys with their values, and returns its first
     /// handle. Returns `BadStart` if the start keys do not strictly ascend or there are more than `START_MAX`, then
     /// `BadKey` if a start key is above `KEY_MAX`, then `BadCards` if the number of cards is not 1 to 1,000,000, and
     /// only then `NoMemory` if an allocation fails.
     pub fn open(alloc: Global, start: &[Pair], cards: u64) -> Result<Handle, Refusal>
-        // The handle is the first of a new tree with the start pairs and the cards asked for, and has the whole share.
+        // The handle is the first of a new flat tree with the start pairs and the cards asked for, and has the whole share.
         ensures opened { IfOk result (IsOpened (as_pairs start.now) cards) }
         // `BadStart` is returned exactly if the start keys do not strictly ascend or there are more than 1,000,000,
         // then `BadKey` exactly for a key above the greatest one, then `BadCards` exactly if the number of cards is not
@@ -27,7 +27,7 @@ impl Handle {
     {
         may_open(start, cards)?;
         let pairs = pairs_of(alloc, start)?;
-        let (tree, pass) = Tree::reserve_shared(alloc, &pairs, &[], cards)?;
+        let (tree, pass) = Tree::reserve_flat(alloc, &pairs, &[], cards)?;
         let tree = Arc::new(alloc, tree)?;
         Ok(Handle { tree, pass })
     }

@@ -158,7 +158,7 @@ joins_are_handovers plan s r id other v w here there apart free other_free =
         size = r.size;
         next = r.next;
         flat = r.flat;
-        plain = r.plain;
+        shape = r.shape;
         settled = r.settled;
         views = each_joined s.views id other v w here there turned both (ViewHolds s.words r.words r.stages)
             (rest_holds s.words r.words r.stages both (λ e told. elim (told_either v.told w.told e told) [ inl a ↦ h.entries e a | inr b ↦ g.entries e b ]) refl refl refl

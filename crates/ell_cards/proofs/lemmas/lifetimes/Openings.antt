@@ -1,4 +1,4 @@
-use Rattle.std.proofs.Common.{◌≡◌, ℕ, zero, suc, Bool, true, false, ◌≤◌, ◌&&◌, not, nat_le, Some, List, [], ◌∷◌, length, ◌+◌, refl, sym, ap, ◌∙◌, subst, arith, All, ◌-◌, le-leb, ◌⊎◌, inl, inr, get_or, ◌↔◌, ◌≢◌, None}
+use Rattle.std.proofs.Common.{◌≡◌, ℕ, zero, suc, Bool, true, false, ◌≤◌, ◌&&◌, not, nat_le, Some, List, [], ◌∷◌, length, ◌+◌, refl, sym, ap, ◌∙◌, subst, arith, All, ◌-◌, le-leb, ◌⊎◌, inl, inr, get_or, ◌↔◌, ◌≢◌, None, if◌then◌else◌}
 use Rattle.ell_core.proofs.lemmas.stages.LaterKeys.{start_there}
 use Rattle.std.specs.Prelude.{Contains}
 use Rattle.std.specs.List.Sorted.{IsStrictlyIncreasing}
@@ -7,7 +7,7 @@ use lib.ListN.{get_elem?}
 use Rattle.atomic_table.specs.Table.{opening}
 use Rattle.ell_layout.specs.Words.{Words, table_word}
 use Rattle.ell_core.specs.state.Opening.{last_card}
-use Rattle.ell_layout.specs.Start.{start_words}
+use Rattle.ell_layout.specs.Start.{words_at_start}
 use Rattle.ell_core.specs.state.Machine.{idle, worker_of, ledger_of, shared_of}
 use Rattle.ell_core.specs.soundness.Sound.{WorkerOwns}
 use Rattle.ell_core.specs.history.Invariant.{Invariant}
@@ -34,6 +34,15 @@ use Rattle.ell_ops.specs.Meaning.{greatest_key}
 use Rattle.ell_cards.specs.Models.{TablePlan, whole_share}
 use Rattle.std.proofs.lemmas.List.Elements.{All-contains}
 
+-- from where on the tree is flat in the words at the start, and their claim word
+start_shape : (flat : Bool) (start : List (ℕ × ℕ)) → (words_at_start flat start).flat_from ≡ (if flat then length start + 1 else 0)
+start_shape true start = refl
+start_shape false start = refl
+
+pub start_next : (flat : Bool) (start : List (ℕ × ℕ)) → (words_at_start flat start).next ≡ length start + 1
+start_next true start = refl
+start_next false start = refl
+
 -- the first pass as a worker, and nobody else
 alone : (plan : TablePlan) (i : ℕ)
     → seat_worker (get_elem? (first_of plan ∷ []) i)
@@ -43,9 +52,9 @@ alone plan (suc i) = refl
 
 -- the machine of the first pass is the opening of one worker
 one_opens : (plan : TablePlan) (cards : ℕ) → last_card plan.start cards ≡ plan.last_card
-    → opening_of_one plan.keys plan.start cards (shared_of (ownable_if plan.shared plan.keys)) false
-    ≡ seated (start_words plan.start) (first_of plan ∷ []) plan.last_card
-one_opens plan cards all = λ t. record { words = start_words plan.start; worker = λ i. sym (alone plan i) t; count = 1; last_card = all t }
+    → opening_of_one plan.keys plan.start cards (shared_of (ownable_if plan.shared plan.keys)) plan.flat
+    ≡ seated (words_at_start plan.flat plan.start) (first_of plan ∷ []) plan.last_card
+one_opens plan cards all = λ t. record { words = words_at_start plan.flat plan.start; worker = λ i. sym (alone plan i) t; count = 1; last_card = all t }
 
 -- the keys of the first pass
 pub keys_start : (keys : List ℕ) (start : List (ℕ × ℕ)) → ledger_keys (keys_at_start keys start) ≡ keys
@@ -98,12 +107,12 @@ opening_is_kept plan words may at =
     let cards = plan.last_card - length plan.start in
     let room = may.room in
     let all : last_card plan.start cards ≡ plan.last_card = omega arith in
-    let w = start_words plan.start in
+    let w = words_at_start plan.flat plan.start in
     let first = first_of plan in
     let stages = start_stages (length plan.start + 1) in
     let shared = shared_of (ownable_if plan.shared plan.keys) in
-    let one = one_worker_opens plan.keys plan.start cards shared false may.ascending may.real may.start_ascending (start_given plan may) (shared_apart plan.shared plan.keys) in
-    let has = one_worker_has plan.keys plan.start cards shared false may.ascending may.real may.start_ascending (start_given plan may) (shared_apart plan.shared plan.keys) in
+    let one = one_worker_opens plan.keys plan.start cards shared plan.flat may.ascending may.real may.start_ascending (start_given plan may) (shared_apart plan.shared plan.keys) in
+    let has = one_worker_has plan.keys plan.start cards shared plan.flat may.ascending may.real may.start_ascending (start_given plan may) (shared_apart plan.shared plan.keys) in
     let invariant = subst (λ m. Invariant m stages) (one_opens plan cards all) has in
     record {
       kept = record {
@@ -114,11 +123,11 @@ opening_is_kept plan words may at =
         size = at.size;
         next = sym (listed_next words) ∙ ap (λ (v : Words). v.next) at.are;
         flat = sym (listed_flat words) ∙ ap (λ (v : Words). v.flat_from) at.are;
-        plain = refl;
+        shape = start_shape plan.flat plan.start;
         settled = λ c f calm. sym (words_are_listed words c f) ∙ ap (λ (v : Words). table_word v c f) at.are;
         views = each_first first (ViewHolds words w stages)
             (rest_holds words w stages first
-            (λ e told. met_root (EntryHolds w stages) (start_there w stages invariant.words 0 (omega arith) refl) e told) refl refl refl (λ n at. absurd (some_not_none at refl)) (omega arith) (λ f k. k));
+            (λ e told. met_root (EntryHolds w stages) (start_there w stages invariant.words 0 (let next = start_next plan.flat plan.start in omega arith) refl) e told) refl refl refl (λ n at. absurd (some_not_none at refl)) (omega arith) (λ f k. k));
         owned = λ j k. each_first first (λ v. WorkerOwns (worker_of v.worker) k → Contains plan.keys k)
             (λ owns. subst (λ (ks : List ℕ). Contains ks k) (keys_start plan.keys plan.start)
             (among_contains (ledger_keys (keys_at_start plan.keys plan.start)) k (owned_among (keys_at_start plan.keys plan.start) k owns))) j;

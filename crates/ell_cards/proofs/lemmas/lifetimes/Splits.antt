@@ -102,7 +102,7 @@ splits_are_handovers plan s r id v chosen here free =
         size = r.size;
         next = r.next;
         flat = r.flat;
-        plain = r.plain;
+        shape = r.shape;
         settled = r.settled;
         views = each_split s.views id v here left right (ViewHolds s.words r.words r.stages)
             (rest_holds s.words r.words r.stages left h.entries refl refl refl (λ n at. absurd (some_not_none at refl)) h.least h.knew)

@@ -46,7 +46,7 @@ module _ (m : Machine) (stage : Stages) (holds : Invariant m stage) (i : ℕ) (m
   machine_pairs (call.Answer said) n h = acts act.Answer (said_of (call.Answer said) n) h
   machine_pairs (call.Upd x) n h = acts act.Upd Moved h
   machine_pairs (call.Down x right) n h = acts act.Down Moved h
-  machine_pairs (call.Claim c) n h = claims (n == c) h
+  machine_pairs (call.Claim c q) n h = claims (n == c) h
   machine_pairs (call.IFlag c p from) n h = acts act.IFlag (said_of (call.IFlag c p from) n) h
   machine_pairs (call.IChild c p l q right) n h = by (n == linked l) h
     where

@@ -106,7 +106,7 @@ one_win true k c d = by (d == c)
     by false = omega arith
 
 call_wins_one : (c : Call) (n d : ℕ) → wins_in_all d (won_by c n) ≤ 1
-call_wins_one (call.Claim c) n d = one_win (n == c) exchange.Claim c d
+call_wins_one (call.Claim c q) n d = one_win (n == c) exchange.Claim c d
 call_wins_one (call.IFlag c p from) n d = one_win (n == packed from) exchange.IFlag c d
 call_wins_one (call.IChild c p l q right) n d = one_win (n == linked l) exchange.IChild c d
 call_wins_one (call.IUnflag c p) n d = one_win (n == iflag c) exchange.IUnflag c d
@@ -254,7 +254,7 @@ module _ (plan : TablePlan) where
         (λ (t : (j ≡ id) × (w ≡ u)). elim (call_held plan i (found_by s i) turn.view turn.may c (ap (λ (x : View). x.worker.card) t.1 ∙ has)) [
           | inl was ↦ h.free id turn.view turn.there was
           | inr claims ↦
-              let is : get_or s.words 0 0 ≡ c = ap (found_by s) (sym claims.0) ∙ claims.1 in
+              let is : get_or s.words 0 0 ≡ c = ap (found_by s) (sym claims.0.1) ∙ claims.1 in
               let low = h.claimed in
               absurd (omega arith)
         ])

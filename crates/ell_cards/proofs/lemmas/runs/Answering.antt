@@ -151,9 +151,9 @@ module _ (op : Op) (said : Reply) where
   abbrev IsAnswer : Option ℕ → Call → View → Type 0
   IsAnswer card c v = (c ≡ call.Answer said) × (v.worker.operation ≡ Some op) × (v.worker.card ≡ card)
 
-  claim_answered : (b : Bool) (c : ℕ) (v : View) → (after_claim b c v).answered ≡ v.answered
-  claim_answered true c v = refl
-  claim_answered false c v = refl
+  claim_answered : (b : Bool) (c q : ℕ) (v : View) → (after_claim b c q v).answered ≡ v.answered
+  claim_answered true c q v = refl
+  claim_answered false c q v = refl
 
   flag_answered : (b : Bool) (new : Fact) (x : ℕ) (u : Update) (v : View) → (after_flag b new x u v).answered ≡ v.answered
   flag_answered true new x u v = refl
@@ -179,7 +179,7 @@ module _ (op : Op) (said : Reply) where
   answer_before card (call.Answer other) n v e = let is = answered_op card v.worker.operation v.worker.card other e in inl (ap call.Answer is.0, is.1, is.2)
   answer_before card (call.Begin next) n v e = absurd (some_not_none e refl)
   answer_before card call.Again n v e = absurd (some_not_none e refl)
-  answer_before card (call.Claim c) n v e = inr (tt, sym (claim_answered (n == c) c v) ∙ e)
+  answer_before card (call.Claim c q) n v e = inr (tt, sym (claim_answered (n == c) c q v) ∙ e)
   answer_before card (call.IFlag c p from) n v e = inr (tt, sym (flag_answered (n == packed from) (fact.IFlagged c) p (unpacked n) v) ∙ e)
   answer_before card (call.DFlag c gp from) n v e = inr (tt, sym (flag_answered (n == packed from) (fact.DFlagged c) gp (unpacked n) v) ∙ e)
   answer_before card (call.Mark c p was) n v e = inr (tt, sym (mark_answered (n == was) c p (unpacked n) v) ∙ e)
@@ -208,9 +208,9 @@ module _ (op : Op) (said : Reply) where
   abbrev pub IsBegin : Call → View → Type 0
   IsBegin c v = c ≡ call.Begin op
 
-  claim_busy : (b : Bool) (c : ℕ) (v : View) → (after_claim b c v).worker.operation ≡ v.worker.operation
-  claim_busy true c v = refl
-  claim_busy false c v = refl
+  claim_busy : (b : Bool) (c q : ℕ) (v : View) → (after_claim b c q v).worker.operation ≡ v.worker.operation
+  claim_busy true c q v = refl
+  claim_busy false c q v = refl
 
   flag_busy : (b : Bool) (new : Fact) (x : ℕ) (u : Update) (v : View) → (after_flag b new x u v).worker.operation ≡ v.worker.operation
   flag_busy true new x u v = refl
@@ -228,7 +228,7 @@ module _ (op : Op) (said : Reply) where
   busy_before (call.Begin next) n v e = inl (ap call.Begin (same_Some next op e))
   busy_before (call.Answer other) n v e = absurd (some_not_none e refl)
   busy_before call.Leave n v e = absurd (some_not_none e refl)
-  busy_before (call.Claim c) n v e = inr (tt, sym (claim_busy (n == c) c v) ∙ e)
+  busy_before (call.Claim c q) n v e = inr (tt, sym (claim_busy (n == c) c q v) ∙ e)
   busy_before (call.IFlag c p from) n v e = inr (tt, sym (flag_busy (n == packed from) (fact.IFlagged c) p (unpacked n) v) ∙ e)
   busy_before (call.DFlag c gp from) n v e = inr (tt, sym (flag_busy (n == packed from) (fact.DFlagged c) gp (unpacked n) v) ∙ e)
   busy_before (call.Mark c p was) n v e = inr (tt, sym (mark_busy (n == was) c p (unpacked n) v) ∙ e)

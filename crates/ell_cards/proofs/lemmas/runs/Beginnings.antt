@@ -7,6 +7,8 @@ use Rattle.ell_word.specs.Word.{packed, unpacked}
 use Rattle.ell_core.specs.declared.fact.Fact.TheVariants as fact
 use Rattle.ell_cards.specs.declared.call.Call.{Call}
 use Rattle.ell_cards.specs.declared.call.Call.TheVariants as call
+use Rattle.ell_layout.specs.Words.{Words}
+use Rattle.ell_cards.specs.Machines.{HasMachine}
 use Rattle.ell_cards.specs.declared.glance.Glance.{Glance}
 use Rattle.ell_cards.specs.declared.view.View.{View}
 use Rattle.ell_cards.specs.Changes.{left_view, right_view, joined_view, spent_view, first_of}
@@ -15,12 +17,12 @@ use Rattle.ell_cards.specs.Guards.{TellsOf}
 use Rattle.ell_cards.specs.TurnEffects.{own_words}
 use Rattle.ell_cards.specs.States.{TableState}
 use Rattle.ell_cards.specs.Starts.{Starts}
-use Rattle.ell_cards.specs.Turns.{Turn, Makes, Splits, Joins, TableTurns, TableRun, found_by, view_after}
-use Rattle.ell_cards.specs.Looking.{BeginsNothing, LooksOn, Began, HasFound, HasThere, WasSo, HasBetween, TellsBetween, HasFoundBetween, LooksAreOfOneState, LooksAreInOrder, StretchesAreOfOneState, StretchesAreInOrder}
-use Rattle.ell_cards.proofs.lemmas.runs.Glances.{claim_look, flag_look, mark_look, stretches_of_one_state}
+use Rattle.ell_cards.specs.Turns.{CallIsMade, Turn, Makes, Splits, Joins, TableTurns, TableRun, found_by, view_after}
+use Rattle.ell_cards.specs.Looking.{BeginsNothing, LooksOn, Began, HasFound, HasMissed, FoundInRun, HasThere, WasSo, IsFoundInRuns, HasBetween, TellsBetween, LooksAreOfOneState, LooksAreInOrder, StretchesAreOfOneState, StretchesAreInOrder}
+use Rattle.ell_cards.proofs.lemmas.runs.Glances.{claim_look, flag_look, mark_look, stretches_of_one_state, keys_of_one_state}
 use Rattle.ell_cards.proofs.lemmas.runs.Starting.{starts_are_kept}
 use Rattle.ell_cards.proofs.lemmas.runs.TurnsOfRuns.{runs_are_lawful}
-use Rattle.ell_cards.specs.Models.{TablePlan, Has}
+use Rattle.ell_cards.specs.Models.{TablePlan, flat_from, Has}
 
 -- there is a glance
 abbrev IsSome : List Glance → Type 0
@@ -45,7 +47,7 @@ module _ (plan : TablePlan) (seat : ℕ) where
   look_before : (c : Call) (n : ℕ) (v : View) → May plan c v → IsSome (after c n v).glances → Before c v
   look_before call.Look n v may e = inl refl
   look_before (call.LookDown from key right) n v may e = inr (tt, some_glance v.glances may.come.glance may.come.among)
-  look_before (call.Claim c) n v may e = inr (tt, subst IsSome (claim_look (n == c) c v) e)
+  look_before (call.Claim c q) n v may e = inr (tt, subst IsSome (claim_look (n == c) c q v) e)
   look_before (call.IFlag c p from) n v may e = inr (tt, subst IsSome (flag_look (n == packed from) (fact.IFlagged c) p (unpacked n) v) e)
   look_before (call.DFlag c gp from) n v may e = inr (tt, subst IsSome (flag_look (n == packed from) (fact.DFlagged c) gp (unpacked n) v) e)
   look_before (call.Mark c p was) n v may e = inr (tt, subst IsSome (mark_look (n == was) c p (unpacked n) v) e)
@@ -149,18 +151,24 @@ starts_still plan s starts seat at =
       | inr e ↦ no_look plan seat (first_of plan) at.view refl e at.looks
     ]
 
--- so each look began in the run, and what it has found was so since
-pub stretches_are_of_one_state : StretchesAreOfOneState
-stretches_are_of_one_state plan v low high said found s starts turns s' run seat there =
+-- so each look began in the run, and what it finds is so since
+since_it_began : (plan : TablePlan) (v : View) (what : Words → Type 0) (g : Glance) → Has v.glances g → (s : TableState) → Starts plan s → (turns : List Turn) (s' : TableState)
+    → TableRun plan s turns s' → (seat : ℕ) → get_elem? s'.views seat ≡ some v
+    → ((from : TableState) → HasMachine plan from → (to : TableState) → CallIsMade plan from seat call.Look to → (more : List Turn) → TableRun plan to more s' → LooksOn seat more
+    → WasSo plan to more s' what)
+    → FoundInRun plan s turns s' seat what
+since_it_began plan v what g among s starts turns s' run seat there so =
     let kept = (starts_are_kept plan s starts).kept in
-    elim (run_back plan seat s turns s' run (record { view = v; there = there; looks = some_glance v.glances found.comes.glance found.comes.among })) [
-      | inl b ↦ record {
-        began = b;
-        so = stretches_of_one_state plan v low high said found b.from
-            (runs_are_lawful plan s kept _ b.from b.before).kept seat b.to b.call _ s' b.after b.on there;
-      }
+    elim (run_back plan seat s turns s' run (record { view = v; there = there; looks = some_glance v.glances g among })) [
+      | inl b ↦ record { began = b; so = so b.from (runs_are_lawful plan s kept _ b.from b.before).kept b.to b.call _ b.after b.on }
       | inr h ↦ absurd (starts_still plan s starts seat h.1)
     ]
+
+-- what a look has found of a stretch was so
+pub stretches_are_of_one_state : StretchesAreOfOneState
+stretches_are_of_one_state plan v low high said found s starts turns s' run seat there =
+    since_it_began plan v (HasBetween low high said) found.comes.glance found.comes.among s starts turns s' run seat there
+    (λ from kept to call more after on. stretches_of_one_state plan v low high said found from kept seat to call more s' after on there)
 
 -- of two looks, one after the other, the second is of no earlier state
 pub stretches_are_in_order : StretchesAreInOrder
@@ -175,39 +183,47 @@ abbrev pub with_key : ℕ → Option ℕ → Option (ℕ × ℕ)
 with_key key None = None
 with_key key (Some value) = Some (key, value)
 
--- one key is a stretch
-pub one_key : (v : View) (key : ℕ) (there : Option ℕ) → HasFound v key there → HasFoundBetween v key (key + 1) (with_key key there)
-one_key v key there found = record {
-  leaf = found.leaf;
-  leaf_key = found.leaf_key;
-  comes = found.comes;
-  outer = found.outer;
-  told = found.told;
-  tells = by there found.tells;
-}
+-- what was told of a leaf about one key was told about a stretch
+tells_key : (from : ℕ) (v : View) (key : ℕ) (there : Option ℕ) (found : HasFound v key there)
+    → TellsBetween from v found.leaf found.leaf_key key (key + 1) (with_key key there)
+tells_key from v key there found = by there found.tells
   where
-    by : (o : Option ℕ) → TellsOf v found.leaf found.leaf_key key o → TellsBetween v found.leaf found.leaf_key key (key + 1) (with_key key o)
-    by None other = elim (cases_lt found.leaf_key key) [ inl less ↦ inl less | inr most ↦ inr (omega arith) ]
-    by (Some value) tells = (tells.0, omega arith, omega arith, tells.1)
+    by : (o : Option ℕ) → TellsOf v found.leaf found.leaf_key key o → TellsBetween from v found.leaf found.leaf_key key (key + 1) (with_key key o)
+    by None other = inl (found.outer, elim (cases_lt found.leaf_key key) [ inl less ↦ inl less | inr most ↦ inr (omega arith) ])
+    by (Some value) tells = (found.outer, tells.0, omega arith, omega arith, tells.1)
 
 was_of_key : (plan : TablePlan) (s : TableState) (turns : List Turn) (s' : TableState) (key : ℕ) (there : Option ℕ)
     → WasSo plan s turns s' (HasBetween key (key + 1) (with_key key there)) → WasSo plan s turns s' (HasThere key there)
 unfolding HasThere HasBetween
-was_of_key cards s turns s' key there was = record { state = was.state; amid = was.amid; so = by there was.so }
+was_of_key plan s turns s' key there was = record { state = was.state; amid = was.amid; so = by there was.so }
   where
     by : (o : Option ℕ) → HasBetween key (key + 1) (with_key key o) (own_words was.state) → HasThere key o (own_words was.state)
     by None so = so key (omega arith) (omega arith)
     by (Some value) so = so.2
 
 -- so it is with a look of one key
+look_of_one_state : (plan : TablePlan) (v : View) (key : ℕ) (there : Option ℕ) → HasFound v key there → (s : TableState) → HasMachine plan s → (seat : ℕ) (s1 : TableState)
+    → CallIsMade plan s seat call.Look s1 → (turns : List Turn) (s' : TableState) → TableRun plan s1 turns s' → LooksOn seat turns → get_elem? s'.views seat ≡ some v
+    → WasSo plan s1 turns s' (HasThere key there)
+look_of_one_state plan v key said found s r seat s1 call turns s' run on there =
+    was_of_key plan s1 turns s' key said
+    (keys_of_one_state plan v key found.leaf found.leaf_key (with_key key said) found.comes found.told (tells_key (flat_from plan) v key said found) s r seat s1 call turns s' run on there)
+
 pub looks_are_of_one_state : LooksAreOfOneState
 looks_are_of_one_state plan v key said found s starts turns s' run seat there =
-    let was = stretches_are_of_one_state plan v key (key + 1) (with_key key said) (one_key v key said found) s starts turns s' run seat there in
-    record { began = was.began; so = was_of_key plan was.began.to _ s' key said was.so }
+    since_it_began plan v (HasThere key said) found.comes.glance found.comes.among s starts turns s' run seat there
+    (λ from kept to call more after on. look_of_one_state plan v key said found from kept seat to call more s' after on there)
+
+-- and with a key that it has found missing
+pub missing_in_one_state : (plan : TablePlan) (v : View) (key : ℕ) → HasMissed (flat_from plan) v key → IsFoundInRuns plan v (HasThere key None)
+missing_in_one_state plan v key missed s starts turns s' run seat there =
+    since_it_began plan v (HasThere key None) missed.comes.glance missed.comes.among s starts turns s' run seat there
+    (λ from kept to call more after on. was_of_key plan to more s' key None
+    (keys_of_one_state plan v key missed.node missed.node_key None missed.comes missed.told (inr missed.lacks) from kept seat to call more s' after on there))
 
 pub looks_are_in_order : LooksAreInOrder
 looks_are_in_order plan s starts turns ended run seat v at first found other begun call more s' run' on w at' second found' =
-    let both = stretches_are_in_order plan s starts turns ended run seat v at (first.0, first.0 + 1, with_key first.0 first.1)
-    (one_key v first.0 first.1 found) other begun call more s' run' on w at' (second.0, second.0 + 1, with_key second.0 second.1)
-    (one_key w second.0 second.1 found') in
-    (looks_are_of_one_state plan v first.0 first.1 found s starts turns ended run seat at, was_of_key plan begun more s' second.0 second.1 both.1)
+    let kept = (runs_are_lawful plan s (starts_are_kept plan s starts).kept turns ended run).kept in (
+      looks_are_of_one_state plan v first.0 first.1 found s starts turns ended run seat at,
+      look_of_one_state plan w second.0 second.1 found' ended kept other begun call more s' run' on at',
+    )

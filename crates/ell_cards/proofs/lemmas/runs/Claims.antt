@@ -21,9 +21,10 @@ use Rattle.ell_cards.specs.declared.call.Call.TheVariants as call
 use Rattle.ell_cards.specs.declared.view.Told.{Told}
 use Rattle.ell_cards.specs.declared.view.Told.TheVariants.{Met, Key, Value, Info, Frozen, Expects}
 use Rattle.ell_cards.specs.declared.view.View.{View}
-use Rattle.ell_cards.specs.Models.{TablePlan, Has, latest, earlier, IsTold}
-use Rattle.ell_cards.specs.Changes.{expected_tag, told_filling, filling_of, filling_for, told_value, after_claim, after_flag, after_mark, is_mark_of, with_fact, unmarking, left_view, right_view, joined_view, spent_view, depth_there}
+use Rattle.ell_cards.specs.Models.{TablePlan, flat_from, Has, latest, earlier, IsTold}
+use Rattle.ell_cards.specs.Changes.{expected_tag, told_filling, filling_of, filling_for, value_told, after_claim, after_flag, after_mark, is_mark_of, with_fact, unmarking, left_view, right_view, joined_view, spent_view, depth_there}
 use Rattle.ell_cards.specs.Guards.{MayClaim, Wants}
+use Rattle.ell_cards.proofs.lemmas.lifetimes.Openings.{start_next}
 use Rattle.ell_cards.specs.Calls.{word_of, atomic_of, left_by, after}
 use Rattle.ell_cards.specs.States.{TableState}
 use Rattle.ell_cards.specs.Turns.{Turn, Makes, Splits, Joins, TableTurns, TableRun, found_by, state_after}
@@ -45,9 +46,9 @@ mark_told false c x u v e h = by (is_mark_of c u.state u.card)
     by true = h
     by false = places_more x u.state u.card v.told e h
 
-claim_told : (b : Bool) (c : ℕ) (v : View) (e : Told) → IsTold v e → IsTold (after_claim b c v) e
-claim_told true c v e h = earlier e (Expects c (expected_tag v)) (told_filling c (filling_of c v) v.told) (filling_more c (filling_of c v) v.told e h)
-claim_told false c v e h = h
+claim_told : (b : Bool) (c q : ℕ) (v : View) (e : Told) → IsTold v e → IsTold (after_claim b c q v) e
+claim_told true c q v e h = earlier e (Expects c (expected_tag v)) (told_filling c (filling_of c q v) v.told) (filling_more c (filling_of c q v) v.told e h)
+claim_told false c q v e h = h
 
 -- what was told stays told
 pub after_told : (c : Call) (n : ℕ) (v : View) (e : Told) → IsTold v e → IsTold (after c n v) e
@@ -62,30 +63,30 @@ after_told (call.FrozenChild c p right) n v e h =
     earlier e (Frozen c right (link_in n).node) (met_at (depth_told v.told p + 1) (link_in n).node v.told) (met_more (depth_told v.told p + 1) (link_in n).node v.told e h)
 after_told call.Look n v e h = met_more (depth_told v.told 0 + 1) (link_in n).node v.told e h
 after_told (call.LookDown from key right) n v e h = met_more (depth_told v.told from.node + 1) (link_in n).node v.told e h
-after_told (call.Claim c) n v e h = claim_told (n == c) c v e h
+after_told (call.Claim c q) n v e h = claim_told (n == c) c q v e h
 after_told (call.IFlag c p from) n v e h = flag_told (n == packed from) (fact.IFlagged c) p (unpacked n) v e h
 after_told (call.DFlag c gp from) n v e h = flag_told (n == packed from) (fact.DFlagged c) gp (unpacked n) v e h
 after_told (call.Mark c p was) n v e h = mark_told (n == was) c p (unpacked n) v e h
 after_told _ n v e h = h
 
 -- who claims a card is told its parent
-claims_told : (v : View) (c : ℕ) (may : MayClaim v c) → IsTold (after_claim true c v) (Info c P may.parent.node)
-claims_told v c may = earlier (Info c P may.parent.node) (Expects c (expected_tag v)) (told_filling c (filling_of c v) v.told) (by may.op may.busy may.wants)
+claims_told : (from : ℕ) (v : View) (c q : ℕ) (may : MayClaim from v c q) → IsTold (after_claim true c q v) (Info c P may.parent.node)
+claims_told from v c q may = earlier (Info c P may.parent.node) (Expects c (expected_tag v)) (told_filling c (filling_of c q v) v.told) (by may.op may.busy may.wants)
   where
-    by : (op : Op) → v.worker.operation ≡ Some op → Wants v op may.leaf may.key → Has (told_filling c (filling_of c v) v.told) (Info c P may.parent.node)
+    by : (op : Op) → v.worker.operation ≡ Some op → Wants from v op may.parent.node may.below may.key q → Has (told_filling c (filling_of c q v) v.told) (Info c P may.parent.node)
     by (Find k) busy wants = absurd wants
     by (Insert k value) busy wants =
         subst (λ es. Has (told_filling c es v.told) (Info c P may.parent.node))
-        (λ i. filling_for c (sym busy i) (sym may.stands i) (sym may.behind i) v.worker.search.grandparent (unwrap_or v.here 0) (told_value v.told))
+        (λ i. filling_for c q (sym busy i) (sym may.stands i) (sym may.behind i) v.worker.search.grandparent (unwrap_or v.here 0) (value_told v.told))
         (latest (Info c P may.parent.node) _)
     by (Swap k was value) busy wants =
         subst (λ es. Has (told_filling c es v.told) (Info c P may.parent.node))
-        (λ i. filling_for c (sym busy i) (sym may.stands i) (sym may.behind i) v.worker.search.grandparent (unwrap_or v.here 0) (told_value v.told))
+        (λ i. filling_for c q (sym busy i) (sym may.stands i) (sym may.behind i) v.worker.search.grandparent (unwrap_or v.here 0) (value_told v.told))
         (latest (Info c P may.parent.node) _)
     by (Delete k) busy wants =
         subst (λ es. Has (told_filling c es v.told) (Info c P may.parent.node))
-        (λ i. filling_for c (sym busy i) (sym may.stands i) (sym may.behind i) (sym wants.1.1 i) (unwrap_or v.here 0) (told_value v.told))
-        (earlier (Info c P may.parent.node) (Info c Gp wants.1.0.node) _ (latest (Info c P may.parent.node) _))
+        (λ i. filling_for c q (sym busy i) (sym may.stands i) (sym may.behind i) (sym wants.grandparent i) (unwrap_or v.here 0) (value_told v.told))
+        (earlier (Info c P may.parent.node) (Info c Gp wants.above.node) _ (latest (Info c P may.parent.node) _))
 
 told_left : (a b : List Told) (e : Told) → Has a e → Has (a ++ b) e
 told_left [] b e h = elim h [ ]
@@ -102,8 +103,8 @@ first_set [] m more = absurd (omega arith)
 first_set (x ∷ xs) m more = refl
 
 -- a call that is no claim leaves the claim word
-pub leaves_next : (c : Call) (ws : List ℕ) → ((d : ℕ) → c ≢ call.Claim d) → get_or (set ws (word_of c) (left_by (atomic_of c) (get_or ws (word_of c) 0))) 0 0 ≡ get_or ws 0 0
-leaves_next (call.Claim c) ws apart = absurd (apart c refl)
+pub leaves_next : (c : Call) (ws : List ℕ) → ((d q : ℕ) → c ≢ call.Claim d q) → get_or (set ws (word_of c) (left_by (atomic_of c) (get_or ws (word_of c) 0))) 0 0 ≡ get_or ws 0 0
+leaves_next (call.Claim c q) ws apart = absurd (apart c q refl)
 leaves_next (call.Fill c f value) ws apart = get_or-set_other ws (word_of (call.Fill c f value)) 0 _ 0 (λ e. omega arith)
 leaves_next (call.IFlag c p from) ws apart = get_or-set_other ws (word_of (call.IFlag c p from)) 0 _ 0 (λ e. omega arith)
 leaves_next (call.IChild c p l q right) ws apart = get_or-set_other ws (word_of (call.IChild c p l q right)) 0 _ 0 (λ e. omega arith)
@@ -137,7 +138,7 @@ told_on s words id v w here more c h = elim (cases_eq h.seat id) [
 
 module _ (plan : TablePlan) (first : ℕ) (s : TableState) (h : AllTold first s) where
   -- a call that is no claim
-  call_told : (id : ℕ) (v : View) (c : Call) → get_elem? s.views id ≡ some v → ((d : ℕ) → c ≢ call.Claim d) → AllTold first (state_after s id v c)
+  call_told : (id : ℕ) (v : View) (c : Call) → get_elem? s.views id ≡ some v → ((d q : ℕ) → c ≢ call.Claim d q) → AllTold first (state_after s id v c)
   call_told id v c here apart =
       let s' = state_after s id v c in
       let same = leaves_next c s.words apart in
@@ -147,16 +148,16 @@ module _ (plan : TablePlan) (first : ℕ) (s : TableState) (h : AllTold first s)
       }
 
   -- a claim
-  claimed_told : (id : ℕ) (v : View) (c : ℕ) → get_elem? s.views id ≡ some v → MayClaim v c → AllTold first (state_after s id v (call.Claim c))
-  claimed_told id v c here may = by (get_or s.words 0 0 == c) refl
+  claimed_told : (id : ℕ) (v : View) (c q : ℕ) → get_elem? s.views id ≡ some v → MayClaim (flat_from plan) v c q → AllTold first (state_after s id v (call.Claim c q))
+  claimed_told id v c q here may = by (get_or s.words 0 0 == c) refl
     where
       by : (b : Bool) → (get_or s.words 0 0 == c) ≡ b
-          → AllTold first (record { words = set s.words 0 (if b then c + 1 else get_or s.words 0 0); homes = s.homes; views = set s.views id (after_claim b c v) })
+          → AllTold first (record { words = set s.words 0 (if b then c + 1 else get_or s.words 0 0); homes = s.homes; views = set s.views id (after_claim b c q v) })
       by false is =
           let same = ap (λ (l : List ℕ). get_or l 0 0) (set-get_or s.words 0 0) in
           let more = h.next in record {
             next = omega arith;
-            told = λ d low below. told_on s (set s.words 0 (get_or s.words 0 0)) id v (after_claim false c v) here (claim_told false c v) d (h.told d low (omega arith));
+            told = λ d low below. told_on s (set s.words 0 (get_or s.words 0 0)) id v (after_claim false c q v) here (claim_told false c q v) d (h.told d low (omega arith));
           }
       by true is =
           let n = get_or s.words 0 0 in
@@ -167,18 +168,18 @@ module _ (plan : TablePlan) (first : ℕ) (s : TableState) (h : AllTold first s)
             told = λ d low below. elim (cases_eq d c) [
               | inl e ↦ record {
                 seat = id;
-                view = after_claim true c v;
-                there = set_there s.views id (after_claim true c v) v here;
+                view = after_claim true c q v;
+                there = set_there s.views id (after_claim true c q v) v here;
                 parent = may.parent.node;
-                told = subst (λ (k : ℕ). IsTold (after_claim true c v) (Info k P may.parent.node)) (sym e) (claims_told v c may);
+                told = subst (λ (k : ℕ). IsTold (after_claim true c q v) (Info k P may.parent.node)) (sym e) (claims_told (flat_from plan) v c q may);
               }
-              | inr apart ↦ told_on s (set s.words 0 (c + 1)) id v (after_claim true c v) here (claim_told true c v) d (h.told d low (omega arith))
+              | inr apart ↦ told_on s (set s.words 0 (c + 1)) id v (after_claim true c q v) here (claim_told true c q v) d (h.told d low (omega arith))
             ];
           }
 
   turn_told : (t : Turn) (s' : TableState) → TableTurns plan s t s' → AllTold first s'
-  turn_told (Makes id (call.Claim c)) s' turn = subst (AllTold first) (sym turn.gives) (claimed_told id turn.view c turn.there turn.may.0)
-  turn_told (Makes id c) s' turn = subst (AllTold first) (sym turn.gives) (call_told id turn.view c turn.there (λ d e. (cc)))
+  turn_told (Makes id (call.Claim c q)) s' turn = subst (AllTold first) (sym turn.gives) (claimed_told id turn.view c q turn.there turn.may.0)
+  turn_told (Makes id c) s' turn = subst (AllTold first) (sym turn.gives) (call_told id turn.view c turn.there (λ d q e. (cc)))
   turn_told (Splits id chosen) s' turn =
       let v = turn.view in
       let left = left_view chosen v in
@@ -224,7 +225,7 @@ run_told plan first s (t ∷ ts) s' run h = run_told plan first run.0 ts s' run.
 
 pub all_told : (plan : TablePlan) (s : TableState) → IsReached plan s → AllTold (length plan.start) s
 all_told plan s h =
-    let opens : get_or h.first.words 0 0 ≡ length plan.start + 1 = sym (listed_next h.first.words) ∙ ap (λ (w : Words). w.next) h.starts.words.are in
+    let opens : get_or h.first.words 0 0 ≡ length plan.start + 1 = sym (listed_next h.first.words) ∙ ap (λ (w : Words). w.next) h.starts.words.are ∙ start_next plan.flat plan.start in
     run_told plan (length plan.start) h.first h.turns s h.run (record {
       next = omega arith;
       told = λ c low below. absurd (omega arith);

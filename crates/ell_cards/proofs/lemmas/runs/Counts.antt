@@ -24,6 +24,7 @@ use Rattle.ell_cards.proofs.lemmas.runs.Starting.{starts_are_kept}
 use Rattle.ell_cards.proofs.lemmas.runs.Claims.{first_set, leaves_next}
 use Rattle.ell_cards.proofs.lemmas.runs.Won.{number, count, times, total, won_by, other_kind, turn_total, run_total}
 use Rattle.ell_cards.specs.Models.{TablePlan}
+use Rattle.ell_cards.proofs.lemmas.lifetimes.Openings.{start_next}
 
 -- nothing was won at the start
 pub none_at_start : (plan : TablePlan) (s : TableState) → Starts plan s → (k : Exchange) (c : ℕ) → total k c s ≡ 0
@@ -59,8 +60,8 @@ pub record ClaimsCount (first : ℕ) (s : TableState) : Type 0 where
   pub high : (c : ℕ) → get_or s.words 0 0 ≤ c → total exchange.Claim c s ≡ 0
 
 -- no other call adds a claim
-pub claims_none : (c : Call) (n d : ℕ) → ((e : ℕ) → c ≢ call.Claim e) → times exchange.Claim d (won_by c n) ≡ 0
-claims_none (call.Claim c) n d apart = absurd (apart c refl)
+pub claims_none : (c : Call) (n d : ℕ) → ((e q : ℕ) → c ≢ call.Claim e q) → times exchange.Claim d (won_by c n) ≡ 0
+claims_none (call.Claim c q) n d apart = absurd (apart c q refl)
 claims_none (call.IFlag c p from) n d apart = other_kind (n == packed from) exchange.IFlag exchange.Claim c d refl
 claims_none (call.IChild c p l q right) n d apart = other_kind (n == linked l) exchange.IChild exchange.Claim c d refl
 claims_none (call.IUnflag c p) n d apart = other_kind (n == iflag c) exchange.IUnflag exchange.Claim c d refl
@@ -109,8 +110,8 @@ module _ (plan : TablePlan) (first : ℕ) (s : TableState) (h : ClaimsCount firs
       own : (d : ℕ) → d ≡ c → total exchange.Claim d s' ≡ total exchange.Claim d s + 1
       own d e = more d ∙ ap (λ (b : Bool). total exchange.Claim d s + (if b then 1 else 0)) (eq-eqb d c e)
 
-  claim_counts : (id c : ℕ) (s' : TableState) → TableTurns plan s (Makes id (call.Claim c)) s' → ClaimsCount first s'
-  claim_counts id c s' turn = by (get_or s.words 0 0 == c) refl
+  claim_counts : (id c q : ℕ) (s' : TableState) → TableTurns plan s (Makes id (call.Claim c q)) s' → ClaimsCount first s'
+  claim_counts id c q s' turn = by (get_or s.words 0 0 == c) refl
     where
       n : ℕ
       n = get_or s.words 0 0
@@ -122,7 +123,7 @@ module _ (plan : TablePlan) (first : ℕ) (s : TableState) (h : ClaimsCount firs
       next_is = ap (λ (x : TableState). get_or x.words 0 0) turn.gives ∙ first_set s.words (if n == c then c + 1 else n) some
 
       added : (d : ℕ) → total exchange.Claim d s' ≡ total exchange.Claim d s + (if n == c then (if d == c then 1 else 0) else 0)
-      added d = turn_total exchange.Claim d plan s (Makes id (call.Claim c)) s' turn ∙ ap (λ m. total exchange.Claim d s + m) (claims_one (n == c) c d)
+      added d = turn_total exchange.Claim d plan s (Makes id (call.Claim c q)) s' turn ∙ ap (λ m. total exchange.Claim d s + m) (claims_one (n == c) c d)
 
       by : (b : Bool) → (n == c) ≡ b → ClaimsCount first s'
       by false e = same_claims s' (next_is ∙ ap (λ (b : Bool). if b then c + 1 else n) e)
@@ -130,14 +131,14 @@ module _ (plan : TablePlan) (first : ℕ) (s : TableState) (h : ClaimsCount firs
       by true e = one_more_claim s' c (eqb-true n c e) (next_is ∙ ap (λ (b : Bool). if b then c + 1 else n) e)
           (λ d. added d ∙ ap (λ (b : Bool). total exchange.Claim d s + (if b then (if d == c then 1 else 0) else 0)) e)
 
-  call_counts : (id : ℕ) (c : Call) (s' : TableState) → TableTurns plan s (Makes id c) s' → ((d : ℕ) → c ≢ call.Claim d) → ClaimsCount first s'
+  call_counts : (id : ℕ) (c : Call) (s' : TableState) → TableTurns plan s (Makes id c) s' → ((d q : ℕ) → c ≢ call.Claim d q) → ClaimsCount first s'
   call_counts id c s' turn apart = same_claims s'
       (ap (λ (x : TableState). get_or x.words 0 0) turn.gives ∙ leaves_next c s.words apart)
       (λ d. let more = turn_total exchange.Claim d plan s (Makes id c) s' turn in let none = claims_none c (found_by s c) d apart in omega arith)
 
   turn_counts : (t : Turn) (s' : TableState) → TableTurns plan s t s' → ClaimsCount first s'
-  turn_counts (Makes id (call.Claim c)) s' turn = claim_counts id c s' turn
-  turn_counts (Makes id c) s' turn = call_counts id c s' turn (λ d e. (cc))
+  turn_counts (Makes id (call.Claim c q)) s' turn = claim_counts id c q s' turn
+  turn_counts (Makes id c) s' turn = call_counts id c s' turn (λ d q e. (cc))
   turn_counts (Splits id chosen) s' turn = same_claims s' (ap (λ (x : TableState). get_or x.words 0 0) turn.gives)
       (λ d. let more = turn_total exchange.Claim d plan s (Splits id chosen) s' turn in omega arith)
   turn_counts (Joins id other) s' turn = same_claims s' (ap (λ (x : TableState). get_or x.words 0 0) turn.gives)
@@ -149,7 +150,7 @@ run_counts plan first s (t ∷ ts) s' run h = run_counts plan first run.0 ts s' 
 
 pub claims_are_counted : (plan : TablePlan) (s : TableState) → IsReached plan s → ClaimsCount (length plan.start) s
 claims_are_counted plan s h =
-    let opens : get_or h.first.words 0 0 ≡ length plan.start + 1 = sym (listed_next h.first.words) ∙ ap (λ (w : Words). w.next) h.starts.words.are in
+    let opens : get_or h.first.words 0 0 ≡ length plan.start + 1 = sym (listed_next h.first.words) ∙ ap (λ (w : Words). w.next) h.starts.words.are ∙ start_next plan.flat plan.start in
     run_counts plan (length plan.start) h.first h.turns s h.run (record {
       next = omega arith;
       low = λ c low. none_at_start plan h.first h.starts exchange.Claim c;

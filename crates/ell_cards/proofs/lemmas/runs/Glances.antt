@@ -1,5 +1,5 @@
 use Rattle.std.proofs.Common.{◌≡◌, ◌%◌, ℕ, ◌<◌, ◌≤◌, ◌==◌, if◌then◌else◌, Bool, true, false, nat_le, Option, Some, None, List, [], ◌∷◌, ◌++◌, ◌+◌, length, take, drop, inl, inr, ◌⊎◌, refl, sym, ap, ◌∙◌, subst, arith}
-use Rattle.std.proofs.lemmas.Bool.{cases_lt, lt-leb}
+use Rattle.std.proofs.lemmas.Bool.{cases_Bool, cases_lt, lt-leb}
 use Rattle.std.proofs.lemmas.List.{append_assoc, append-nil}
 use Rattle.std.proofs.Math.Seq.{take-append_seam, drop-append_seam}
 use mathlib.Core.Option.{some, some-injective}
@@ -14,7 +14,7 @@ use Rattle.ell_core.specs.declared.event.Act.{Act}
 use Rattle.ell_core.specs.declared.event.Stepped.{Stepped}
 use Rattle.ell_core.specs.declared.fact.Fact.{Fact}
 use Rattle.ell_core.specs.declared.fact.Fact.TheVariants as fact
-use Rattle.ell_layout.specs.Words.{Words}
+use Rattle.ell_layout.specs.Words.{Words, IsLeaf, has_block}
 use Rattle.ell_core.specs.state.Machine.{Machine}
 use Rattle.ell_layout.specs.Cards.{is_right}
 use Rattle.ell_core.specs.tree.Tree.{IsTreeKey, OnWalk, here, next}
@@ -23,22 +23,26 @@ use Rattle.ell_core.specs.history.Invariant.{Invariant, WordsAreSound}
 use Rattle.ell_core.specs.history.Later.{StagesLater}
 use Rattle.ell_core.specs.statements.Readers.{AllCome, from_of, upto_of}
 use Rattle.ell_core.proofs.lemmas.outcomes.Decide.{some_not_none}
-use Rattle.ell_core.proofs.lemmas.tree.Blocks.{no_block-plain}
+use Rattle.ell_block.specs.Blocks.{InBlockOf}
+use Rattle.ell_block.proofs.lemmas.Nesting.{half_inside}
+use Rattle.ell_core.specs.tree.Flat.{IsInBlock}
+use Rattle.ell_core.proofs.lemmas.tree.Blocks.{no_block, in_block-inner, in_block-leaf, in_block-or_not}
 use Rattle.ell_core.proofs.lemmas.tree.Reached.{OnWalk-below, tree_key_leads}
 use Rattle.ell_core.proofs.lemmas.stages.Order.{born-claimed}
-use Rattle.ell_core.proofs.lemmas.stages.LaterKeys.{root_born}
+use Rattle.ell_core.proofs.lemmas.stages.LaterKeys.{root_born, block_later, block_before}
 use Rattle.ell_core.proofs.lemmas.following.Lawful.{events_lawful}
-use Rattle.ell_core.proofs.lemmas.following.Stretches.{AllOnCourse, StretchGoesOn, stretch_goes_on, all_come_down, from_above, upto_below, goes_side, upto_real}
+use Rattle.ell_core.proofs.lemmas.following.Stretches.{AllOnCourse, AllInBlock, StretchGoesOn, stretch_goes_on, all_come_down, from_above, upto_below, goes_side, upto_real}
 use Rattle.ell_core.proofs.lemmas.runs.Looks.{walk_born, root_course, walk_course, walk_ends}
-use Rattle.ell_cards.specs.Models.{TablePlan}
+use Rattle.ell_cards.specs.Models.{TablePlan, flat_from}
 use Rattle.ell_cards.specs.declared.call.Call.{Call}
 use Rattle.ell_cards.specs.declared.call.Call.TheVariants as call
 use Rattle.ell_cards.specs.declared.glance.Glance.{Glance}
+use Rattle.ell_cards.specs.declared.glance.Stretch.{Stretch}
 use Rattle.ell_cards.specs.declared.view.Told.TheVariants.{Key, Value}
 use Rattle.ell_cards.specs.declared.view.View.{View}
 use Rattle.ell_cards.specs.Changes.{after_claim, after_flag, after_mark, is_mark_of, with_fact, unmarking}
-use Rattle.ell_cards.specs.Models.{IsTold, IsFree, Has, latest, earlier}
-use Rattle.ell_cards.specs.Guards.{MayLookDown}
+use Rattle.ell_cards.specs.Models.{IsTold, IsFree, Has, HasCome, HasComeWhole, latest, earlier}
+use Rattle.ell_cards.specs.Guards.{IsInHalf, MayLookDown}
 use Rattle.ell_cards.specs.Calls.{act_of, said_of, Becomes, May}
 use Rattle.ell_cards.specs.States.{TableState}
 use Rattle.ell_cards.specs.Machines.{HasMachine}
@@ -53,11 +57,12 @@ use Rattle.ell_cards.proofs.lemmas.runs.OwnSeat.{Only, turn_seat, turn_free, fir
 use Rattle.ell_cards.proofs.lemmas.stepping.Looks.{child_read}
 use Rattle.ell_cards.proofs.lemmas.runs.TurnsOfRuns.{one_more_turn, run_append, turn_lawful}
 use Rattle.ell_cards.proofs.lemmas.runs.GoingOn.{run_goes}
+use Rattle.ell_cards.proofs.lemmas.runs.Walked.{child_lacks, key_in_block}
 
 -- a claim, a flag and a mark leave a look where it is
-pub claim_look : (b : Bool) (c : ℕ) (v : View) → (after_claim b c v).glances ≡ v.glances
-claim_look true c v = refl
-claim_look false c v = refl
+pub claim_look : (b : Bool) (c q : ℕ) (v : View) → (after_claim b c q v).glances ≡ v.glances
+claim_look true c q v = refl
+claim_look false c q v = refl
 
 pub flag_look : (b : Bool) (new : Fact) (x : ℕ) (u : Update) (v : View) → (after_flag b new x u v).glances ≡ v.glances
 flag_look true new x u v = refl
@@ -71,49 +76,47 @@ mark_look false c x u v = by (is_mark_of c u.state u.card)
     by true = refl
     by false = refl
 
--- what comes to a node goes to its child
-come_to_child : (w : Words) (x low high : ℕ) (right : Bool) → IsInternal x → AllCome w x low high
-    → AllCome w (w.child x right) (from_of right low (w.key x)) (upto_of right high (w.key x))
-come_to_child w x low high right inner come =
-    all_come_down w x (from_of right low (w.key x)) (upto_of right high (w.key x)) right inner (goes_side right low high (w.key x))
-    (λ k a b. come k (from_above right low (w.key x) k a) (upto_below right high (w.key x) k b))
-
--- a node, whose child on the side of a key is followed, with the keys that come to it
+-- a node, whose child on the side of a key is followed, with the keys that come to it, which are in its block
 module _ (x low high key : ℕ) (right : Bool) (inner : IsInternal x) (a : low ≤ key) (b : key < high) where
-  child_still : (old new : Words) → new ≡ old → AllOnCourse old x low high → is_right old x key ≡ right → StretchGoesOn old new x low high key right
-  child_still old new is course side =
-      subst (λ w. StretchGoesOn old w x low high key right) (sym is) (record { course = course; side = side; child = inl refl })
+  abbrev GoesOn : Words → Words → Type 0
+  GoesOn old new = StretchGoesOn old new x low high key right × AllInBlock new x low high
+
+  child_still : (old new : Words) → new ≡ old → AllOnCourse old x low high → AllInBlock old x low high → is_right old x key ≡ right → GoesOn old new
+  child_still old new is course blocks side =
+      subst (λ w. GoesOn old w) (sym is) (record { course = course; side = side; child = inl refl }, blocks)
 
   -- over an act, or none
   becomes_child : (m : Machine) (stage : Stages) (i : ℕ) (o : Option Act) (said : Stepped) (m' : Machine) (stages : Stages) → Invariant m stage
-      → Becomes i o said m m' → WordsAreSound m'.words stages → Born stage x → Born stages x → m.words.flat_from ≡ 0 → AllOnCourse m.words x low high
-      → is_right m.words x key ≡ right → StretchGoesOn m.words m'.words x low high key right
-  becomes_child m stage i None said m' stages holds is sound born born' plain course side = child_still m.words m'.words (ap (λ (n : Machine). n.words) is) course side
-  becomes_child m stage i (Some act) said m' stages holds steps sound born born' plain course side =
-      stretch_goes_on m stage (record { worker = i; act = act }) said m' stages holds steps sound
-      (events_lawful m stage (record { worker = i; act = act }) said m' holds steps).follows.words x low high key right inner born born' course
-      (λ k l u. no_block-plain m.words x k plain) a b side
+      → Becomes i o said m m' → WordsAreSound m'.words stages → Born stage x → Born stages x → AllOnCourse m.words x low high → AllInBlock m.words x low high
+      → is_right m.words x key ≡ right → GoesOn m.words m'.words
+  becomes_child m stage i None said m' stages holds is sound born born' course blocks side =
+      child_still m.words m'.words (ap (λ (n : Machine). n.words) is) course blocks side
+  becomes_child m stage i (Some act) said m' stages holds steps sound born born' course blocks side =
+      let words = (events_lawful m stage (record { worker = i; act = act }) said m' holds steps).follows.words in (
+        stretch_goes_on m stage (record { worker = i; act = act }) said m' stages holds steps sound words x low high key right inner born born' course blocks a b side,
+        λ k l u. block_later m.words m'.words stage holds.words words x x k k refl refl born (blocks k l u),
+      )
 
   module _ (plan : TablePlan) where
     -- over a turn
     turn_child : (s : TableState) (r : HasMachine plan s) (t : Turn) (s' : TableState) → TableTurns plan s t s' → Born r.stages x
-        → AllOnCourse r.words x low high → is_right r.words x key ≡ right
-        → (r' : HasMachine plan s') × StagesLater r.stages r'.stages × StretchGoesOn r.words r'.words x low high key right
-    turn_child s r (Makes other c) s' h born course side =
+        → AllOnCourse r.words x low high → AllInBlock r.words x low high → is_right r.words x key ≡ right
+        → (r' : HasMachine plan s') × StagesLater r.stages r'.stages × GoesOn r.words r'.words
+    turn_child s r (Makes other c) s' h born course blocks side =
         let turn = turn_lawful plan s r (Makes other c) s' h in (
           turn.0,
           turn.1.later,
           becomes_child (machine_of_table plan s r) r.stages other (act_of c (found_by s c)) (said_of c (found_by s c))
-              (machine_of_table plan s' turn.0) turn.0.stages r.invariant turn.1.machine turn.0.invariant.words born (turn.1.later.born x born) r.plain course side,
+              (machine_of_table plan s' turn.0) turn.0.stages r.invariant turn.1.machine turn.0.invariant.words born (turn.1.later.born x born) course blocks side,
         )
-    turn_child s r (Splits other left) s' h born course side =
+    turn_child s r (Splits other left) s' h born course blocks side =
         let turn = turn_lawful plan s r (Splits other left) s' h in
         let split = turn.1.machine in
-        (turn.0, turn.1.later, child_still r.words turn.0.words (ap (λ (n : Machine). n.words) split.gives) course side)
-    turn_child s r (Joins one other) s' h born course side =
+        (turn.0, turn.1.later, child_still r.words turn.0.words (ap (λ (n : Machine). n.words) split.gives) course blocks side)
+    turn_child s r (Joins one other) s' h born course blocks side =
         let turn = turn_lawful plan s r (Joins one other) s' h in
         let join = turn.1.machine in
-        (turn.0, turn.1.later, child_still r.words turn.0.words (ap (λ (n : Machine). n.words) join.gives) course side)
+        (turn.0, turn.1.later, child_still r.words turn.0.words (ap (λ (n : Machine). n.words) join.gives) course blocks side)
 
     -- in a state of a run all keys of the stretch came by the node, whose child was then as it is in the end
     record CameSince (s : TableState) (turns : List Turn) (s' : TableState) (end : HasMachine plan s') : Type 0 where
@@ -142,17 +145,17 @@ module _ (x low high key : ℕ) (right : Bool) (inner : IsInternal x) (a : low �
     }
 
     -- over a run the child is as it was, or since such a state
-    same_or_since : (s : TableState) (r : HasMachine plan s) → Born r.stages x → AllOnCourse r.words x low high → is_right r.words x key ≡ right
+    same_or_since : (s : TableState) (r : HasMachine plan s) → Born r.stages x → AllOnCourse r.words x low high → AllInBlock r.words x low high → is_right r.words x key ≡ right
         → (turns : List Turn) (s' : TableState) → TableRun plan s turns s'
         → (end : HasMachine plan s') × ((end.words.child x right ≡ r.words.child x right) ⊎ CameSince s turns s' end)
-    same_or_since s r born course side [] s' run =
+    same_or_since s r born course blocks side [] s' run =
         subst (λ n. (end : HasMachine plan n) × ((end.words.child x right ≡ r.words.child x right) ⊎ CameSince s [] n end)) (sym run) (r, inl refl)
-    same_or_since s r born course side (t ∷ ts) s' run =
-        let turn = turn_child s r t run.0 run.1 born course side in
-        let rest = same_or_since run.0 turn.0 (turn.1.born x born) turn.2.course turn.2.side ts s' run.2 in (
+    same_or_since s r born course blocks side (t ∷ ts) s' run =
+        let turn = turn_child s r t run.0 run.1 born course blocks side in
+        let rest = same_or_since run.0 turn.0 (turn.1.born x born) turn.2.0.course turn.2.1 turn.2.0.side ts s' run.2 in (
           rest.0,
           elim rest.1 [
-            | inl same ↦ elim turn.2.child [
+            | inl same ↦ elim turn.2.0.child [
               | inl was ↦ inl (same ∙ was)
               | inr come ↦ inr (record {
                 before = t ∷ [];
@@ -212,6 +215,78 @@ module _ (plan : TablePlan) where
     real = let r = c.real in omega arith;
   }
 
+  -- or the stretch is one key, which the tree lacked in such a state, and the node's block lacks in the last one
+  pub record Strayed (s0 : TableState) (turns : List Turn) (s : TableState) (x low high : ℕ) : Type 0 where
+    pub before : List Turn
+    pub after : List Turn
+    pub are : turns ≡ before ++ after
+    pub state : TableState
+    pub kept : HasMachine plan state
+    pub first : TableRun plan s0 before state
+    pub last : TableRun plan state after s
+    pub absent : ¬ IsTreeKey kept.words low
+    pub one : high ≤ low + 1
+    pub real : high ≤ greatest_key + 1
+    pub end : HasMachine plan s
+    pub born : Born end.stages x
+    pub lacks : ¬ IsInBlock end.words x low
+
+  abbrev pub Comes : TableState → List Turn → TableState → ℕ → ℕ → ℕ → Type 0
+  Comes s0 turns s x low high = Came s0 turns s x low high ⊎ Strayed s0 turns s x low high
+
+  -- what is so of a node to which a look has come: each of its keys came there or strayed, and all of them came in one
+  -- state, if they came as one
+  pub record Glanced (s0 : TableState) (turns : List Turn) (s : TableState) (g : Glance) : Type 0 where
+    pub each : (j : ℕ) → g.low ≤ j → j < g.high → Comes s0 turns s g.node j (j + 1)
+    pub whole : g.whole ≡ true → Came s0 turns s g.node g.low g.high
+
+  strayed_more : (s0 : TableState) (turns : List Turn) (s : TableState) (t : Turn) (s' : TableState) (x low high : ℕ) → TableTurns plan s t s'
+      → Strayed s0 turns s x low high → Strayed s0 (turns ++ t ∷ []) s' x low high
+  strayed_more s0 turns s t s' x low high turn c =
+      let goes = run_goes plan s c.end c.end.stages c.end.invariant (t ∷ []) s' (s', turn, refl) in
+      record {
+        before = c.before;
+        after = c.after ++ t ∷ [];
+        are = ap (λ us. us ++ t ∷ []) c.are ∙ append_assoc c.before c.after (t ∷ []);
+        state = c.state;
+        kept = c.kept;
+        first = c.first;
+        last = one_more_turn plan c.state c.after s t s' c.last turn;
+        absent = c.absent;
+        one = c.one;
+        real = c.real;
+        end = goes.0;
+        born = goes.2.born x c.born;
+        lacks = λ there. c.lacks (block_before c.end.words goes.0.words c.end.stages c.end.invariant.words goes.1.words x x low low refl refl c.born there);
+      }
+
+  comes_more : (s0 : TableState) (turns : List Turn) (s : TableState) (t : Turn) (s' : TableState) (x low high : ℕ) → TableTurns plan s t s'
+      → Comes s0 turns s x low high → Comes s0 (turns ++ t ∷ []) s' x low high
+  comes_more s0 turns s t s' x low high turn (inl c) = inl (came_more s0 turns s t s' x low high turn c)
+  comes_more s0 turns s t s' x low high turn (inr c) = inr (strayed_more s0 turns s t s' x low high turn c)
+
+  glanced_more : (s0 : TableState) (turns : List Turn) (s : TableState) (t : Turn) (s' : TableState) (g : Glance) → TableTurns plan s t s'
+      → Glanced s0 turns s g → Glanced s0 (turns ++ t ∷ []) s' g
+  glanced_more s0 turns s t s' g turn c = record {
+    each = λ j l u. comes_more s0 turns s t s' g.node j (j + 1) turn (c.each j l u);
+    whole = λ is. came_more s0 turns s t s' g.node g.low g.high turn (c.whole is);
+  }
+
+  -- by no key a look comes to each node
+  none_came : (s0 : TableState) (turns : List Turn) (s : TableState) (x y low high from upto : ℕ) → upto ≤ from → upto ≤ greatest_key + 1 → Came s0 turns s x low high
+      → Came s0 turns s y from upto
+  none_came s0 turns s x y low high from upto none real c = record {
+    before = c.before;
+    after = c.after;
+    are = c.are;
+    state = c.state;
+    kept = c.kept;
+    first = c.first;
+    last = c.last;
+    come = λ k l u. absurd (omega (arith, none, l, u));
+    real = real;
+  }
+
   module _ (seat : ℕ) (s : TableState) (v : View) (there : get_elem? s.views seat ≡ some v) (x k : ℕ) (told : IsTold v (Key x k)) where
     -- the key of a node is as it is told later
     key_there : (state : TableState) (kept : HasMachine plan state) (turns : List Turn) → TableRun plan state turns s → Born kept.stages x → kept.words.key x ≡ k
@@ -220,65 +295,141 @@ module _ (plan : TablePlan) where
         sym (goes.1.words.key x ((kept.invariant.words.cards (card x)).claimed.0 (born-claimed (kept.stages (card x)) (x % 4) born)))
         ∙ ((goes.0.views seat v there).entries (Key x k) told).1
 
-    -- those that go to its child came by that
+    -- who strayed strays on
+    strayed_down : (s0 : TableState) (turns : List Turn) (low high : ℕ) (right : Bool) (n : ℕ) → IsInternal x → ((end : HasMachine plan s) → Born end.stages x → end.words.child x right ≡ n)
+        → Strayed s0 turns s x low high → Strayed s0 turns s n low high
+    strayed_down s0 turns low high right n inner listed c =
+        let sound = c.end.invariant.words in
+        let is = listed c.end c.born in
+        record {
+          before = c.before;
+          after = c.after;
+          are = c.are;
+          state = c.state;
+          kept = c.kept;
+          first = c.first;
+          last = c.last;
+          absent = c.absent;
+          one = c.one;
+          real = c.real;
+          end = c.end;
+          born = subst (Born c.end.stages) is ((sound.children x inner c.born).born right);
+          lacks = subst (λ y. ¬ IsInBlock c.end.words y low) is (child_lacks c.end.words c.end.stages sound x low right inner c.born c.lacks);
+        }
+
+    -- a stretch by which a look came to the node, on a side of it, and in its block
     came_down : (s0 : TableState) (turns : List Turn) (low high : ℕ) (right : Bool) (n : ℕ) → IsInternal x → ((end : HasMachine plan s) → Born end.stages x → end.words.child x right ≡ n)
-        → Came s0 turns s x low high → Came s0 turns s n (from_of right low k) (upto_of right high k)
-    came_down s0 turns low high right n inner listed c = elim (cases_lt (from_of right low k) (upto_of right high k)) [
-      | inr none ↦ record {
-        before = c.before;
-        after = c.after;
-        are = c.are;
-        state = c.state;
-        kept = c.kept;
-        first = c.first;
-        last = c.last;
-        come = λ j l u. absurd (omega (arith, none, l, u));
-        real = upto_real right high k (greatest_key + 1) c.real;
-      }
-      | inl less ↦
-          let j = from_of right low k in
-          let a = from_above right low k j (omega arith) in
-          let b = upto_below right high k j less in
-          let w = c.kept.words in
-          let sound = c.kept.invariant.words in
-          let born = walk_born w c.kept.stages sound j (root_born w c.kept.stages sound) (c.come j a b) in
-          let has = key_there c.state c.kept c.after c.last born in
-          let side : is_right w x j ≡ right = ap (λ m. nat_le m j) has ∙ goes_side right low high k j (omega arith) less in
-          let course : AllOnCourse w x low high = λ i l u. let r = c.real in walk_course w c.kept.stages sound i (root_born w c.kept.stages sound) (root_course w c.kept.stages sound i (omega arith)) (c.come i l u) in
-          let down : (y : Words) → AllCome y x low high → y.key x ≡ k → n ≡ y.child x right → AllCome y n j (upto_of right high k) =
-          λ y come key child. subst (λ z. AllCome y z j (upto_of right high k)) (sym child)
-          (subst (λ m. AllCome y (y.child x right) (from_of right low m) (upto_of right high m)) key (come_to_child y x low high right inner come)) in
-          let since = same_or_since x low high j right inner a b plan c.state c.kept born course side c.after s c.last in
-          let is = sym (listed since.0 ((since.0.views seat v there).entries (Key x k) told).0) in
-          elim since.1 [
-            | inl same ↦ record {
-              before = c.before;
-              after = c.after;
-              are = c.are;
-              state = c.state;
-              kept = c.kept;
-              first = c.first;
-              last = c.last;
-              come = down w c.come has (is ∙ same);
-              real = upto_real right high k (greatest_key + 1) c.real;
-            }
-            | inr later ↦
-                let u = later.kept.words in
-                let sound' = later.kept.invariant.words in
-                let born' = walk_born u later.kept.stages sound' j (root_born u later.kept.stages sound') (later.come j a b) in
-                record {
-                  before = c.before ++ later.before;
-                  after = later.after;
-                  are = c.are ∙ (ap (λ us. c.before ++ us) later.are ∙ sym (append_assoc c.before later.before later.after));
-                  state = later.state;
-                  kept = later.kept;
-                  first = run_append plan s0 c.before c.state later.before later.state c.first later.first;
-                  last = later.last;
-                  come = down u later.come (key_there later.state later.kept later.after later.last born') (is ∙ later.child);
-                  real = upto_real right high k (greatest_key + 1) c.real;
-                }
-          ]
+        → low < high → ((j : ℕ) → low ≤ j → j < high → nat_le k j ≡ right) → (c : Came s0 turns s x low high) → AllInBlock c.kept.words x low high → Came s0 turns s n low high
+    came_down s0 turns low high right n inner listed less sides c blocks =
+        let w = c.kept.words in
+        let sound = c.kept.invariant.words in
+        let born = walk_born w c.kept.stages sound low (root_born w c.kept.stages sound) (c.come low (omega arith) less) in
+        let has = key_there c.state c.kept c.after c.last born in
+        let side : (j : ℕ) → low ≤ j → j < high → is_right w x j ≡ right = λ j l u. ap (λ m. nat_le m j) has ∙ sides j l u in
+        let course : AllOnCourse w x low high = λ i l u. let r = c.real in walk_course w c.kept.stages sound i (root_born w c.kept.stages sound) (root_course w c.kept.stages sound i (omega arith)) (c.come i l u) in
+        let down : (y : Words) → AllCome y x low high → y.key x ≡ k → n ≡ y.child x right → AllCome y n low high =
+        λ y come key child. subst (λ z. AllCome y z low high) (sym child)
+        (all_come_down y x low high right inner (λ j l u. ap (λ m. nat_le m j) key ∙ sides j l u) come) in
+        let since = same_or_since x low high low right inner (omega arith) less plan c.state c.kept born course blocks (side low (omega arith) less) c.after s c.last in
+        let is = sym (listed since.0 ((since.0.views seat v there).entries (Key x k) told).0) in
+        elim since.1 [
+          | inl same ↦ record {
+            before = c.before;
+            after = c.after;
+            are = c.are;
+            state = c.state;
+            kept = c.kept;
+            first = c.first;
+            last = c.last;
+            come = down w c.come has (is ∙ same);
+            real = c.real;
+          }
+          | inr later ↦
+              let u = later.kept.words in
+              let sound' = later.kept.invariant.words in
+              let born' = walk_born u later.kept.stages sound' low (root_born u later.kept.stages sound') (later.come low (omega arith) less) in
+              record {
+                before = c.before ++ later.before;
+                after = later.after;
+                are = c.are ∙ (ap (λ us. c.before ++ us) later.are ∙ sym (append_assoc c.before later.before later.after));
+                state = later.state;
+                kept = later.kept;
+                first = run_append plan s0 c.before c.state later.before later.state c.first later.first;
+                last = later.last;
+                come = down u later.come (key_there later.state later.kept later.after later.last born') (is ∙ later.child);
+                real = c.real;
+              }
+        ]
+
+    -- one key that the node's block lacks, by which a look came to it: the tree lacked it then
+    strays : (s0 : TableState) (turns : List Turn) (low high : ℕ) → IsInternal x → low < high → high ≤ low + 1 → (c : Came s0 turns s x low high) → ¬ IsInBlock c.kept.words x low
+        → Strayed s0 turns s x low high
+    strays s0 turns low high inner less one c lacks =
+        let w = c.kept.words in
+        let sound = c.kept.invariant.words in
+        let on = c.come low (omega arith) less in
+        let born = walk_born w c.kept.stages sound low (root_born w c.kept.stages sound) on in
+        let goes = run_goes plan c.state c.kept c.kept.stages c.kept.invariant c.after s c.last in
+        record {
+          before = c.before;
+          after = c.after;
+          are = c.are;
+          state = c.state;
+          kept = c.kept;
+          first = c.first;
+          last = c.last;
+          absent = λ tree. lacks (key_in_block w c.kept.stages sound x low inner on tree);
+          one = one;
+          real = c.real;
+          end = goes.0;
+          born = goes.2.born x born;
+          lacks = λ in_block. lacks (block_before w goes.0.words c.kept.stages sound goes.1.words x x low low refl refl born in_block);
+        }
+
+    -- keys that are in a half of the node's block are in its block
+    half_there : (w : Words) (right : Bool) (to : Stretch) → IsInternal x → w.key x ≡ k → IsInHalf k right to → AllInBlock w x to.low to.high
+    half_there w right to inner has half j l u =
+        let from = half.from in
+        let upto = half.upto in
+        in_block-inner w x j inner (record { block = half.block; middle = has ∙ half.middle; inside = half_inside half.block right j (record { from = omega arith; before = omega arith }) })
+
+    -- one key by which a look came to the node comes to the child on its side
+    key_down : (s0 : TableState) (turns : List Turn) (j : ℕ) (right : Bool) (n : ℕ) → IsInternal x → ((end : HasMachine plan s) → Born end.stages x → end.words.child x right ≡ n)
+        → nat_le k j ≡ right → Comes s0 turns s x j (j + 1) → Comes s0 turns s n j (j + 1)
+    key_down s0 turns j right n inner listed side (inr c) = inr (strayed_down s0 turns j (j + 1) right n inner listed c)
+    key_down s0 turns j right n inner listed side (inl c) = elim (in_block-or_not c.kept.words x j) [
+      | inl there ↦ inl (came_down s0 turns j (j + 1) right n inner listed (omega arith)
+          (λ i l u. let same : j ≡ i = omega arith in subst (λ m. nat_le k m ≡ right) same side) c
+          (λ i l u. let same : j ≡ i = omega arith in subst (IsInBlock c.kept.words x) same there))
+      | inr lacks ↦ inr (strayed_down s0 turns j (j + 1) right n inner listed (strays s0 turns j (j + 1) inner (omega arith) (omega arith) c lacks))
     ]
+
+    module _ (low high : ℕ) (right : Bool) (to : Stretch) (first : from_of right low k ≤ to.low) (last : to.high ≤ upto_of right high k) where
+      -- keys that go on by a side are on it, and are some by which the look came
+      goes_on : (j : ℕ) → to.low ≤ j → j < to.high → (low ≤ j) × (j < high) × (nat_le k j ≡ right)
+      goes_on j l u =
+          let a : from_of right low k ≤ j = omega arith in
+          let b : j < upto_of right high k = omega arith in
+          (from_above right low k j a, upto_below right high k j b, goes_side right low high k j a b)
+
+      -- all by which it came as one, of the half of the node's block on that side, if it has one, come to the child as one
+      whole_down : (s0 : TableState) (turns : List Turn) (n : ℕ) → IsInternal x → ((end : HasMachine plan s) → Born end.stages x → end.words.child x right ≡ n)
+          → (has_block (flat_from plan) x ≡ true → IsInHalf k right to) → Came s0 turns s x low high → Came s0 turns s n to.low to.high
+      whole_down s0 turns n inner listed half c = elim (cases_lt to.low to.high) [
+        | inr none ↦ none_came s0 turns s x n low high to.low to.high none
+            (let most = upto_real right high k (greatest_key + 1) c.real in omega arith) c
+        | inl less ↦
+            let low_on = goes_on to.low (omega arith) less in
+            let most = upto_real right high k high (omega arith) in
+            let b = came_part s0 turns s x low high to.low to.high low_on.0 (omega arith) c in
+            let w = b.kept.words in
+            let born = walk_born w b.kept.stages b.kept.invariant.words to.low (root_born w b.kept.stages b.kept.invariant.words) (b.come to.low (omega arith) less) in
+            came_down s0 turns to.low to.high right n inner listed less (λ j l u. (goes_on j l u).2) b
+            (elim (cases_Bool (has_block w.flat_from x)) [
+              | inr none ↦ (λ j l u. no_block w x j none)
+              | inl has ↦ half_there w right to inner (key_there b.state b.kept b.after b.last born) (half (ap (λ m. has_block m x) (sym b.kept.shape) ∙ has))
+            ])
+      ]
 
 module _ (plan : TablePlan) (seat : ℕ) where
   -- the pass in the seat has nothing in hand, and each of its glances is of a state since this one
@@ -286,29 +437,47 @@ module _ (plan : TablePlan) (seat : ℕ) where
     view : View
     there : get_elem? s.views seat ≡ some view
     free : IsFree view
-    came : (g : Glance) → Has view.glances g → Came plan s0 turns s g.node g.low g.high
+    came : (g : Glance) → Has view.glances g → Glanced plan s0 turns s g
 
   module _ (s0 : TableState) (turns : List Turn) (s : TableState) (at : Looks s0 turns s) where
     -- so are they after a call, of a state that is not later than it
     abbrev AllCame : View → Type 0
-    AllCame v = (g : Glance) → Has v.glances g → Came plan s0 turns s g.node g.low g.high
+    AllCame v = (g : Glance) → Has v.glances g → Glanced plan s0 turns s g
 
-    came_still : {gs : List Glance} → gs ≡ at.view.glances → (g : Glance) → Has gs g → Came plan s0 turns s g.node g.low g.high
+    came_still : {gs : List Glance} → gs ≡ at.view.glances → (g : Glance) → Has gs g → Glanced plan s0 turns s g
     came_still same g has = at.came g (subst (λ gs. Has gs g) same has)
 
-    goes_down : (from : Glance) (k : ℕ) (right : Bool) → MayLookDown at.view from k → AllCame (view_after s at.view (call.LookDown from k right))
-    goes_down from k right may g (latest _ _) =
+    came_as_one : (x low high : ℕ) → HasComeWhole at.view x low high → Came plan s0 turns s x low high
+    came_as_one x low high c =
+        came_part plan s0 turns s x c.glance.low c.glance.high low high c.from c.upto
+        (subst (λ y. Came plan s0 turns s y c.glance.low c.glance.high) c.there ((at.came c.glance c.among).whole c.whole))
+
+    goes_down : (from : Glance) (to : Stretch) (right : Bool) → MayLookDown (flat_from plan) at.view from to right → AllCame (view_after s at.view (call.LookDown from to right))
+    goes_down from to right may g (latest _ _) =
         let c = may.come in
-        let was = subst (λ x. Came plan s0 turns s x c.glance.low c.glance.high) c.there (at.came c.glance c.among) in
-        came_down plan seat s at.view at.there from.node k may.told s0 turns from.low from.high right (link_in (found_by s (call.LookDown from k right))).node may.inner
-        (λ end born. sym (ap (λ (k : Link). k.node) (child_read plan s end seat at.view at.there from.node right may.inner born)))
-        (came_part plan s0 turns s from.node c.glance.low c.glance.high from.low from.high c.from c.upto was)
-    goes_down from k right may g (earlier _ _ _ has) = at.came g has
+        let was = at.came c.glance c.among in
+        let n = (link_in (found_by s (call.LookDown from to right))).node in
+        let listed : (end : HasMachine plan s) → Born end.stages from.node → end.words.child from.node right ≡ n =
+        λ end born. sym (ap (λ (k : Link). k.node) (child_read plan s end seat at.view at.there from.node right may.inner born)) in
+        let least = from_above right from.low may.key in
+        record {
+          each = λ j l u.
+              let on = goes_on plan seat s at.view at.there from.node may.key may.told from.low from.high right to may.goes.low may.goes.high j l u in
+              let a = c.from in
+              let b = c.upto in
+              key_down plan seat s at.view at.there from.node may.key may.told s0 turns j right n may.inner listed on.2
+              (subst (λ x. Comes plan s0 turns s x j (j + 1)) c.there (was.each j (let e = on.0 in omega arith) (let e = on.1 in omega arith)));
+          whole = λ is.
+              let whole = may.goes.whole is in
+              whole_down plan seat s at.view at.there from.node may.key may.told from.low from.high right to may.goes.low may.goes.high s0 turns n may.inner listed whole.1
+              (came_as_one from.node from.low from.high (may.as_one whole.0));
+        }
+    goes_down from to right may g (earlier _ _ _ has) = at.came g has
 
     call_came : (c : Call) → BeginsNothing c → May plan c at.view → AllCame (view_after s at.view c)
     call_came call.Look keeps may = absurd keeps
-    call_came (call.LookDown from k right) keeps may = goes_down from k right may
-    call_came (call.Claim c) keeps may = came_still (claim_look (found_by s (call.Claim c) == c) c at.view)
+    call_came (call.LookDown from to right) keeps may = goes_down from to right may
+    call_came (call.Claim c q) keeps may = came_still (claim_look (found_by s (call.Claim c q) == c) c q at.view)
     call_came (call.IFlag c p from) keeps may =
         came_still (flag_look (found_by s (call.IFlag c p from) == packed from) (fact.IFlagged c) p (unpacked (found_by s (call.IFlag c p from))) at.view)
     call_came (call.DFlag c gp from) keeps may =
@@ -344,7 +513,7 @@ module _ (plan : TablePlan) (seat : ℕ) where
           view = goes.view;
           there = goes.there;
           free = (turn_free plan s seat at.view t s' goes at.free).free;
-          came = λ g has. came_more plan s0 turns s t s' g.node g.low g.high h (came g has);
+          came = λ g has. glanced_more plan s0 turns s t s' g h (came g has);
         }
 
   run_looks : (s0 : TableState) (turns : List Turn) (s : TableState) → Looks s0 turns s → (more : List Turn) (s' : TableState) → TableRun plan s more s' → LooksOn seat more
@@ -382,90 +551,142 @@ module _ (plan : TablePlan) (seat : ℕ) where
         came = λ g has. first g has kept come;
       }
     where
-      first : (g : Glance) → Has (record { node = (link_in (found_by s call.Look)).node; low = 0; high = greatest_key + 1 } ∷ []) g → (kept : HasMachine plan s1)
-          → AllCome kept.words (link_in (found_by s call.Look)).node 0 (greatest_key + 1) → Came plan s1 [] s1 g.node g.low g.high
-      first g (latest _ _) kept come = record {
-        before = [];
-        after = [];
-        are = refl;
-        state = s1;
-        kept = kept;
-        first = refl;
-        last = refl;
-        come = come;
-        real = omega arith;
-      }
+      first : (g : Glance) → Has (record { node = (link_in (found_by s call.Look)).node; low = 0; high = greatest_key + 1; whole = true } ∷ []) g → (kept : HasMachine plan s1)
+          → AllCome kept.words (link_in (found_by s call.Look)).node 0 (greatest_key + 1) → Glanced plan s1 [] s1 g
+      first g (latest _ _) kept come =
+          let n = (link_in (found_by s call.Look)).node in
+          let came : Came plan s1 [] s1 n 0 (greatest_key + 1) =
+          record { before = []; after = []; are = refl; state = s1; kept = kept; first = refl; last = refl; come = come; real = omega arith } in
+          record {
+            each = λ j l u. inl (came_part plan s1 [] s1 n 0 (greatest_key + 1) j (j + 1) l (omega arith) came);
+            whole = λ is. came;
+          }
       first g (earlier _ _ _ has) kept come = absurd (nowhere g has)
         where
           nowhere : (g : Glance) → Has [] g → ⊥
           nowhere g has = elim has [ ]
 
--- a state of which all keys of a stretch came by a node is amid its run
-came_amid : (plan : TablePlan) (s0 : TableState) (turns : List Turn) (s : TableState) (x low high : ℕ) (c : Came plan s0 turns s x low high)
-    → IsAmid plan s0 turns s c.state
-came_amid plan s0 turns s x low high c =
-    let n = length c.before in
-    let first : take n turns ≡ c.before = ap (take n) c.are ∙ take-append_seam c.before c.after in
-    let last : drop n turns ≡ c.after = ap (drop n) c.are ∙ drop-append_seam c.before c.after in
+-- a state by which a run came is amid it
+amid_by : (plan : TablePlan) (s0 : TableState) (turns before after : List Turn) (state s : TableState) → turns ≡ before ++ after → TableRun plan s0 before state
+    → TableRun plan state after s → IsAmid plan s0 turns s state
+amid_by plan s0 turns before after state s are run rest =
+    let n = length before in
+    let first : take n turns ≡ before = ap (take n) are ∙ take-append_seam before after in
+    let last : drop n turns ≡ after = ap (drop n) are ∙ drop-append_seam before after in
     record {
       first = n;
-      before = subst (λ us. TableRun plan s0 us c.state) (sym first) c.first;
-      after = subst (λ us. TableRun plan c.state us s) (sym last) c.last;
+      before = subst (λ us. TableRun plan s0 us state) (sym first) run;
+      after = subst (λ us. TableRun plan state us s) (sym last) rest;
     }
 
 module _ (plan : TablePlan) (s0 : TableState) (turns : List Turn) (s : TableState) (seat : ℕ) (v : View) (there : get_elem? s.views seat ≡ some v) where
-  -- what was found at a leaf by all keys of a stretch
-  found_there : (low high : ℕ) (what : Option (ℕ × ℕ)) → (found : HasFoundBetween v low high what) → Came plan s0 turns s found.leaf low high
-      → WasSo plan s0 turns s (HasBetween low high what)
+  -- what was found at a node by all keys of a stretch
+  came_there : (node node_key low high : ℕ) (what : Option (ℕ × ℕ)) → IsTold v (Key node node_key) → TellsBetween (flat_from plan) v node node_key low high what
+      → Came plan s0 turns s node low high → WasSo plan s0 turns s (HasBetween low high what)
   unfolding HasBetween
-  found_there low high what found c = record { state = c.state; amid = came_amid plan s0 turns s found.leaf low high c; so = by what found.tells }
+  came_there node node_key low high what told tell c =
+      record { state = c.state; amid = amid_by plan s0 turns c.before c.after c.state s c.are c.first c.last; so = by what tell }
     where
       w : Words
       w = c.kept.words
 
-      born : (k : ℕ) → low ≤ k → k < high → Born c.kept.stages found.leaf
+      born : (k : ℕ) → low ≤ k → k < high → Born c.kept.stages node
       born k a b = walk_born w c.kept.stages c.kept.invariant.words k (root_born w c.kept.stages c.kept.invariant.words) (c.come k a b)
 
-      has : (k : ℕ) → low ≤ k → k < high → w.key found.leaf ≡ found.leaf_key
-      has k a b = key_there plan seat s v there found.leaf found.leaf_key found.told c.state c.kept c.after c.last (born k a b)
+      has : (k : ℕ) → low ≤ k → k < high → w.key node ≡ node_key
+      has k a b = key_there plan seat s v there node node_key told c.state c.kept c.after c.last (born k a b)
 
-      -- a key of the stretch that the tree has is the leaf's
-      only : (k : ℕ) → low ≤ k → k < high → IsTreeKey (own_words c.state) k → found.leaf_key ≡ k
-      only k a b tree =
-          sym (has k a b) ∙ walk_ends w k (c.come k a b) found.outer
-          (tree_key_leads w c.kept.invariant.words.tree.ordered k ((same_keys (own_words c.state) w (own_pairs plan c.state c.kept) k).1 tree))
+      tree : (k : ℕ) → IsTreeKey (own_words c.state) k → IsTreeKey w k
+      tree k = (same_keys (own_words c.state) w (own_pairs plan c.state c.kept) k).1
 
-      value_there : (value : ℕ) → IsTold v (Value found.leaf value) → Born c.kept.stages found.leaf → w.value found.leaf ≡ value
-      value_there value told born' =
+      -- a key of the stretch that the tree has is that of the leaf
+      only : IsLeaf node → (k : ℕ) → low ≤ k → k < high → IsTreeKey (own_words c.state) k → node_key ≡ k
+      only outer k a b in_tree = sym (has k a b) ∙ walk_ends w k (c.come k a b) outer (tree_key_leads w c.kept.invariant.words.tree.ordered k (tree k in_tree))
+
+      -- and one in the block of an internal node
+      inside : IsInternal node → has_block (flat_from plan) node ≡ true → (k : ℕ) → low ≤ k → k < high → IsTreeKey (own_words c.state) k → InBlockOf node_key k
+      inside inner has_it k a b in_tree =
+          subst (λ n. InBlockOf n k) (has k a b)
+          ((key_in_block w c.kept.stages c.kept.invariant.words node k inner (c.come k a b) (tree k in_tree)).inner inner
+          (ap (λ m. has_block m node) c.kept.shape ∙ has_it))
+
+      value_there : (value : ℕ) → IsTold v (Value node value) → Born c.kept.stages node → w.value node ≡ value
+      value_there value says born' =
           let goes = run_goes plan c.state c.kept c.kept.stages c.kept.invariant c.after s c.last in
-          sym (goes.1.words.value found.leaf ((c.kept.invariant.words.cards (card found.leaf)).claimed.0 (born-claimed (c.kept.stages (card found.leaf)) (found.leaf % 4) born')))
-          ∙ ((goes.0.views seat v there).entries (Value found.leaf value) told).1
+          sym (goes.1.words.value node ((c.kept.invariant.words.cards (card node)).claimed.0 (born-claimed (c.kept.stages (card node)) (node % 4) born')))
+          ∙ ((goes.0.views seat v there).entries (Value node value) says).1
 
-      by : (o : Option (ℕ × ℕ)) → TellsBetween v found.leaf found.leaf_key low high o → HasBetween low high o (own_words c.state)
-      by None tells = λ k a b tree. let is = only k a b tree in elim tells [ inl less ↦ absurd (omega arith) | inr more ↦ absurd (omega arith) ]
+      by : (o : Option (ℕ × ℕ)) → TellsBetween (flat_from plan) v node node_key low high o → HasBetween low high o (own_words c.state)
+      by None tells = λ k a b in_tree. elim tells [
+        | inl leaf ↦ (let is = only leaf.0 k a b in_tree in elim leaf.1 [ inl less ↦ absurd (omega arith) | inr more ↦ absurd (omega arith) ])
+        | inr edge ↦ edge.2 k a b (inside edge.0 edge.1 k a b in_tree)
+      ]
       by (Some pair) tells = (
-        tells.1,
         tells.2,
+        tells.3,
         (own_pairs plan c.state c.kept pair.0 pair.1).0 (record {
-          leaf = found.leaf;
-          reached = OnWalk-below w pair.0 (c.come pair.0 tells.1 tells.2);
-          outer = found.outer;
-          has = has pair.0 tells.1 tells.2 ∙ tells.0;
-          says = value_there pair.1 tells.3 (born pair.0 tells.1 tells.2);
-          real = let r = c.real in let u = tells.2 in omega arith;
+          leaf = node;
+          reached = OnWalk-below w pair.0 (c.come pair.0 tells.2 tells.3);
+          outer = tells.0;
+          has = has pair.0 tells.2 tells.3 ∙ tells.1;
+          says = value_there pair.1 tells.4 (born pair.0 tells.2 tells.3);
+          real = let r = c.real in let u = tells.3 in omega arith;
         }),
-        λ k a b other tree. other (sym tells.0 ∙ only k a b tree),
+        λ k a b other in_tree. other (sym tells.1 ∙ only tells.0 k a b in_tree),
       )
 
+  -- and at one by a key that strayed
+  strayed_there : (node node_key low high : ℕ) (what : Option (ℕ × ℕ)) → IsTold v (Key node node_key) → TellsBetween (flat_from plan) v node node_key low high what
+      → Strayed plan s0 turns s node low high → WasSo plan s0 turns s (HasBetween low high what)
+  unfolding HasBetween
+  strayed_there node node_key low high what told tell c =
+      record { state = c.state; amid = amid_by plan s0 turns c.before c.after c.state s c.are c.first c.last; so = by what tell }
+    where
+      by : (o : Option (ℕ × ℕ)) → TellsBetween (flat_from plan) v node node_key low high o → HasBetween low high o (own_words c.state)
+      by None tells = λ k a b in_tree.
+          let o = c.one in
+          let same : k ≡ low = omega arith in
+          c.absent (subst (IsTreeKey c.kept.words) same ((same_keys (own_words c.state) c.kept.words (own_pairs plan c.state c.kept) k).1 in_tree))
+      by (Some pair) tells =
+          let o = c.one in
+          let a = tells.2 in
+          let b = tells.3 in
+          let same : pair.0 ≡ low = omega arith in
+          absurd (c.lacks (in_block-leaf c.end.words node low tells.0
+          (((c.end.views seat v there).entries (Key node node_key) told).1 ∙ (tells.1 ∙ same))))
+
+  found_there : (node node_key low high : ℕ) (what : Option (ℕ × ℕ)) → IsTold v (Key node node_key) → TellsBetween (flat_from plan) v node node_key low high what
+      → Comes plan s0 turns s node low high → WasSo plan s0 turns s (HasBetween low high what)
+  found_there node node_key low high what told tells (inl c) = came_there node node_key low high what told tells c
+  found_there node node_key low high what told tells (inr c) = strayed_there node node_key low high what told tells c
+
+-- a look since it began, where it has come to
+looked : (plan : TablePlan) (v : View) (s : TableState) → HasMachine plan s → (seat : ℕ) (s1 : TableState) → CallIsMade plan s seat call.Look s1 → (turns : List Turn) (s' : TableState)
+    → TableRun plan s1 turns s' → LooksOn seat turns → get_elem? s'.views seat ≡ some v → (g : Glance) → Has v.glances g → Glanced plan s1 turns s' g
+looked plan v s r seat s1 call turns s' run on there g has =
+    let looks = run_looks plan seat s1 [] s1 (look_begins plan seat s r s1 call) turns s' run on in
+    let same : looks.view ≡ v = some-injective looks.view v (sym looks.there ∙ there) in
+    looks.came g (subst (λ (u : View). Has u.glances g) (sym same) has)
+
 -- so what a look finds of a stretch was so in one state since it began
-pub stretches_of_one_state : (plan : TablePlan) (v : View) (low high : ℕ) (there : Option (ℕ × ℕ)) → HasFoundBetween v low high there
+pub stretches_of_one_state : (plan : TablePlan) (v : View) (low high : ℕ) (there : Option (ℕ × ℕ)) → HasFoundBetween (flat_from plan) v low high there
     → (s : TableState) → HasMachine plan s → (seat : ℕ) (s1 : TableState) → CallIsMade plan s seat call.Look s1 → (turns : List Turn) (s' : TableState)
     → TableRun plan s1 turns s' → LooksOn seat turns → get_elem? s'.views seat ≡ some v → WasSo plan s1 turns s' (HasBetween low high there)
 stretches_of_one_state plan v low high what found s r seat s1 call turns s' run on there =
-    let looks = run_looks plan seat s1 [] s1 (look_begins plan seat s r s1 call) turns s' run on in
-    let same : looks.view ≡ v = some-injective looks.view v (sym looks.there ∙ there) in
     let c = found.comes in
-    let came = looks.came c.glance (subst (λ (u : View). Has u.glances c.glance) (sym same) c.among) in
-    found_there plan s1 turns s' seat v there low high what found
-    (came_part plan s1 turns s' found.leaf c.glance.low c.glance.high low high c.from c.upto
-    (subst (λ x. Came plan s1 turns s' x c.glance.low c.glance.high) c.there came))
+    let came = looked plan v s r seat s1 call turns s' run on there c.glance c.among in
+    came_there plan s1 turns s' seat v there found.node found.node_key low high what found.told found.tells
+    (came_part plan s1 turns s' found.node c.glance.low c.glance.high low high c.from c.upto
+    (subst (λ x. Came plan s1 turns s' x c.glance.low c.glance.high) c.there (came.whole c.whole)))
+
+-- and what it finds of one key
+pub keys_of_one_state : (plan : TablePlan) (v : View) (key node node_key : ℕ) (there : Option (ℕ × ℕ)) → HasCome v node key (key + 1) → IsTold v (Key node node_key)
+    → TellsBetween (flat_from plan) v node node_key key (key + 1) there
+    → (s : TableState) → HasMachine plan s → (seat : ℕ) (s1 : TableState) → CallIsMade plan s seat call.Look s1 → (turns : List Turn) (s' : TableState)
+    → TableRun plan s1 turns s' → LooksOn seat turns → get_elem? s'.views seat ≡ some v → WasSo plan s1 turns s' (HasBetween key (key + 1) there)
+keys_of_one_state plan v key node node_key what c told tells s r seat s1 call turns s' run on there =
+    let came = looked plan v s r seat s1 call turns s' run on there c.glance c.among in
+    let low = c.from in
+    let high = c.upto in
+    found_there plan s1 turns s' seat v there node node_key key (key + 1) what told tells
+    (subst (λ x. Comes plan s1 turns s' x key (key + 1)) c.there (came.each key low (omega arith)))

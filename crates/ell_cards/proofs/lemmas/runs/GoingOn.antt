@@ -158,7 +158,7 @@ module _ (m : Machine) (stage : Stages) (holds : Invariant m stage) (i : ℕ) (m
   call_wins (call.Answer said) n v plan mine may h = acts act.Answer (Answered said) h
   call_wins (call.Upd x) n v plan mine may h = acts act.Upd Moved h
   call_wins (call.Down x right) n v plan mine may h = acts act.Down Moved h
-  call_wins (call.Claim c) n v plan mine may h = claims (n == c) h
+  call_wins (call.Claim c q) n v plan mine may h = claims (n == c) h
   call_wins (call.IFlag c p from) n v plan mine may h =
       flags act.IFlag exchange.IFlag (n == packed from) c (λ hand d. refl) (mine ∙ may.may.holds) h
   call_wins (call.IChild c p l q right) n v plan mine may h = tries (act.IChild c) (n == linked l) h

@@ -266,21 +266,21 @@ module _ (plan : TablePlan) (m0 : Machine) (stage : Stages) (first : Invariant m
       finds seen.node seen.word n inner born place low (three seen.word calm) (ap r.words.update node ∙ is) (λ e. other (e ∙ word))
 
   -- a lost claim
-  claim_hindered : (c : ℕ) → May plan (call.Claim c) v → (b : Bool) → (found_by s (call.Claim c) == c) ≡ b → HinderedSince m0.words stage later_words ends old (after_claim b c v)
-  claim_hindered c may true e =
-      calm (after_claim true c v) refl refl hindered.next named_later
+  claim_hindered : (c q : ℕ) → May plan (call.Claim c q) v → (b : Bool) → (found_by s (call.Claim c q) == c) ≡ b → HinderedSince m0.words stage later_words ends old (after_claim b c q v)
+  claim_hindered c q may true e =
+      calm (after_claim true c q v) refl refl hindered.next named_later
       (λ d has.
       let same = same_Some c d has in
-      let found = eqb-true (found_by s (call.Claim c)) c e in
+      let found = eqb-true (found_by s (call.Claim c q)) c e in
       let is = r.next in
       all_earlier m0.words stage r.words now d (omega arith) hindered.met hindered.each)
       (λ k d busy has flagged. absurd (true≢false (sym flagged)))
-  claim_hindered c may false e =
+  claim_hindered c q may false e =
       let low = (r.views seat v there).read c may.0.read in
       let is = r.next in
       let more = words'.next in
-      let other : found_by s (call.Claim c) ≢ c = (λ q. true≢false (sym (eq-eqb (found_by s (call.Claim c)) c q) ∙ e)) in
-      one_met (after_claim false c v) (Claim c) refl refl (hindered.next c may.0.read, omega arith) refl (λ seen h. h)
+      let other : found_by s (call.Claim c q) ≢ c = (λ same. true≢false (sym (eq-eqb (found_by s (call.Claim c q)) c same) ∙ e)) in
+      one_met (after_claim false c q v) (Claim c) refl refl (hindered.next c may.0.read, omega arith) refl (λ seen h. h)
       (λ d has. absurd (some_not_none has may.0.no_card))
       (λ k d busy has flagged. absurd (some_not_none has may.0.no_card))
 
@@ -533,7 +533,7 @@ module _ (plan : TablePlan) (m0 : Machine) (stage : Stages) (first : Invariant m
   call_hindered (call.FrozenChild c p right) keeps may = quiet _ refl refl refl refl refl refl (λ seen h. h)
   call_hindered call.Look keeps may = quiet _ refl refl refl refl refl refl (λ seen h. h)
   call_hindered (call.LookDown from key right) keeps may = quiet _ refl refl refl refl refl refl (λ seen h. h)
-  call_hindered (call.Claim c) keeps may = claim_hindered c may (found_by s (call.Claim c) == c) refl
+  call_hindered (call.Claim c q) keeps may = claim_hindered c q may (found_by s (call.Claim c q) == c) refl
   call_hindered (call.Fill c f value) keeps may = quiet _ refl refl refl refl refl refl (λ seen h. h)
   call_hindered (call.IFlag c p from) keeps may = iflag_hindered c p from may
   call_hindered (call.IChild c p l q right) keeps may = quiet _ refl refl refl refl refl refl (λ seen h. h)

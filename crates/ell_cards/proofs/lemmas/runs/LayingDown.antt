@@ -82,9 +82,9 @@ module _ (op : Op) where
   abbrev IsLeave : Call → View → Type 0
   IsLeave c v = (c ≡ call.Leave) × (v.worker.operation ≡ Some op)
 
-  claim_laid : (b : Bool) (c : ℕ) (v : View) → (after_claim b c v).laid_down ≡ v.laid_down
-  claim_laid true c v = refl
-  claim_laid false c v = refl
+  claim_laid : (b : Bool) (c q : ℕ) (v : View) → (after_claim b c q v).laid_down ≡ v.laid_down
+  claim_laid true c q v = refl
+  claim_laid false c q v = refl
 
   flag_laid : (b : Bool) (new : Fact) (x : ℕ) (u : Update) (v : View) → (after_flag b new x u v).laid_down ≡ v.laid_down
   flag_laid true new x u v = refl
@@ -102,7 +102,7 @@ module _ (op : Op) where
   laid_before call.Leave n v e = inl (refl, e)
   laid_before (call.Begin next) n v e = absurd (some_not_none e refl)
   laid_before call.Again n v e = absurd (some_not_none e refl)
-  laid_before (call.Claim c) n v e = inr (tt, sym (claim_laid (n == c) c v) ∙ e)
+  laid_before (call.Claim c q) n v e = inr (tt, sym (claim_laid (n == c) c q v) ∙ e)
   laid_before (call.IFlag c p from) n v e = inr (tt, sym (flag_laid (n == packed from) (fact.IFlagged c) p (unpacked n) v) ∙ e)
   laid_before (call.DFlag c gp from) n v e = inr (tt, sym (flag_laid (n == packed from) (fact.DFlagged c) gp (unpacked n) v) ∙ e)
   laid_before (call.Mark c p was) n v e = inr (tt, sym (mark_laid (n == was) c p (unpacked n) v) ∙ e)

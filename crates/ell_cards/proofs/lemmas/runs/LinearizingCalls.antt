@@ -68,7 +68,7 @@ held_by plan c (call.Begin op) n v keeps may fresh h = absurd keeps
 held_by plan c call.Again n v keeps may fresh h = absurd (fresh (may.backed c h.holds h.flagged))
 held_by plan c call.Leave n v keeps may fresh h = absurd (fresh (may.backed c h.holds h.flagged))
 held_by plan c (call.Answer said) n v keeps may fresh h = inl refl
-held_by plan c (call.Claim d) n v keeps may fresh h = absurd (some_not_none h.holds may.0.no_card)
+held_by plan c (call.Claim d q) n v keeps may fresh h = absurd (some_not_none h.holds may.0.no_card)
 held_by plan c (call.IFlag d p from) n v keeps may fresh h = absurd (false≢true (sym may.may.unflagged ∙ h.flagged))
 held_by plan c (call.DFlag d gp from) n v keeps may fresh h = absurd (false≢true (sym may.may.unflagged ∙ h.flagged))
 held_by plan c (call.Mark d p was) n v keeps may fresh h = inr (mark_held (n == was) d p (unpacked n) v (after (call.Mark d p was) n v) refl c h)

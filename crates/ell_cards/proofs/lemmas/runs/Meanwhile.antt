@@ -96,7 +96,7 @@ call_goes call.Leave n h = inr (λ u. inr refl)
 call_goes (call.Answer said) n h = inr (λ u. inr refl)
 call_goes (call.Upd x) n h = inl tt
 call_goes (call.Down x right) n h = inl tt
-call_goes (call.Claim c) n h = inl (claim_goes (n == c))
+call_goes (call.Claim c q) n h = inl (claim_goes (n == c))
 call_goes (call.IFlag c p from) n h = inl tt
 call_goes (call.IChild c p l q right) n h = inl tt
 call_goes (call.IUnflag c p) n h = inl tt

@@ -85,9 +85,9 @@ mark_search false c x u v = by (is_mark_of c u.state u.card)
     by true = refl
     by false = refl
 
-claim_search : (b : Bool) (c : ℕ) (v : View) → (after_claim b c v).worker.search ≡ v.worker.search
-claim_search true c v = refl
-claim_search false c v = refl
+claim_search : (b : Bool) (c q : ℕ) (v : View) → (after_claim b c q v).worker.search ≡ v.worker.search
+claim_search true c q v = refl
+claim_search false c q v = refl
 
 -- where it stands as it stood
 met_same : (v w : View) → ((e : Told) → IsTold v e → IsTold w e) → w.worker.search ≡ v.worker.search → SearchIsMet v → SearchIsMet w
@@ -110,7 +110,7 @@ after_met plan (call.Down x right) n v may h =
       parent = λ seen e. subst (IsPassed w) (seen_met (seen_below v x n) seen e) (record { inner = may.inner; met = more (Met x) (h.node x may.stands) });
       grandparent = λ seen e. passed_still v w more seen.node (h.parent seen e);
     }
-after_met plan (call.Claim c) n v may h = met_same v (after (call.Claim c) n v) (after_told (call.Claim c) n v) (claim_search (n == c) c v) h
+after_met plan (call.Claim c q) n v may h = met_same v (after (call.Claim c q) n v) (after_told (call.Claim c q) n v) (claim_search (n == c) c q v) h
 after_met plan (call.IFlag c p from) n v may h =
     flag_met (n == packed from) (fact.IFlagged c) p (unpacked n) v (after (call.IFlag c p from) n v) refl (after_told (call.IFlag c p from) n v) h
 after_met plan (call.DFlag c gp from) n v may h =

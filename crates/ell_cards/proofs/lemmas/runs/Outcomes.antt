@@ -290,14 +290,14 @@ module _ (plan : TablePlan) (s : TableState) (h : IsReached plan s) (id : ℕ) (
       (fact.Backed c) (backed-once c) refl refl (knows_new (fact.Backed c) v.worker.knows) (knows_new (fact.Backed c) v.worker.knows)
 
   -- a claim: it is counted by the claim word
-  claim_alike : (c : ℕ) → Alike (call.Claim c)
-  claim_alike c may n on =
-      let a = went_total plan s h id v here (call.Claim c) may n on exchange.Claim c (found_by s (call.Claim c) == c) refl in
-      let b = told_total plan s h id v here (call.Claim c) may n on exchange.Claim c (n == c) refl in
-      let same = claims_alike (length plan.start) (state_after s id v (call.Claim c)) (told_of s id v (call.Claim c) n) refl
-      (claims_are_counted plan (state_after s id v (call.Claim c)) (went plan s h id v here (call.Claim c) may n on))
-      (claims_are_counted plan (told_of s id v (call.Claim c) n) on) c in
-      one_is (n == c) (found_by s (call.Claim c) == c) (omega arith)
+  claim_alike : (c q : ℕ) → Alike (call.Claim c q)
+  claim_alike c q may n on =
+      let a = went_total plan s h id v here (call.Claim c q) may n on exchange.Claim c (found_by s (call.Claim c q) == c) refl in
+      let b = told_total plan s h id v here (call.Claim c q) may n on exchange.Claim c (n == c) refl in
+      let same = claims_alike (length plan.start) (state_after s id v (call.Claim c q)) (told_of s id v (call.Claim c q) n) refl
+      (claims_are_counted plan (state_after s id v (call.Claim c q)) (went plan s h id v here (call.Claim c q) may n on))
+      (claims_are_counted plan (told_of s id v (call.Claim c q) n) on) c in
+      one_is (n == c) (found_by s (call.Claim c q) == c) (omega arith)
 
   -- a mark that is told: it is known, or the card is known unmarkable
   abbrev KnowsOf : View → ℕ → Bool → Type 0
@@ -478,7 +478,7 @@ module _ (plan : TablePlan) (s : TableState) (h : IsReached plan s) (id : ℕ) (
 
   -- no call that is no exchange is won
   pub outcomes_alike : (c : Call) → Alike c
-  outcomes_alike (call.Claim c) = claim_alike c
+  outcomes_alike (call.Claim c q) = claim_alike c q
   outcomes_alike (call.IFlag c p from) = iflag_alike c p from
   outcomes_alike (call.IChild c p l q right) = ichild_alike c p l q right
   outcomes_alike (call.IUnflag c p) = iunflag_alike c p

@@ -12,11 +12,12 @@ use Rattle.ell_cards.specs.States.{TableState}
 use Rattle.ell_cards.specs.Machines.{HasMachine}
 use Rattle.ell_cards.specs.TurnEffects.{own_words}
 use Rattle.ell_cards.specs.Turns.{Turn, Makes, Splits, Joins, view_after}
-use Rattle.ell_cards.specs.Looking.{HasThere, LooksOn, LooksReadTheirOwn}
+use Rattle.ell_cards.specs.Looking.{HasThere, LooksOn, FoundInRun, LooksReadTheirOwn}
 use Rattle.ell_cards.proofs.lemmas.seats.Seats.{set_there}
 use Rattle.ell_cards.proofs.lemmas.own_words.OwnLedgers.{ledgers_tell_the_tree}
 use Rattle.ell_cards.proofs.lemmas.runs.Starting.{starts_are_kept}
-use Rattle.ell_cards.proofs.lemmas.runs.Beginnings.{looks_are_of_one_state}
+use Rattle.ell_cards.specs.Starts.{IsReached}
+use Rattle.ell_cards.proofs.lemmas.runs.Beginnings.{looks_are_of_one_state, missing_in_one_state}
 use Rattle.ell_cards.proofs.lemmas.runs.OwnSeat.{run_free}
 use Rattle.ell_cards.proofs.lemmas.runs.TurnsOfRuns.{runs_are_lawful}
 
@@ -43,12 +44,13 @@ by_ledger plan s r seat v at free key None owns so = by (ledger_of v.worker.ledg
     by (Some (Present value)) e =
         absurd (so (value, (ledgers_tell_the_tree plan s r seat v at free key value owns).1 e))
 
--- so a pass reads its own changes: from the beginning of its look on it has its ledger, and in the state that the look is of it has
--- the tree's part of it
-pub looks_read_their_own : LooksReadTheirOwn
-looks_read_their_own plan s h seat v at key there found owns =
+-- so what a look has found of a key of the pass's own is what the pass has: from the beginning of its look on it has its ledger, and
+-- in the state that the look is of it has the tree's part of it
+own_found : (plan : TablePlan) (s : TableState) (h : IsReached plan s) (seat : ℕ) (v : View) → get_elem? s.views seat ≡ some v
+    → (key : ℕ) (there : Option ℕ) → FoundInRun plan h.first h.turns s seat (HasThere key there) → ledger_of v.worker.ledger key ≢ None
+    → there ≡ contents_in (ledger_of v.worker.ledger) key
+own_found plan s h seat v at key there f owns =
     let first = (starts_are_kept plan h.first h.starts).kept in
-    let f = looks_are_of_one_state plan v key there found h.first h.starts h.turns s h.run seat at in
     let b = f.began in
     let so = f.so in
     let begun = view_after b.from b.call.view call.Look in
@@ -64,3 +66,10 @@ looks_read_their_own plan s h seat v at key there found owns =
     by_ledger plan so.state kept seat mid.view mid.there mid.still.free key there
     (subst (λ l. ledger_of l key ≢ None) (sym ledger) owns) so.so
     ∙ ap (λ l. contents_in (ledger_of l) key) ledger
+
+-- a pass reads its own changes
+pub looks_read_their_own : LooksReadTheirOwn
+looks_read_their_own plan s h seat v at = (
+  λ key there found owns. own_found plan s h seat v at key there (looks_are_of_one_state plan v key there found h.first h.starts h.turns s h.run seat at) owns,
+  λ key missed owns. own_found plan s h seat v at key None (missing_in_one_state plan v key missed h.first h.starts h.turns s h.run seat at) owns,
+)

@@ -26,9 +26,9 @@ pub record StaysFree (v w : View) : Type 0 where
   pub free : IsFree w
   pub ledger : w.worker.ledger ≡ v.worker.ledger
 
-claim_free : (b : Bool) (c : ℕ) (v : View) → IsFree v → StaysFree v (after_claim b c v)
-claim_free true c v free = record { free = free; ledger = refl }
-claim_free false c v free = record { free = free; ledger = refl }
+claim_free : (b : Bool) (c q : ℕ) (v : View) → IsFree v → StaysFree v (after_claim b c q v)
+claim_free true c q v free = record { free = free; ledger = refl }
+claim_free false c q v free = record { free = free; ledger = refl }
 
 flag_free : (b : Bool) (new : Fact) (x : ℕ) (u : Update) (v w : View) → w.worker ≡ (after_flag b new x u v).worker → IsFree v → StaysFree v w
 flag_free true new x u v w same free = record { free = ap (λ k. k.operation) same ∙ free; ledger = ap (λ k. k.ledger) same }
@@ -49,7 +49,7 @@ call_free plan call.Look n v begins may free = absurd begins
 call_free plan call.Again n v begins may free = absurd (some_not_none may.busy free)
 call_free plan call.Leave n v begins may free = absurd (some_not_none may.busy free)
 call_free plan (call.Answer said) n v begins may free = absurd (some_not_none may.busy free)
-call_free plan (call.Claim c) n v begins may free = claim_free (n == c) c v free
+call_free plan (call.Claim c q) n v begins may free = claim_free (n == c) c q v free
 call_free plan (call.IFlag c p from) n v begins may free = flag_free (n == packed from) (fact.IFlagged c) p (unpacked n) v (after (call.IFlag c p from) n v) refl free
 call_free plan (call.DFlag c gp from) n v begins may free = flag_free (n == packed from) (fact.DFlagged c) gp (unpacked n) v (after (call.DFlag c gp from) n v) refl free
 call_free plan (call.Mark c p was) n v begins may free = mark_free (n == was) c p (unpacked n) v (after (call.Mark c p was) n v) refl free

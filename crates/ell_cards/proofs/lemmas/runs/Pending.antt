@@ -25,9 +25,9 @@ use Rattle.ell_cards.proofs.lemmas.runs.LinearizingStates.{at_end, turn_inside}
 use Rattle.ell_cards.proofs.lemmas.runs.LinearizingPoints.{after_turns, made, changed_of, more_on}
 
 -- a call that neither answers the operation in hand nor lays it down leaves it in hand
-does_claim : (b : Bool) (c : ℕ) (v : View) → (after_claim b c v).worker.operation ≡ v.worker.operation
-does_claim true c v = refl
-does_claim false c v = refl
+does_claim : (b : Bool) (c q : ℕ) (v : View) → (after_claim b c q v).worker.operation ≡ v.worker.operation
+does_claim true c q v = refl
+does_claim false c q v = refl
 
 does_flag : (b : Bool) (new : Fact) (x : ℕ) (u : Update) (v : View) → (after_flag b new x u v).worker.operation ≡ v.worker.operation
 does_flag true new x u v = refl
@@ -49,7 +49,7 @@ hand_after : (c : Call) (n : ℕ) (v : View) → KeepsOn c → Hand c v (after c
 hand_after (call.Begin op) n v keeps = absurd keeps
 hand_after (call.Answer said) n v keeps = inl (said, refl)
 hand_after call.Leave n v keeps = inr (inl refl)
-hand_after (call.Claim c) n v keeps = inr (inr (does_claim (n == c) c v))
+hand_after (call.Claim c q) n v keeps = inr (inr (does_claim (n == c) c q v))
 hand_after (call.IFlag c p from) n v keeps = inr (inr (does_flag (n == packed from) (fact.IFlagged c) p (unpacked n) v))
 hand_after (call.DFlag c gp from) n v keeps = inr (inr (does_flag (n == packed from) (fact.DFlagged c) gp (unpacked n) v))
 hand_after (call.Mark c p was) n v keeps = inr (inr (does_mark (n == was) c p (unpacked n) v))
@@ -66,7 +66,7 @@ pub does_stay : (c : Call) (n : ℕ) (v : View) → IsPlain c → (after c n v).
 does_stay (call.Begin op) n v plain = absurd plain
 does_stay (call.Answer said) n v plain = absurd plain
 does_stay call.Leave n v plain = absurd plain
-does_stay (call.Claim c) n v plain = does_claim (n == c) c v
+does_stay (call.Claim c q) n v plain = does_claim (n == c) c q v
 does_stay (call.IFlag c p from) n v plain = does_flag (n == packed from) (fact.IFlagged c) p (unpacked n) v
 does_stay (call.DFlag c gp from) n v plain = does_flag (n == packed from) (fact.DFlagged c) gp (unpacked n) v
 does_stay (call.Mark c p was) n v plain = does_mark (n == was) c p (unpacked n) v

@@ -153,47 +153,47 @@ module _ (plan : TablePlan) where
       by true same = h c (sym (ap (λ k. k.card) same) ∙ e)
       by false same = h c (sym (ap (λ k. k.card) same) ∙ e)
 
-  hand_claim : (old : Option ℕ) (low : ℕ) (b : Bool) (d : ℕ) (v : View) → (b ≡ true → low ≤ d) → LateHand old low v → LateHand old low (after_claim b d v)
-  hand_claim old low true d v fresh h c e = inr (let most = fresh refl in let same = same_Some d c e in omega arith)
-  hand_claim old low false d v fresh h c e = h c e
+  hand_claim : (old : Option ℕ) (low : ℕ) (b : Bool) (d q : ℕ) (v : View) → (b ≡ true → low ≤ d) → LateHand old low v → LateHand old low (after_claim b d q v)
+  hand_claim old low true d q v fresh h c e = inr (let most = fresh refl in let same = same_Some d c e in omega arith)
+  hand_claim old low false d q v fresh h c e = h c e
 
-  hand_by : (old : Option ℕ) (low : ℕ) (c : Call) (n : ℕ) (v : View) → KeepsOn c → low ≤ n ⊎ ((d : ℕ) → c ≢ call.Claim d) → LateHand old low v → LateHand old low (after c n v)
+  hand_by : (old : Option ℕ) (low : ℕ) (c : Call) (n : ℕ) (v : View) → KeepsOn c → low ≤ n ⊎ ((d q : ℕ) → c ≢ call.Claim d q) → LateHand old low v → LateHand old low (after c n v)
   hand_by old low (call.Begin op) n v keeps fresh h = absurd keeps
   hand_by old low call.Again n v keeps fresh h = λ c e. absurd (some_not_none e refl)
   hand_by old low call.Leave n v keeps fresh h = λ c e. absurd (some_not_none e refl)
   hand_by old low (call.Answer said) n v keeps fresh h = λ c e. absurd (some_not_none e refl)
-  hand_by old low (call.Claim d) n v keeps fresh h = hand_claim old low (n == d) d v
-      (λ e. elim fresh [ inl least ↦ (let same = eqb-true n d e in omega arith) | inr none ↦ absurd (none d refl) ]) h
+  hand_by old low (call.Claim d q) n v keeps fresh h = hand_claim old low (n == d) d q v
+      (λ e. elim fresh [ inl least ↦ (let same = eqb-true n d e in omega arith) | inr none ↦ absurd (none d q refl) ]) h
   hand_by old low (call.IFlag d p from) n v keeps fresh h = hand_flag old low (n == packed from) (fact.IFlagged d) p (unpacked n) v (after (call.IFlag d p from) n v) refl h
   hand_by old low (call.DFlag d gp from) n v keeps fresh h = hand_flag old low (n == packed from) (fact.DFlagged d) gp (unpacked n) v (after (call.DFlag d gp from) n v) refl h
   hand_by old low (call.Mark d p was) n v keeps fresh h = hand_mark old low (n == was) d p (unpacked n) v (after (call.Mark d p was) n v) refl h
   hand_by old low _ n v keeps fresh h = h
 
   -- what a call that is no claim is
-  claims_or_not : (c : Call) → ((d : ℕ) × (c ≡ call.Claim d)) ⊎ ((d : ℕ) → c ≢ call.Claim d)
-  claims_or_not (call.Claim d) = inl (d, refl)
-  claims_or_not (call.Begin op) = inr (λ d e. cc)
-  claims_or_not call.Again = inr (λ d e. cc)
-  claims_or_not call.Leave = inr (λ d e. cc)
-  claims_or_not (call.Answer said) = inr (λ d e. cc)
-  claims_or_not (call.Upd x) = inr (λ d e. cc)
-  claims_or_not (call.Down x right) = inr (λ d e. cc)
-  claims_or_not call.Next = inr (λ d e. cc)
-  claims_or_not (call.KeyOf x) = inr (λ d e. cc)
-  claims_or_not (call.ValueOf x) = inr (λ d e. cc)
-  claims_or_not (call.Info c f) = inr (λ d e. cc)
-  claims_or_not (call.FrozenChild c p right) = inr (λ d e. cc)
-  claims_or_not call.Look = inr (λ d e. cc)
-  claims_or_not (call.LookDown from key right) = inr (λ d e. cc)
-  claims_or_not (call.Fill c f value) = inr (λ d e. cc)
-  claims_or_not (call.IFlag c p from) = inr (λ d e. cc)
-  claims_or_not (call.IChild c p l q right) = inr (λ d e. cc)
-  claims_or_not (call.IUnflag c p) = inr (λ d e. cc)
-  claims_or_not (call.DFlag c gp from) = inr (λ d e. cc)
-  claims_or_not (call.Mark c p was) = inr (λ d e. cc)
-  claims_or_not (call.DChild c gp p y right) = inr (λ d e. cc)
-  claims_or_not (call.DUnflag c gp) = inr (λ d e. cc)
-  claims_or_not (call.Backtrack c gp) = inr (λ d e. cc)
+  claims_or_not : (c : Call) → ((d : ℕ) × (q : ℕ) × (c ≡ call.Claim d q)) ⊎ ((d q : ℕ) → c ≢ call.Claim d q)
+  claims_or_not (call.Claim d q) = inl (d, q, refl)
+  claims_or_not (call.Begin op) = inr (λ d q e. cc)
+  claims_or_not call.Again = inr (λ d q e. cc)
+  claims_or_not call.Leave = inr (λ d q e. cc)
+  claims_or_not (call.Answer said) = inr (λ d q e. cc)
+  claims_or_not (call.Upd x) = inr (λ d q e. cc)
+  claims_or_not (call.Down x right) = inr (λ d q e. cc)
+  claims_or_not call.Next = inr (λ d q e. cc)
+  claims_or_not (call.KeyOf x) = inr (λ d q e. cc)
+  claims_or_not (call.ValueOf x) = inr (λ d q e. cc)
+  claims_or_not (call.Info c f) = inr (λ d q e. cc)
+  claims_or_not (call.FrozenChild c p right) = inr (λ d q e. cc)
+  claims_or_not call.Look = inr (λ d q e. cc)
+  claims_or_not (call.LookDown from key right) = inr (λ d q e. cc)
+  claims_or_not (call.Fill c f value) = inr (λ d q e. cc)
+  claims_or_not (call.IFlag c p from) = inr (λ d q e. cc)
+  claims_or_not (call.IChild c p l q right) = inr (λ d q e. cc)
+  claims_or_not (call.IUnflag c p) = inr (λ d q e. cc)
+  claims_or_not (call.DFlag c gp from) = inr (λ d q e. cc)
+  claims_or_not (call.Mark c p was) = inr (λ d q e. cc)
+  claims_or_not (call.DChild c gp p y right) = inr (λ d q e. cc)
+  claims_or_not (call.DUnflag c gp) = inr (λ d q e. cc)
+  claims_or_not (call.Backtrack c gp) = inr (λ d q e. cc)
 
   -- a pass has in hand no card that was claimed before its call
   hands : (seat : ℕ) (old : Option ℕ) (low : ℕ) (s : TableState) (r : HasMachine plan s) → low ≤ r.words.next → (v : View) → get_elem? s.views seat ≡ some v → LateHand old low v
@@ -210,9 +210,9 @@ module _ (plan : TablePlan) where
         | inr c ↦ subst (LateHand old low) (sym c.3) (hand_by old low c.0 (found_by s c.0) v c.1 (fresh c.0) h)
       ]) ts s' run.2 keeps.1 w there'
     where
-      fresh : (c : Call) → low ≤ found_by s c ⊎ ((d : ℕ) → c ≢ call.Claim d)
+      fresh : (c : Call) → low ≤ found_by s c ⊎ ((d q : ℕ) → c ≢ call.Claim d q)
       fresh c = elim (claims_or_not c) [
-        | inl is ↦ inl (let word = r.next in subst (λ k. low ≤ found_by s k) (sym is.1) (omega arith))
+        | inl is ↦ inl (let word = r.next in subst (λ k. low ≤ found_by s k) (sym is.2) (omega arith))
         | inr none ↦ inr none
       ]
 

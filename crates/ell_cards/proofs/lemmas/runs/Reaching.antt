@@ -8,7 +8,7 @@ use Rattle.ell_layout.specs.declared.field.Field.{Field}
 use Rattle.ell_layout.specs.declared.field.Field.TheVariants as field
 use Rattle.ell_layout.specs.Layout.{address, table_size}
 use Rattle.ell_layout.specs.Words.{words_of}
-use Rattle.ell_layout.specs.Start.{start_words}
+use Rattle.ell_layout.specs.Start.{words_at_start}
 use Rattle.ell_cards.specs.declared.call.Call.{Call}
 use Rattle.ell_cards.specs.declared.call.Call.TheVariants as call
 use Rattle.ell_cards.specs.declared.view.Told.TheVariants.{Key, Value, Info}
@@ -23,7 +23,7 @@ use Rattle.ell_cards.specs.Starts.{MayStart, Starts, IsReached, RunFromStart}
 use Rattle.ell_cards.specs.Looking.{KeysAreFixed, ValuesAreFixed}
 use Rattle.ell_cards.specs.Stepping.{MayLoad, MayStore, MayExchange, MaySplit, MayJoin, IsTaken}
 use Rattle.ell_cards.proofs.lemmas.seats.Seats.{set_there}
-use Rattle.ell_cards.proofs.lemmas.seats.Named.{kept_named}
+use Rattle.ell_cards.proofs.lemmas.seats.Named.{kept_named, kept_shallow}
 use Rattle.ell_cards.proofs.lemmas.seats.Taken.{keys_stay, same_share}
 use Rattle.ell_cards.proofs.lemmas.stepping.AllCalls.{steps_are_events}
 use Rattle.ell_cards.proofs.lemmas.runs.Starting.{starts_are_kept, runs_from_starts}
@@ -32,7 +32,7 @@ use Rattle.ell_cards.proofs.lemmas.runs.OwnLooks.{looks_read_their_own}
 
 -- a new table is where no turn has led
 pub reached_first : (plan : TablePlan) (words : List ℕ) → MayStart plan → length words ≡ table_size plan.last_card
-    → words_of words ≡ start_words plan.start → IsReached plan (opening words [] (first_of plan))
+    → words_of words ≡ words_at_start plan.flat plan.start → IsReached plan (opening words [] (first_of plan))
 reached_first plan words may size are = record {
   first = opening words [] (first_of plan);
   starts = record { may = may; words = record { size = size; are = are }; is = refl };
@@ -102,12 +102,14 @@ module _ (plan : TablePlan) where
           record {
             view = refl;
             tells = (steps_are_events plan s (reached_kept s h) id v c here may).tells;
-            own = looks_read_their_own plan s' on id w (set_there s.views id w v here);
+            own = (looks_read_their_own plan s' on id w (set_there s.views id w v here)).0;
+            missed = (looks_read_their_own plan s' on id w (set_there s.views id w v here)).1;
             fixed = told_once s' on id w (set_there s.views id w v here);
             values = told_one_value s' on id w (set_there s.views id w v here);
             keys = keys_stay c n v;
             share = same_share c n v;
             named = kept_named plan s' (reached_kept s' on) id w (set_there s.views id w v here);
+            shallow = kept_shallow plan s' (reached_kept s' on) id w (set_there s.views id w v here);
           },
           refl,
         ),
@@ -127,7 +129,7 @@ module _ (plan : TablePlan) where
       (λ id s h homes here small.
       let x = taken (call.Fill c f value) v (λ n. value) (λ n. refl) may id s h homes here small in
       let t = x.4.0 in
-      (x.0, x.1, x.2, x.3, (record { view = t.view; tells = tt; own = t.own; fixed = t.fixed; values = t.values; keys = t.keys; share = t.share; named = t.named }, x.4.1)))
+      (x.0, x.1, x.2, x.3, (record { view = t.view; tells = tt; own = t.own; missed = t.missed; fixed = t.fixed; values = t.values; keys = t.keys; share = t.share; named = t.named; shallow = t.shallow }, x.4.1)))
 
   either_is : (b : Bool) (x y : ℕ) → either b x y ≡ (if b then x else y)
   either_is true x y = refl

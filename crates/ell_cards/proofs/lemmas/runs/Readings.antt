@@ -99,9 +99,9 @@ past_mark n false c x u v h = by (is_mark_of c u.state u.card) (is_this v.worker
     by false held = record { next = h.next; claims = hinders (is_this v.worker.card c) }
 
 -- a claim that found another word found a later one
-past_claim : (n m : ℕ) (b : Bool) (c : ℕ) (v : View) → (n == c) ≡ b → n ≤ m → v.next ≡ Some c → IsPast n v → IsPast m (after_claim b c v)
-past_claim n m true c v e low read h = record { next = read_rises n m v.next low h.next; claims = below_rises n m v.hindrances low h.claims }
-past_claim n m false c v e low read h =
+past_claim : (n m : ℕ) (b : Bool) (c q : ℕ) (v : View) → (n == c) ≡ b → n ≤ m → v.next ≡ Some c → IsPast n v → IsPast m (after_claim b c q v)
+past_claim n m true c q v e low read h = record { next = read_rises n m v.next low h.next; claims = below_rises n m v.hindrances low h.claims }
+past_claim n m false c q v e low read h =
     let apart : n ≢ c = λ same. true≢false (sym (subst (λ (k : ℕ). (n == k) ≡ true) same (eq-eqb n n refl)) ∙ e) in
     let room : c ≤ n = subst (IsRead n) read h.next in
     record { next = read_rises n m v.next low h.next; claims = ((omega arith), below_rises n m v.hindrances low h.claims) }
@@ -113,8 +113,8 @@ past_after plan n m call.Again found v low is may h = record { next = tt; claims
 past_after plan n m call.Leave found v low is may h = record { next = read_rises n m v.next low h.next; claims = below_rises n m (given_up v) low (past_given_up n v h) }
 past_after plan n m call.Next found v low is may h =
     let same = is refl in record { next = (omega arith); claims = below_rises n m v.hindrances low h.claims }
-past_after plan n m (call.Claim c) found v low is may h =
-    subst (λ (k : ℕ). IsPast m (after_claim (k == c) c v)) (sym (is refl)) (past_claim n m (n == c) c v refl low may.0.read h)
+past_after plan n m (call.Claim c q) found v low is may h =
+    subst (λ (k : ℕ). IsPast m (after_claim (k == c) c q v)) (sym (is refl)) (past_claim n m (n == c) c q v refl low may.0.read h)
 past_after plan n m (call.IFlag c p from) found v low is may h =
     let later_reading = past_flag m (found == packed from) (IFlagged c) p (unpacked found) v (past_rises n m v low h) in record { next = later_reading.next; claims = later_reading.claims }
 past_after plan n m (call.DFlag c gp from) found v low is may h =

@@ -55,9 +55,9 @@ use Rattle.ell_cards.proofs.lemmas.runs.GoingOn.{run_goes}
 abbrev Stays : View → View → Type 0
 Stays v w = (op : Op) (x : ℕ) → Does w op → StandsAt w x → Does v op × StandsAt v x
 
-claim_stays : (b : Bool) (c : ℕ) (v : View) → Stays v (after_claim b c v)
-claim_stays true c v op x does stands = (does, stands)
-claim_stays false c v op x does stands = (does, stands)
+claim_stays : (b : Bool) (c q : ℕ) (v : View) → Stays v (after_claim b c q v)
+claim_stays true c q v op x does stands = (does, stands)
+claim_stays false c q v op x does stands = (does, stands)
 
 flag_stays : (b : Bool) (new : Fact) (y : ℕ) (u : Update) (v w : View) → w.worker ≡ (after_flag b new y u v).worker → Stays v w
 flag_stays true new y u v w same op x does stands = absurd (some_not_none stands (ap (λ k. k.search.node) same))
@@ -164,11 +164,11 @@ module _ (plan : TablePlan) (seat key : ℕ) (real : key ≤ greatest_key) (aske
     goes_by call.Leave keeps may = ends _ refl
     goes_by (call.Answer said) keeps may = ends _ refl
     goes_by (call.Down x right) keeps may = goes_down x right may
-    goes_by (call.Claim c) keeps may = by (found_by s (call.Claim c) == c)
+    goes_by (call.Claim c q) keeps may = by (found_by s (call.Claim c q) == c)
       where
-        by : (b : Bool) → Goes stood (after_claim b c at.view)
-        by true = stays _ (λ op d. d) (claim_stays true c at.view)
-        by false = stays _ (λ op d. d) (claim_stays false c at.view)
+        by : (b : Bool) → Goes stood (after_claim b c q at.view)
+        by true = stays _ (λ op d. d) (claim_stays true c q at.view)
+        by false = stays _ (λ op d. d) (claim_stays false c q at.view)
     goes_by (call.IFlag c p from) keeps may = flags (found_by s (call.IFlag c p from) == packed from) (fact.IFlagged c) p (unpacked (found_by s (call.IFlag c p from))) _ refl
       where
         flags : (b : Bool) (new : Fact) (y : ℕ) (u : Update) (w : View) → w.worker ≡ (after_flag b new y u at.view).worker → Goes stood w

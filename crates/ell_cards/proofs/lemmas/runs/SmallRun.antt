@@ -1,4 +1,4 @@
-use Rattle.std.proofs.Common.{None, ◌≡◌, ◌≢◌, ℕ, ◌≤◌, zero, suc, true, Some, List, [], ◌∷◌, ◌++◌, ◌+◌, inl, inr, refl, subst, arith, ◌⊎◌}
+use Rattle.std.proofs.Common.{None, ◌≡◌, ◌≢◌, ℕ, ◌≤◌, zero, suc, true, Some, List, [], ◌∷◌, ◌++◌, ◌+◌, inl, inr, refl, sym, subst, arith, ◌∙◌, ◌⊎◌}
 use Rattle.std.specs.List.{All}
 use Rattle.std.specs.List.Sorted.{IsStrictlyIncreasing}
 use Rattle.std.specs.Map.{keys_of}
@@ -12,9 +12,11 @@ use Rattle.ell_word.specs.Node.{infinity1, infinity2}
 use Rattle.ell_core.specs.declared.fact.Fact.TheVariants.{Backed}
 use Rattle.ell_layout.specs.declared.field.Field.{Field}
 use Rattle.ell_layout.specs.declared.field.Field.TheVariants as field
-use Rattle.ell_layout.specs.Cards.{stored, insert_filling, delete_filling}
+use Rattle.ell_layout.specs.Cards.{stored, put_filling, delete_filling}
 use Rattle.ell_layout.specs.Words.{IsLeaf}
 use Rattle.ell_core.proofs.lemmas.outcomes.Decide.{some_not_none}
+use Rattle.std.proofs.lemmas.Bool.{false≢true}
+use Rattle.ell_core.proofs.lemmas.tree.Blocks.{none_plain}
 use Rattle.ell_cards.specs.declared.view.Told.{Told}
 use Rattle.ell_cards.specs.declared.view.View.{View}
 use Rattle.ell_cards.specs.Models.{Has, latest, earlier, IsFree, Knows, stored_at, MayPart}
@@ -122,7 +124,7 @@ filled_delete gp p l was tag field.RightValue = refl
 
 filled_insert : (f : Field)
     → stored_at ((field.RightValue, 70) ∷ (field.LeftValue, 50) ∷ (field.RightLeafKey, 7) ∷ (field.LeftLeafKey, 5) ∷ (field.Update, 3) ∷ (field.Right, 14)
-    ∷ (field.Left, 13) ∷ (field.Key, 7) ∷ (field.L, 5) ∷ (field.P, 4) ∷ []) f ≡ stored (tagged 0 (insert_filling 3 7 70 4 5 5 50)) f 0
+    ∷ (field.Left, 13) ∷ (field.Key, 7) ∷ (field.L, 5) ∷ (field.P, 4) ∷ []) f ≡ stored (tagged 0 (put_filling 3 7 70 7 4 5 5 50)) f 0
 filled_insert field.Gp = refl
 filled_insert field.P = refl
 filled_insert field.L = refl
@@ -191,7 +193,7 @@ delete_flags_asks =
     ▸ (refl, record { op = Delete 5; word = 3; key = infinity1; busy = refl; stands = refl; inner = refl; read = refl; told = refl; side = refl; no_card = refl })
     ▸ (refl, told_at 0 _ _ refl)
     ▸ (refl, tt)
-    ▸ (refl, (record { op = Delete 5; leaf = 5; key = 5; parent = record { node = 4; word = 3; tag = 0 }; read = refl; no_card = refl; busy = refl; stands = refl; outer = leaf_5; told = refl; behind = refl; calm = refl; wants = (refl, (record { node = 0; word = 3; tag = 0 }, refl, refl)) }, omega arith))
+    ▸ (refl, (record { op = Delete 5; below = 5; key = 5; parent = record { node = 4; word = 3; tag = 0 }; read = refl; no_card = refl; busy = refl; stands = refl; told = refl; behind = refl; calm = refl; wants = record { outer = leaf_5; same = refl; above = record { node = 0; word = 3; tag = 0 }; grandparent = refl; calm = refl } }, omega arith))
     ▸ (refl, record { holds = refl; unflagged = refl })
     ▸ (refl, record { holds = refl; unflagged = refl })
     ▸ (refl, record { holds = refl; unflagged = refl })
@@ -215,7 +217,7 @@ insert_claims_asks =
     ▸ (refl, told_at 0 _ _ refl)
     ▸ (refl, (told_at 1 _ _ refl, leaf_5))
     ▸ (refl, tt)
-    ▸ (refl, (record { op = Insert 7 70; leaf = 5; key = 5; parent = record { node = 4; word = 3; tag = 0 }; read = refl; no_card = refl; busy = refl; stands = refl; outer = leaf_5; told = refl; behind = refl; calm = refl; wants = ((λ e. let h : ◌≡◌ {A = ℕ} 5 7 = e in omega arith), (50, told_at 0 _ _ refl)) }, omega arith))
+    ▸ (refl, (record { op = Insert 7 70; below = 5; key = 5; parent = record { node = 4; word = 3; tag = 0 }; read = refl; no_card = refl; busy = refl; stands = refl; told = refl; behind = refl; calm = refl; wants = record { leaf = λ outer. ((λ e. let h : ◌≡◌ {A = ℕ} 5 7 = e in omega arith), (50, told_at 0 _ _ refl)); edge = λ inner. absurd (leaf_5 inner); fits = λ has. absurd (false≢true (sym (none_plain 4) ∙ has)); named = record { greater = λ plain. refl; branch = λ some two. absurd (omega arith) } } }, omega arith))
     ▸ tt
 
 abbrev at_3 : TableState
@@ -281,7 +283,7 @@ delete_begins_anew_asks =
     ▸ (refl, record { op = Delete 5; word = 3; key = 7; busy = refl; stands = refl; inner = refl; read = refl; told = refl; side = refl; no_card = refl })
     ▸ (refl, told_at 0 _ _ refl)
     ▸ (refl, tt)
-    ▸ (refl, (record { op = Delete 5; leaf = 13; key = 5; parent = record { node = 12; word = 3; tag = 0 }; read = refl; no_card = refl; busy = refl; stands = refl; outer = leaf_13; told = refl; behind = refl; calm = refl; wants = (refl, (record { node = 4; word = 15; tag = 1 }, refl, refl)) }, omega arith))
+    ▸ (refl, (record { op = Delete 5; below = 13; key = 5; parent = record { node = 12; word = 3; tag = 0 }; read = refl; no_card = refl; busy = refl; stands = refl; told = refl; behind = refl; calm = refl; wants = record { outer = leaf_13; same = refl; above = record { node = 4; word = 15; tag = 1 }; grandparent = refl; calm = refl } }, omega arith))
     ▸ tt
 
 abbrev at_7 : TableState
@@ -310,7 +312,7 @@ at_8 = run_leads at_7 delete_ends
 look_asks : RunAsks small_plan at_8 look
 look_asks =
     (refl, refl)
-    ▸ (refl, record { come = record { glance = record { node = 4; low = 0; high = greatest_key + 1 }; among = latest _ _; there = refl; from = omega arith; upto = omega arith }; met = told_at 0 _ _ refl; inner = refl; told = told_at 14 _ _ refl })
+    ▸ (refl, record { come = record { glance = record { node = 4; low = 0; high = greatest_key + 1; whole = true }; among = latest _ _; there = refl; from = omega arith; upto = omega arith }; as_one = λ is. absurd (false≢true is); met = told_at 0 _ _ refl; inner = refl; key = infinity1; told = told_at 14 _ _ refl; goes = record { low = omega arith; high = omega arith; whole = λ is. absurd (false≢true is) } })
     ▸ (refl, told_at 0 _ _ refl)
     ▸ (refl, (told_at 1 _ _ refl, leaf_14))
     ▸ tt

@@ -39,9 +39,9 @@ AnswersNothing (call.Answer said) = ⊥
 AnswersNothing _ = Unit {0}
 
 -- only an answer adds to what a pass was answered
-answers_claim : (b : Bool) (c : ℕ) (v : View) → (after_claim b c v).answers ≡ v.answers
-answers_claim true c v = refl
-answers_claim false c v = refl
+answers_claim : (b : Bool) (c q : ℕ) (v : View) → (after_claim b c q v).answers ≡ v.answers
+answers_claim true c q v = refl
+answers_claim false c q v = refl
 
 answers_flag : (b : Bool) (new : Fact) (x : ℕ) (u : Update) (v : View) → (after_flag b new x u v).answers ≡ v.answers
 answers_flag true new x u v = refl
@@ -57,7 +57,7 @@ answers_mark false c x u v = by (is_mark_of c u.state u.card)
 
 pub answers_stay : (c : Call) (n : ℕ) (v : View) → AnswersNothing c → (after c n v).answers ≡ v.answers
 answers_stay (call.Answer said) n v h = absurd h
-answers_stay (call.Claim c) n v h = answers_claim (n == c) c v
+answers_stay (call.Claim c q) n v h = answers_claim (n == c) c q v
 answers_stay (call.IFlag c p from) n v h = answers_flag (n == packed from) (fact.IFlagged c) p (unpacked n) v
 answers_stay (call.DFlag c gp from) n v h = answers_flag (n == packed from) (fact.DFlagged c) gp (unpacked n) v
 answers_stay (call.Mark c p was) n v h = answers_mark (n == was) c p (unpacked n) v
@@ -89,7 +89,7 @@ call_spent plan call.Look n v may none spent = record { free = spent.free; ledge
 call_spent plan (call.Answer said) n v may none spent = absurd (some_not_none may.busy spent.free)
 call_spent plan call.Again n v may none spent = absurd (some_not_none may.busy spent.free)
 call_spent plan call.Leave n v may none spent = absurd (some_not_none may.busy spent.free)
-call_spent plan (call.Claim c) n v may none spent = other plan (call.Claim c) n v tt tt may spent
+call_spent plan (call.Claim c q) n v may none spent = other plan (call.Claim c q) n v tt tt may spent
 call_spent plan (call.IFlag c p from) n v may none spent = other plan (call.IFlag c p from) n v tt tt may spent
 call_spent plan (call.DFlag c gp from) n v may none spent = other plan (call.DFlag c gp from) n v tt tt may spent
 call_spent plan (call.Mark c p was) n v may none spent = other plan (call.Mark c p was) n v tt tt may spent

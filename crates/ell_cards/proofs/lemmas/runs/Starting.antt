@@ -1,4 +1,4 @@
-use Rattle.std.proofs.Common.{false, ◌≡◌, ◌↔◌, ◌++◌, Some, List, [], ◌∷◌, refl, sym, subst, inl, inr}
+use Rattle.std.proofs.Common.{◌≡◌, ◌↔◌, ◌++◌, Some, List, [], ◌∷◌, refl, sym, subst, inl, inr}
 use Rattle.std.specs.Prelude.{Contains}
 use Rattle.ell_ops.specs.Contents.{contents_of}
 use Rattle.ell_ops.specs.Meaning.{key_of}
@@ -41,7 +41,7 @@ starts_are_kept plan s starts = subst (StartIsKept plan) (sym starts.is) (openin
 pub starts_have_their_keys : StartsHaveTheirKeys
 starts_have_their_keys plan s starts k value =
     subst (λ w. IsTreePair w k value ↔ (contents_of plan.start k ≡ Some value)) (sym starts.words.are)
-    (start_pairs plan.start starts.may.start_ascending (start_real plan starts.may) false k value)
+    (start_pairs plan.start starts.may.start_ascending (start_real plan starts.may) plan.flat k value)
 
 -- nothing is in hand, and the key is owned or shared
 pub first_pass_may_begin : FirstPassMayBegin

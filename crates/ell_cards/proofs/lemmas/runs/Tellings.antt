@@ -28,8 +28,8 @@ no_greater_next plan s h id v here n greater on =
     omega arith
 
 pub no_untried_claim_lost : NoUntriedClaimLost
-no_untried_claim_lost plan s h id v here on =
-    let w = after_claim false (get_or s.words 0 0) v in
+no_untried_claim_lost plan s h id v here node_key on =
+    let w = after_claim false (get_or s.words 0 0) node_key v in
     let past = readings_are_past plan _ on id w (set_there s.views id w v here) in
     let low = past.claims.0 in
     omega arith

@@ -63,7 +63,7 @@ keeps_first seat (Joins one other) ts h = ((h.0, h.1), h.2)
 
 -- a call claims no card below the claim word
 claims_above : (s : TableState) (c : Call) (d : ℕ) → d < get_or s.words 0 0 → times exchange.Claim d (won_by c (found_by s c)) ≡ 0
-claims_above s (call.Claim e) d low = claims_one (get_or s.words 0 0 == e) e d ∙ by (get_or s.words 0 0 == e) refl
+claims_above s (call.Claim e q) d low = claims_one (get_or s.words 0 0 == e) e d ∙ by (get_or s.words 0 0 == e) refl
   where
     none : d ≢ e → one (d == e) ≡ 0
     none other = ap one (ne_eqb d e other)
@@ -74,7 +74,7 @@ claims_above s (call.Claim e) d low = claims_one (get_or s.words 0 0 == e) e d �
       | inl same ↦ (let at = eqb-true (get_or s.words 0 0) e is in absurd (omega arith))
       | inr other ↦ none other
     ]
-claims_above s c d low = claims_none c (found_by s c) d (λ e q. (cc))
+claims_above s c d low = claims_none c (found_by s c) d (λ d q e. (cc))
 
 -- so after a call it has those that it had
 own_same : (s : TableState) (v : View) (c : Call) (d : ℕ) → d < get_or s.words 0 0 → times exchange.Claim d (view_after s v c).won ≡ times exchange.Claim d v.won
@@ -430,8 +430,8 @@ module _ (plan : TablePlan) where
 
     module _ (c : Call) (made : t ≡ Makes seat c) (at : get_elem? s'.views seat ≡ some (view_after s v c)) where
       -- a claim
-      claim_rests : (d : ℕ) (b : Bool) → (found_by s (call.Claim d) == d) ≡ b → May plan (call.Claim d) v → Grows s v s' (after_claim b d v) → Rests s v s' (after_claim b d v)
-      claim_rests d true e may g = record {
+      claim_rests : (d q : ℕ) (b : Bool) → (found_by s (call.Claim d q) == d) ≡ b → May plan (call.Claim d q) v → Grows s v s' (after_claim b d q v) → Rests s v s' (after_claim b d q v)
+      claim_rests d q true e may g = record {
         hindered = refl;
         operation = λ op busy. busy;
         aside = λ x own no.
@@ -440,10 +440,10 @@ module _ (plan : TablePlan) where
               subst (λ (b : Bool). 0 < (if b then 1 else 0) + times exchange.Claim x v.won → 0 < times exchange.Claim x v.won) (sym (ne_eqb x d other)) (λ m. omega arith) own,
               λ has. some_not_none has may.0.no_card,
             );
-        lost = lost_on (after_claim true d v).won g.own;
+        lost = lost_on (after_claim true d q v).won g.own;
       }
-      claim_rests d false e may g = alike (after_claim false d v) g refl refl refl (λ x. refl)
-          ((hands_are_claimed plan s here seat v there).read d may.0.leaf may.0.read may.0.no_card may.0.stands, lost_on v.won (λ x low. refl))
+      claim_rests d q false e may g = alike (after_claim false d q v) g refl refl refl (λ x. refl)
+          ((hands_are_claimed plan s here seat v there).read d may.0.below may.0.read may.0.no_card may.0.stands, lost_on v.won (λ x low. refl))
 
       -- a flag
       flag_rests : (k : Exchange) (d x : ℕ) (new : Fact) (n : ℕ) (b : Bool) (w : View) → w ≡ exchanged (if_won b k d) n (after_flag b new x (unpacked n) v)
@@ -510,7 +510,7 @@ module _ (plan : TablePlan) where
     call_rests call.Again goes made may at g = absurd goes
     call_rests call.Leave goes made may at g = absurd goes
     call_rests (call.Answer said) goes made may at g = absurd goes
-    call_rests (call.Claim c) goes made may at g = claim_rests (call.Claim c) made at c (found_by s (call.Claim c) == c) refl may g
+    call_rests (call.Claim c q) goes made may at g = claim_rests (call.Claim c q) made at c q (found_by s (call.Claim c q) == c) refl may g
     call_rests (call.IFlag c p from) goes made may at g =
         let i = call.IFlag c p from in
         let n = found_by s i in
@@ -524,7 +524,7 @@ module _ (plan : TablePlan) where
     call_rests (call.Mark c p was) goes made may at g =
         mark_rests (call.Mark c p was) made at c p was (found_by s (call.Mark c p was)) (found_by s (call.Mark c p was) == was) g
     call_rests c goes made may at g =
-        let same = claims_same c (found_by s c) v (λ e q. (cc)) in
+        let same = claims_same c (found_by s c) v (λ d q e. (cc)) in
         alike (view_after s v c) g refl refl refl same (lost_on (view_after s v c).won (λ e low. same e))
 
     -- an operation that was laid down, or answered
@@ -611,7 +611,7 @@ module _ (plan : TablePlan) where
   call_stays call.Again n v keeps may free = absurd (some_not_none may.busy free)
   call_stays call.Leave n v keeps may free = absurd (some_not_none may.busy free)
   call_stays (call.Answer said) n v keeps may free = absurd (some_not_none may.busy free)
-  call_stays (call.Claim c) n v keeps may free = absurd (some_not_none may.0.busy free)
+  call_stays (call.Claim c q) n v keeps may free = absurd (some_not_none may.0.busy free)
   call_stays (call.IFlag c p from) n v keeps may free = absurd (some_not_none may.busy free)
   call_stays (call.DFlag c gp from) n v keeps may free = absurd (some_not_none may.busy free)
   call_stays (call.Mark c p was) n v keeps may free = by (n == was)

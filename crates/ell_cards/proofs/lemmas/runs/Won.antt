@@ -59,7 +59,7 @@ total k c s = times_in k c s.views
 
 -- what a call that found this adds to what its pass won
 abbrev pub won_by : Call → ℕ → List (Exchange × ℕ)
-won_by (call.Claim c) n = if_won (n == c) exchange.Claim c
+won_by (call.Claim c q) n = if_won (n == c) exchange.Claim c
 won_by (call.IFlag c p from) n = if_won (n == packed from) exchange.IFlag c
 won_by (call.IChild c p l q right) n = if_won (n == linked l) exchange.IChild c
 won_by (call.IUnflag c p) n = if_won (n == iflag c) exchange.IUnflag c
@@ -70,9 +70,9 @@ won_by (call.DUnflag c gp) n = if_won (n == dflag c) exchange.DUnflag c
 won_by (call.Backtrack c gp) n = if_won (n == dflag c) exchange.Backtrack c
 won_by _ n = []
 
-claim_won : (b : Bool) (c : ℕ) (v : View) → (after_claim b c v).won ≡ if_won b exchange.Claim c ++ v.won
-claim_won true c v = refl
-claim_won false c v = refl
+claim_won : (b : Bool) (c q : ℕ) (v : View) → (after_claim b c q v).won ≡ if_won b exchange.Claim c ++ v.won
+claim_won true c q v = refl
+claim_won false c q v = refl
 
 flag_won : (b : Bool) (new : Fact) (x : ℕ) (u : Update) (v : View) → (after_flag b new x u v).won ≡ v.won
 flag_won true new x u v = refl
@@ -87,7 +87,7 @@ mark_won false c x u v = by (is_mark_of c u.state u.card)
     by false = refl
 
 pub after_won : (c : Call) (n : ℕ) (v : View) → (after c n v).won ≡ won_by c n ++ v.won
-after_won (call.Claim c) n v = claim_won (n == c) c v
+after_won (call.Claim c q) n v = claim_won (n == c) c q v
 after_won (call.IFlag c p from) n v = ap (λ ws. if_won (n == packed from) exchange.IFlag c ++ ws) (flag_won (n == packed from) (fact.IFlagged c) p (unpacked n) v)
 after_won (call.DFlag c gp from) n v = ap (λ ws. if_won (n == packed from) exchange.DFlag c ++ ws) (flag_won (n == packed from) (fact.DFlagged c) gp (unpacked n) v)
 after_won (call.Mark c p was) n v = ap (λ ws. if_won (n == was) exchange.Mark c ++ ws) (mark_won (n == was) c p (unpacked n) v)
@@ -172,7 +172,7 @@ no_claim true k c d more = by (d == c)
     by false = refl
 
 call_counts : (k : Exchange) → 0 < number k → (c : Call) (d n : ℕ) → times k d (won_by c n) ≡ count k (if is_won (atomic_of c) n then win_of c d else [])
-call_counts k more (call.Claim c) d n = no_claim (n == c) k c d more
+call_counts k more (call.Claim c q) d n = no_claim (n == c) k c d more
 call_counts k more (call.IFlag c p from) d n = single (n == packed from) exchange.IFlag c k d
 call_counts k more (call.IChild c p l q right) d n = single (n == linked l) exchange.IChild c k d
 call_counts k more (call.IUnflag c p) d n = single (n == iflag c) exchange.IUnflag c k d

@@ -180,7 +180,7 @@ module _ (plan : TablePlan) (s : TableState) (r : HasMachine plan s) (id : ℕ) 
       size = size ∙ r.size;
       next = next ∙ r.next;
       flat = flat ∙ r.flat;
-      plain = r.plain;
+      shape = r.shape;
       settled = λ c f still. calm c f still ∙ r.settled c f still;
       views = λ j u e. ⊎_elim
           (λ (t : (j ≡ id) × (after ≡ u)). subst (ViewHolds list r.words r.stages) t.1 own)

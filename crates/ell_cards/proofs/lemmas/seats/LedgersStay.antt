@@ -6,9 +6,9 @@ use Rattle.ell_cards.specs.declared.view.View.{View}
 use Rattle.ell_cards.specs.Changes.{after_claim, after_flag, after_mark, is_mark_of, with_fact, unmarking}
 
 -- a claim, a flag and a mark leave the ledger
-pub claim_ledger : (b : Bool) (c : ℕ) (v : View) → (after_claim b c v).worker.ledger ≡ v.worker.ledger
-claim_ledger true c v = refl
-claim_ledger false c v = refl
+pub claim_ledger : (b : Bool) (c q : ℕ) (v : View) → (after_claim b c q v).worker.ledger ≡ v.worker.ledger
+claim_ledger true c q v = refl
+claim_ledger false c q v = refl
 
 pub flag_ledger : (b : Bool) (new : Fact) (x : ℕ) (u : Update) (v : View) → (after_flag b new x u v).worker.ledger ≡ v.worker.ledger
 flag_ledger true new x u v = refl
@@ -23,9 +23,9 @@ mark_ledger false c x u v = by (is_mark_of c u.state u.card)
     by false = refl
 
 -- a claim, a flag and a mark leave the keys that may have an owner
-pub claim_list : (b : Bool) (c : ℕ) (v : View) → (after_claim b c v).worker.shared ≡ v.worker.shared
-claim_list true c v = refl
-claim_list false c v = refl
+pub claim_list : (b : Bool) (c q : ℕ) (v : View) → (after_claim b c q v).worker.shared ≡ v.worker.shared
+claim_list true c q v = refl
+claim_list false c q v = refl
 
 pub flag_list : (b : Bool) (new : Fact) (x : ℕ) (u : Update) (v : View) → (after_flag b new x u v).worker.shared ≡ v.worker.shared
 flag_list true new x u v = refl

@@ -18,6 +18,8 @@ use Rattle.ell_cards.specs.declared.view.View.{View}
 use Rattle.ell_cards.specs.Naming.{InfoIsNamed, EntryIsNamed, SeenIsNamed, IsNamed}
 use Rattle.ell_cards.specs.States.{TableState}
 use Rattle.ell_cards.specs.Machines.{EntryHolds, HasMachine}
+use Rattle.ell_cards.specs.Depths.{deepest, IsShallow}
+use Rattle.ell_cards.proofs.lemmas.views.Depths.{told_shallow}
 use Rattle.ell_cards.proofs.lemmas.Ranks.{level_within}
 use Rattle.ell_cards.proofs.lemmas.seats.Seats.{mine_is, relies, stands_born, born_claimed}
 use Rattle.std.proofs.lemmas.Bool.{cases_Bool}
@@ -55,12 +57,20 @@ module _ (plan : TablePlan) (s : TableState) (r : HasMachine plan s) (id : ℕ) 
   -- what was told
   entry_fits : (e : Told) → EntryHolds r.words r.stages e → EntryIsNamed plan.last_card e
   entry_fits (Met x) h = born_fits x h
-  entry_fits (Depth x d) h = (let room = level_within r.words r.plain plan.last_card x (born_fits x h.0) in let at = h.1 in omega arith)
+  entry_fits (Depth x d) h = born_fits x h.0
   entry_fits (Key x key) h = born_fits x h.0
   entry_fits (Value x value) h = born_fits x h.0
   entry_fits (Info c f x) h = (claimed_fits c h.0, info_fits c f x h.0 h.2)
   entry_fits (Expects c tag) h = (claimed_fits c h.0, (let low = expected_fits c h.0 in let room = claimed_fits c h.0 in let is = h.1 in omega arith))
   entry_fits (Frozen c right x) h = (claimed_fits c h.0, born_fits x h.3)
+
+  -- no depth was told that a node of the table may not have
+  pub kept_shallow : (x : ℕ) → IsShallow (deepest plan) v x
+  kept_shallow x = told_shallow (deepest plan) v x (λ d told.
+      let h = (r.views id v here).entries (Depth x d) told in
+      let most = level_within plan r.words r.shape x (born_fits x h.0) in
+      let at = h.1 in
+      omega arith)
 
   -- all that the pass names
   pub kept_named : IsNamed plan.last_card v

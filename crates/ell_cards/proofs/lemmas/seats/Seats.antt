@@ -186,7 +186,7 @@ module _ (plan : TablePlan) (s : TableState) (r : HasMachine plan s) (id : ℕ) 
       size = moves.size ∙ r.size;
       next = moves.next;
       flat = moves.flat ∙ (r.flat ∙ sym led.words.flat);
-      plain = led.words.flat ∙ r.plain;
+      shape = led.words.flat ∙ r.shape;
       settled = λ c f calm. by c f calm (waits (r.stages c)) refl;
       views = λ j u e. ⊎_elim
           (λ (t : (j ≡ id) × (after ≡ u)). subst (ViewHolds list new stages) t.1 own)

@@ -45,7 +45,7 @@ answered_keys _ _ l = refl
 -- no step call changes which keys a pass owns
 pub keys_stay : (c : Call) (n : ℕ) (v : View) → ledger_keys (after c n v).worker.ledger ≡ ledger_keys v.worker.ledger
 keys_stay (call.Answer said) n v = answered_keys v.worker.operation said v.worker.ledger
-keys_stay (call.Claim c) n v = ap ledger_keys (claim_ledger (n == c) c v)
+keys_stay (call.Claim c q) n v = ap ledger_keys (claim_ledger (n == c) c q v)
 keys_stay (call.IFlag c p from) n v = ap ledger_keys (flag_ledger (n == packed from) (IFlagged c) p (unpacked n) v)
 keys_stay (call.DFlag c gp from) n v = ap ledger_keys (flag_ledger (n == packed from) (DFlagged c) gp (unpacked n) v)
 keys_stay (call.Mark c p was) n v = ap ledger_keys (mark_ledger (n == was) c p (unpacked n) v)
@@ -53,16 +53,16 @@ keys_stay _ n v = refl
 
 -- nor the keys that may have an owner, as it knows them
 pub owned_stays : (c : Call) (n : ℕ) (v : View) → (after c n v).worker.shared ≡ v.worker.shared
-owned_stays (call.Claim c) n v = claim_list (n == c) c v
+owned_stays (call.Claim c q) n v = claim_list (n == c) c q v
 owned_stays (call.IFlag c p from) n v = flag_list (n == packed from) (IFlagged c) p (unpacked n) v
 owned_stays (call.DFlag c gp from) n v = flag_list (n == packed from) (DFlagged c) gp (unpacked n) v
 owned_stays (call.Mark c p was) n v = mark_list (n == was) c p (unpacked n) v
 owned_stays _ n v = refl
 
 -- nor the share
-share_claim : (b : Bool) (c : ℕ) (v : View) → (after_claim b c v).share ≡ v.share
-share_claim true c v = refl
-share_claim false c v = refl
+share_claim : (b : Bool) (c q : ℕ) (v : View) → (after_claim b c q v).share ≡ v.share
+share_claim true c q v = refl
+share_claim false c q v = refl
 
 share_flag : (b : Bool) (new : Fact) (x : ℕ) (u : Update) (v : View) → (after_flag b new x u v).share ≡ v.share
 share_flag true new x u v = refl
@@ -77,7 +77,7 @@ share_mark false c x u v = by (is_mark_of c u.state u.card)
     by false = refl
 
 pub share_stays : (c : Call) (n : ℕ) (v : View) → (after c n v).share ≡ v.share
-share_stays (call.Claim c) n v = share_claim (n == c) c v
+share_stays (call.Claim c q) n v = share_claim (n == c) c q v
 share_stays (call.IFlag c p from) n v = share_flag (n == packed from) (IFlagged c) p (unpacked n) v
 share_stays (call.DFlag c gp from) n v = share_flag (n == packed from) (DFlagged c) gp (unpacked n) v
 share_stays (call.Mark c p was) n v = share_mark (n == was) c p (unpacked n) v

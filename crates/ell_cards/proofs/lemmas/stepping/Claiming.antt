@@ -1,14 +1,14 @@
-use Rattle.std.proofs.Common.{◌≡◌, ◌≢◌, ◌==◌, ℕ, ◌+◌, ◌<◌, ◌≤◌, if◌then◌else◌, max, Bool, true, false, List, [], ◌∷◌, ◌++◌, length, get_or, set, Some, None, refl, sym, ap, ◌∙◌, subst, inl, inr, arith, eqb-true, true≢false, length-set, get_or-set_same, get_or-set_other, eq-eqb}
+use Rattle.std.proofs.Common.{◌≡◌, ◌≢◌, ◌==◌, ℕ, ◌+◌, ◌%◌, ◌<◌, ◌≤◌, if◌then◌else◌, Bool, true, false, List, [], ◌∷◌, ◌++◌, length, get_or, set, Some, None, refl, sym, ap, ◌∙◌, subst, inl, inr, arith, eqb-true, true≢false, length-set, get_or-set_same, get_or-set_other, eq-eqb}
 use Rattle.ell_core.specs.history.Later.{StagesLater}
 use Rattle.std.specs.Prelude.{unwrap_or, Option}
 use Rattle.std.proofs.lemmas.Option.{same_Some}
 use Rattle.ell_core.specs.declared.put.Put.{Put}
 use Rattle.ell_core.specs.declared.view.Seen.{Seen}
-use Rattle.ell_core.specs.acts.Searching.{put_of, TakesPut}
+use Rattle.ell_core.specs.acts.Searching.{put_of, GivesPlace}
 use Rattle.ell_core.proofs.lemmas.keeping.Puts.{added, replacing}
 use Rattle.ell_core.specs.statements.Told.{is_fixed}
-use Rattle.ell_cards.specs.Models.{TablePlan}
-use Rattle.ell_cards.specs.Models.{IsTold, earlier}
+use Rattle.ell_cards.specs.Models.{TablePlan, flat_from}
+use Rattle.ell_cards.specs.Models.{earlier}
 use mathlib.Core.Option.{some}
 use lib.ListN.{get_elem?}
 use Rattle.ell_ops.specs.declared.op.Op.{Op}
@@ -21,12 +21,14 @@ use Rattle.ell_core.specs.declared.event.Stepped.TheVariants.{Moved}
 use Rattle.ell_layout.specs.declared.field.Field.{Field}
 use Rattle.ell_layout.specs.declared.field.Field.TheVariants as field
 use Rattle.ell_layout.specs.Layout.{address, listed}
-use Rattle.ell_layout.specs.Words.{Words, word, table_word}
-use Rattle.ell_core.specs.state.Machine.{worker_of}
+use Rattle.ell_layout.specs.Words.{Words, IsLeaf, has_block, word, table_word}
+use Rattle.ell_core.specs.state.Machine.{Worker, worker_of}
 use Rattle.ell_layout.specs.Cards as layout
-use Rattle.ell_layout.specs.Cards.{insert_filling, value_below, delete_filling, claimed, stored, tagged_for}
-use Rattle.ell_layout.proofs.lemmas.Puts.{put_filling-leaf, value_below-leaf}
-use Rattle.ell_core.proofs.lemmas.tree.Blocks.{no_block-plain}
+use Rattle.ell_layout.specs.Cards.{delete_filling, claimed, stored, tagged_for}
+use Rattle.ell_block.specs.Blocks.{InBlockOf}
+use Rattle.ell_word.specs.Node.{IsInternal}
+use Rattle.ell_core.specs.tree.Flat.{IsInBlock, IsNodeKey}
+use Rattle.ell_core.specs.statements.StepLaws.{HasSeen}
 use Rattle.ell_core.specs.acts.Events.{Row, Happens}
 use Rattle.ell_core.specs.history.Stages.{Stages, is_claimed, waits}
 use Rattle.ell_core.proofs.lemmas.stages.Waiting.{kind-waits, unclaimed-no_start, unclaimed-wins, unclaimed-settled, waits-claimed}
@@ -40,8 +42,8 @@ use Rattle.ell_cards.specs.declared.view.Told.{Told}
 use Rattle.ell_cards.specs.declared.view.Told.TheVariants.{Key, Info, Value, Expects}
 use Rattle.ell_cards.specs.declared.view.View.{View}
 use Rattle.ell_cards.specs.Models.{Has}
-use Rattle.ell_cards.specs.Changes.{told_value, told_filling, filling_for, filling_of, after_claim, tagged, tag_of_claim, expected_tag}
-use Rattle.ell_cards.specs.Guards.{MayClaim, Wants}
+use Rattle.ell_cards.specs.Changes.{told_value, value_told, told_filling, filling_for, filling_of, after_claim, tagged, tag_of_claim, expected_tag}
+use Rattle.ell_cards.specs.Guards.{MayClaim, Wants, WantsInsert}
 use Rattle.ell_cards.specs.States.{TableState, seated}
 use Rattle.ell_cards.specs.Machines.{EntryHolds, HasMachine}
 use Rattle.ell_cards.specs.Laws.{IsEvent}
@@ -49,7 +51,7 @@ use Rattle.ell_cards.specs.Calls.{Becomes}
 use Rattle.ell_cards.proofs.lemmas.words.Fields.{table_says, table_blank}
 use Rattle.ell_cards.proofs.lemmas.views.Entries.{filling_more}
 use Rattle.ell_cards.proofs.lemmas.seats.Entries.{with_entry, told_value_is}
-use Rattle.ell_cards.proofs.lemmas.seats.Seats.{machine, leads, kept_event, mine, becomes, mine_sound, stands_born, over_cut, walk_on, entries_on}
+use Rattle.ell_cards.proofs.lemmas.seats.Seats.{machine, leads, kept_event, mine, mine_is, relies, becomes, mine_sound, stands_born, over_cut, walk_on, entries_on}
 use Rattle.ell_cards.proofs.lemmas.seats.Frames.{IsReached, waits_on, kept_told, same_machine}
 use Rattle.ell_cards.proofs.lemmas.stepping.Looks.{here_key}
 
@@ -85,14 +87,23 @@ taking c tag es v = record v {
 }
 
 -- what fills a card for an operation that puts something
-pub put_filling : (op : Op) (what : Put) → put_of op ≡ Some what → (c leaf : ℕ) (parent : Seen) (above : Option Seen) (key : ℕ) (value_of : ℕ → ℕ)
-    → insert_filling c what.key what.value parent.node leaf key (value_of leaf) ≡ filling_for c (Some op) (Some leaf) (Some parent) above key value_of
-put_filling (Find k) what e c leaf parent above key value_of = absurd cc
-put_filling (Insert k value) what e c leaf parent above key value_of =
-    ap (λ (t : Put). insert_filling c t.key t.value parent.node leaf key (value_of leaf)) (sym (same_Some (added k value) what e))
-put_filling (Delete k) what e c leaf parent above key value_of = absurd cc
-put_filling (Swap k was value) what e c leaf parent above key value_of =
-    ap (λ (t : Put). insert_filling c t.key t.value parent.node leaf key (value_of leaf)) (sym (same_Some (replacing k was value) what e))
+pub put_filling : (op : Op) (what : Put) → put_of op ≡ Some what → (c node_key below : ℕ) (parent : Seen) (above : Option Seen) (key : ℕ) (value_of : ℕ → ℕ)
+    → layout.put_filling c what.key what.value node_key parent.node below key (value_of below)
+    ≡ filling_for c node_key (Some op) (Some below) (Some parent) above key value_of
+put_filling (Find k) what e c node_key below parent above key value_of = absurd cc
+put_filling (Insert k value) what e c node_key below parent above key value_of =
+    ap (λ (t : Put). layout.put_filling c t.key t.value node_key parent.node below key (value_of below)) (sym (same_Some (added k value) what e))
+put_filling (Delete k) what e c node_key below parent above key value_of = absurd cc
+put_filling (Swap k was value) what e c node_key below parent above key value_of =
+    ap (λ (t : Put). layout.put_filling c t.key t.value node_key parent.node below key (value_of below)) (sym (same_Some (replacing k was value) what e))
+
+-- the value that was told of a leaf, as that is told in the machine; an internal node has none
+told_below : (w : Words) (told : List Told) (x : ℕ) → (IsLeaf x → told_value told x ≡ w.value x) → value_told told x ≡ layout.value_below w x
+told_below w told x outer = by (x % 4 == 0) refl
+  where
+    by : (b : Bool) → (x % 4 == 0) ≡ b → (if b then 0 else told_value told x) ≡ (if b then 0 else w.value x)
+    by true inner = refl
+    by false leaf = outer (λ e. true≢false (sym (eq-eqb (x % 4) 0 e) ∙ leaf))
 
 -- the tag that it expects is the one that its search read at the parent
 put_tag : (op : Op) (what : Put) → put_of op ≡ Some what → (parent : Seen) (above : Option Seen) → parent.tag ≡ tag_of_claim (Some op) (Some parent) above
@@ -106,19 +117,20 @@ abbrev IsTagged : ℕ → List (Field × ℕ) → Type 0
 IsTagged tag es = (f : Field) → tagged_for f tag (stored es f 0) ≡ stored (tagged tag es) f 0
 
 -- so are those of an insert or a swap
-insert_tagged : (tag c k value parent leaf leaf_key leaf_value : ℕ) → IsTagged tag (insert_filling c k value parent leaf leaf_key leaf_value)
-insert_tagged tag c k value parent leaf leaf_key leaf_value field.Gp = refl
-insert_tagged tag c k value parent leaf leaf_key leaf_value field.P = refl
-insert_tagged tag c k value parent leaf leaf_key leaf_value field.L = refl
-insert_tagged tag c k value parent leaf leaf_key leaf_value field.Was = refl
-insert_tagged tag c k value parent leaf leaf_key leaf_value field.Key = refl
-insert_tagged tag c k value parent leaf leaf_key leaf_value field.Left = refl
-insert_tagged tag c k value parent leaf leaf_key leaf_value field.Right = refl
-insert_tagged tag c k value parent leaf leaf_key leaf_value field.Update = refl
-insert_tagged tag c k value parent leaf leaf_key leaf_value field.LeftLeafKey = refl
-insert_tagged tag c k value parent leaf leaf_key leaf_value field.RightLeafKey = refl
-insert_tagged tag c k value parent leaf leaf_key leaf_value field.LeftValue = refl
-insert_tagged tag c k value parent leaf leaf_key leaf_value field.RightValue = refl
+insert_tagged : (tag c k value node_key parent below below_key below_value : ℕ)
+    → IsTagged tag (layout.put_filling c k value node_key parent below below_key below_value)
+insert_tagged tag c k value node_key parent below below_key below_value field.Gp = refl
+insert_tagged tag c k value node_key parent below below_key below_value field.P = refl
+insert_tagged tag c k value node_key parent below below_key below_value field.L = refl
+insert_tagged tag c k value node_key parent below below_key below_value field.Was = refl
+insert_tagged tag c k value node_key parent below below_key below_value field.Key = refl
+insert_tagged tag c k value node_key parent below below_key below_value field.Left = refl
+insert_tagged tag c k value node_key parent below below_key below_value field.Right = refl
+insert_tagged tag c k value node_key parent below below_key below_value field.Update = refl
+insert_tagged tag c k value node_key parent below below_key below_value field.LeftLeafKey = refl
+insert_tagged tag c k value node_key parent below below_key below_value field.RightLeafKey = refl
+insert_tagged tag c k value node_key parent below below_key below_value field.LeftValue = refl
+insert_tagged tag c k value node_key parent below below_key below_value field.RightValue = refl
 
 -- and of a delete
 delete_tagged : (tag gp parent leaf was : ℕ) → IsTagged tag (delete_filling gp parent leaf was)
@@ -215,45 +227,50 @@ module _ (plan : TablePlan) (s : TableState) (r : HasMachine plan s) (id : ℕ) 
       (subst (λ n. IsReached plan s r id v here (set s.words 0 (next + 1)) (claimed r.words n es) (taking next n es v) act.Claim Moved) e at)
 
   -- what a claim needs of the word that it found: a won one is of the next card
-  claims : (c : ℕ) → MayClaim v c → c ≤ plan.last_card → c ≡ next
-      → IsReached plan s r id v here (set s.words 0 (c + 1)) (claimed r.words (expected_tag v) (filling_of next v)) (after_claim true c v) act.Claim Moved
-  claims c may room same = subst (λ d. IsReached plan s r id v here (set s.words 0 (d + 1)) (claimed r.words (expected_tag v) (filling_of next v)) (after_claim true d v) act.Claim Moved)
+  claims : (c node_key : ℕ) → MayClaim (flat_from plan) v c node_key → c ≤ plan.last_card → c ≡ next
+      → IsReached plan s r id v here (set s.words 0 (c + 1)) (claimed r.words (expected_tag v) (filling_of next node_key v)) (after_claim true c node_key v) act.Claim Moved
+  claims c node_key may room same =
+      subst (λ d. IsReached plan s r id v here (set s.words 0 (d + 1)) (claimed r.words (expected_tag v) (filling_of next node_key v)) (after_claim true d node_key v) act.Claim Moved)
       (sym same) (by may.op may.busy may.wants)
     where
-      key_is : r.words.key may.leaf ≡ may.key
-      key_is = here_key plan s r id v here may.leaf may.key may.stands may.told
+      key_is : r.words.key may.below ≡ may.key
+      key_is = here_key plan s r id v here may.below may.key may.stands may.told
 
-      puts : (op : Op) (what : Put) → put_of op ≡ Some what → v.worker.operation ≡ Some op → (had : ℕ) → IsTold v (Value may.leaf had)
-          → TakesPut what (r.words.key may.leaf) (r.words.value may.leaf)
-          → IsReached plan s r id v here (set s.words 0 (next + 1)) (claimed r.words (expected_tag v) (filling_of next v)) (after_claim true next v) act.Claim Moved
-      puts op what is_put busy had told takes_it =
-          let leaf_value = told_value v.told may.leaf in
-          let value_is = told_value_is r.words r.stages v.told may.leaf had (r.views id v here).entries told in
-          let es = insert_filling next what.key what.value may.parent.node may.leaf may.key leaf_value in
-          let filled_as : es ≡ layout.put_filling next what.key what.value (max what.key (r.words.key may.leaf)) may.parent.node may.leaf (r.words.key may.leaf) (value_below r.words may.leaf) =
-          (λ t. insert_filling next what.key what.value may.parent.node may.leaf (sym key_is t) (value_is t))
-          ∙ (sym (put_filling-leaf next what.key what.value may.parent.node may.leaf (r.words.key may.leaf) (r.words.value may.leaf) may.outer)
-          ∙ ap (layout.put_filling next what.key what.value (max what.key (r.words.key may.leaf)) may.parent.node may.leaf (r.words.key may.leaf)) (sym (value_below-leaf r.words may.leaf may.outer))) in
-          let is : es ≡ filling_of next v =
-          put_filling op what is_put next may.leaf may.parent v.worker.search.grandparent may.key (told_value v.told)
-          ∙ (λ t. filling_for next (sym busy t) (sym may.stands t) (sym may.behind t) v.worker.search.grandparent (unwrap_or (sym may.told t) 0) (told_value v.told)) in
+      behind : HasSeen r.words r.stages may.parent may.below
+      behind = (relies plan s r id v here).parent may.below may.parent
+          (ap (λ (u : Worker). u.search.node) (mine_is plan s r id v here) ∙ may.stands)
+          (ap (λ (u : Worker). u.search.parent) (mine_is plan s r id v here) ∙ may.behind)
+
+      puts : (op : Op) (what : Put) → put_of op ≡ Some what → v.worker.operation ≡ Some op → GivesPlace r.words what may.below
+          → (what.was ≡ None → IsInBlock r.words may.parent.node what.key) → IsNodeKey r.words.flat_from what.key (r.words.key may.below) node_key
+          → (IsLeaf may.below → told_value v.told may.below ≡ r.words.value may.below)
+          → IsReached plan s r id v here (set s.words 0 (next + 1)) (claimed r.words (expected_tag v) (filling_of next node_key v)) (after_claim true next node_key v) act.Claim Moved
+      puts op what is_put busy takes_it fits named value_is =
+          let below_value = value_told v.told may.below in
+          let below_is = told_below r.words v.told may.below value_is in
+          let es = layout.put_filling next what.key what.value node_key may.parent.node may.below may.key below_value in
+          let filled_as : es ≡ layout.put_filling next what.key what.value node_key may.parent.node may.below (r.words.key may.below) (layout.value_below r.words may.below) =
+          λ t. layout.put_filling next what.key what.value node_key may.parent.node may.below (sym key_is t) (below_is t) in
+          let is : es ≡ filling_of next node_key v =
+          put_filling op what is_put next node_key may.below may.parent v.worker.search.grandparent may.key (value_told v.told)
+          ∙ (λ t. filling_for next node_key (sym busy t) (sym may.stands t) (sym may.behind t) v.worker.search.grandparent (unwrap_or (sym may.told t) 0) (value_told v.told)) in
           let tag_is : may.parent.tag ≡ expected_tag v =
           put_tag op what is_put may.parent v.worker.search.grandparent
           ∙ (λ t. tag_of_claim (sym busy t) (sym may.behind t) v.worker.search.grandparent) in
           let at = claimed_words may.parent.tag es in
-          as_known may.parent.tag (expected_tag v) es (filling_of next v) tag_is is
-          (takes may.parent.tag es (insert_tagged may.parent.tag next what.key what.value may.parent.node may.leaf may.key leaf_value) (omega arith) (inl (record {
+          as_known may.parent.tag (expected_tag v) es (filling_of next node_key v) tag_is is
+          (takes may.parent.tag es (insert_tagged may.parent.tag next what.key what.value node_key may.parent.node may.below may.key below_value) (omega arith) (inl (record {
             op = op;
             what = what;
-            below = may.leaf;
+            below = may.below;
             parent = may.parent;
-            node_key = max what.key (r.words.key may.leaf);
+            node_key = node_key;
             busy = busy;
             puts = is_put;
             at = record { stands = may.stands; behind = may.behind; calm = may.calm; no_card = may.no_card };
-            takes = record { leaf = λ outer. takes_it; edge = λ inner. absurd (may.outer inner) };
-            fits = λ none. no_block-plain r.words may.parent.node what.key r.plain;
-            named = record { greater = λ plain. refl; branch = λ some two. absurd (let none = r.plain in omega arith) };
+            takes = takes_it;
+            fits = fits;
+            named = named;
             says = refl;
             gives = λ t. record {
               words = claimed r.words may.parent.tag (filled_as t);
@@ -282,59 +299,87 @@ module _ (plan : TablePlan) (s : TableState) (r : HasMachine plan s) (id : ℕ) 
             ),
           ))
 
-      by : (op : Op) → v.worker.operation ≡ Some op → Wants v op may.leaf may.key
-          → IsReached plan s r id v here (set s.words 0 (next + 1)) (claimed r.words (expected_tag v) (filling_of next v)) (after_claim true next v) act.Claim Moved
+      -- a node has a block in the machine as the plan says
+      has_it : (x : ℕ) → has_block (flat_from plan) x ≡ has_block r.words.flat_from x
+      has_it x = ap (λ n. has_block n x) (sym r.shape)
+
+      -- an insert's key is in the parent's block
+      fits_there : (k key : ℕ) → WantsInsert (flat_from plan) v k may.parent.node may.below key node_key → IsInBlock r.words may.parent.node k
+      fits_there k key wants = record {
+        inner = λ inner has.
+            let told = wants.fits (has_it may.parent.node ∙ has) in
+            subst (λ n. InBlockOf n k) (sym ((r.views id v here).entries (Key may.parent.node told.0) told.1).1) told.2;
+        leaf = λ outer. absurd (outer behind.node.inner);
+      }
+
+      -- and not in that of an internal node at which it ends
+      lacks_there : (k : ℕ) → WantsInsert (flat_from plan) v k may.parent.node may.below may.key node_key → IsInternal may.below → ¬ IsInBlock r.words may.below k
+      lacks_there k wants inner in_block =
+          let edge = wants.edge inner in
+          edge.1 (subst (λ n. InBlockOf n k) key_is (in_block.inner inner (sym (has_it may.below) ∙ edge.0)))
+
+      named_so : (k : ℕ) → IsNodeKey (flat_from plan) k may.key node_key → IsNodeKey r.words.flat_from k (r.words.key may.below) node_key
+      named_so k named = subst (λ n. IsNodeKey n k (r.words.key may.below) node_key) (sym r.shape) (subst (λ m. IsNodeKey (flat_from plan) k m node_key) (sym key_is) named)
+
+      by : (op : Op) → v.worker.operation ≡ Some op → Wants (flat_from plan) v op may.parent.node may.below may.key node_key
+          → IsReached plan s r id v here (set s.words 0 (next + 1)) (claimed r.words (expected_tag v) (filling_of next node_key v)) (after_claim true next node_key v) act.Claim Moved
       by (Find k) busy wants = absurd wants
-      by (Insert k value) busy wants = puts (Insert k value) (added k value) refl busy wants.1.0 wants.1.1 (λ e. wants.0 (sym key_is ∙ e))
-      by (Swap k was value) busy wants = puts (Swap k was value) (replacing k was value) refl busy was wants.1
-          (key_is ∙ wants.0, ((r.views id v here).entries (Value may.leaf was) wants.1).1)
+      by (Insert k value) busy wants = puts (Insert k value) (added k value) refl busy
+          (record { leaf = λ outer e. (wants.leaf outer).0 (sym key_is ∙ e); edge = λ inner. (refl, lacks_there k wants inner) })
+          (λ none. fits_there k may.key wants) (named_so k wants.named)
+          (λ outer. let told = (wants.leaf outer).1 in told_value_is r.words r.stages v.told may.below told.0 (r.views id v here).entries told.1)
+      by (Swap k was value) busy wants = puts (Swap k was value) (replacing k was value) refl busy
+          (record { leaf = λ outer. (key_is ∙ wants.same, ((r.views id v here).entries (Value may.below was) wants.value).1); edge = λ inner. absurd (wants.outer inner) })
+          (λ none. absurd cc)
+          (record { greater = λ plain. (let is = wants.named in let same = key_is ∙ wants.same in omega arith); branch = λ some two. absurd (two (sym (key_is ∙ wants.same))) })
+          (λ outer. told_value_is r.words r.stages v.told may.below was (r.views id v here).entries wants.value)
       by (Delete k) busy wants =
-          let above = wants.1.0 in
-          let es = delete_filling above.node may.parent.node may.leaf may.parent.word in
-          let is : es ≡ filling_of next v =
-          λ t. filling_for next (sym busy t) (sym may.stands t) (sym may.behind t) (sym wants.1.1 t) (unwrap_or v.here 0) (told_value v.told) in
-          let tag_is : above.tag ≡ expected_tag v = λ t. tag_of_claim (sym busy t) (sym may.behind t) (sym wants.1.1 t) in
+          let above = wants.above in
+          let es = delete_filling above.node may.parent.node may.below may.parent.word in
+          let is : es ≡ filling_of next node_key v =
+          λ t. filling_for next node_key (sym busy t) (sym may.stands t) (sym may.behind t) (sym wants.grandparent t) (unwrap_or v.here 0) (value_told v.told) in
+          let tag_is : above.tag ≡ expected_tag v = λ t. tag_of_claim (sym busy t) (sym may.behind t) (sym wants.grandparent t) in
           let at = claimed_words above.tag es in
-          as_known above.tag (expected_tag v) es (filling_of next v) tag_is is
-          (takes above.tag es (delete_tagged above.tag above.node may.parent.node may.leaf may.parent.word) (omega arith) (inr (record {
+          as_known above.tag (expected_tag v) es (filling_of next node_key v) tag_is is
+          (takes above.tag es (delete_tagged above.tag above.node may.parent.node may.below may.parent.word) (omega arith) (inr (record {
             key = k;
-            leaf = may.leaf;
+            leaf = may.below;
             parent = may.parent;
             grandparent = above;
             deletes = busy;
-            at = record { stands = may.stands; outer = may.outer; behind = may.behind; calm = may.calm; no_card = may.no_card };
-            present = key_is ∙ wants.0;
-            above = wants.1.1;
-            calm = wants.1.2;
+            at = record { stands = may.stands; outer = wants.outer; behind = may.behind; calm = may.calm; no_card = may.no_card };
+            present = key_is ∙ wants.same;
+            above = wants.grandparent;
+            calm = wants.calm;
             says = refl;
             gives = refl;
           })) (at field.Gp, (at field.P, (at field.L, (at field.Was, tt)))))
 
   -- the event of a claim by whether it was won
-  record ClaimAt (c : ℕ) (b : Bool) : Type 0 where
-    kept : HasMachine plan (record { words = set s.words 0 (if b then c + 1 else get_or s.words 0 0); homes = s.homes; views = set s.views id (after_claim b c v) })
+  record ClaimAt (c node_key : ℕ) (b : Bool) : Type 0 where
+    kept : HasMachine plan (record { words = set s.words 0 (if b then c + 1 else get_or s.words 0 0); homes = s.homes; views = set s.views id (after_claim b c node_key v) })
     later : StagesLater r.stages kept.stages
     event : Becomes id (if b then Some act.Claim else None) Moved (machine plan s r id v here)
-        (seated kept.words (set s.views id (after_claim b c v)) plan.last_card)
+        (seated kept.words (set s.views id (after_claim b c node_key v)) plan.last_card)
 
-  claim_at : (c : ℕ) → MayClaim v c → c ≤ plan.last_card → (b : Bool) → (get_or s.words 0 0 == c) ≡ b → ClaimAt c b
-  claim_at c may room true e =
-      let reached = claims c may room (sym (eqb-true (get_or s.words 0 0) c e) ∙ r.next) in record {
+  claim_at : (c node_key : ℕ) → MayClaim (flat_from plan) v c node_key → c ≤ plan.last_card → (b : Bool) → (get_or s.words 0 0 == c) ≡ b → ClaimAt c node_key b
+  claim_at c node_key may room true e =
+      let reached = claims c node_key may room (sym (eqb-true (get_or s.words 0 0) c e) ∙ r.next) in record {
         kept = reached.kept.kept;
         later = reached.kept.later;
-        event = subst (λ w. Becomes id (Some act.Claim) Moved (machine plan s r id v here) (seated w (set s.views id (after_claim true c v)) plan.last_card))
+        event = subst (λ w. Becomes id (Some act.Claim) Moved (machine plan s r id v here) (seated w (set s.views id (after_claim true c node_key v)) plan.last_card))
             (sym reached.kept.words) reached.steps;
       }
-  claim_at c may room false e =
+  claim_at c node_key may room false e =
       let h = r.views id v here in
-      let kept = kept_told plan s r id v here (after_claim false c v) refl (record { entries = h.entries; here = h.here; hand = h.hand; read = h.read; least = (let low = h.read c may.read in let is = r.next in let other : get_or s.words 0 0 ≢ c = (λ q. true≢false (sym (eq-eqb (get_or s.words 0 0) c q) ∙ e)) in omega arith); knew = h.knew; walk = h.walk }) 0 in record {
+      let kept = kept_told plan s r id v here (after_claim false c node_key v) refl (record { entries = h.entries; here = h.here; hand = h.hand; read = h.read; least = (let low = h.read c may.read in let is = r.next in let other : get_or s.words 0 0 ≢ c = (λ q. true≢false (sym (eq-eqb (get_or s.words 0 0) c q) ∙ e)) in omega arith); knew = h.knew; walk = h.walk }) 0 in record {
         kept = kept.kept;
         later = kept.later;
-        event = sym (same_machine plan s r id v here (after_claim false c v) refl
-            ∙ ap (λ w. seated w (set s.views id (after_claim false c v)) plan.last_card) (sym kept.words));
+        event = sym (same_machine plan s r id v here (after_claim false c node_key v) refl
+            ∙ ap (λ w. seated w (set s.views id (after_claim false c node_key v)) plan.last_card) (sym kept.words));
       }
 
   -- claim
-  pub keeps_claim : (c : ℕ) → MayClaim v c → c ≤ plan.last_card → IsEvent plan s r id v (call.Claim c)
-  keeps_claim c may room =
-      let h = claim_at c may room (get_or s.words 0 0 == c) refl in record { kept = h.kept; later = h.later; event = h.event; tells = tt }
+  pub keeps_claim : (c node_key : ℕ) → MayClaim (flat_from plan) v c node_key → c ≤ plan.last_card → IsEvent plan s r id v (call.Claim c node_key)
+  keeps_claim c node_key may room =
+      let h = claim_at c node_key may room (get_or s.words 0 0 == c) refl in record { kept = h.kept; later = h.later; event = h.event; tells = tt }

@@ -4,10 +4,11 @@ use lib.ListN.{get_elem?}
 use Rattle.ell_word.specs.Node.{IsInternal}
 use Rattle.ell_core.specs.history.Stages.{Born}
 use Rattle.ell_core.proofs.lemmas.stages.LaterKeys.{root_born}
-use Rattle.ell_cards.specs.Models.{TablePlan}
+use Rattle.ell_cards.specs.Models.{TablePlan, flat_from}
 use Rattle.ell_cards.specs.declared.call.Call.TheVariants as call
 use Rattle.ell_cards.specs.declared.view.Told.TheVariants.{Met, Key}
 use Rattle.ell_cards.specs.declared.glance.Glance.{Glance}
+use Rattle.ell_cards.specs.declared.glance.Stretch.{Stretch}
 use Rattle.ell_cards.specs.declared.view.View.{View}
 use Rattle.ell_cards.specs.Models.{IsFree}
 use Rattle.ell_cards.proofs.lemmas.views.Afters.{after_look, after_look_down}
@@ -54,13 +55,13 @@ module _ (plan : TablePlan) (s : TableState) (r : HasMachine plan s) (id : ℕ) 
       refl refl ((let other = ranked_apart r.words 0 (link_in n).node (let deeper = child.1 in let root = rank_root r.words in omega arith) in omega arith), born_in_table plan s r id v here (link_in n).node child.0)
 
   -- look_down
-  pub keeps_look_down : (from : Glance) (key : ℕ) (right : Bool) → MayLookDown v from key → IsEvent plan s r id v (call.LookDown from key right)
-  keeps_look_down from key right may =
+  pub keeps_look_down : (from : Glance) (to : Stretch) (right : Bool) → MayLookDown (flat_from plan) v from to right → IsEvent plan s r id v (call.LookDown from to right)
+  keeps_look_down from to right may =
       let n = get_or s.words (child_address from.node right) 0 in
       let h = r.views id v here in
       let child = child_there from.node right may.inner (h.entries (Met from.node) may.met) in
-      is_no_event plan s r id v here (call.LookDown from key right)
-      (kept_told plan s r id v here (after_look_down from key right n v) refl (record {
+      is_no_event plan s r id v here (call.LookDown from to right)
+      (kept_told plan s r id v here (after_look_down from to right n v) refl (record {
         entries = below_holds r.words r.stages from.node (link_in n).node v.told child.0 may.inner child.1 h.entries;
         here = λ y k at told. met_more (depth_told v.told from.node + 1) (link_in n).node v.told (Key y k) (h.here y k at told);
         hand = h.hand;

@@ -21,7 +21,7 @@ use Rattle.ell_core.specs.declared.event.Act.TheVariants as act
 use Rattle.ell_core.specs.declared.event.Stepped.TheVariants.{Moved}
 use Rattle.ell_layout.specs.declared.field.Field.TheVariants as field
 use Rattle.ell_core.specs.declared.view.Seen.{Seen}
-use Rattle.ell_layout.specs.Words.{key_field, value_field, child_field, IsLeaf}
+use Rattle.ell_layout.specs.Words.{key_field, value_field, child_field, IsLeaf, has_block}
 use Rattle.ell_core.specs.state.Facts.{known_of, learned_any, told_by}
 use Rattle.ell_core.specs.declared.view.Entry.{Entry}
 use Rattle.ell_core.specs.declared.view.Entry.TheVariants.{Present, Absent}
@@ -35,7 +35,9 @@ use Rattle.ell_core.specs.statements.Effects.{value_in, contents_in}
 use Rattle.ell_core.proofs.lemmas.outcomes.Decide.{some_not_none}
 use Rattle.ell_core.proofs.lemmas.stages.Order.{born_is_node}
 use Rattle.ell_layout.proofs.lemmas.Writes.{update_at_node, key_at_node, value_at_leaf, child_word_at_node, link_back, key_in_table, value_in_table}
-use Rattle.ell_cards.specs.Models.{TablePlan}
+use Rattle.ell_cards.specs.Models.{TablePlan, flat_from}
+use Rattle.ell_block.specs.Blocks.{InBlockOf}
+use Rattle.ell_core.proofs.lemmas.stages.Edges.{found_block, own_block}
 use Rattle.ell_cards.specs.declared.call.Call.TheVariants as call
 use Rattle.ell_cards.specs.declared.view.Told.{Told}
 use Rattle.ell_cards.specs.declared.view.Told.TheVariants.{Met, Key, Value}
@@ -45,7 +47,7 @@ use Rattle.ell_cards.specs.Changes.{places_by, after_upd, is_this}
 use Rattle.ell_cards.proofs.lemmas.views.Afters.{after_down, after_next, after_key_of, after_value_of}
 use Rattle.ell_cards.proofs.lemmas.views.Searches.{seen_at}
 use Rattle.ell_cards.specs.Guards.{MayRead as MayUpd, MayGoDown}
-use Rattle.ell_cards.specs.Calls.{TellsLeaf, TellsLedgerValue, update_address, child_address, key_address, value_address}
+use Rattle.ell_cards.specs.Calls.{TellsKey, TellsLedgerValue, update_address, child_address, key_address, value_address}
 use Rattle.ell_cards.specs.States.{TableState}
 use Rattle.ell_cards.specs.Machines.{EntryHolds, over_before, HasMachine}
 use Rattle.ell_cards.specs.Laws.{IsEvent}
@@ -338,7 +340,7 @@ module _ (plan : TablePlan) (s : TableState) (r : HasMachine plan s) (id : ℕ) 
           subst (λ z. Has (Key x n ∷ v.told) (Key z key)) eq (subst (λ k. Has (Key x n ∷ v.told) (Key x k)) value (latest (Key x n) v.told))
       tells n y key at false same told old = earlier (Key y key) (Key x n) v.told (old told)
 
-      leaf : (n : ℕ) → r.words.key x ≡ n → TellsLeaf v x n
+      leaf : (n : ℕ) → r.words.key x ≡ n → TellsKey (flat_from plan) v x n
       leaf n is = record {
         present = λ op busy stands outer owns.
             ap is_some (leaf_contents op x busy stands outer owns) ∙ (some_if (r.words.key x == key_of op) (r.words.value x) ∙ ap (λ k. k == key_of op) is);
@@ -346,6 +348,15 @@ module _ (plan : TablePlan) (s : TableState) (r : HasMachine plan s) (id : ℕ) 
             let sound = mine_sound plan s r id v here in
             let real = sound.real (key_of op) (sound.owned op busy) in
             (sound.stands op x busy stands).deep outer (subst (λ z. z ≤ greatest_key) (sym (is ∙ e)) real);
+        edge = λ op busy stands inner has lacks owns.
+            let leads = ((mine_sound plan s r id v here).stands op x busy stands).leads owns in
+            no_value (ledger_of v.worker.ledger (key_of op)) (λ value present.
+            lacks (subst (λ k. InBlockOf k (key_of op)) is
+            ((found_block r.words r.stages r.invariant.words (key_of op) x inner ((r.views id v here).entries (Met x) met) ((leads value).1 present)).inner inner
+            (ap (λ m. has_block m x) r.shape ∙ has))));
+        own = λ inner has.
+            subst (λ k. InBlockOf k k) is
+            ((own_block r.words r.stages r.invariant.words x inner ((r.views id v here).entries (Met x) met)).inner inner (ap (λ m. has_block m x) r.shape ∙ has));
       }
 
   -- value_of

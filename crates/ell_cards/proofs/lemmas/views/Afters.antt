@@ -3,6 +3,7 @@ use Rattle.std.proofs.Common.{ℕ, Bool, false}
 use Rattle.ell_layout.specs.declared.field.Field.{Field}
 use Rattle.ell_cards.specs.declared.call.Call.TheVariants as call
 use Rattle.ell_cards.specs.declared.glance.Glance.{Glance}
+use Rattle.ell_cards.specs.declared.glance.Stretch.{Stretch}
 use Rattle.ell_cards.specs.declared.view.View.{View}
 use Rattle.ell_cards.specs.Calls.{after}
 
@@ -24,8 +25,8 @@ after_frozen_child c p right x v = after (call.FrozenChild c p right) x v
 abbrev pub after_look : ℕ → View → View
 after_look child v = after call.Look child v
 
-abbrev pub after_look_down : Glance → ℕ → Bool → ℕ → View → View
-after_look_down from key right child v = after (call.LookDown from key right) child v
+abbrev pub after_look_down : Glance → Stretch → Bool → ℕ → View → View
+after_look_down from to right child v = after (call.LookDown from to right) child v
 
 abbrev pub after_down : ℕ → ℕ → View → View
 after_down x child v = after (call.Down x false) child v

@@ -10,7 +10,6 @@ use Rattle.ell_core.specs.declared.fact.Fact.TheVariants.{DFlagged, Marked}
 use Rattle.ell_cards.specs.Changes.{depth_there}
 use Rattle.ell_cards.specs.Models.{Has, latest, earlier, IsTold, KnowsDelete}
 use Rattle.ell_cards.specs.Depths.{depth_told, depth_below, depth_under, met_at, tells_grandparent_of, tells_parent_of, most_depth, depth_of, IsShallow}
-use Rattle.ell_cards.specs.Naming.{IsNamed}
 
 -- no depth that was told of a node is more than the one that it has by all of them
 pub depth_at_least : (told : List Told) (x d : ℕ) → Has told (Depth x d) → d ≤ depth_told told x
@@ -112,10 +111,10 @@ parent_is c (Info d field.P x) p e = by (d == c) refl e
     by false other is = absurd cc
 parent_is c _ p e = absurd cc
 
--- what a pass names is no deeper than a node of the table may be
-pub named_shallow : (last : ℕ) (v : View) → IsNamed last v → (x : ℕ) → IsShallow last v x
-named_shallow last v named x =
-    let most = depth_at_most v.told x (most_depth last x) (λ d h. named.entries (Depth x d) h) in
+-- a node of which no depth was told but such as internal nodes and leaves may have
+pub told_shallow : (deepest : ℕ) (v : View) (x : ℕ) → ((d : ℕ) → IsTold v (Depth x d) → d ≤ most_depth deepest x) → IsShallow deepest v x
+told_shallow deepest v x each =
+    let most = depth_at_most v.told x (most_depth deepest x) each in
     record { inner = λ inner. omega arith; any = omega arith }
 
 -- who goes down from a node comes to a deeper one

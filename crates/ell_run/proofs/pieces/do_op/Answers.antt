@@ -3,4 +3,4 @@ use Rattle.ell_run.proofs.pieces.do_op.Goals as goal
 
 pub returns-in-Find-clause-paid : goal.returns-in-Find-clause-paid
 returns-in-Find-clause-paid g c =
-    paid_find c.args.tree.now.plan.last_card c.args.pass.now c.find.new.pass c.find.ensures.steps c.find.ensures.quiet.milestones
+    paid_find c.args.tree.now.plan c.args.pass.now c.find.new.pass c.find.ensures.steps c.find.ensures.quiet.milestones

@@ -9,7 +9,7 @@ loop-position-preserved g c = (
   rw c.in_ok-push.ensures.items
       (front_more c.args.tree.now c.args.part.now c.loop-position.position-index (0, Find 0) c.args.pass.now c.loop-position.pass c.do_op.new.pass c.loop-position.piece.items c.in-Ok.reply
       c.loop-position-test.true c.requires.owned c.loop-position.invariant.0 c.in-Ok.ensures.ends.0 c.in-Ok.ensures.ends.1),
-  paid_more c.args.tree.now.plan.last_card c.loop-position.position-index c.args.pass.now c.loop-position.pass c.do_op.new.pass c.loop-position.invariant.1 c.do_op.ensures.paid,
+  paid_more c.args.tree.now.plan c.loop-position.position-index c.args.pass.now c.loop-position.pass c.do_op.new.pass c.loop-position.invariant.1 c.do_op.ensures.paid,
 )
 
 pub returns-clause-worked : goal.returns-clause-worked
@@ -20,8 +20,8 @@ returns-clause-worked g c =
 pub returns-clause-bounded : goal.returns-clause-bounded
 returns-clause-bounded g c =
     let few = c.loop-position.invariant.0.few in
-    paid_steps c.args.tree.now.plan.last_card _ c.args.pass.now c.loop-position.pass
-    (paid_within c.args.tree.now.plan.last_card c.loop-position.position-index _ c.args.pass.now c.loop-position.pass few c.loop-position.invariant.1)
+    paid_steps c.args.tree.now.plan _ c.args.pass.now c.loop-position.pass
+    (paid_within c.args.tree.now.plan c.loop-position.position-index _ c.args.pass.now c.loop-position.pass few c.loop-position.invariant.1)
     c.known_milestones_are_few-2.ensures
 
 pub returns-in_default-clause-worked : goal.returns-in_default-clause-worked
@@ -31,9 +31,9 @@ returns-in_default-clause-worked g c =
 
 pub returns-in_default-clause-bounded : goal.returns-in_default-clause-bounded
 returns-in_default-clause-bounded g c =
-    let cards = c.args.tree.now.plan.last_card in
+    let plan = c.args.tree.now.plan in
     let within = c.loop-position-test.true in
-    paid_steps cards _ c.args.pass.now c.do_op.new.pass
-    (paid_within cards (c.loop-position.position-index + 1) _ c.args.pass.now c.do_op.new.pass (omega (arith, within))
-    (paid_more cards c.loop-position.position-index c.args.pass.now c.loop-position.pass c.do_op.new.pass c.loop-position.invariant.1 c.do_op.ensures.paid))
+    paid_steps plan _ c.args.pass.now c.do_op.new.pass
+    (paid_within plan (c.loop-position.position-index + 1) _ c.args.pass.now c.do_op.new.pass (omega (arith, within))
+    (paid_more plan c.loop-position.position-index c.args.pass.now c.loop-position.pass c.do_op.new.pass c.loop-position.invariant.1 c.do_op.ensures.paid))
     c.known_milestones_are_few.ensures

@@ -6,4 +6,4 @@ use Rattle.ell_run.proofs.pieces.work_off.Given as goal
 abbrev pub invariant-loop-position : goal.invariant-loop-position
 invariant-loop-position g l =
     IsFrontDone l.part l.position-index l.initial.pass l.pass l.piece.items
-    × IsPaid l.tree.plan.last_card l.position-index l.initial.pass l.pass
+    × IsPaid l.tree.plan l.position-index l.initial.pass l.pass

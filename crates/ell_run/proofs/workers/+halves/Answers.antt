@@ -26,11 +26,11 @@ returns-clause-worked g t c =
     let ready : AreReady c.args.tree.now parting (low ++ high) c.args.pass =
     subst (λ row. AreReady c.args.tree.now parting row c.args.pass) (sym rows) c.requires.ready in
     let halves : AreHalves parting low c.args.pass c.in_ok-left.left c.in_ok-left.right = search rules in
-    let first : IsWorkedWithin c.args.tree.now.plan.last_card c.args.tries parting low c.in_ok-left.left c.in_ok-first.field-0.0
+    let first : IsWorkedWithin c.args.tree.now.plan c.args.tries parting low c.in_ok-left.left c.in_ok-first.field-0.0
     (map (λ piece. piece.items) c.in_ok-first.field-0.1.items) = search rules in
-    let second : IsWorkedWithin c.args.tree.now.plan.last_card c.args.tries parting high c.in_ok-left.right c.in_ok-second.field-0.0
+    let second : IsWorkedWithin c.args.tree.now.plan c.args.tries parting high c.in_ok-left.right c.in_ok-second.field-0.0
     (map (λ piece. piece.items) c.in_ok-second.field-0.1.items) = search rules in
     let some = some_each workers low high (omega (arith, c.if-workers-lt2.false)) c.split_at.ensures.front c.split_at.ensures.back in
-    let done = c.in_ok-both.ensures c.args.tree.now.plan.last_card c.args.tries parting low high c.args.pass c.in_ok-left.left c.in_ok-left.right some.0 some.1 ready halves first second in
-    subst (λ row. IsWorkedWithin c.args.tree.now.plan.last_card c.args.tries parting row c.args.pass c.in_ok-both.field-0.0
+    let done = c.in_ok-both.ensures c.args.tree.now.plan c.args.tries parting low high c.args.pass c.in_ok-left.left c.in_ok-left.right some.0 some.1 ready halves first second in
+    subst (λ row. IsWorkedWithin c.args.tree.now.plan c.args.tries parting row c.args.pass c.in_ok-both.field-0.0
     (map (λ piece. piece.items) c.in_ok-both.field-0.1.items)) rows done

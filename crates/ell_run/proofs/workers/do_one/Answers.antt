@@ -12,7 +12,7 @@ returns g c =
           (map (λ piece. piece.items) c.push.new.self.items) (omega (arith, c.in-len1.len_at_least)) (omega (arith, c.in-len1.len_below))
           c.relabel.ensures c.part.ensures c.in_ok-piece.ensures.worked (ap (map (λ piece. piece.items)) pushed);
       within =
-          within_one c.args.tree.now.plan.last_card c.args.parts.now c.args.workers.now 0 c.args.pass c.relabel.new.self c.work_off.new.pass c.part.result.now
+          within_one c.args.tree.now.plan c.args.parts.now c.args.workers.now 0 c.args.pass c.relabel.new.self c.work_off.new.pass c.part.result.now
           (omega (arith, c.in-len1.len_at_least)) (omega (arith, c.in-len1.len_below)) _ c.relabel.ensures c.part.ensures c.in_ok-piece.ensures.bounded;
       label =
           c.in_ok-piece.ensures.worked.label ∙ ap (λ pass. pass.label) c.relabel.ensures

@@ -20,14 +20,14 @@ with_empty_pieces-requires g c =
 
 pub returns-clause-worked : goal.returns-clause-worked
 returns-clause-worked g c =
-    let cards = c.args.tree.now.plan.last_card in
+    let plan = c.args.tree.now.plan in
     let parting = c.args.parts.now in
     let same = c.deref.ensures.value ∙ c.in_ok-workers.ensures.busy in
-    let within = subst (λ workers. AreWithin cards parting workers c.args.pass c.in_ok-pass.pass) same c.in_ok-pass.ensures.worked.within in
+    let within = subst (λ workers. AreWithin plan parting workers c.args.pass c.in_ok-pass.pass) same c.in_ok-pass.ensures.worked.within in
     record {
       worked =
-          c.in_ok-with_empty_pieces.ensures cards c.args.tries c.args.pass c.in_ok-pass.pass
-          (subst (λ workers. IsWorked cards c.args.tries parting workers c.args.pass c.in_ok-pass.pass (map (λ piece. piece.items) c.in_ok-pass.pieces.items)) same
+          c.in_ok-with_empty_pieces.ensures plan.last_card c.args.tries c.args.pass c.in_ok-pass.pass
+          (subst (λ workers. IsWorked plan.last_card c.args.tries parting workers c.args.pass c.in_ok-pass.pass (map (λ piece. piece.items) c.in_ok-pass.pieces.items)) same
           c.in_ok-pass.ensures.worked.worked);
       bounded = omega (arith, within.bounded);
       total = omega (arith, within.total);

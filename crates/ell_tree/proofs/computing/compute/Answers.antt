@@ -16,6 +16,7 @@ use Rattle.ell_tree.proofs.lemmas.Milestones.{milestones_most}
 use Rattle.ell_tree.proofs.lemmas.Rounds.{rounds_within, one_round_more, spends_none, by_rounds, not_some}
 use Rattle.ell_tree.proofs.computing.compute.Goals as goal
 use Rattle.ell_tree.proofs.computing.compute.Goals.{in-Ok-Lost, in-Err-Busy}
+use Rattle.ell_cards.specs.Depths.{deepest}
 
 pub loop-round-init : goal.loop-round-init
 loop-round-init g c =
@@ -36,7 +37,7 @@ loop-round-init g c =
       makes = search rules;
       own = reads_own t key was old new reads;
       last = λ some. absurd (omega arith);
-      took = took_within old new (find_steps t.plan.last_card) _ finds.steps (omega arith);
+      took = took_within old new (find_steps (deepest t.plan)) _ finds.steps (omega arith);
       counted = record { least = omega (arith, finds.quiet.hindered); most = omega (arith, finds.quiet.hindered) };
       hindered = λ owns. omega (arith, finds.quiet.hindered);
       milestones = λ owns. omega (arith, finds.quiet.milestones);
@@ -74,7 +75,7 @@ loop-round-preserved g c = elim c.match-replace.branch [
         makes = rw (w.was-is, w.made-is) w.make-made-in-Ok-Lost.ensures;
         own = λ owns. absurd (apart owns);
         last = λ some made. reads_last t key there old new reads;
-        took = took_trans old l.pass new (find_steps cards + l._round * round_steps cards) (round_steps cards) _ i.took c.replace.ensures.steps (one_round_more cards l._round);
+        took = took_trans old l.pass new (find_steps (deepest c.args.table.now.plan) + l._round * round_steps (deepest c.args.table.now.plan)) (round_steps (deepest c.args.table.now.plan)) _ i.took c.replace.ensures.steps (one_round_more (deepest c.args.table.now.plan) l._round);
         counted = record { least = omega (arith, counts.least, i.counted.least); most = omega (arith, counts.most, i.counted.most) };
         hindered = λ owns. absurd (apart owns);
         milestones = λ owns. absurd (apart owns);
@@ -107,7 +108,7 @@ loop-round-preserved g c = elim c.match-replace.branch [
         makes = rw (w.was-is, w.made-is, ← c.in-Some.is) i.makes;
         own = λ owns. i.own owns ∙ sym w.was-is;
         last = λ more made. laid_last t key c.in-Some.value l.was l.pass new laid;
-        took = took_trans old l.pass new (find_steps cards + l._round * round_steps cards) (round_steps cards) _ i.took c.replace.ensures.steps (one_round_more cards l._round);
+        took = took_trans old l.pass new (find_steps (deepest c.args.table.now.plan) + l._round * round_steps (deepest c.args.table.now.plan)) (round_steps (deepest c.args.table.now.plan)) _ i.took c.replace.ensures.steps (one_round_more (deepest c.args.table.now.plan) l._round);
         counted = record { least = omega (arith, counts.least, i.counted.least); most = omega (arith, counts.most, i.counted.most) };
         hindered = λ owns. omega (arith, others.each, i.hindered owns);
         milestones = λ owns. omega (arith, others.milestones, i.milestones owns);
@@ -129,8 +130,8 @@ pub returns-in-Ok-Done-clause-steps : goal.returns-in-Ok-Done-clause-steps
 returns-in-Ok-Done-clause-steps g c =
     let l = c.loop-round in
     let cards = c.args.table.now.plan.last_card in
-    took_trans c.args.pass.now l.pass c.replace.new.pass (find_steps cards + l._round * round_steps cards) (round_steps cards) _ l.invariant.took
-    c.replace.ensures.steps (rounds_within cards l._round c.args.tries c.loop-round-test.true)
+    took_trans c.args.pass.now l.pass c.replace.new.pass (find_steps (deepest c.args.table.now.plan) + l._round * round_steps (deepest c.args.table.now.plan)) (round_steps (deepest c.args.table.now.plan)) _ l.invariant.took
+    c.replace.ensures.steps (rounds_within (deepest c.args.table.now.plan) l._round c.args.tries c.loop-round-test.true)
 
 -- what was found last is to stay as it is
 pub returns-in_default-clause-cards : goal.returns-in_default-clause-cards

@@ -8,6 +8,7 @@ use Rattle.ell_tree.specs.Ledgers.{Owns, present_in}
 use Rattle.ell_tree.specs.Milestones.{milestones_known}
 use Rattle.ell_tree.specs.Promises.{MayDo}
 use Rattle.ell_tree.proofs.computing.compute.Given as goal
+use Rattle.ell_cards.specs.Depths.{deepest}
 
 -- each try so far was hindered, or another pass had changed the key; what was found last is there, and what is to become of it was made of it
 abbrev pub invariant-loop-round : goal.invariant-loop-round
@@ -19,7 +20,7 @@ invariant-loop-round g l = record {
   makes : goal.F-post g l.fn.make l.was l.made;
   own : Owns l.fn.pass l.fn.key → present_in l.fn.pass l.fn.key ≡ l.was;
   last : 1 ≤ l._round → l.made ≢ None → LastChangesNothing l.fn.table l.fn.key l.pass.view;
-  took : Took l.fn.pass l.pass (find_steps l.fn.table.plan.last_card + l._round * round_steps l.fn.table.plan.last_card);
+  took : Took l.fn.pass l.pass (find_steps (deepest l.fn.table.plan) + l._round * round_steps (deepest l.fn.table.plan));
   counted : CountsTries l._round l.fn.pass l.pass;
   hindered : Owns l.fn.pass l.fn.key → l.pass.view.hindered ≡ l.fn.pass.view.hindered + l._round;
   milestones : Owns l.fn.pass l.fn.key

@@ -1,14 +1,29 @@
 use Rattle.std.proofs.Common.{inl, inr, refl, arith, rules}
+use Rattle.ell_cards.specs.Depths.{deepest}
+use Rattle.ell_cards.specs.Models.{flat_from}
+use Rattle.ell_cards.specs.declared.view.Told.TheVariants.{Met}
 use Rattle.ell_cards.proofs.lemmas.views.Afters.{after_key_of, after_value_of}
 use Rattle.ell_tree.proofs.lemmas.Counts.{uncounted_one, uncounted_trans}
-use Rattle.ell_tree.proofs.lemmas.Cursors.{finds_none, finds_one, key_on, leaf_stands, on_more, on_trans, value_on}
+use Rattle.ell_tree.proofs.lemmas.Cursors.{asked_shallow, tells_none, tells_one, key_on, on_more, on_trans, value_on}
 use Rattle.ell_tree.proofs.cursor.found_at.Goals as goal
 
-pub returns-then-leaf_key-low-clause-found : goal.returns-then-leaf_key-low-clause-found
-returns-then-leaf_key-low-clause-found g c =
+pub returns-then-leaf_key-low-clause-tells : goal.returns-then-leaf_key-low-clause-tells
+returns-then-leaf_key-low-clause-tells g c =
     let k = c.key_of-leaf_key in
-    finds_none c.args.table.now.plan.last_card c.args.pass.now k.new.pass c.args.key c.args.leaf k.result c.requires.kept c.requires.from c.requires.upto
-    c.requires.outer k.ensures.step k.ensures.looked (elim c.then-leaf_key-low.either [ inl less ↦ inl less | inr h ↦ inr h.1 ])
+    tells_none (flat_from c.args.table.now.plan) c.args.pass.now k.new.pass c.args.leaf k.result c.requires.outer k.ensures.step
+    (elim c.then-leaf_key-low.either [ inl less ↦ inl less | inr h ↦ inr h.1 ])
+
+pub returns-then-leaf_key-low-clause-shallow : goal.returns-then-leaf_key-low-clause-shallow
+returns-then-leaf_key-low-clause-shallow g c =
+    let k = c.key_of-leaf_key in
+    asked_shallow (deepest c.args.table.now.plan) c.args.pass.now k.new.pass c.args.leaf.node k.result k.ensures.step
+    (k.ensures.shallow c.args.leaf.node)
+
+pub returns-clause-shallow : goal.returns-clause-shallow
+returns-clause-shallow g c =
+    let k = c.key_of-leaf_key in
+    asked_shallow (deepest c.args.table.now.plan) c.args.pass.now k.new.pass c.args.leaf.node k.result k.ensures.step
+    (k.ensures.shallow c.args.leaf.node)
 
 pub returns-then-leaf_key-low-clause-on : goal.returns-then-leaf_key-low-clause-on
 returns-then-leaf_key-low-clause-on g c =
@@ -18,15 +33,14 @@ returns-then-leaf_key-low-clause-on g c =
 pub value_of-value-requires-clause-met : goal.value_of-value-requires-clause-met
 value_of-value-requires-clause-met g c =
     let k = c.key_of-leaf_key in
-    (leaf_stands c.args.table.now.plan.last_card c.args.pass.now k.new.pass c.args.key c.args.leaf k.result c.requires.kept c.requires.from c.requires.upto
-    c.requires.outer k.ensures.step).met
+    (key_on c.args.pass.now k.new.pass c.args.leaf.node k.result k.ensures.step).only.told (Met c.args.leaf.node) c.requires.met
 
-pub returns-clause-found : goal.returns-clause-found
-returns-clause-found g c =
+pub returns-clause-tells : goal.returns-clause-tells
+returns-clause-tells g c =
     let k = c.key_of-leaf_key in
     let v = c.value_of-value in
-    finds_one c.args.table.now.plan.last_card c.args.pass.now k.new.pass c.args.key c.args.leaf k.result c.requires.kept c.requires.from c.requires.upto
-    c.requires.outer k.ensures.step v.new.pass v.result v.ensures.step v.ensures.looked (search rules) (search rules)
+    tells_one (flat_from c.args.table.now.plan) c.args.pass.now k.new.pass c.args.leaf k.result c.requires.outer k.ensures.step v.new.pass v.result v.ensures.step
+    (search rules) (search rules)
 
 pub returns-clause-on : goal.returns-clause-on
 returns-clause-on g c =

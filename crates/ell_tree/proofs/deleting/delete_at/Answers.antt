@@ -4,12 +4,12 @@ use Rattle.ell_ops.specs.declared.reply.Reply.TheVariants.{Yes}
 use Rattle.ell_word.specs.declared.update.State.TheVariants.{Clean}
 use Rattle.ell_core.specs.declared.view.Search.{Search}
 use Rattle.ell_cards.specs.declared.view.Told.{Told}
-use Rattle.ell_cards.specs.Models.{Does, Has, IsTold}
+use Rattle.ell_cards.specs.Models.{flat_from, Does, Has, IsTold}
 use Rattle.ell_cards.specs.Changes.{answered_so}
 use Rattle.ell_cards.proofs.lemmas.runs.Taking.{deletes_take_the_told_value}
 use Rattle.ell_tree.specs.CardsTaken.{cards_taken}
 use Rattle.ell_tree.specs.Hindrances.{way_of}
-use Rattle.ell_tree.specs.Searches.{seen_any, below, leaf_with}
+use Rattle.ell_tree.specs.Searches.{seen_any, below, node_with}
 use Rattle.ell_tree.proofs.lemmas.Called.{takes_told}
 use Rattle.ell_tree.proofs.lemmas.Keeping.{inner_kept, share_trans}
 use Rattle.ell_tree.proofs.lemmas.Owning.{keeps_answers, had_value, would_delete}
@@ -24,7 +24,7 @@ use Rattle.ell_tree.proofs.deleting.delete_at.Goals as goal
 pub take_card-requires-clause-wants : goal.take_card-requires-clause-wants
 take_card-requires-clause-wants g c =
     let calm : c.in-Some.above.update.state ≡ Clean = search rules in
-    delete_wants c.args.pass.now.view c.args.key c.args.place c.in-Some.above c.requires.searched.ends.at c.requires.key c.in-Some.is calm
+    delete_wants (flat_from c.args.table.now.plan) 0 c.args.pass.now.view c.args.key c.args.place c.in-Some.above c.requires.searched.ends.at (c.requires.searched.ends.outer c.requires.key) c.requires.key c.in-Some.is calm
 
 pub flag_delete-requires-clause-link : goal.flag_delete-requires-clause-link
 flag_delete-requires-clause-link g c =
@@ -32,20 +32,20 @@ flag_delete-requires-clause-link g c =
     let place = c.args.place in
     let above = c.in-Some.above in
     let ends = c.requires.searched.ends in
-    has_word cards (leaf_with place above.tag) ends.leaf c.take_card.ensures.limit (passed_above cards c.args.pass.now.view place.grandparent above c.in-Some.is ends.passed_above).tag
+    has_word cards (node_with place above.tag) ends.node c.take_card.ensures.limit (passed_above cards c.args.pass.now.view place.grandparent above c.in-Some.is ends.passed_above).tag
 
 pub flag_delete-requires-clause-card : goal.flag_delete-requires-clause-card
 flag_delete-requires-clause-card g c =
     let a = c.args.pass.now in (
       c.args.key,
-      delete_card a.view c.take_card.new.pass.view c.in-Card.card c.args.key c.args.place c.in-Some.above c.in-Some.is c.requires.searched.busy
+      delete_card a.view c.take_card.new.pass.view c.in-Card.card 0 c.args.key c.args.place c.in-Some.above c.in-Some.is c.requires.searched.busy
           c.requires.searched.ends.at c.in-Card.ensures.claims.0,
     )
 
 pub finish_own-requires-clause-grandparent : goal.finish_own-requires-clause-grandparent
 finish_own-requires-clause-grandparent g c =
     let a = c.args.pass.now in
-    let card = delete_card a.view c.take_card.new.pass.view c.in-Card.card c.args.key c.args.place c.in-Some.above c.in-Some.is c.requires.searched.busy
+    let card = delete_card a.view c.take_card.new.pass.view c.in-Card.card 0 c.args.key c.args.place c.in-Some.above c.in-Some.is c.requires.searched.busy
     c.requires.searched.ends.at c.in-Card.ensures.claims.0 in
     told_grandparent c.take_card.new.pass.view c.flag_delete.new.pass.view c.in-Card.card c.args.place c.flag_delete.ensures.keeps.view c.args.key c.in-Some.above card
 
@@ -53,7 +53,7 @@ pub finish_own-requires-clause-parent : goal.finish_own-requires-clause-parent
 finish_own-requires-clause-parent g c =
     let a = c.args.pass.now in
     let cards = c.args.table.now.plan.last_card in
-    let card = delete_card a.view c.take_card.new.pass.view c.in-Card.card c.args.key c.args.place c.in-Some.above c.in-Some.is c.requires.searched.busy
+    let card = delete_card a.view c.take_card.new.pass.view c.in-Card.card 0 c.args.key c.args.place c.in-Some.above c.in-Some.is c.requires.searched.busy
     c.requires.searched.ends.at c.in-Card.ensures.claims.0 in
     told_parent c.take_card.new.pass.view c.flag_delete.new.pass.view c.in-Card.card c.args.place c.flag_delete.ensures.keeps.view c.args.key c.in-Some.above card cards
     (inner_kept cards a.view c.take_card.new.pass.view c.args.place.parent.node c.take_card.ensures.keeps.view c.requires.searched.ends.passed.seen.node)
@@ -61,7 +61,7 @@ finish_own-requires-clause-parent g c =
 pub finish_own-requires-clause-read : goal.finish_own-requires-clause-read
 finish_own-requires-clause-read g c =
     let a = c.args.pass.now in
-    let card = delete_card a.view c.take_card.new.pass.view c.in-Card.card c.args.key c.args.place c.in-Some.above c.in-Some.is c.requires.searched.busy
+    let card = delete_card a.view c.take_card.new.pass.view c.in-Card.card 0 c.args.key c.args.place c.in-Some.above c.in-Some.is c.requires.searched.busy
     c.requires.searched.ends.at c.in-Card.ensures.claims.0 in
     told_was c.take_card.new.pass.view c.flag_delete.new.pass.view c.in-Card.card c.args.place c.flag_delete.ensures.keeps.view c.args.key c.in-Some.above card
 
@@ -78,8 +78,8 @@ returns-then-ne-clause-ends g c =
     let stands : above.update.state ≢ Clean = search rules in
     let meets = c.help.ensures.meets in
     let way = way_over new.view above.update.state above.update.card (way_of (Delete c.args.key) new.view)
-    (above_way c.args.key place.leaf place.parent above new.view
-    (met.search ∙ (ends.at.search ∙ ap (λ o. below place.leaf place.parent (seen_any o)) c.in-Some.is)) stands)
+    (above_way c.args.key place.node place.parent above new.view
+    (met.search ∙ (ends.at.search ∙ ap (λ o. below place.node place.parent (seen_any o)) c.in-Some.is)) stands)
     stands c.help.ensures.ended in
     let more = meets_more a.view new.view meets in (
       record {
@@ -89,9 +89,9 @@ returns-then-ne-clause-ends g c =
         answers = search rules;
         share = met.keeps.view.share;
         meets = meets;
-        in_try = met.keeps.view.earlier a.view.hindrances (searched_in_try cards (Delete c.args.key) place a.view c.requires.searched);
+        in_try = met.keeps.view.earlier a.view.hindrances (searched_in_try c.args.table.now.plan (Delete c.args.key) place a.view c.requires.searched);
         way = way.0;
-        would = would_delete cards a a refl place c.args.key ends c.requires.key;
+        would = would_delete c.args.table.now.plan a a refl place c.args.key ends c.requires.key;
         stops = search rules;
       },
       omega (arith, way.1, more),
@@ -116,8 +116,8 @@ returns-then-ne-2-clause-ends g c =
     let stands : update.state ≢ Clean = search rules in
     let meets = help.ensures.meets in
     let way = way_over new.view update.state update.card (way_of (Delete c.args.key) new.view)
-    (parent_way c.args.key place.leaf place.parent above new.view
-    (met.search ∙ (ends.at.search ∙ ap (λ o. below place.leaf place.parent (seen_any o)) c.in-Some.is)) calm)
+    (parent_way c.args.key place.node place.parent above new.view
+    (met.search ∙ (ends.at.search ∙ ap (λ o. below place.node place.parent (seen_any o)) c.in-Some.is)) calm)
     stands help.ensures.ended in
     let more = meets_more a.view new.view meets in (
       record {
@@ -127,9 +127,9 @@ returns-then-ne-2-clause-ends g c =
         answers = search rules;
         share = met.keeps.view.share;
         meets = meets;
-        in_try = met.keeps.view.earlier a.view.hindrances (searched_in_try cards (Delete c.args.key) place a.view c.requires.searched);
+        in_try = met.keeps.view.earlier a.view.hindrances (searched_in_try c.args.table.now.plan (Delete c.args.key) place a.view c.requires.searched);
         way = way.0;
-        would = would_delete cards a a refl place c.args.key ends c.requires.key;
+        would = would_delete c.args.table.now.plan a a refl place c.args.key ends c.requires.key;
         stops = search rules;
       },
       omega (arith, way.1, more),
@@ -150,8 +150,8 @@ returns-in-NoneLeft-clause-ends g c =
     let calm : above.update.state ≡ Clean = search rules in
     let free : update.state ≡ Clean = search rules in
     let way = way_free new.view update.state update.card (way_of (Delete c.args.key) new.view)
-    (parent_way c.args.key place.leaf place.parent above new.view
-    (claims.0.search ∙ (ends.at.search ∙ ap (λ o. below place.leaf place.parent (seen_any o)) c.in-Some.is)) calm) free in (
+    (parent_way c.args.key place.node place.parent above new.view
+    (claims.0.search ∙ (ends.at.search ∙ ap (λ o. below place.node place.parent (seen_any o)) c.in-Some.is)) calm) free in (
       record {
         table = search rules;
         label = search rules;
@@ -159,9 +159,9 @@ returns-in-NoneLeft-clause-ends g c =
         answers = search rules;
         share = c.take_card.ensures.keeps.view.share;
         meets = keeps_meets a new 2 c.in-NoneLeft.ensures.keeps claims.2;
-        in_try = c.take_card.ensures.keeps.view.earlier a.view.hindrances (searched_in_try cards (Delete c.args.key) place a.view c.requires.searched);
+        in_try = c.take_card.ensures.keeps.view.earlier a.view.hindrances (searched_in_try c.args.table.now.plan (Delete c.args.key) place a.view c.requires.searched);
         way = way;
-        would = would_delete cards a a refl place c.args.key ends c.requires.key;
+        would = would_delete c.args.table.now.plan a a refl place c.args.key ends c.requires.key;
         stops = search rules;
       },
       claims.1,
@@ -181,8 +181,8 @@ returns-in-Lost-clause-ends g c =
     let calm : above.update.state ≡ Clean = search rules in
     let free : update.state ≡ Clean = search rules in
     let way = way_free new.view update.state update.card (way_of (Delete c.args.key) new.view)
-    (parent_way c.args.key place.leaf place.parent above new.view
-    (claims.0.search ∙ (ends.at.search ∙ ap (λ o. below place.leaf place.parent (seen_any o)) c.in-Some.is)) calm) free in (
+    (parent_way c.args.key place.node place.parent above new.view
+    (claims.0.search ∙ (ends.at.search ∙ ap (λ o. below place.node place.parent (seen_any o)) c.in-Some.is)) calm) free in (
       record {
         table = search rules;
         label = search rules;
@@ -190,9 +190,9 @@ returns-in-Lost-clause-ends g c =
         answers = search rules;
         share = c.take_card.ensures.keeps.view.share;
         meets = claims.1;
-        in_try = c.take_card.ensures.keeps.view.earlier a.view.hindrances (searched_in_try cards (Delete c.args.key) place a.view c.requires.searched);
+        in_try = c.take_card.ensures.keeps.view.earlier a.view.hindrances (searched_in_try c.args.table.now.plan (Delete c.args.key) place a.view c.requires.searched);
         way = way;
-        would = would_delete cards a a refl place c.args.key ends c.requires.key;
+        would = would_delete c.args.table.now.plan a a refl place c.args.key ends c.requires.key;
         stops = search rules;
       },
       omega (arith, claims.2),
@@ -216,7 +216,7 @@ returns-in-Err-clause-ends g c =
     let way = no_way new.view (way_of (Delete c.args.key) new.view)
     (nowhere_way (Delete c.args.key) new.view (ap (λ (r : Search). r.node) help.ensures.keeps_but_met.search ∙ flags.nowhere)) in
     let in_try = help.ensures.keeps_but_met.keeps.view.earlier a.view.hindrances (c.flag_delete.ensures.keeps.view.earlier a.view.hindrances
-    (c.take_card.ensures.keeps.view.earlier a.view.hindrances (searched_in_try cards (Delete c.args.key) c.args.place a.view c.requires.searched))) in
+    (c.take_card.ensures.keeps.view.earlier a.view.hindrances (searched_in_try c.args.table.now.plan (Delete c.args.key) c.args.place a.view c.requires.searched))) in
     let more = meets_more a.view t.view taken in (
       record {
         table = search rules;
@@ -228,7 +228,7 @@ returns-in-Err-clause-ends g c =
         meets = meets_trans a.view t.view new.view taken lost.0;
         in_try = in_try;
         way = way;
-        would = would_delete cards a a refl c.args.place c.args.key ends c.requires.key;
+        would = would_delete c.args.table.now.plan a a refl c.args.place c.args.key ends c.requires.key;
         stops = search rules;
       },
       omega (arith, lost.1, more),
@@ -272,17 +272,17 @@ returns-clause-took g c =
     let hand : m.view.worker.card ≡ Some card = c.finish_own.ensures.keeps_but_met.card ∙ c.in_default-flag_delete.ensures.flags.card in
     let stays : (e : Told) → IsTold m.view e → IsTold new.view e = λ e has. subst (λ (es : List Told). Has es e) (sym said.ensures.told) has in
     let leaf = told_leaf t.view f.view card place c.flag_delete.ensures.keeps.view c.args.key c.in-Some.above
-    (delete_card a.view t.view card c.args.key place c.in-Some.above c.in-Some.is c.requires.searched.busy ends.at c.in-Card.ensures.claims.0) in
-    let value = c.flag_delete.ensures.keeps.view.told _ (c.take_card.ensures.keeps.view.told _ ends.at.value_told) in
+    (delete_card a.view t.view card 0 c.args.key place c.in-Some.above c.in-Some.is c.requires.searched.busy ends.at c.in-Card.ensures.claims.0) in
+    let value = c.flag_delete.ensures.keeps.view.told _ (c.take_card.ensures.keeps.view.told _ (ends.at.leaf (ends.outer c.requires.key))) in
     let on = c.finish_own.ensures.keeps_but_met.keeps.view.told in
     let same = c.finish_own.ensures.keeps_but_met.keeps.view.answers ∙ (c.flag_delete.ensures.keeps.view.answers ∙ c.take_card.ensures.keeps.view.answers) in (
       record {
-        mine = had_value c.args.table.now.plan.last_card a a refl place c.args.key ends c.requires.key;
-        took = deletes_take_the_told_value c.args.table.now.plan new.view c.args.key card place.leaf place.value
+        mine = had_value c.args.table.now.plan a a refl place c.args.key ends c.requires.key;
+        took = deletes_take_the_told_value c.args.table.now.plan new.view c.args.key card place.node place.value
             (said.ensures.last ∙ (ap (λ o. answered_so o m.view.worker.card Yes) busy ∙ ap (λ o. answered_so (Some (Delete c.args.key)) o Yes) hand))
             (stays _ (on _ leaf)) (stays _ (on _ value));
       },
-      takes_told a m new c.args.key card place.leaf place.value same busy hand said.ensures.deeds said.ensures.told said.ensures.values (stays _ (on _ leaf)) (stays _ (on _ value)),
+      takes_told a m new c.args.key card place.node place.value same busy hand said.ensures.deeds said.ensures.told said.ensures.values (stays _ (on _ leaf)) (stays _ (on _ value)),
     )
 
 -- the cards of each

@@ -16,5 +16,5 @@ returns g c =
     let s2 = stores_more a c.fill.new.pass c.fill-2.new.pass _ 1 field.P place.parent.node s1 c.fill-2.ensures in
     let s3 = stores_more a c.fill-2.new.pass c.fill-3.new.pass _ 2 field.L word s2 c.fill-3.ensures in
     let s4 = stores_more a c.fill-3.new.pass c.fill-4.new.pass _ 3 field.Was was s3 c.fill-4.ensures in
-    fills_delete a c.fill-4.new.pass above.node place.parent.node place.leaf above.tag word was (packed place.parent.update) s4
-    c.requires.card.1.says (c.word-leaf.ensures ∙ ap linked c.leaf_with.ensures) c.pack-was.ensures
+    fills_delete a c.fill-4.new.pass above.node place.parent.node place.node above.tag word was (packed place.parent.update) s4
+    c.requires.card.1.says (c.word-leaf.ensures ∙ ap linked c.node_with.ensures) c.pack-was.ensures

@@ -10,7 +10,7 @@ use Rattle.ell_tree.proofs.deleting.try_delete.Goals as goal
 pub delete_at-requires-clause-searched : goal.delete_at-requires-clause-searched
 delete_at-requires-clause-searched g c =
     let s = c.search-place in
-    searched c.args.table.now.plan.last_card (Delete c.args.key) s.result c.args.pass.now s.new.pass _ s.ensures.keeps_but_search c.requires.root s.ensures.ends
+    searched c.args.table.now.plan (Delete c.args.key) s.result c.args.pass.now s.new.pass _ s.ensures.keeps_but_search c.requires.root s.ensures.ends
 
 -- the key was not there
 pub returns-then-place-key-clause-ends : goal.returns-then-place-key-clause-ends
@@ -30,7 +30,7 @@ pub returns-then-place-key-clause-took : goal.returns-then-place-key-clause-took
 returns-then-place-key-clause-took g c =
     let s = c.search-place in (
       record {
-        mine = had_none c.args.table.now.plan.last_card c.args.pass.now s.new.pass s.ensures.keeps_but_search.keeps.view.ledger s.result c.args.key s.ensures.ends (search rules);
+        mine = had_none c.args.table.now.plan c.args.pass.now s.new.pass s.ensures.keeps_but_search.keeps.view.ledger s.result c.args.key s.ensures.ends (search rules);
         took = tt;
       },
       takes_none c.args.pass.now s.new.pass c.answer.new.pass c.args.key s.ensures.keeps_but_search.keeps.view.answers

@@ -9,7 +9,8 @@ use Rattle.ell_tree.specs.Keeping.{KeepsAllButMet}
 use Rattle.ell_tree.proofs.lemmas.Keeping.{keeps_but_met_trans}
 use Rattle.ell_tree.proofs.lemmas.Meeting.{delete_ended_still, up_to_none, up_to_trans, up_to_end}
 use Rattle.ell_tree.proofs.helping.help_delete.Goals as goal
-use Rattle.ell_cards.specs.Depths.{depth_of}
+use Rattle.ell_cards.specs.Depths.{deepest, depth_of}
+use Rattle.ell_cards.specs.Models.{TablePlan}
 
 pub loop-next-init : goal.loop-next-init
 loop-next-init g c = record {
@@ -49,20 +50,20 @@ loop-next-smaller g c =
     omega (arith, h.3, h.4)
 
 -- the last delete of a chain
-last_ends : (cards : ℕ) (flag : DeleteFlag) (old new : PassModel) (r : Ending) → HelpEnds cards flag old new r → ((next : DeleteFlag) → r ≡ Behind next → ⊥)
-    → KeepsAllButMet old new 12 × Meets old.view new.view × (depth_of old.view flag.grandparent + 1 ≤ cards) × IsDeleteEnded new.view flag.card
-last_ends cards flag old new Done h last = (h.0, h.1, h.2, inl h.3)
-last_ends cards flag old new Backed h last = (h.0, h.1, h.2, inr h.3)
-last_ends cards flag old new (Behind next) h last = absurd (last next refl)
+last_ends : (plan : TablePlan) (flag : DeleteFlag) (old new : PassModel) (r : Ending) → HelpEnds plan flag old new r → ((next : DeleteFlag) → r ≡ Behind next → ⊥)
+    → KeepsAllButMet old new 12 × Meets old.view new.view × (depth_of old.view flag.grandparent + 1 ≤ deepest plan) × IsDeleteEnded new.view flag.card
+last_ends plan flag old new Done h last = (h.0, h.1, h.2, inl h.3)
+last_ends plan flag old new Backed h last = (h.0, h.1, h.2, inr h.3)
+last_ends plan flag old new (Behind next) h last = absurd (last next refl)
 
 pub returns : goal.returns
 returns g c =
     let i = c.loop-next.invariant in
     let new = c.help_one_delete.new.pass in
-    let last = last_ends c.args.table.now.plan.last_card c.loop-next.flag c.loop-next.pass new c.help_one_delete.result c.help_one_delete.ensures c.in_default.not-Behind in
+    let last = last_ends c.args.table.now.plan c.loop-next.flag c.loop-next.pass new c.help_one_delete.result c.help_one_delete.ensures c.in_default.not-Behind in
     record {
       keeps_but_met = keeps_but_met_trans c.args.pass.now c.loop-next.pass new (4 * (depth_of c.loop-next.pass.view c.loop-next.flag.grandparent - depth_of c.args.pass.now.view c.args.flag.grandparent)) 12
-          (chain_steps c.args.table.now.plan.last_card (depth_of c.args.pass.now.view c.args.flag.grandparent)) i.keeps_but_met last.0 (omega (arith, i.down, last.2));
+          (chain_steps (deepest c.args.table.now.plan) (depth_of c.args.pass.now.view c.args.flag.grandparent)) i.keeps_but_met last.0 (omega (arith, i.down, last.2));
       meets = up_to_end c.loop-next.flag.card c.args.pass.now.view c.loop-next.pass.view new.view i.meets last.1 last.3;
       ended = still_ended c.args.flag c.loop-next.flag c.loop-next.pass new 12 last.0 i.ended last.3;
     }

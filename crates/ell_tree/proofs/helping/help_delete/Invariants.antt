@@ -3,7 +3,7 @@ use Rattle.ell_tree.specs.Keeping.{KeepsAllButMet}
 use Rattle.ell_tree.specs.Helps.{IsFlag}
 use Rattle.ell_tree.specs.Hindrances.{IsDeleteEnded, MeetsUpTo}
 use Rattle.ell_tree.proofs.helping.help_delete.Given as goal
-use Rattle.ell_cards.specs.Depths.{depth_of}
+use Rattle.ell_cards.specs.Depths.{depth_of, deepest}
 
 -- the steps so far are four for each internal node that the chain went down; the first delete has ended once another is at hand
 abbrev pub invariant-loop-next : goal.invariant-loop-next
@@ -17,4 +17,4 @@ invariant-loop-next g l = record {
 }
 
 abbrev pub decreases-loop-next : goal.decreases-loop-next
-decreases-loop-next g l = l.table.plan.last_card - depth_of l.pass.view l.flag.grandparent
+decreases-loop-next g l = deepest l.table.plan - depth_of l.pass.view l.flag.grandparent

@@ -12,14 +12,14 @@ returns g c =
     let place = c.args.place in
     let lesser = c.min-lesser.result in
     let greater = c.max-greater.result in
-    let left = c.left_leaf_of.result in
-    let right = c.right_leaf_of.result in
+    let left = c.card_children-left.result.0 in
+    let right = c.card_children-left.result.1 in
     let update = c.update_word-clean.result in
-    let word = c.word-leaf.result in
+    let word = c.word-below.result in
     let values = c.if-key-place.left_value in
     let s1 = stores_more a a c.fill.new.pass _ 0 field.P place.parent.node (stores_none a c.requires.card.card.empty) c.fill.ensures in
     let s2 = stores_more a c.fill.new.pass c.fill-2.new.pass _ 1 field.L word s1 c.fill-2.ensures in
-    let s3 = stores_more a c.fill-2.new.pass c.fill-3.new.pass _ 2 field.Key greater s2 c.fill-3.ensures in
+    let s3 = stores_more a c.fill-2.new.pass c.fill-3.new.pass _ 2 field.Key c.args.node_key s2 c.fill-3.ensures in
     let s4 = stores_more a c.fill-3.new.pass c.fill-4.new.pass _ 3 field.Left left s3 c.fill-4.ensures in
     let s5 = stores_more a c.fill-4.new.pass c.fill-5.new.pass _ 4 field.Right right s4 c.fill-5.ensures in
     let s6 = stores_more a c.fill-5.new.pass c.fill-6.new.pass _ 5 field.Update update s5 c.fill-6.ensures in
@@ -27,9 +27,9 @@ returns g c =
     let s8 = stores_more a c.fill-7.new.pass c.fill-8.new.pass _ 7 field.RightLeafKey greater s7 c.fill-8.ensures in
     let s9 = stores_more a c.fill-8.new.pass c.fill-9.new.pass _ 8 field.LeftValue values.0 s8 c.fill-9.ensures in
     let s10 = stores_more a c.fill-9.new.pass c.fill-10.new.pass _ 9 field.RightValue values.1 s9 c.fill-10.ensures in
-    fills_insert a c.fill-10.new.pass c.args.card c.args.what.key c.args.what.value place.parent.node place.leaf place.parent.tag place.key place.value
-    word lesser greater left right update values.0 values.1 s10 c.requires.card.card.says (c.word-leaf.ensures ∙ ap linked c.leaf_with.ensures)
-    c.min-lesser.ensures c.max-greater.ensures c.left_leaf_of.ensures c.right_leaf_of.ensures c.update_word-clean.ensures sides.0 sides.1
+    fills_insert a c.fill-10.new.pass c.args.card c.args.what.key c.args.what.value c.args.node_key place.parent.node place.node place.parent.tag place.key place.value
+    word lesser greater left right update values.0 values.1 s10 c.requires.card.card.says (c.word-below.ensures ∙ ap linked c.node_with.ensures)
+    c.min-lesser.ensures c.max-greater.ensures c.card_children-left.ensures.left c.card_children-left.ensures.right c.update_word-clean.ensures sides.0 sides.1
   where
     sides : (c.if-key-place.left_value.0 ≡ (if nat_lt c.args.what.key c.args.place.key then c.args.what.value else c.args.place.value))
         × (c.if-key-place.left_value.1 ≡ (if nat_lt c.args.what.key c.args.place.key then c.args.place.value else c.args.what.value))

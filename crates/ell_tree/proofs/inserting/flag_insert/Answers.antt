@@ -5,7 +5,7 @@ use Rattle.ell_tree.proofs.lemmas.Flagging.{may_iflag, flag_goes, flag_takes, fl
 use Rattle.ell_tree.proofs.inserting.flag_insert.Goals as goal
 
 pub iflag-requires-clause-may : goal.iflag-requires-clause-may
-iflag-requires-clause-may g c = may_iflag c.args.pass.now c.fill_insert.new.pass 10 c.args.card c.args.what c.args.place c.requires.card c.fill_insert.ensures
+iflag-requires-clause-may g c = may_iflag c.args.pass.now c.fill_insert.new.pass 10 c.args.card c.args.node_key c.args.what c.args.place c.requires.card c.fill_insert.ensures
 
 pub returns : goal.returns
 returns g c =

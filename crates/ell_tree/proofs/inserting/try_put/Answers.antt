@@ -7,7 +7,7 @@ use Rattle.ell_ops.specs.Meaning.{found}
 use Rattle.ell_tree.specs.CardsTaken.{cards_taken, TakesOneCard, TakesOneIf}
 use Rattle.ell_tree.specs.Ends.{Answers, changes_by, reply_by}
 use Rattle.ell_tree.specs.Hindrances.{way_of}
-use Rattle.ell_tree.specs.Searches.{leaf_with}
+use Rattle.ell_tree.specs.Searches.{node_with}
 use Rattle.ell_tree.proofs.lemmas.Searches.{may_answer}
 use Rattle.ell_tree.proofs.lemmas.Filling.{put_card, is_insert}
 use Rattle.ell_tree.proofs.lemmas.Links.{has_word}
@@ -16,35 +16,37 @@ use Rattle.ell_tree.proofs.lemmas.Owning.{keeps_answers, would_put}
 use Rattle.ell_tree.proofs.lemmas.Meeting.{meets_trans, meets_more, put_way, nowhere_way, way_over, way_free, no_way}
 use Rattle.ell_tree.proofs.lemmas.Halting.{keeps_meets, seek_meets, walk_meets, said_meets, flag_lost}
 use Rattle.ell_tree.proofs.lemmas.Hindrances.{root_in_try}
-use Rattle.ell_tree.proofs.lemmas.Putting.{put_wants, put_refused, put_done}
+use Rattle.ell_tree.proofs.lemmas.Putting.{put_wants, put_refused, put_done, refused_outer}
 use Rattle.ell_tree.proofs.lemmas.Milestones.{sees_end, gives_out}
 use Rattle.ell_tree.proofs.inserting.try_put.Goals as goal
 
 pub take_card-requires-clause-wants : goal.take_card-requires-clause-wants
 take_card-requires-clause-wants g c =
     let s = c.search-place in
-    put_wants s.result c.args.op c.args.what c.requires.puts s.new.pass.view s.ensures.ends.at (search rules)
+    put_wants s.result c.args.table.now.plan c.args.op c.args.what c.requires.puts c.node_key-node_key.result s.new.pass.view s.ensures.ends (search rules) c.node_key-node_key.ensures
 
 pub answer-requires-clause-may : goal.answer-requires-clause-may
 answer-requires-clause-may g c =
     let s = c.search-place in
     let refused = put_refused s.result c.args.op c.args.what c.requires.puts
     (λ takes. false≢true (sym c.if-not-may_replace.true ∙ c.may_replace.ensures.1 takes)) in
-    may_answer s.new.pass.view c.args.op s.result c.found.result (s.ensures.keeps_but_search.keeps.view.operation ∙ c.requires.root.busy) s.ensures.ends.at
+    may_answer s.new.pass.view c.args.op s.result c.found.result (s.ensures.keeps_but_search.keeps.view.operation ∙ c.requires.root.busy)
+    (refused_outer s.result c.args.table.now.plan c.args.op c.args.what c.requires.puts s.new.pass.view s.ensures.ends
+    (λ takes. false≢true (sym c.if-not-may_replace.true ∙ c.may_replace.ensures.1 takes))) s.ensures.ends.at
     (refused.says ∙ ap Some (sym (c.found.ensures ∙ ap found c.told_of_put-found.ensures)))
 
 pub flag_insert-requires-clause-link : goal.flag_insert-requires-clause-link
 flag_insert-requires-clause-link g c =
     let place = c.search-place.result in
     let ends = c.search-place.ensures.ends in
-    has_word c.args.table.now.plan.last_card (leaf_with place place.parent.tag) ends.leaf c.take_card.ensures.limit ends.passed.tag
+    has_word c.args.table.now.plan.last_card (node_with place place.parent.tag) ends.node c.take_card.ensures.limit ends.passed.tag
 
 pub flag_insert-requires-clause-card : goal.flag_insert-requires-clause-card
 flag_insert-requires-clause-card g c =
     let s = c.search-place in record {
       op = c.args.op;
       puts = c.requires.puts;
-      card = put_card s.new.pass.view c.take_card.new.pass.view c.in-Card.card c.args.op c.args.what s.result c.requires.puts
+      card = put_card s.new.pass.view c.take_card.new.pass.view c.in-Card.card c.node_key-node_key.result c.args.op c.args.what s.result c.requires.puts
           (s.ensures.keeps_but_search.keeps.view.operation ∙ c.requires.root.busy) s.ensures.ends.at c.in-Card.ensures.claims.0;
     }
 
@@ -53,12 +55,12 @@ finish_insert-requires-clause-insert g c =
     let s = c.search-place in
     let place = s.result in
     let ends = s.ensures.ends in
-    let card = put_card s.new.pass.view c.take_card.new.pass.view c.in-Card.card c.args.op c.args.what place c.requires.puts
+    let card = put_card s.new.pass.view c.take_card.new.pass.view c.in-Card.card c.node_key-node_key.result c.args.op c.args.what place c.requires.puts
     (s.ensures.keeps_but_search.keeps.view.operation ∙ c.requires.root.busy) ends.at c.in-Card.ensures.claims.0 in
     rw c.max-right_key.ensures
     rw c.min-left_key.ensures
-    rw c.leaf_with-leaf.ensures
-    (is_insert c.take_card.new.pass.view c.flag_insert.new.pass.view c.in-Card.card place c.flag_insert.ensures.keeps.view c.args.op c.args.what card
+    rw c.node_with-below.ensures
+    (is_insert c.take_card.new.pass.view c.flag_insert.new.pass.view c.in-Card.card place c.flag_insert.ensures.keeps.view c.node_key-node_key.result c.args.op c.args.what card
     c.in-Ok.ensures.flags.knows (c.take_card.ensures.keeps.view.told (Met place.parent.node) ends.passed.seen.node.met))
 
 -- there was no place for it
@@ -97,7 +99,7 @@ returns-then-ne-clause-ends g c =
     let stands : update.state ≢ Clean = search rules in
     let meets = meets_trans a.view s.new.pass.view new.view (seek_meets a s.new.pass _ s.ensures.keeps_but_search) c.help.ensures.meets in
     let way = way_over new.view update.state update.card (way_of c.args.op new.view)
-    (put_way c.args.op c.args.what c.requires.puts place.leaf place.parent place.grandparent new.view (c.help.ensures.keeps_but_met.search ∙ s.ensures.ends.at.search)) stands
+    (put_way c.args.op c.args.what c.requires.puts place.node place.parent place.grandparent new.view (c.help.ensures.keeps_but_met.search ∙ s.ensures.ends.at.search)) stands
     c.help.ensures.ended in
     let more = meets_more a.view new.view meets in (
       record {
@@ -109,7 +111,7 @@ returns-then-ne-clause-ends g c =
         meets = meets;
         in_try = c.help.ensures.keeps_but_met.keeps.view.earlier a.view.hindrances (s.ensures.keeps_but_search.keeps.view.earlier a.view.hindrances (root_in_try c.args.op a.view c.requires.root));
         way = way.0;
-        would = would_put c.args.table.now.plan.last_card a s.new.pass s.ensures.keeps_but_search.keeps.view.ledger s.result c.args.op c.args.what c.requires.puts s.ensures.ends (search rules);
+        would = would_put c.args.table.now.plan a s.new.pass s.ensures.keeps_but_search.keeps.view.ledger s.result c.args.op c.args.what c.requires.puts s.ensures.ends (search rules);
         stops = search rules;
       },
       omega (arith, way.1, more),
@@ -131,7 +133,7 @@ returns-in-NoneLeft-clause-ends g c =
     let meets = meets_trans a.view s.new.pass.view new.view (seek_meets a s.new.pass _ s.ensures.keeps_but_search)
     (keeps_meets s.new.pass new 2 c.in-NoneLeft.ensures.keeps claims.2) in
     let way = way_free new.view update.state update.card (way_of c.args.op new.view)
-    (put_way c.args.op c.args.what c.requires.puts place.leaf place.parent place.grandparent new.view (claims.0.search ∙ s.ensures.ends.at.search)) calm in (
+    (put_way c.args.op c.args.what c.requires.puts place.node place.parent place.grandparent new.view (claims.0.search ∙ s.ensures.ends.at.search)) calm in (
       record {
         table = search rules;
         label = search rules;
@@ -141,7 +143,7 @@ returns-in-NoneLeft-clause-ends g c =
         meets = meets;
         in_try = c.take_card.ensures.keeps.view.earlier a.view.hindrances (s.ensures.keeps_but_search.keeps.view.earlier a.view.hindrances (root_in_try c.args.op a.view c.requires.root));
         way = way;
-        would = would_put c.args.table.now.plan.last_card a s.new.pass s.ensures.keeps_but_search.keeps.view.ledger s.result c.args.op c.args.what c.requires.puts s.ensures.ends (search rules);
+        would = would_put c.args.table.now.plan a s.new.pass s.ensures.keeps_but_search.keeps.view.ledger s.result c.args.op c.args.what c.requires.puts s.ensures.ends (search rules);
         stops = search rules;
       },
       claims.1,
@@ -159,7 +161,7 @@ returns-in-Lost-clause-ends g c =
     let calm : update.state ≡ Clean = search rules in
     let meets = meets_trans a.view s.new.pass.view new.view (seek_meets a s.new.pass _ s.ensures.keeps_but_search) claims.1 in
     let way = way_free new.view update.state update.card (way_of c.args.op new.view)
-    (put_way c.args.op c.args.what c.requires.puts place.leaf place.parent place.grandparent new.view (claims.0.search ∙ s.ensures.ends.at.search)) calm in
+    (put_way c.args.op c.args.what c.requires.puts place.node place.parent place.grandparent new.view (claims.0.search ∙ s.ensures.ends.at.search)) calm in
     let quiet = ap length s.ensures.keeps_but_search.hindrances in (
       record {
         table = search rules;
@@ -170,7 +172,7 @@ returns-in-Lost-clause-ends g c =
         meets = meets;
         in_try = c.take_card.ensures.keeps.view.earlier a.view.hindrances (s.ensures.keeps_but_search.keeps.view.earlier a.view.hindrances (root_in_try c.args.op a.view c.requires.root));
         way = way;
-        would = would_put c.args.table.now.plan.last_card a s.new.pass s.ensures.keeps_but_search.keeps.view.ledger s.result c.args.op c.args.what c.requires.puts s.ensures.ends (search rules);
+        would = would_put c.args.table.now.plan a s.new.pass s.ensures.keeps_but_search.keeps.view.ledger s.result c.args.op c.args.what c.requires.puts s.ensures.ends (search rules);
         stops = search rules;
       },
       omega (arith, quiet, claims.2),
@@ -234,7 +236,7 @@ returns-in-Err-clause-ends g c =
         meets = meets;
         in_try = in_try;
         way = way;
-        would = would_put c.args.table.now.plan.last_card a s.new.pass s.ensures.keeps_but_search.keeps.view.ledger s.result c.args.op c.args.what c.requires.puts s.ensures.ends (search rules);
+        would = would_put c.args.table.now.plan a s.new.pass s.ensures.keeps_but_search.keeps.view.ledger s.result c.args.op c.args.what c.requires.puts s.ensures.ends (search rules);
         stops = search rules;
       },
       omega (arith, lost.1, more),

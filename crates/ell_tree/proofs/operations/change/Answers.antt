@@ -13,6 +13,7 @@ use Rattle.ell_tree.proofs.lemmas.CardsTaken.{answers_first, answered_most, answ
 use Rattle.ell_tree.proofs.lemmas.Keeping.{share_trans}
 use Rattle.ell_tree.proofs.lemmas.Owning.{answers_before, would_before, takes_before_it}
 use Rattle.ell_tree.proofs.operations.change.Goals as goal
+use Rattle.ell_cards.specs.Depths.{deepest}
 
 pub try_once-requires-clause-root : goal.try_once-requires-clause-root
 try_once-requires-clause-root g c =
@@ -26,7 +27,7 @@ loop-round-preserved g c =
     let i = l.invariant in
     let op = c.args.op in
     let begins = c.restart.ensures.begins op i.stops.busy (λ none. i.root (eqb-true l.round 0 none)) in
-    let most = try_steps c.args.table.now.plan.last_card in
+    let most = try_steps (deepest c.args.table.now.plan) in
     let few = round_steps l.round most c.args.pass.now l.pass c.restart.new.pass c.try_once.new.pass i.rounds
     begins.took (λ none. c.restart.ensures.first (eq-eqb l.round 0 none)) c.try_once.ensures.steps c.try_once.ensures.made in
     let halts = c.in-Hindered.ensures.ends.0 in
@@ -80,7 +81,7 @@ loop-round-init g c =
       hindered = let none = root_hindered c.args.op c.begin.new.pass.view start.root in omega (arith, none, start.hindered);
       milestones = omega (arith, still);
       taken = record { least = omega (arith, start.taken); most = omega (arith, start.taken) };
-      rounds = rounds_first (try_steps cards) c.args.pass.now c.begin.new.pass start.took;
+      rounds = rounds_first (try_steps (deepest c.args.table.now.plan)) c.args.pass.now c.begin.new.pass start.took;
     }
 
 pub returns-in-Answered-clause-steps : goal.returns-in-Answered-clause-steps
@@ -91,7 +92,7 @@ returns-in-Answered-clause-steps g c =
     let tried = c.try_once.new.pass in
     let begins = c.restart.ensures.begins c.args.op i.stops.busy (λ none. i.root (eqb-true l.round 0 none)) in
     let cards = c.args.table.now.plan.last_card in
-    let most = try_steps cards in
+    let most = try_steps (deepest c.args.table.now.plan) in
     let few = round_steps l.round most start l.pass c.restart.new.pass tried i.rounds
     begins.took (λ none. c.restart.ensures.first (eq-eqb l.round 0 none)) c.try_once.ensures.steps c.try_once.ensures.made in
     let all = rounds_steps l.round c.args.tries most c.loop-round-test.true in
@@ -99,7 +100,7 @@ returns-in-Answered-clause-steps g c =
     (λ f h. c.in-Answered.ensures.ends.1.knows f (begins.knows f h)) (omega (arith, begins.least, c.try_once.ensures.least)) in
     record {
       most = took_within start tried ((l.round + 1) * most) (c.args.tries * most + 1) few (omega (arith, all));
-      amortized = amortized cards l.round start tried (omega (arith, on, i.milestones))
+      amortized = amortized c.args.table.now.plan l.round start tried (omega (arith, on, i.milestones))
           (took_within start tried ((l.round + 1) * most) ((l.round + 1) * most + 1) few (omega arith));
       counted = record {
         least = omega (arith, c.try_once.ensures.hindered, begins.hindered, i.hindered);
@@ -117,7 +118,7 @@ returns-in-Spent-clause-steps g c =
     let left = c.leave.new.pass in
     let begins = c.restart.ensures.begins op i.stops.busy (λ none. i.root (eqb-true l.round 0 none)) in
     let cards = c.args.table.now.plan.last_card in
-    let most = try_steps cards in
+    let most = try_steps (deepest c.args.table.now.plan) in
     let few = round_steps l.round most start l.pass c.restart.new.pass tried i.rounds
     begins.took (λ none. c.restart.ensures.first (eq-eqb l.round 0 none)) c.try_once.ensures.steps c.try_once.ensures.made in
     let all = rounds_steps l.round c.args.tries most c.loop-round-test.true in
@@ -129,7 +130,7 @@ returns-in-Spent-clause-steps g c =
     let one = one_hindered tried.view in
     record {
       most = took_trans start tried left ((l.round + 1) * most) 1 (c.args.tries * most + 1) few lays.took (omega (arith, all));
-      amortized = amortized cards l.round start left (omega (arith, on, same, i.milestones))
+      amortized = amortized c.args.table.now.plan l.round start left (omega (arith, on, same, i.milestones))
           (took_trans start tried left ((l.round + 1) * most) 1 ((l.round + 1) * most + 1) few lays.took (omega arith));
       counted = record {
         least = omega (arith, one.0, lays.hindered, c.try_once.ensures.hindered, begins.hindered, i.hindered);
@@ -144,7 +145,7 @@ returns-clause-steps g c =
     let start = c.args.pass.now in
     let left = c.leave-2.new.pass in
     let cards = c.args.table.now.plan.last_card in
-    let most = try_steps cards in
+    let most = try_steps (deepest c.args.table.now.plan) in
     let few = i.rounds.later (omega (arith, c.requires.tries, c.loop-round-test.false, l.auto.round-end)) in
     let all : l.round ≡ c.args.tries = omega (arith, c.loop-round-test.false, l.auto.round-end) in
     let rounds = ap (λ n. n * most) all in
@@ -152,7 +153,7 @@ returns-clause-steps g c =
     let same = milestones_same cards l.pass.view left.view lays.facts lays.least in
     record {
       most = took_trans start l.pass left (l.round * most) 1 (c.args.tries * most + 1) few lays.took (omega (arith, rounds));
-      amortized = amortized cards l.round start left (omega (arith, same, i.milestones))
+      amortized = amortized c.args.table.now.plan l.round start left (omega (arith, same, i.milestones))
           (took_trans start l.pass left (l.round * most) 1 ((l.round + 1) * most + 1) few lays.took (omega arith));
       counted = record { least = omega (arith, lays.hindered, i.hindered); most = omega (arith, lays.hindered, all, i.hindered) };
     }

@@ -12,6 +12,7 @@ use Rattle.ell_tree.specs.Milestones.{milestones_known}
 use Rattle.ell_tree.proofs.lemmas.Counts.{TookRounds}
 use Rattle.ell_tree.proofs.operations.change.Given as goal
 use Rattle.ell_core.specs.statements.Effects.{reply_of_change}
+use Rattle.ell_cards.specs.Depths.{deepest}
 
 -- each try so far met something in its way
 abbrev pub invariant-loop-round : goal.invariant-loop-round
@@ -31,5 +32,5 @@ invariant-loop-round g l = record {
   hindered : tries_hindered l.pass.view ≡ l.fn.pass.view.hindered + l.round;
   milestones : milestones_known l.table.plan.last_card l.fn.pass.view + l.round ≤ milestones_known l.table.plan.last_card l.pass.view;
   taken : TakesAtMost l.round l.fn.pass l.pass;
-  rounds : TookRounds l.round (try_steps l.table.plan.last_card) l.fn.pass l.pass;
+  rounds : TookRounds l.round (try_steps (deepest l.table.plan)) l.fn.pass l.pass;
 }

@@ -7,6 +7,7 @@ use Rattle.ell_tree.specs.Looks.{look_steps}
 use Rattle.ell_tree.proofs.lemmas.Counts.{counted_all}
 use Rattle.ell_tree.proofs.lemmas.Looks.{only_counted}
 use Rattle.ell_tree.proofs.reading.look.Goals as goal
+use Rattle.ell_cards.specs.Depths.{deepest}
 
 pub returns : goal.returns
 returns g c =
@@ -17,5 +18,5 @@ returns g c =
       one = ap (λ (v : View). v.looks) same ∙ w.ensures.one;
       mine = w.ensures.mine;
       counted = counted_all c.args.pass.now w.new.pass c.count.new.self w.result.1 w.ensures.uncounted c.count.ensures;
-      only = only_counted c.args.pass.now w.new.pass c.count.new.self (look_steps c.args.table.now.plan.last_card) w.result.1 w.ensures.only w.ensures.uncounted c.count.ensures;
+      only = only_counted c.args.pass.now w.new.pass c.count.new.self (look_steps (deepest c.args.table.now.plan)) w.result.1 w.ensures.only w.ensures.uncounted c.count.ensures;
     }

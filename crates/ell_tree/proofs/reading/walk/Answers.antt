@@ -1,19 +1,42 @@
-use Rattle.std.proofs.Common.{◌≡◌, ◌≢◌, refl, Some, None, ◌∙◌, arith, rules}
+use Rattle.std.proofs.Common.{◌≡◌, ◌≢◌, ℕ, ◌+◌, nat_le, true, false, refl, sym, subst, Some, None, ◌∙◌, arith, rules}
 use Rattle.ell_word.specs.Link.{linked}
 use Rattle.ell_word.specs.Node.{IsInternal}
 use Rattle.ell_layout.specs.Words.{IsLeaf}
 use Rattle.ell_cards.proofs.lemmas.views.Afters.{after_look, after_key_of, after_value_of}
 use Rattle.ell_tree.proofs.lemmas.Counts.{uncounted_one, uncounted_trans}
-use Rattle.ell_tree.proofs.lemmas.Looks.{comes_first, met_still, may_down, comes_down, down_deeper, found_none, only_none, found_some, only_some, one_none, one_some, key_only, reads_mine}
+use Rattle.ell_tree.proofs.lemmas.Looks.{comes_alone, comes_first, met_still, may_down, comes_down, down_deeper, found_none, only_none, found_some, only_some, one_none, one_some, key_only, reads_mine}
 use Rattle.ell_tree.proofs.lemmas.Links.{child_same}
+use Rattle.ell_ops.specs.Meaning.{greatest_key}
+use Rattle.ell_cards.specs.declared.glance.Glance.{Glance}
+use Rattle.ell_cards.specs.declared.glance.Stretch.{Stretch}
+use Rattle.ell_cards.specs.Guards.{GoOnBy, MayLookDown}
+use Rattle.ell_cards.specs.Models.{flat_from, Sees}
+use Rattle.ell_core.proofs.lemmas.runs.Stretches.{key_from, key_upto}
+use Rattle.ell_cards.proofs.lemmas.views.Afters.{after_look_down}
+use Rattle.std.proofs.lemmas.Bool.{false≢true}
 use Rattle.ell_tree.proofs.reading.walk.Goals as goal
+
+-- a node to which a look has come by one key, and the key alone
+abbrev glance : ℕ → ℕ → Glance
+glance node key = record { node = node; low = key; high = key + 1; whole = false }
+
+abbrev alone : ℕ → Stretch
+alone key = record { low = key; high = key + 1; whole = false }
+
+-- it goes on by itself
+goes_alone : (from node key k : ℕ) → GoOnBy from (glance node key) k (nat_le k key) (alone key)
+goes_alone from node key k =
+    let low = key_from k key key (omega arith) in
+    let high = key_upto k (key + 1) key (omega arith) in
+    record { low = low; high = omega arith; whole = λ is. absurd (false≢true is) }
 
 pub loop-pass-init : goal.loop-pass-init
 loop-pass-init g c =
     let f = c.look-first in
     record {
-      comes = comes_first c.args.table.now.plan.last_card c.args.pass.now f.new.pass c.args.key (linked f.result) f.result.node
-          (child_same c.args.table.now.plan.last_card f.result f.ensures.there c.facts_stay_inside.ensures.room) c.requires.real f.ensures.step f.ensures.shallow f.ensures.there;
+      comes = comes_alone c.args.table.now.plan c.args.pass.now f.new.pass c.args.key f.result.node 0 (greatest_key + 1) true
+          (comes_first c.args.table.now.plan c.args.pass.now f.new.pass c.args.key (linked f.result) f.result.node
+          (child_same c.args.table.now.plan.last_card f.result f.ensures.there c.facts_stay_inside.ensures.room) c.requires.real f.ensures.step f.ensures.shallow f.ensures.there);
       uncounted = uncounted_one c.args.pass.now f.new.pass (after_look (linked f.result) c.args.pass.now.view) f.ensures.step refl;
     }
 
@@ -34,7 +57,9 @@ look_down-child-requires-clause-may g c =
     let l = c.loop-pass in
     let k = c.key_of-node_key in
     let inner : IsInternal l.node = search rules in
-    may_down c.args.table.now.plan.last_card c.args.pass.now l.pass k.new.pass c.args.key l.node k.result l.invariant.comes k.ensures.step inner
+    subst (λ h. MayLookDown (flat_from c.args.table.now.plan) k.new.pass.view h (alone c.args.key) (nat_le k.result c.args.key)) (sym c.at.ensures)
+    (may_down c.args.table.now.plan c.args.pass.now l.pass k.new.pass c.args.key (glance l.node c.args.key) k.result l.invariant.comes k.ensures.step inner (alone c.args.key)
+    (nat_le k.result c.args.key) (goes_alone (flat_from c.args.table.now.plan) l.node c.args.key k.result))
 
 pub loop-pass-smaller : goal.loop-pass-smaller
 loop-pass-smaller g c =
@@ -44,8 +69,9 @@ loop-pass-smaller g c =
     let inner : IsInternal l.node = search rules in
     let room = l.invariant.comes.shallow.inner inner in
     let says = child_same c.args.table.now.plan.last_card d.result d.ensures.there c.facts_stay_inside.ensures.room in
-    let deeper = down_deeper c.args.table.now.plan.last_card c.args.pass.now l.pass k.new.pass c.args.key l.node k.result l.invariant.comes k.ensures.step
-    d.new.pass (linked d.result) d.result.node says d.ensures.step in
+    let deeper = down_deeper c.args.table.now.plan c.args.pass.now l.pass k.new.pass c.args.key (glance l.node c.args.key) k.result l.invariant.comes k.ensures.step
+    d.new.pass (alone c.args.key) (nat_le k.result c.args.key) (linked d.result) d.result.node says
+    (subst (λ h. Sees k.new.pass d.new.pass (after_look_down h (alone c.args.key) (nat_le k.result c.args.key) (linked d.result) k.new.pass.view)) c.at.ensures d.ensures.step) in
     omega arith
 
 pub loop-pass-preserved : goal.loop-pass-preserved
@@ -55,8 +81,10 @@ loop-pass-preserved g c =
     let d = c.look_down-child in
     let inner : IsInternal l.node = search rules in
     record {
-      comes = comes_down c.args.table.now.plan.last_card c.args.pass.now l.pass k.new.pass c.args.key l.node k.result l.invariant.comes k.ensures.step
-          d.new.pass (linked d.result) d.result.node (child_same c.args.table.now.plan.last_card d.result d.ensures.there c.facts_stay_inside.ensures.room) d.ensures.step inner d.ensures.shallow d.ensures.there;
+      comes = comes_down c.args.table.now.plan c.args.pass.now l.pass k.new.pass c.args.key (glance l.node c.args.key) k.result l.invariant.comes k.ensures.step
+          d.new.pass (alone c.args.key) (nat_le k.result c.args.key) (linked d.result) d.result.node (child_same c.args.table.now.plan.last_card d.result d.ensures.there c.facts_stay_inside.ensures.room)
+          (subst (λ h. Sees k.new.pass d.new.pass (after_look_down h (alone c.args.key) (nat_le k.result c.args.key) (linked d.result) k.new.pass.view)) c.at.ensures d.ensures.step)
+          inner d.ensures.shallow d.ensures.there (omega arith) (omega arith) (let real = c.requires.real in omega arith);
       uncounted = uncounted_trans c.args.pass.now l.pass d.new.pass l.steps 2 l.invariant.uncounted
           (uncounted_trans l.pass k.new.pass d.new.pass 1 1 (uncounted_one l.pass k.new.pass (after_key_of l.node k.result l.pass.view) k.ensures.step refl)
           (uncounted_one k.new.pass d.new.pass _ d.ensures.step refl));
@@ -74,13 +102,13 @@ returns-then-leaf_key-key-clause-found g c =
     let k = c.key_of-leaf_key in
     let outer : IsLeaf l.node = search rules in
     let other : k.result ≢ c.args.key = search rules in
-    found_none c.args.table.now.plan.last_card c.args.pass.now l.pass k.new.pass c.args.key l.node k.result l.invariant.comes k.ensures.step outer other
+    found_none c.args.table.now.plan c.args.pass.now l.pass k.new.pass c.args.key (glance l.node c.args.key) k.result l.invariant.comes k.ensures.step outer other
 
 pub returns-then-leaf_key-key-clause-only : goal.returns-then-leaf_key-key-clause-only
 returns-then-leaf_key-key-clause-only g c =
     let l = c.loop-pass in
     let k = c.key_of-leaf_key in
-    only_none c.args.table.now.plan.last_card c.args.pass.now l.pass k.new.pass c.args.key l.node k.result l.invariant.comes k.ensures.step
+    only_none c.args.table.now.plan c.args.pass.now l.pass k.new.pass c.args.key (glance l.node c.args.key) k.result l.invariant.comes k.ensures.step
 
 pub value_of-requires-clause-own : goal.value_of-requires-clause-own
 value_of-requires-clause-own g c =
@@ -92,7 +120,7 @@ pub value_of-requires-clause-met : goal.value_of-requires-clause-met
 value_of-requires-clause-met g c =
     let l = c.loop-pass in
     let k = c.key_of-leaf_key in
-    met_still c.args.table.now.plan.last_card c.args.pass.now l.pass k.new.pass c.args.key l.node k.result l.invariant.comes k.ensures.step
+    met_still c.args.table.now.plan c.args.pass.now l.pass k.new.pass c.args.key (glance l.node c.args.key) k.result l.invariant.comes k.ensures.step
 
 pub returns-clause-found : goal.returns-clause-found
 returns-clause-found g c =
@@ -101,7 +129,7 @@ returns-clause-found g c =
     let v = c.value_of in
     let outer : IsLeaf l.node = search rules in
     let same : k.result ≡ c.args.key = search rules in
-    found_some c.args.table.now.plan.last_card c.args.pass.now l.pass k.new.pass c.args.key l.node k.result l.invariant.comes k.ensures.step
+    found_some c.args.table.now.plan c.args.pass.now l.pass k.new.pass c.args.key (glance l.node c.args.key) k.result l.invariant.comes k.ensures.step
     v.new.pass v.result v.ensures.step outer same
 
 pub returns-clause-only : goal.returns-clause-only
@@ -109,21 +137,21 @@ returns-clause-only g c =
     let l = c.loop-pass in
     let k = c.key_of-leaf_key in
     let v = c.value_of in
-    only_some c.args.table.now.plan.last_card c.args.pass.now l.pass k.new.pass c.args.key l.node k.result l.invariant.comes k.ensures.step
+    only_some c.args.table.now.plan c.args.pass.now l.pass k.new.pass c.args.key (glance l.node c.args.key) k.result l.invariant.comes k.ensures.step
     v.new.pass v.result v.ensures.step
 
 pub returns-then-leaf_key-key-clause-one : goal.returns-then-leaf_key-key-clause-one
 returns-then-leaf_key-key-clause-one g c =
     let l = c.loop-pass in
     let k = c.key_of-leaf_key in
-    one_none c.args.table.now.plan.last_card c.args.pass.now l.pass k.new.pass c.args.key l.node k.result l.invariant.comes k.ensures.step
+    one_none c.args.table.now.plan c.args.pass.now l.pass k.new.pass c.args.key (glance l.node c.args.key) k.result l.invariant.comes k.ensures.step
 
 pub returns-clause-one : goal.returns-clause-one
 returns-clause-one g c =
     let l = c.loop-pass in
     let k = c.key_of-leaf_key in
     let v = c.value_of in
-    one_some c.args.table.now.plan.last_card c.args.pass.now l.pass k.new.pass c.args.key l.node k.result l.invariant.comes k.ensures.step
+    one_some c.args.table.now.plan c.args.pass.now l.pass k.new.pass c.args.key (glance l.node c.args.key) k.result l.invariant.comes k.ensures.step
     v.new.pass v.result v.ensures.step
 
 pub returns-then-leaf_key-key-clause-mine : goal.returns-then-leaf_key-key-clause-mine
@@ -133,8 +161,8 @@ returns-then-leaf_key-key-clause-mine g c =
     let outer : IsLeaf l.node = search rules in
     let other : k.result ≢ c.args.key = search rules in
     reads_mine c.args.pass.now k.new.pass c.args.key None k.ensures.looked
-    (found_none c.args.table.now.plan.last_card c.args.pass.now l.pass k.new.pass c.args.key l.node k.result l.invariant.comes k.ensures.step outer other)
-    (only_none c.args.table.now.plan.last_card c.args.pass.now l.pass k.new.pass c.args.key l.node k.result l.invariant.comes k.ensures.step).worker
+    (found_none c.args.table.now.plan c.args.pass.now l.pass k.new.pass c.args.key (glance l.node c.args.key) k.result l.invariant.comes k.ensures.step outer other)
+    (only_none c.args.table.now.plan c.args.pass.now l.pass k.new.pass c.args.key (glance l.node c.args.key) k.result l.invariant.comes k.ensures.step).worker
 
 pub returns-clause-mine : goal.returns-clause-mine
 returns-clause-mine g c =
@@ -144,9 +172,9 @@ returns-clause-mine g c =
     let outer : IsLeaf l.node = search rules in
     let same : k.result ≡ c.args.key = search rules in
     reads_mine c.args.pass.now v.new.pass c.args.key (Some v.result) v.ensures.looked
-    (found_some c.args.table.now.plan.last_card c.args.pass.now l.pass k.new.pass c.args.key l.node k.result l.invariant.comes k.ensures.step
+    (found_some c.args.table.now.plan c.args.pass.now l.pass k.new.pass c.args.key (glance l.node c.args.key) k.result l.invariant.comes k.ensures.step
     v.new.pass v.result v.ensures.step outer same)
-    (only_some c.args.table.now.plan.last_card c.args.pass.now l.pass k.new.pass c.args.key l.node k.result l.invariant.comes k.ensures.step
+    (only_some c.args.table.now.plan c.args.pass.now l.pass k.new.pass c.args.key (glance l.node c.args.key) k.result l.invariant.comes k.ensures.step
     v.new.pass v.result v.ensures.step).worker
 
 pub returns-then-leaf_key-key-clause-uncounted : goal.returns-then-leaf_key-key-clause-uncounted
@@ -168,17 +196,17 @@ returns-clause-uncounted g c =
 pub overflow_add-result : goal.overflow_add-result
 overflow_add-result g c =
     let i = c.loop-pass.invariant in
-    let room = c.facts_stay_inside.ensures.room in
+    let room = c.facts_stay_inside.ensures.deep in
     omega (arith, i.uncounted.made, i.comes.only.made, i.comes.few, i.comes.shallow.any, room)
 
 pub overflow_add-result-2 : goal.overflow_add-result-2
 overflow_add-result-2 g c =
     let i = c.loop-pass.invariant in
-    let room = c.facts_stay_inside.ensures.room in
+    let room = c.facts_stay_inside.ensures.deep in
     omega (arith, i.uncounted.made, i.comes.only.made, i.comes.few, i.comes.shallow.any, room)
 
 pub overflow_add-steps : goal.overflow_add-steps
 overflow_add-steps g c =
     let i = c.loop-pass.invariant in
-    let room = c.facts_stay_inside.ensures.room in
+    let room = c.facts_stay_inside.ensures.deep in
     omega (arith, i.uncounted.made, i.comes.only.made, i.comes.few, i.comes.shallow.any, room)

@@ -16,6 +16,7 @@ use Rattle.ell_tree.proofs.lemmas.Removing.{is_that, removes}
 use Rattle.ell_tree.proofs.lemmas.Rounds.{one_round_more}
 use Rattle.ell_tree.proofs.removing.remove_if.Goals as goal
 use Rattle.ell_tree.proofs.removing.remove_if.Goals.{in-Ok-Lost, in-Err-Busy}
+use Rattle.ell_cards.specs.Depths.{deepest}
 
 pub loop-round-init : goal.loop-round-init
 loop-round-init g c =
@@ -34,7 +35,7 @@ loop-round-init g c =
       reads = λ other. reads;
       own = found_own t key there old new reads;
       last = λ some. absurd (omega arith);
-      took = took_within old new (find_steps t.plan.last_card) _ finds.steps (omega arith);
+      took = took_within old new (find_steps (deepest t.plan)) _ finds.steps (omega arith);
       counted = record { least = omega (arith, finds.quiet.hindered); most = omega (arith, finds.quiet.hindered) };
       hindered = λ owns. omega (arith, finds.quiet.hindered);
       milestones = λ owns. omega (arith, finds.quiet.milestones);
@@ -71,7 +72,7 @@ loop-round-preserved g c = elim c.match-remove_or_read.branch [
         reads = λ other. reads;
         own = λ owns. absurd (apart owns);
         last = λ some is. found_last t key there old new reads;
-        took = took_trans old l.pass new (find_steps cards + l._round * round_steps cards) (round_steps cards) _ i.took c.remove_or_read.ensures.steps (one_round_more cards l._round);
+        took = took_trans old l.pass new (find_steps (deepest c.args.table.now.plan) + l._round * round_steps (deepest c.args.table.now.plan)) (round_steps (deepest c.args.table.now.plan)) _ i.took c.remove_or_read.ensures.steps (one_round_more (deepest c.args.table.now.plan) l._round);
         counted = record { least = omega (arith, counts.least, i.counted.least); most = omega (arith, counts.most, i.counted.most) };
         hindered = λ owns. absurd (apart owns);
         milestones = λ owns. absurd (apart owns);
@@ -103,7 +104,7 @@ loop-round-preserved g c = elim c.match-remove_or_read.branch [
         reads = λ other. absurd (other still);
         own = λ owns. i.own owns ∙ sym w.there-is;
         last = λ more is. record { op = Delete key; on = refl; nothing = inl laid.nothing };
-        took = took_trans old l.pass new (find_steps cards + l._round * round_steps cards) (round_steps cards) _ i.took c.remove_or_read.ensures.steps (one_round_more cards l._round);
+        took = took_trans old l.pass new (find_steps (deepest c.args.table.now.plan) + l._round * round_steps (deepest c.args.table.now.plan)) (round_steps (deepest c.args.table.now.plan)) _ i.took c.remove_or_read.ensures.steps (one_round_more (deepest c.args.table.now.plan) l._round);
         counted = record { least = omega (arith, counts.least, i.counted.least); most = omega (arith, counts.most, i.counted.most) };
         hindered = λ owns. omega (arith, others.each, i.hindered owns);
         milestones = λ owns. omega (arith, others.milestones, i.milestones owns);

@@ -20,7 +20,7 @@ use Rattle.ell_tree.proofs.removing.remove_once.Goals as goal
 pub delete_at-requires-clause-searched : goal.delete_at-requires-clause-searched
 delete_at-requires-clause-searched g c =
     let s = c.search-place in
-    searched c.args.table.now.plan.last_card (Delete c.args.key) s.result c.begin.new.pass s.new.pass _ s.ensures.keeps_but_search c.begin.ensures.root s.ensures.ends
+    searched c.args.table.now.plan (Delete c.args.key) s.result c.begin.new.pass s.new.pass _ s.ensures.keeps_but_search c.begin.ensures.root s.ensures.ends
 
 -- another value was there, or none: the delete was laid down
 pub returns-then-not-is_value-clause-removes : goal.returns-then-not-is_value-clause-removes
@@ -35,7 +35,7 @@ returns-then-not-is_value-clause-removes g c =
       untouched_still a new (lays.table ∙ (keeps.table ∙ begins.table)) (lays.label ∙ (keeps.label ∙ begins.label))
           (lays.ledger ∙ (keeps.view.ledger ∙ begins.ledger)) (lays.answers ∙ (keeps.view.answers ∙ begins.answers))
           (share_trans a.view s.new.pass.view new.view (share_trans a.view c.begin.new.pass.view s.new.pass.view begins.share keeps.view.share) lays.share) lays.idle,
-      not_at c.args.table.now.plan.last_card a s.new.pass s.result c.args.key c.args.was (keeps.view.ledger ∙ begins.ledger) s.ensures.ends other,
+      not_at c.args.table.now.plan a s.new.pass s.result c.args.key c.args.was (keeps.view.ledger ∙ begins.ledger) s.ensures.ends other,
     )
 
 pub returns-then-not-is_value-clause-steps : goal.returns-then-not-is_value-clause-steps

@@ -6,7 +6,7 @@ use Rattle.ell_tree.proofs.scanning.scan.Given as goal
 -- the scan has come to a key, and to the nodes that the cursor keeps
 abbrev pub invariant-loop-at : goal.invariant-loop-at
 invariant-loop-at g l = record {
-  scans : Scans l.table.plan.last_card l.fn.pass l.pass l.from l.at l.upto l.count l.fn.room l.room;
+  scans : Scans l.table.plan l.fn.pass l.pass l.from l.at l.upto l.count l.fn.room l.room;
   kept : AreKept l.table.plan.last_card l.pass.view l.cursor;
 }
 

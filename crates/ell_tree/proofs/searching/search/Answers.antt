@@ -6,13 +6,14 @@ use Rattle.ell_tree.specs.Searches.{EndsAt}
 use Rattle.ell_tree.proofs.lemmas.Counts.{counted_all}
 use Rattle.ell_tree.proofs.lemmas.Keeping.{keeps_but_search_counted}
 use Rattle.ell_tree.proofs.searching.search.Goals as goal
+use Rattle.ell_cards.specs.Depths.{deepest}
 
 pub returns : goal.returns
 returns g c =
     let w = c.walk-steps in
     record {
-      keeps_but_search = keeps_but_search_counted c.args.pass.now w.new.pass c.count.new.self (3 * c.args.table.now.plan.last_card + 5) w.result.1 w.ensures.keeps_but_search w.ensures.uncounted c.count.ensures;
+      keeps_but_search = keeps_but_search_counted c.args.pass.now w.new.pass c.count.new.self (3 * deepest c.args.table.now.plan + 5) w.result.1 w.ensures.keeps_but_search w.ensures.uncounted c.count.ensures;
       counted = counted_all c.args.pass.now w.new.pass c.count.new.self w.result.1 w.ensures.uncounted c.count.ensures;
-      ends = subst (λ (v : View). EndsAt c.args.table.now.plan.last_card v c.args.op w.result.0)
+      ends = subst (λ (v : View). EndsAt c.args.table.now.plan v c.args.op w.result.0)
           (sym (ap (λ (m : PassModel). m.view) c.count.ensures)) w.ensures.ends;
     }

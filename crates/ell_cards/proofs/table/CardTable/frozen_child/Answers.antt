@@ -1,5 +1,4 @@
-use Rattle.ell_cards.proofs.lemmas.views.Depths.{named_shallow}
 use Rattle.ell_cards.proofs.table.CardTable.frozen_child.Goals as goal
 
 pub returns-clause-shallow : goal.returns-clause-shallow
-returns-clause-shallow g c = named_shallow c.args.self.now.plan.last_card c.load.new.pass.view c.load.ensures.named c.of.result.node
+returns-clause-shallow g c = c.load.ensures.shallow c.of.result.node

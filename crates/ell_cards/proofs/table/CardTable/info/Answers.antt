@@ -1,6 +1,5 @@
 use Rattle.std.proofs.Common.{arith}
 use Rattle.ell_layout.specs.Cards.{says_by}
-use Rattle.ell_cards.proofs.lemmas.views.Depths.{named_shallow}
 use Rattle.ell_cards.proofs.lemmas.seats.Taken.{known_fits}
 use Rattle.ell_cards.proofs.table.CardTable.info.Goals as goal
 
@@ -12,4 +11,4 @@ address-requires g c =
 
 pub returns-clause-shallow : goal.returns-clause-shallow
 returns-clause-shallow g c =
-    named_shallow c.args.self.now.plan.last_card c.load.new.pass.view c.load.ensures.named (says_by c.args.field c.load.result)
+    c.load.ensures.shallow (says_by c.args.field c.load.result)

@@ -1,5 +1,4 @@
-use Rattle.ell_cards.proofs.lemmas.views.Depths.{named_shallow}
 use Rattle.ell_cards.proofs.table.CardTable.look_down.Goals as goal
 
 pub returns-clause-shallow : goal.returns-clause-shallow
-returns-clause-shallow g c = named_shallow c.args.self.now.plan.last_card c.see.new.pass.view c.see.ensures.named c.of.result.node
+returns-clause-shallow g c = c.see.ensures.shallow c.of.result.node

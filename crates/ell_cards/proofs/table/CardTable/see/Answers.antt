@@ -31,3 +31,6 @@ returns-clause-values g c = c.load_as.ensures.told.values
 
 pub returns-clause-named : goal.returns-clause-named
 returns-clause-named g c = c.load_as.ensures.told.named
+
+pub returns-clause-shallow : goal.returns-clause-shallow
+returns-clause-shallow g c = c.load_as.ensures.told.shallow

@@ -3,23 +3,23 @@ use Rattle.ell_word.specs.Link.{linked}
 use Rattle.ell_word.specs.Node.{IsInternal}
 use Rattle.ell_cards.specs.declared.glance.Glance.{Glance}
 use Rattle.ell_cards.specs.Looking.{KeysAreFixed}
-use Rattle.ell_cards.specs.Models.{PassModel}
+use Rattle.ell_cards.specs.Models.{flat_from, PassModel}
 use Rattle.ell_cards.specs.declared.view.View.{View}
 use Rattle.ell_tree.specs.Cursors.{AreKept, FindsAbout}
 use Rattle.ell_tree.specs.Looks.{stretch_steps}
 use Rattle.ell_tree.proofs.lemmas.Counts.{counted_all, uncounted_none, uncounted_one, uncounted_trans}
-use Rattle.ell_tree.proofs.lemmas.Cursors.{GoesDown, all_on, keeps_first, goes_down, child_deeper, keeps_found, on_counted, key_on, kept_still, may_go_down, one_kept, stands_still}
+use Rattle.ell_tree.proofs.lemmas.Cursors.{GoesDown, all_on, asked_shallow, finds_about, keeps_first, kept_on, goes_down, child_deeper, keeps_found, on_counted, key_on, kept_still, may_go_down, one_kept, stands_still}
 use Rattle.ell_tree.proofs.lemmas.Links.{child_same}
 use Rattle.ell_tree.proofs.cursor.Cursor.about.Goals as goal
 use Rattle.ell_tree.proofs.cursor.Cursor.about.Goals.{then-not-right, else-not-right}
-use Rattle.ell_cards.specs.Depths.{depth_of}
+use Rattle.ell_cards.specs.Depths.{deepest, depth_of}
 
 pub loop-pass-init : goal.loop-pass-init
 loop-pass-init g c =
     let s = c.start-here in
     record {
       keeps = keeps_first c.args.table.now.plan.last_card c.args.pass.now c.args.key s.result c.args.self.now s.new.self c.requires.kept s.ensures.among s.ensures.from s.ensures.upto
-          s.ensures.first s.ensures.kept c.facts_stay_inside.ensures.shallow;
+          s.ensures.first s.ensures.kept;
       uncounted = uncounted_none c.args.pass.now;
     }
 
@@ -28,7 +28,9 @@ look_down-child-requires-clause-may g c =
     let l = c.loop-pass in
     let k = c.key_of-node_key in
     let inner : IsInternal l.here.node = search rules in
-    may_go_down c.args.table.now.plan.last_card c.args.pass.now l.pass k.new.pass c.args.key l.here l.self k.result l.invariant.keeps k.ensures.step inner
+    let keys = c.on_side-keys in
+    may_go_down c.args.table.now.plan.last_card c.args.pass.now l.pass k.new.pass c.args.key l.here l.self k.result l.invariant.keeps k.ensures.step
+    (flat_from c.args.table.now.plan) keys.result (nat_le k.result c.args.key) inner keys.ensures.low keys.ensures.high keys.ensures.apart
 
 pub loop-pass-preserved : goal.loop-pass-preserved
 loop-pass-preserved g c =
@@ -36,6 +38,7 @@ loop-pass-preserved g c =
     let k = c.key_of-node_key in
     let d = c.look_down-child in
     let cards = c.args.table.now.plan.last_card in
+    let keys = c.on_side-keys in
     let inner : IsInternal l.here.node = search rules in
     let still = kept_still cards c.args.pass.now l.pass k.new.pass c.args.key l.here l.self k.result l.invariant.keeps k.ensures.step in
     let stands = stands_still cards c.args.pass.now l.pass k.new.pass c.args.key l.here l.self k.result l.invariant.keeps k.ensures.step in
@@ -46,9 +49,10 @@ loop-pass-preserved g c =
       | else-not-right w ↦ subst (AreKept cards k.new.pass.view) (sym w.self-is) still
     ] in
     record {
-      keeps = subst (λ h. GoesDown cards c.args.pass.now d.new.pass c.args.key h c.if-not-right.self) (sym c.down-here.ensures)
-          (goes_down cards c.args.pass.now l.pass k.new.pass c.args.key l.here l.self k.result l.invariant.keeps k.ensures.step d.new.pass (nat_le k.result c.args.key)
-          (linked d.result) d.result.node c.if-not-right.self (child_same cards d.result d.ensures.there c.facts_stay_inside.ensures.room) d.ensures.step inner d.ensures.below d.ensures.shallow d.ensures.there refl kept);
+      keeps = subst (λ h. GoesDown cards c.args.pass.now d.new.pass c.args.key h c.if-not-right.self) (sym c.at-here.ensures)
+          (goes_down cards c.args.pass.now l.pass k.new.pass c.args.key l.here l.self k.result l.invariant.keeps k.ensures.step d.new.pass keys.result (nat_le k.result c.args.key)
+          (linked d.result) d.result.node c.if-not-right.self (child_same cards d.result d.ensures.there c.facts_stay_inside.ensures.room) d.ensures.step inner d.ensures.below d.ensures.there refl
+          keys.ensures.low keys.ensures.high keys.ensures.apart kept);
       uncounted = uncounted_trans c.args.pass.now l.pass d.new.pass l.steps 2 l.invariant.uncounted
           (uncounted_trans l.pass k.new.pass d.new.pass 1 1 (uncounted_one l.pass k.new.pass _ k.ensures.step refl) (uncounted_one k.new.pass d.new.pass _ d.ensures.step refl));
     }
@@ -60,10 +64,10 @@ loop-pass-smaller g c =
     let k = c.key_of-node_key in
     let cards = c.args.table.now.plan.last_card in
     let inner : IsInternal l.here.node = search rules in
-    let room = l.invariant.keeps.shallow.inner inner in
-    let deeper = child_deeper cards c.args.pass.now l.pass k.new.pass c.args.key l.here l.self k.result l.invariant.keeps k.ensures.step d.new.pass (nat_le k.result c.args.key)
+    let room = (asked_shallow (deepest c.args.table.now.plan) l.pass k.new.pass l.here.node k.result k.ensures.step (k.ensures.shallow l.here.node)).inner inner in
+    let deeper = child_deeper cards c.args.pass.now l.pass k.new.pass c.args.key l.here l.self k.result l.invariant.keeps k.ensures.step d.new.pass c.on_side-keys.result (nat_le k.result c.args.key)
     (linked d.result) d.result.node (child_same cards d.result d.ensures.there c.facts_stay_inside.ensures.room) d.ensures.step in
-    let is = ap (λ (h : Glance). depth_of d.new.pass.view h.node) c.down-here.ensures in
+    let is = ap (λ (h : Glance). depth_of d.new.pass.view h.node) c.at-here.ensures in
     omega arith
 
 pub key_of-node_key-requires-clause-own : goal.key_of-node_key-requires-clause-own
@@ -87,22 +91,27 @@ returns g c =
     let all = uncounted_trans c.args.pass.now l.pass f.new.pass l.steps f.result.1 l.invariant.uncounted f.ensures.uncounted in
     let view = ap (λ (m : PassModel). m.view) c.count.ensures in
     record {
-      found = subst (λ (v : View). FindsAbout cards v c.args.key f.result.0) (sym view) f.ensures.found;
+      found = subst (λ (v : View). FindsAbout cards v c.args.key f.result.0) (sym view)
+          (finds_about cards (flat_from c.args.table.now.plan) f.new.pass.view c.args.key l.here f.result.0 f.ensures.tells f.ensures.low f.ensures.high
+          (kept_on cards l.pass f.new.pass 2 l.here f.ensures.on l.invariant.keeps.stands) l.invariant.keeps.from l.invariant.keeps.upto f.ensures.mine);
       kept = subst (λ (v : View). AreKept cards v l.self) (sym view) (all_on cards l.pass f.new.pass 2 l.self f.ensures.on l.invariant.keeps.kept);
       fixed = subst KeysAreFixed (sym view) f.ensures.fixed;
       counted = counted_all c.args.pass.now f.new.pass c.count.new.self steps all c.count.ensures;
-      on = on_counted c.args.pass.now f.new.pass c.count.new.self (stretch_steps cards) steps
-          (keeps_found cards c.args.pass.now l.pass f.new.pass c.args.key l.here l.self l.invariant.keeps f.ensures.on) all c.count.ensures;
+      on = on_counted c.args.pass.now f.new.pass c.count.new.self (stretch_steps (deepest c.args.table.now.plan)) steps
+          (keeps_found cards (deepest c.args.table.now.plan) c.args.pass.now l.pass f.new.pass c.args.key l.here l.self l.invariant.keeps f.ensures.shallow f.ensures.on) all c.count.ensures;
     }
 
 pub overflow_add-steps-2 : goal.overflow_add-steps-2
 overflow_add-steps-2 g c =
     let i = c.loop-pass.invariant in
-    let room = c.facts_stay_inside.ensures.room in
-    omega (arith, i.uncounted.made, i.keeps.on.only.made, i.keeps.few, i.keeps.shallow.any, c.found_at-at_the_leaf.ensures.few, room)
+    let room = c.facts_stay_inside.ensures.deep in
+    omega (arith, i.uncounted.made, i.keeps.on.only.made, i.keeps.few, c.found_at-at_the_leaf.ensures.shallow.any, c.found_at-at_the_leaf.ensures.few, room)
 
 pub overflow_add-steps : goal.overflow_add-steps
 overflow_add-steps g c =
-    let i = c.loop-pass.invariant in
-    let room = c.facts_stay_inside.ensures.room in
-    omega (arith, i.uncounted.made, i.keeps.on.only.made, i.keeps.few, i.keeps.shallow.any, room)
+    let l = c.loop-pass in
+    let i = l.invariant in
+    let k = c.key_of-node_key in
+    let room = c.facts_stay_inside.ensures.deep in
+    let shallow = asked_shallow (deepest c.args.table.now.plan) l.pass k.new.pass l.here.node k.result k.ensures.step (k.ensures.shallow l.here.node) in
+    omega (arith, i.uncounted.made, i.keeps.on.only.made, i.keeps.few, shallow.any, room)

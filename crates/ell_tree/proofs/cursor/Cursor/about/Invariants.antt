@@ -2,7 +2,7 @@ use Rattle.std.proofs.Common.{◌+◌, ◌-◌}
 use Rattle.ell_tree.specs.Counts.{HasUncounted}
 use Rattle.ell_tree.proofs.lemmas.Cursors.{GoesDown}
 use Rattle.ell_tree.proofs.cursor.Cursor.about.Given as goal
-use Rattle.ell_cards.specs.Depths.{depth_of}
+use Rattle.ell_cards.specs.Depths.{deepest, depth_of}
 
 abbrev pub invariant-loop-pass : goal.invariant-loop-pass
 invariant-loop-pass g l = record {
@@ -11,4 +11,4 @@ invariant-loop-pass g l = record {
 }
 
 abbrev pub decreases-loop-pass : goal.decreases-loop-pass
-decreases-loop-pass g l = l.table.plan.last_card + 2 - depth_of l.pass.view l.here.node
+decreases-loop-pass g l = deepest l.table.plan + 2 - depth_of l.pass.view l.here.node

@@ -1,4 +1,4 @@
-use Rattle.std.proofs.Common.{◌+◌, refl, sym, ap, subst}
+use Rattle.std.proofs.Common.{◌+◌, false, refl, sym, ap, subst}
 use Rattle.ell_ops.specs.Meaning.{greatest_key}
 use Rattle.ell_word.specs.Link.{linked}
 use Rattle.ell_cards.specs.Models.{PassModel}
@@ -17,6 +17,6 @@ returns-clause-kept g c =
     let l = c.look-child in
     let cards = c.args.table.now.plan.last_card in
     begin_kept cards c.count.new.self.view _ _ refl refl refl refl
-    (subst (λ (v : View). MayGoOnFrom cards v (record { node = l.result.node; low = 0; high = greatest_key + 1 })) (sym (ap (λ (m : PassModel). m.view) c.count.ensures))
+    (subst (λ (v : View). MayGoOnFrom cards v (record { node = l.result.node; low = 0; high = greatest_key + 1; whole = false })) (sym (ap (λ (m : PassModel). m.view) c.count.ensures))
     (first_kept cards c.args.pass.now l.new.pass (linked l.result) l.result.node (child_same cards l.result l.ensures.there c.facts_stay_inside.ensures.room)
     l.ensures.step l.ensures.below l.ensures.there))

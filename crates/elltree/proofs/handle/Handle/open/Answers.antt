@@ -6,7 +6,7 @@ use Rattle.elltree.proofs.lemmas.HostPairs.{real_keys}
 use Rattle.elltree.proofs.handle.Handle.open.Goals as goal
 
 -- the start keys are real
-pub reserve_shared-requires-clause-start_real : goal.reserve_shared-requires-clause-start_real
-reserve_shared-requires-clause-start_real c =
+pub reserve_flat-requires-clause-start_real : goal.reserve_flat-requires-clause-start_real
+reserve_flat-requires-clause-start_real c =
     subst (λ pairs. All (λ k. k ≤ greatest_key) (keys_of pairs)) (sym (c.deref.ensures.value ∙ c.in_ok-pairs.ensures))
     (real_keys (as_pairs c.args.start.now) c.in_ok-may_open.ensures.may.keys)

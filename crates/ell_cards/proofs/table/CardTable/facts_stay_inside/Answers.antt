@@ -1,5 +1,0 @@
-use Rattle.ell_cards.proofs.lemmas.views.Depths.{named_shallow}
-use Rattle.ell_cards.proofs.table.CardTable.facts_stay_inside.Goals as goal
-
-pub returns-clause-shallow : goal.returns-clause-shallow
-returns-clause-shallow g c = named_shallow c.args.self.now.plan.last_card c.args.pass.now.view c.names.ensures.named

@@ -1,0 +1,75 @@
+use Rattle.std.proofs.Common.{◌≡◌, true, nat_le, refl, sym, ap, ◌∙◌, subst, arith, rules}
+use Rattle.ell_word.specs.Link.{linked}
+use Rattle.ell_word.specs.Node.{IsInternal}
+use Rattle.ell_block.specs.Blocks.{InBlockOf}
+use Rattle.ell_layout.specs.Words.{has_block}
+use Rattle.ell_cards.specs.declared.glance.Glance.{Glance}
+use Rattle.ell_cards.specs.Models.{flat_from}
+use Rattle.ell_cards.specs.Looking.{HasFoundBetween}
+use Rattle.ell_cards.proofs.lemmas.views.Afters.{after_look, after_key_of}
+use Rattle.ell_tree.proofs.lemmas.Counts.{uncounted_one, uncounted_trans}
+use Rattle.ell_tree.proofs.lemmas.Links.{child_same}
+use Rattle.ell_tree.proofs.lemmas.Looks.{Comes, comes_first, comes_down, found_beside, may_down, only_none}
+use Rattle.ell_tree.proofs.reading.walk_about.Goals as goal
+use Rattle.ell_tree.proofs.reading.walk_about.Goals.{else-has_block-via-then-has_block+else-not-is_in_block, else-has_block-via-else-has_block}
+
+pub loop-pass-init : goal.loop-pass-init
+loop-pass-init g c =
+    let f = c.look-first in
+    record {
+      comes = comes_first c.args.table.now.plan c.args.pass.now f.new.pass c.args.key (linked f.result) f.result.node
+          (child_same c.args.table.now.plan.last_card f.result f.ensures.there c.facts_stay_inside.ensures.room) c.requires.real f.ensures.step f.ensures.shallow f.ensures.there;
+      whole = refl;
+      uncounted = uncounted_one c.args.pass.now f.new.pass (after_look (linked f.result) c.args.pass.now.view) f.ensures.step refl;
+    }
+
+pub returns-then-not-is_in_block-clause-found : goal.returns-then-not-is_in_block-clause-found
+returns-then-not-is_in_block-clause-found g c =
+    let plan = c.args.table.now.plan in
+    let l = c.loop-pass in
+    let k = c.key_of-node_key in
+    let b = c.beside_block in
+    let inner : IsInternal l.here.node = search rules in
+    let has : has_block (flat_from plan) l.here.node ≡ true = search rules in
+    subst (HasFoundBetween (flat_from plan) k.new.pass.view b.result.low b.result.high) (sym b.ensures.none)
+    (found_beside plan c.args.pass.now l.pass k.new.pass c.args.key l.here k.result l.invariant.comes k.ensures.step b.result.low b.result.high l.invariant.whole inner has
+    b.ensures.low.0 b.ensures.high.1 b.ensures.lacks)
+
+pub returns-then-not-is_in_block-clause-only : goal.returns-then-not-is_in_block-clause-only
+returns-then-not-is_in_block-clause-only g c =
+    let l = c.loop-pass in
+    let k = c.key_of-node_key in
+    only_none c.args.table.now.plan c.args.pass.now l.pass k.new.pass c.args.key l.here k.result l.invariant.comes k.ensures.step
+
+pub look_down-child-requires-clause-may : goal.look_down-child-requires-clause-may
+look_down-child-requires-clause-may g c =
+    let l = c.loop-pass in
+    let k = c.key_of-node_key in
+    let inner : IsInternal l.here.node = search rules in
+    may_down c.args.table.now.plan c.args.pass.now l.pass k.new.pass c.args.key l.here k.result l.invariant.comes k.ensures.step inner c.keys_below-keys.result
+    (nat_le k.result c.args.key) (c.keys_below-keys.ensures.goes l.invariant.whole)
+
+pub loop-pass-preserved : goal.loop-pass-preserved
+loop-pass-preserved g c =
+    let plan = c.args.table.now.plan in
+    let l = c.loop-pass in
+    let k = c.key_of-node_key in
+    let d = c.look_down-child in
+    let keys = c.keys_below-keys in
+    let inner : IsInternal l.here.node = search rules in
+    let in_block : has_block (flat_from plan) l.here.node ≡ true → InBlockOf k.result c.args.key = elim c.else-has_block.branch [
+      | else-has_block-via-then-has_block+else-not-is_in_block w ↦ (λ has. search rules)
+      | else-has_block-via-else-has_block w ↦ (λ has. search rules)
+    ] in
+    let within = keys.ensures.with c.args.key l.invariant.comes.from l.invariant.comes.upto refl in_block in
+    let real = l.invariant.comes.real in
+    record {
+      comes = subst (Comes plan c.args.pass.now d.new.pass c.args.key) (sym c.at-here.ensures)
+          (comes_down plan c.args.pass.now l.pass k.new.pass c.args.key l.here k.result l.invariant.comes k.ensures.step d.new.pass keys.result (nat_le k.result c.args.key)
+          (linked d.result) d.result.node (child_same plan.last_card d.result d.ensures.there c.facts_stay_inside.ensures.room) d.ensures.step inner d.ensures.shallow d.ensures.there
+          within.0 within.1 (omega (arith, keys.ensures.high, real)));
+      whole = ap (λ (h : Glance). h.whole) c.at-here.ensures ∙ keys.ensures.whole;
+      uncounted = uncounted_trans c.args.pass.now l.pass d.new.pass l.steps 2 l.invariant.uncounted
+          (uncounted_trans l.pass k.new.pass d.new.pass 1 1 (uncounted_one l.pass k.new.pass (after_key_of l.here.node k.result l.pass.view) k.ensures.step refl)
+          (uncounted_one k.new.pass d.new.pass _ d.ensures.step refl));
+    }

@@ -1,0 +1,15 @@
+use Rattle.std.proofs.Common.{◌≡◌, ◌+◌, ◌-◌, true}
+use Rattle.ell_cards.specs.Depths.{deepest, depth_of}
+use Rattle.ell_tree.specs.Counts.{HasUncounted}
+use Rattle.ell_tree.proofs.lemmas.Looks.{Comes}
+use Rattle.ell_tree.proofs.reading.walk_about.Given as goal
+
+abbrev pub invariant-loop-pass : goal.invariant-loop-pass
+invariant-loop-pass g l = record {
+  comes : Comes l.table.plan l.fn.pass l.pass l.key l.here;
+  whole : l.here.whole ≡ true;
+  uncounted : HasUncounted l.fn.pass l.pass l.steps;
+}
+
+abbrev pub decreases-loop-pass : goal.decreases-loop-pass
+decreases-loop-pass g l = deepest l.table.plan + 2 - depth_of l.pass.view l.here.node

@@ -1,0 +1,156 @@
+//! How a tree begins.
+ghost use Rattle.std.specs.Prelude.{◌≡◌, ◌≤◌, [], true, false, length, IfOk, IfErr, OnOk};
+ghost use Rattle.std.specs.List.{All};
+ghost use Rattle.std.specs.List.Sorted.{IsStrictlyIncreasing};
+ghost use Rattle.std.specs.Map.{keys_of};
+ghost use Rattle.ell_ops.specs.KeySet.{set_of};
+ghost use Rattle.ell_ops.specs.Meaning.{greatest_key};
+ghost use Rattle.ell_word.specs.Node.{most_start};
+ghost use Rattle.ell_core.specs.state.Opening.{last_card};
+ghost use Rattle.ell_cards.specs.Models.{IsCardCount, RefusesCards};
+ghost use Rattle.ell_tree.specs.PassParts.{IsFirst};
+
+use crate::tree::Tree;
+use ell_cards::{CardFault, CardTable, Pass};
+use std::alloc::Allocator;
+
+impl<A: Allocator + Copy> Tree<A> {
+    /// Returns an empty tree with the given number of cards, and one pass that owns all these keys, each absent. Each
+    /// try of an insert or a delete that finds its way free takes a card, and no card is given back; `cards_left`
+    /// returns how many there are. `BadCards` is returned exactly if the number of cards is not 1 to 1,000,000, and
+    /// `NoMemory` if an allocation fails. Conditions: the keys are strictly ascending, and at most `KEY_MAX`.
+    pub fn reserve(alloc: A, keys: &[u64], cards: u64) -> Result<(Tree<A>, Pass<A>), CardFault>
+        requires ascending { IsStrictlyIncreasing keys.now }
+        requires real { All (λ k. k ≤ greatest_key) keys.now }
+        // It succeeds only with 1 to 1,000,000 cards.
+        ensures cards { OnOk result (IsCardCount cards) }
+        // The tree is empty and shares no key, and its last card has the number `cards`.
+        ensures tree { IfOk result (λ made.
+            made.0.plan ≡ record { keys = keys.now; start = []; last_card = cards; shared = false; flat = false }) }
+        // The pass owns these keys, of which the start keys are present, has the whole share, and has made no step.
+        ensures pass { IfOk result (λ made. IsFirst made.0 made.1) }
+        // It was answered nothing.
+        ensures called { IfOk result (λ made. made.1.view.answers ≡ []) }
+        // `BadCards` is returned exactly if the number of cards is not 1 to 1,000,000, and otherwise only `NoMemory`.
+        ensures refused { IfErr result (RefusesCards cards) }
+    {
+        Tree::reserve_from(alloc, &[], keys, cards)
+    }
+
+    /// Returns a tree that has these start keys with their values from the beginning, balanced, and one pass that owns
+    /// all these keys: the start keys are present, the others absent. This saves inserting them: no operation is made
+    /// for them, and they take none of the cards asked for. Their tree has a card for each of them, so the number of
+    /// the last card, which bounds the steps of calls, is the number of cards asked for plus that of the start keys.
+    /// Errors are as for `reserve`. Conditions: those of `reserve`; the start keys are strictly ascending and among the
+    /// keys, and there are at most `START_MAX`, 1,000,000, of them.
+    pub fn reserve_from(
+        alloc: A,
+        start: &[(u64, u64)],
+        keys: &[u64],
+        cards: u64,
+    ) -> Result<(Tree<A>, Pass<A>), CardFault>
+        requires ascending { IsStrictlyIncreasing keys.now }
+        requires real { All (λ k. k ≤ greatest_key) keys.now }
+        requires start_ascending { IsStrictlyIncreasing (keys_of start.now) }
+        requires given { All (λ k. set_of keys.now k ≡ true) (keys_of start.now) }
+        requires few { length start.now ≤ most_start }
+        // It succeeds only with 1 to 1,000,000 cards.
+        ensures cards { OnOk result (IsCardCount cards) }
+        // The tree has the start pairs and shares no key. The number of its last card is `cards` plus the number of
+        // start keys.
+        ensures tree { IfOk result (λ made. made.0.plan ≡ record {
+          keys = keys.now;
+          start = start.now;
+          last_card = last_card start.now cards;
+          shared = false;
+          flat = false;
+        }) }
+        // The pass owns these keys, of which the start keys are present, has the whole share, and has made no step.
+        ensures pass { IfOk result (λ made. IsFirst made.0 made.1) }
+        // It was answered nothing.
+        ensures called { IfOk result (λ made. made.1.view.answers ≡ []) }
+        // `BadCards` is returned exactly if the number of cards is not 1 to 1,000,000, and otherwise only `NoMemory`.
+        ensures refused { IfErr result (RefusesCards cards) }
+    {
+        let (table, pass) = CardTable::reserve_from(alloc, start, keys, cards)?;
+        Ok((Tree { table, alloc }, pass))
+    }
+
+    /// Returns a tree of shared keys: every key up to `KEY_MAX` that is not among these keys, which may be none, is
+    /// shared, and any pass may change it. The tree has these start keys with their values from the beginning,
+    /// balanced, and one pass, which owns these keys: those among them that are start keys are present, the others
+    /// absent. Errors, and the number of the last card, are as for `reserve_from`. Conditions: the keys are strictly
+    /// ascending, and at most `KEY_MAX`; so are the start keys, which need not be among the keys; there are at most
+    /// `START_MAX` start keys.
+    pub fn reserve_shared(
+        alloc: A,
+        start: &[(u64, u64)],
+        keys: &[u64],
+        cards: u64,
+    ) -> Result<(Tree<A>, Pass<A>), CardFault>
+        requires ascending { IsStrictlyIncreasing keys.now }
+        requires real { All (λ k. k ≤ greatest_key) keys.now }
+        requires start_ascending { IsStrictlyIncreasing (keys_of start.now) }
+        requires start_real { All (λ k. k ≤ greatest_key) (keys_of start.now) }
+        requires few { length start.now ≤ most_start }
+        // It succeeds only with 1 to 1,000,000 cards.
+        ensures cards { OnOk result (IsCardCount cards) }
+        // The tree has the start pairs and shares each other key. The number of its last card is `cards` plus the
+        // number of start keys.
+        ensures tree { IfOk result (λ made. made.0.plan ≡ record {
+          keys = keys.now;
+          start = start.now;
+          last_card = last_card start.now cards;
+          shared = true;
+          flat = false;
+        }) }
+        // The pass owns these keys, of which the start keys are present, has the whole share, and has made no step.
+        ensures pass { IfOk result (λ made. IsFirst made.0 made.1) }
+        // It was answered nothing.
+        ensures called { IfOk result (λ made. made.1.view.answers ≡ []) }
+        // `BadCards` is returned exactly if the number of cards is not 1 to 1,000,000, and otherwise only `NoMemory`.
+        ensures refused { IfErr result (RefusesCards cards) }
+    {
+        let (table, pass) = CardTable::reserve_shared(alloc, start, keys, cards)?;
+        Ok((Tree { table, alloc }, pass))
+    }
+
+    /// Returns a tree of shared keys, as `reserve_shared` does, that is flat in whatever order keys come. In a tree of
+    /// the other functions an internal node has the greater of the two keys below it when it was added, as in the
+    /// paper, and keys that come in order make a list. In a flat tree the key of an internal node is the number between
+    /// those two keys that has the most trailing zeros, so that no internal node is more than 64 deeper than the tree
+    /// of the start keys, and the most steps of a call do not depend on the number of cards. An insert may put its node
+    /// above an internal node. Errors, the number of the last card and conditions are those of `reserve_shared`.
+    pub fn reserve_flat(
+        alloc: A,
+        start: &[(u64, u64)],
+        keys: &[u64],
+        cards: u64,
+    ) -> Result<(Tree<A>, Pass<A>), CardFault>
+        requires ascending { IsStrictlyIncreasing keys.now }
+        requires real { All (λ k. k ≤ greatest_key) keys.now }
+        requires start_ascending { IsStrictlyIncreasing (keys_of start.now) }
+        requires start_real { All (λ k. k ≤ greatest_key) (keys_of start.now) }
+        requires few { length start.now ≤ most_start }
+        // It succeeds only with 1 to 1,000,000 cards.
+        ensures cards { OnOk result (IsCardCount cards) }
+        // The tree is flat, has the start pairs and shares each other key. The number of its last card is `cards` plus
+        // the number of start keys.
+        ensures tree { IfOk result (λ made. made.0.plan ≡ record {
+          keys = keys.now;
+          start = start.now;
+          last_card = last_card start.now cards;
+          shared = true;
+          flat = true;
+        }) }
+        // The pass owns these keys, of which the start keys are present, has the whole share, and has made no step.
+        ensures pass { IfOk result (λ made. IsFirst made.0 made.1) }
+        // It was answered nothing.
+        ensures called { IfOk result (λ made. made.1.view.answers ≡ []) }
+        // `BadCards` is returned exactly if the number of cards is not 1 to 1,000,000, and otherwise only `NoMemory`.
+        ensures refused { IfErr result (RefusesCards cards) }
+    {
+        let (table, pass) = CardTable::reserve_flat(alloc, start, keys, cards)?;
+        Ok((Tree { table, alloc }, pass))
+    }
+}
