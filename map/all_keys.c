@@ -96,7 +96,7 @@ int32_t elltree_map_counts(struct elltree_map *map, struct elltree_map_counters 
     known.sections = map->sections;
     known.cards = map->cards;
     known.renewals = map->renewals;
-    known.early_renewals = map->early_renewals;
+    known.early_renewals = 0;
     known.renewal_nanoseconds = map->all_effort;
     known.pause_nanoseconds = map->all_pauses;
     known.longest_nanoseconds = map->longest_pause;

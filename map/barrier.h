@@ -19,7 +19,7 @@ enum kind { FREE, READS, CHANGES };
 struct place {
     _Alignas(LINE) _Atomic uint64_t busy;
     uint32_t number;       /* of the place, from 0 */
-    uint32_t until;        /* how many calls there are up to the next one that is weighed */
+    uint32_t until;        /* how many changes there are up to the next one that is weighed */
     uint32_t chance;       /* by which that is chosen */
     _Atomic int64_t added; /* keys added less keys taken, by calls on this place */
 };

@@ -45,13 +45,10 @@ static int32_t search_downwards(struct elltree_map *map, struct place *place, st
     return code;
 }
 
-/* Ends a search: notes a section that it has passed over, weighs it, and gives the place back. */
+/* Ends a search: notes a section that it has passed over, and gives the place back. */
 static void end_search(struct elltree_map *map, struct place *place, const struct search *it, bool found) {
-    struct section *section = found ? section_of(directory_of(map), it->key) : NULL;
     if (__builtin_expect(it->passed != NULL, 0))
-        note_passed(map, it->passed, section);
-    if (__builtin_expect(is_weighed(place), 0) && section)
-        weigh_read(section, slot_of(section, place), it->key);
+        note_passed(map, it->passed, found ? section_of(directory_of(map), it->key) : NULL);
     give_back(place);
     see_all(map);
 }

@@ -5,32 +5,14 @@
 #include "numbers.h"
 #include "renewal.h"
 
-/* Whether this call is weighed: one in 64 of the calls on a place, by strides of 1 to 128 that follow no rule, so that no loop of calls has the same
-   one of them weighed each time. */
+/* Whether this call is weighed: one in 64 of those on a place that change keys, by strides of 1 to 128 that follow no rule, so that no loop of calls
+   has the same one of them weighed each time. */
 static inline bool is_weighed(struct place *place) {
     if (__builtin_expect(--place->until != 0, 1))
         return false;
     place->chance = place->chance * 1664525 + 1013904223;
     place->until = 1 + (place->chance >> 25);
     return true;
-}
-
-/* Weighs a call by a find of its key, which nothing hinders: whether the steps beyond those of a tree that is not deep, of all calls since the
-   section was made, are worth a renewal. */
-static bool is_deep(struct section *section, struct elltree_slot *slot, uint64_t key) {
-    uint64_t before = 0, after = 0, value, excess;
-    if (elltree_slot_steps(slot, &before) != ELLTREE_YES || elltree_slot_find(slot, key, &value) < 0 ||
-        elltree_slot_steps(slot, &after) != ELLTREE_YES || after - before <= section->allowed)
-        return false;
-    excess = SAMPLE * (after - before - section->allowed);
-    excess += atomic_fetch_add_explicit(&section->excess, excess, memory_order_relaxed);
-    return excess > at_least(section->effort / STEP_NANOSECONDS, STEPS_LEAST);
-}
-
-/* Weighs a call that only reads. It renews nothing, and leaves a word for the next call that changes a key of this section. */
-static __attribute__((noinline)) void weigh_read(struct section *section, struct elltree_slot *slot, uint64_t key) {
-    if (key <= ELLTREE_KEY_MAX && is_deep(section, slot, key))
-        atomic_store(&section->due, DEEP_TREE);
 }
 
 /* Whether a section has few keys, and a neighbor for which that is so too, as far as is known. */
@@ -41,14 +23,12 @@ static bool may_be_joined(const struct elltree_map *map, const struct directory 
 }
 
 /* Weighs a call that has given its section so many keys more, and tells whether that is to be renewed, and why. */
-static enum reason weigh_change(struct elltree_map *map, struct section *section, struct elltree_slot *slot, uint64_t key, int32_t more) {
+static enum reason weigh_change(struct elltree_map *map, struct section *section, struct elltree_slot *slot, int32_t more) {
     uint64_t left = 0;
     if (more)
         atomic_fetch_add_explicit(&section->about, SAMPLE * (int64_t)more, memory_order_relaxed);
     if (elltree_slot_cards_left(slot, &left) == ELLTREE_YES && left <= section->reserve)
         return FEW_CARDS;
-    if (is_deep(section, slot, key))
-        return DEEP_TREE;
     if (more > 0 && keys_about(section) > 2 * section_keys(&map->barrier))
         return MANY_KEYS;
     return more < 0 && may_be_joined(map, directory_of(map), section) ? FEW_KEYS : NO_REASON;
@@ -108,7 +88,7 @@ static __attribute__((noinline)) void note_passed(struct elltree_map *map, struc
     atomic_store(&passed->about, 0);
     atomic_store(&map->passed, passed->first + 1);
     if (found)
-        atomic_store(&found->due, FEW_KEYS);
+        atomic_store(&found->due, true);
 }
 
 /* Joins such a section with a neighbor. */
@@ -133,14 +113,13 @@ static void join_passed(struct elltree_map *map) {
 
 /* Gives the place back, and sees to what this call has found, if it was weighed, and to what others have left. If memory is refused, the map goes on
    as it is. */
-static __attribute__((noinline)) void give_back_and_renew(struct elltree_map *map, struct place *place, struct section *section, uint64_t key,
-                                                          int32_t more, bool is_weighed) {
-    enum reason reason = (enum reason)atomic_exchange(&section->due, NO_REASON);
+static __attribute__((noinline)) void give_back_and_renew(struct elltree_map *map, struct place *place, struct section *section, int32_t more,
+                                                          bool is_weighed) {
+    const bool is_due = atomic_exchange(&section->due, false);
+    enum reason reason = is_due && may_be_joined(map, directory_of(map), section) ? FEW_KEYS : NO_REASON;
     bool taken;
-    if (reason == FEW_KEYS && !may_be_joined(map, directory_of(map), section))
-        reason = NO_REASON;
     if (reason == NO_REASON && is_weighed)
-        reason = weigh_change(map, section, slot_of(section, place), key, more);
+        reason = weigh_change(map, section, slot_of(section, place), more);
     taken = reason != NO_REASON && take_renewal(section);
     give_back(place);
     (void)take_up(map, NULL);

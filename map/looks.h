@@ -4,14 +4,12 @@
 #define ELLTREE_MAP_LOOKS_H
 #include "parts.h"
 
-/* Whether this call on a place is weighed. */
+/* Whether this change on a place is weighed. */
 static bool is_weighed(struct place *place);
-/* Weighs a call that only reads, and leaves a word for the next change if the tree is deep. */
-static void weigh_read(struct section *section, struct elltree_slot *slot, uint64_t key);
 /* Leaves word of a section without keys that a search has passed over. */
 static void note_passed(struct elltree_map *map, struct section *passed, struct section *found);
 /* Gives the place of a change back, and sees to what this call has found, if it was weighed, and to what others have left. */
-static void give_back_and_renew(struct elltree_map *map, struct place *place, struct section *section, uint64_t key, int32_t more, bool is_weighed);
+static void give_back_and_renew(struct elltree_map *map, struct place *place, struct section *section, int32_t more, bool is_weighed);
 /* Gives the place back, and waits until the section is renewed. */
 static int32_t get_fresh(struct elltree_map *map, struct place *place, struct section *section, enum reason reason);
 

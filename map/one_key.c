@@ -24,16 +24,16 @@ static inline __attribute__((always_inline)) int32_t call(struct elltree_map *ma
         struct section *section = section_of(directory_of(map), request->key);
         struct elltree_slot *slot = slot_of(section, place);
         struct heirs *heirs = atomic_load(&section->heirs);
-        const bool is_due = atomic_load_explicit(&section->due, memory_order_relaxed) != NO_REASON;
+        const bool is_due = atomic_load_explicit(&section->due, memory_order_relaxed);
         code = work_on(place, slot, request);
         if (__builtin_expect(heirs && request->changed, 0))
             carry_over(heirs, slot, slot_of(heir_of(heirs, request->key), place), request->key, request->state);
         if (__builtin_expect(code == ELLTREE_SPENT, 0))
             code = get_fresh(map, place, section, FEW_CARDS) == ELLTREE_YES ? ELLTREE_BUSY : ELLTREE_NO_MEMORY;
         else if (__builtin_expect(is_weighed(place), 0))
-            give_back_and_renew(map, place, section, request->key, request->more, true);
+            give_back_and_renew(map, place, section, request->more, true);
         else if (__builtin_expect(is_due, 0))
-            give_back_and_renew(map, place, section, request->key, request->more, false);
+            give_back_and_renew(map, place, section, request->more, false);
         else
             give_back(place);
     } while (code == ELLTREE_BUSY);
@@ -111,8 +111,6 @@ int32_t elltree_map_get(struct elltree_map *map, uint64_t key, uint64_t *value) 
         section = section_of(directory_of(map), key);
         code = elltree_slot_look(slot_of(section, place), key, &found);
     } while (__builtin_expect(atomic_load(&section->replaced), 0)); /* else the section was the map's when it was read */
-    if (__builtin_expect(is_weighed(place), 0))
-        weigh_read(section, slot_of(section, place), key);
     give_back(place);
     seen(order_of(map, key));
     if (code == ELLTREE_YES)

@@ -11,11 +11,9 @@ enum {
     RENEWAL_MICROSECONDS = 5000,
     TRIES = 64,           /* of one call of the library, so that none holds its place for long */
     PAIRS_AT_ONCE = 4096, /* for which an array of pairs has room at first */
-    SAMPLE = 64,          /* of so many calls on a place one is weighed */
+    SAMPLE = 64,          /* of so many changes on a place one is weighed */
     KEY_IN_CARDS = 3,     /* a key takes a renewal about as long as so many cards */
     REST_IN_CARDS = 1000, /* and so does what it has to do without keys and cards */
-    STEP_NANOSECONDS = 2, /* what a step down a deep tree takes at least */
-    STEPS_LEAST = 10000,  /* a renewal takes at least as long as so many */
     ORDERS = 64           /* words by which the thread sanitizer tells keys apart */
 };
 
@@ -35,7 +33,7 @@ struct elltree_map {
     _Atomic uint64_t waiting;              /* cards of sections that were replaced, and may still be read */
     _Atomic uint32_t swept;                /* how many sections were looked at, whether they have few keys or too many cards */
     _Atomic uint64_t all_effort;           /* what renewals took in all, in nanoseconds of a processor */
-    _Atomic uint64_t sections, cards, renewals, early_renewals, all_pauses, longest_pause;
+    _Atomic uint64_t sections, cards, renewals, all_pauses, longest_pause;
     uint64_t orders[ORDERS];
 };
 

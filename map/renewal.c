@@ -99,7 +99,7 @@ static int32_t read_first(struct elltree_map *map, struct renewal *renewal) {
     if (code != ELLTREE_YES || renewal->count > 1)
         return code;
     atomic_store(&section->about, (int64_t)renewal->there.count);
-    if (renewal->reason != DEEP_TREE && is_small(map, renewal->there.count)) {
+    if (is_small(map, renewal->there.count)) {
         take_neighbor(map, renewal);
         if (renewal->count > 1)
             code = read_both(map, renewal, section);
@@ -164,7 +164,6 @@ static void note_renewal(struct elltree_map *map, struct renewal *renewal, uint6
     map->sections += renewal->heirs->count;
     map->sections -= renewal->count;
     map->renewals++;
-    map->early_renewals += renewal->reason == DEEP_TREE;
 }
 
 /* How long calls have waited, since the barrier was closed, or since the cards were spent. */
@@ -405,6 +404,5 @@ static int32_t renew_section(struct elltree_map *map, struct section *section, e
         return ELLTREE_NO_MEMORY;
     }
     *renewal = (struct renewal){.sections = {section}, .count = 1, .reason = reason, .stage = BEGINS, .code = ELLTREE_YES, .times = 1};
-    atomic_store(&section->excess, 0); /* also if it is refused: the next try is to be as long after it as after a renewal */
     return waits ? go_on_to_the_end(map, renewal) : go_on_or_leave(map, renewal);
 }

@@ -24,15 +24,6 @@ static inline struct section *section_of(const struct directory *directory, uint
 /* How many keys a section may have without being parted. */
 static uint64_t section_keys(const struct barrier *barrier) { return at_least(SECTION_KEYS, KEYS_OF_A_PLACE * (barrier->mask + UINT64_C(1))); }
 
-/* How many steps a find takes at most in a tree of so many keys that is not deep: three for each level, of which there are half as many again as in
-   a balanced tree, which is about what keys in random order make. */
-static uint64_t allowed_steps(uint64_t keys) {
-    uint64_t levels = 1;
-    while (keys >> levels)
-        levels++;
-    return 12 + 3 * (levels + levels / 2);
-}
-
 /* How many seats a section has. */
 static uint64_t number_of_seats(const struct barrier *barrier) { return barrier->mask + UINT64_C(2); }
 
@@ -65,7 +56,6 @@ static int32_t make_section(const struct barrier *barrier, struct section **made
     }
     section->first = first;
     section->upto = upto;
-    section->allowed = allowed_steps(count + cards);
     section->reserve = cards / 4;
     section->cards = cards;
     section->keys = count;

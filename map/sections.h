@@ -12,7 +12,7 @@ struct seat {
 };
 
 /* Why a section is renewed. */
-enum reason { NO_REASON, FEW_CARDS, DEEP_TREE, FEW_KEYS, MANY_KEYS, MANY_CARDS, WANTED };
+enum reason { NO_REASON, FEW_CARDS, FEW_KEYS, MANY_KEYS, MANY_CARDS, WANTED };
 
 /* What calls read of a section is written before they see it, but for `heirs`, `replaced` and `due`. `renewing` guards what is written later, but for
    what calls count. */
@@ -21,14 +21,12 @@ struct section {
     uint64_t upto;                        /* its keys are below this, or without end if it is UINT64_MAX */
     _Atomic(struct heirs *) heirs;        /* the sections that are to replace it, if it is being renewed */
     _Atomic bool replaced;                /* whether they have */
-    _Atomic uint32_t due;                 /* the reason of a renewal that a call has left to others */
-    uint64_t allowed;                     /* steps that a find takes if the tree is not deep */
+    _Atomic bool due;                     /* whether a search passed over a section without keys before it ended in this one */
     uint64_t reserve;                     /* how few cards are left when a renewal is due */
     uint64_t cards, keys, effort;         /* its cards, the keys that it began with, and the nanoseconds of a processor that it took to make it */
     uint64_t opened_at, all_effort;       /* when it was made, and what all renewals of the map had taken by then */
     uint64_t renewals;                    /* how many the map had by then */
     _Alignas(LINE) _Atomic bool renewing; /* whether a thread renews it, or has renewed it */
-    _Atomic uint64_t excess;              /* steps beyond the allowed ones since it was made */
     _Atomic uint64_t spent_at;            /* when a call found its cards spent, or 0 */
     _Atomic int64_t about;                /* how many keys it has, as far as the calls tell that were weighed */
     struct seat seats[];                  /* one for each place, and the last for the thread that renews the section */
