@@ -15,9 +15,9 @@
    value happened before what another thread does after it has read that value. In a program with the thread sanitizer, the library tells it so.
 
    A map consists of sections, and each of them has a tree for a range of keys. Each change takes one of the cards of a tree. When few cards are
-   left, a call that changes a key makes a new tree with the same pairs and fresh cards, while other calls go on. This is a renewal. A section
-   also gets a new tree when its tree has grown deep; it is parted when it has many keys, and joined with a neighbor when it has few. The call
-   that does so takes about a millisecond longer.
+   left, a call that changes a key makes a new tree with the same pairs and fresh cards, while other calls go on. This is a renewal. In the same
+   way a section is parted when it has many keys, and joined with a neighbor when it has few. The call that does so takes about a millisecond
+   longer. Whatever the order in which keys come, no tree grows deep.
 
    The calls on the trees are proved, and none of them waits for another thread. The map around the trees is tested and not proved, and some of
    its calls wait:
@@ -143,7 +143,7 @@ struct elltree_map_counters {
     uint64_t sections;            /* how many there are */
     uint64_t cards;               /* of all sections */
     uint64_t renewals;            /* how many there were, of all sections */
-    uint64_t early_renewals;      /* how many of these there were because a tree had grown deep */
+    uint64_t early_renewals;      /* always 0, since no tree grows deep */
     uint64_t renewal_nanoseconds; /* how long a processor was at work on them */
     uint64_t pause_nanoseconds;   /* the sum of the pauses in which calls on a section waited for its renewal */
     uint64_t longest_nanoseconds; /* the longest of these pauses */

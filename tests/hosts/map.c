@@ -43,8 +43,8 @@ static long make_map(uint64_t cards, uint32_t calls, const struct elltree_pair *
 static long end_map(const char *what, long wrong, uint64_t renewals) {
     struct elltree_map_counters counts = {0, 0, 0, 0, 0, 0, 0};
     wrong += elltree_map_counts(map, &counts, sizeof counts) != ELLTREE_YES || counts.renewals < renewals;
-    printf("%s: %llu sections, %llu renewals, %llu early, the longest pause %.2f ms, %ld wrong\n", what, (unsigned long long)counts.sections,
-           (unsigned long long)counts.renewals, (unsigned long long)counts.early_renewals, (double)counts.longest_nanoseconds / 1e6, wrong);
+    printf("%s: %llu sections, %llu renewals, the longest pause %.2f ms, %ld wrong\n", what, (unsigned long long)counts.sections,
+           (unsigned long long)counts.renewals, (double)counts.longest_nanoseconds / 1e6, wrong);
     elltree_map_free(map);
     return wrong;
 }
@@ -390,7 +390,8 @@ static long sections(void) {
     return end_map("sections", wrong, 20);
 }
 
-/* Keys in order make the tree deep, so that it is renewed before its cards are used; keys in random order don't, but for a time or two by chance. */
+/* Keys in order make no tree deep: a map with cards enough parts its sections, whatever the order of the keys, and renews them for hardly any other
+   reason. */
 
 static uint64_t ascending(uint64_t i) { return 5 * i; }
 static uint64_t descending(uint64_t i) { return 5 * (MANY - i); }
@@ -400,7 +401,7 @@ static uint64_t shuffled(uint64_t i) {
     return (i ^ i >> 27) >> 1;
 }
 
-static long add_many(const char *what, uint64_t (*key)(uint64_t i), uint64_t least, uint64_t most) {
+static long add_many(const char *what, uint64_t (*key)(uint64_t i)) {
     struct elltree_map_counters counts = {0, 0, 0, 0, 0, 0, 0};
     size_t length = 0;
     uint64_t value = 0;
@@ -410,13 +411,11 @@ static long add_many(const char *what, uint64_t (*key)(uint64_t i), uint64_t lea
     for (uint64_t i = 0; i < MANY; i++)
         wrong += elltree_map_get(map, key(i), &value) != ELLTREE_YES || value != i;
     wrong += elltree_map_len(map, &length) != ELLTREE_YES || length != MANY;
-    wrong += elltree_map_counts(map, &counts, sizeof counts) != ELLTREE_YES || counts.early_renewals < least || counts.early_renewals > most;
-    return end_map(what, wrong, 0);
+    wrong += elltree_map_counts(map, &counts, sizeof counts) != ELLTREE_YES || counts.renewals > MANY / 200 || counts.early_renewals;
+    return end_map(what, wrong, 1);
 }
 
-static long add_in_orders(void) {
-    return add_many("ascending", ascending, 1, MANY) + add_many("descending", descending, 1, MANY) + add_many("shuffled", shuffled, 0, 3);
-}
+static long add_in_orders(void) { return add_many("ascending", ascending) + add_many("descending", descending) + add_many("shuffled", shuffled); }
 
 /* One thread. */
 

@@ -351,41 +351,59 @@ static long balanced(void) {
     return wrong + (elltree_free(&h) != ELLTREE_YES);
 }
 
-/* Keys that came upwards or downwards make a list of the tree: the whole range, and the keys next to each, are those of the list. A look for the key
-   at the end of the list takes as many steps as a look may, and a range that begins anew at times takes less than a search for each key. */
-static long deep(int upwards) {
-    enum { DEEP = 300 };
-    static struct elltree_pair pairs[2 * DEEP];
+enum { ALL = 3000, START = 1000, FIND_MOST = 259 /* steps, in a tree with any number of start keys */ };
+
+/* Opens a tree with so many start keys, behind which the others come upwards or downwards. */
+static long open_in_order(struct elltree_handle *h, int upwards, uint64_t begun) {
+    static struct elltree_pair start[ALL];
+    for (uint64_t i = 0; i < begun; i++)
+        start[i] = upwards ? (struct elltree_pair){3 * i, i} : (struct elltree_pair){3 * (ALL - begun + i), begun - 1 - i};
+    long wrong = elltree_open(h, start, begun, ALL) != ELLTREE_YES;
+    for (uint64_t i = begun; i < ALL; i++)
+        wrong += elltree_insert(h, 3 * (upwards ? i : ALL - 1 - i), i, 1) != ELLTREE_YES;
+    return wrong;
+}
+
+/* The tree is no list of its keys: a find of any of them takes few steps. */
+static long find_each(struct elltree_handle *h, int upwards) {
+    uint64_t value;
+    long wrong = 0;
+    for (uint64_t i = 0; i < ALL; i++) {
+        const uint64_t before = steps_since(h, 0);
+        wrong += elltree_find(h, 3 * (upwards ? i : ALL - 1 - i), &value) != ELLTREE_YES || value != i || steps_since(h, before) > FIND_MOST;
+    }
+    return wrong;
+}
+
+/* The whole range, and the keys next to each, are those that came so. A range that begins anew at times takes less than a search for each key. */
+static long in_order(int upwards, uint64_t begun) {
+    static struct elltree_pair pairs[2 * ALL];
     struct elltree_handle h = ELLTREE_EMPTY;
     uint64_t at, key, value;
     size_t count, all;
-    long wrong = elltree_open(&h, NULL, 0, DEEP) != ELLTREE_YES;
-    for (uint64_t i = 0; i < DEEP; i++)
-        wrong += elltree_insert(&h, 3 * (upwards ? i : DEEP - 1 - i), i, 1) != ELLTREE_YES;
-    uint64_t before = steps_since(&h, 0);
-    wrong += elltree_look(&h, upwards ? 3 * DEEP - 3 : 0, &value) != ELLTREE_YES || value != DEEP - 1 || steps_since(&h, before) != 2 * DEEP + 3;
-    before = steps_since(&h, 0);
-    wrong += elltree_range(&h, 0, UINT64_MAX, pairs, 2 * DEEP, &count, &at) != ELLTREE_YES || count != DEEP || steps_since(&h, before) > 20 * DEEP;
-    for (size_t room = 1; room <= DEEP; room = 7 * room) {
+    long wrong = open_in_order(&h, upwards, begun) + find_each(&h, upwards);
+    const uint64_t before = steps_since(&h, 0);
+    wrong += elltree_range(&h, 0, UINT64_MAX, pairs, 2 * ALL, &count, &at) != ELLTREE_YES || count != ALL || steps_since(&h, before) > 20 * ALL;
+    for (size_t room = 1; room <= ALL; room = 7 * room) {
         for (at = all = 0; at < UINT64_MAX; all += count)
             wrong += elltree_range(&h, at, UINT64_MAX, pairs + all, room, &count, &at) != ELLTREE_YES;
-        wrong += all != DEEP;
-        for (uint64_t i = 0; i < DEEP; i++)
-            wrong += pairs[i].key != 3 * i || pairs[i].value != (upwards ? i : DEEP - 1 - i);
+        wrong += all != ALL;
+        for (uint64_t i = 0; i < ALL; i++)
+            wrong += pairs[i].key != 3 * i || pairs[i].value != (upwards ? i : ALL - 1 - i);
     }
-    for (uint64_t i = 0; i < DEEP; i++) {
+    for (uint64_t i = 0; i < ALL; i++) {
         wrong += elltree_next_at_least(&h, 3 * i - (i > 0), &key, &value) != ELLTREE_YES || key != 3 * i;
         wrong += elltree_last_at_most(&h, 3 * i + 2, &key, &value) != ELLTREE_YES || key != 3 * i;
         if (i > 0)
             wrong += elltree_last_at_most(&h, 3 * i - 1, &key, &value) != ELLTREE_YES || key != 3 * (i - 1);
-        if (i + 1 < DEEP)
+        if (i + 1 < ALL)
             wrong += elltree_next_at_least(&h, 3 * i + 1, &key, &value) != ELLTREE_YES || key != 3 * (i + 1);
     }
     return wrong + (elltree_free(&h) != ELLTREE_YES);
 }
 
 int main(void) {
-    long wrong = alone() + balanced() + deep(0) + deep(1) + beside_threads() + edges();
+    long wrong = alone() + balanced() + in_order(0, 0) + in_order(1, 0) + in_order(0, START) + in_order(1, START) + beside_threads() + edges();
     printf("%ld wrong\n", wrong);
     return wrong != 0;
 }

@@ -293,6 +293,6 @@ class Map(Ordered, collections.abc.MutableMapping[int, int]):
 
     def counts(self) -> dict[str, int]:
         """Returns what has happened to the map so far: a dict with sections and cards, of which there are so many now; renewals; early_renewals,
-        those of a tree that had grown deep; renewal_nanoseconds, how long a processor was at work on them; pause_nanoseconds, the sum of the pauses
-        in which calls waited for a renewal; and longest_nanoseconds, the longest."""
+        always 0, since no tree grows deep; renewal_nanoseconds, how long a processor was at work on them; pause_nanoseconds, the sum of the pauses in
+        which calls waited for a renewal; and longest_nanoseconds, the longest."""
         return self._core.counts()

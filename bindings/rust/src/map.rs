@@ -41,7 +41,7 @@ pub struct MapCounts {
     pub cards: u64,
     /// How many renewals there were, of all sections.
     pub renewals: u64,
-    /// How many of them there were because a tree had grown deep.
+    /// Always 0, since no tree grows deep.
     pub early_renewals: u64,
     /// How long a processor was at work on renewals.
     pub renewal_time: Duration,
