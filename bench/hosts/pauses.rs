@@ -39,8 +39,6 @@ pub enum Said {
     /// How many inserts and deletes there were in a second, also those that found nothing to do.
     ChangesASecond,
     Renewals,
-    /// How many of the renewals there were because the tree had grown deep.
-    EarlyRenewals,
     /// For which part of the time a processor was at work on renewals, in percent.
     Work,
     /// Which part of the time the pauses took, in percent.
@@ -58,7 +56,6 @@ impl Said {
         match self {
             Said::ChangesASecond => "changes a second",
             Said::Renewals => "renewals",
-            Said::EarlyRenewals => "early renewals",
             Said::Work => "work on renewals in %",
             Said::Part => "time in pauses in %",
             Said::Mean => "mean pause",
@@ -75,7 +72,6 @@ pub fn figures(load: Load, counts: MapCounts, time: Duration) -> Vec<(Figure, f6
     let mean = (counts.renewals > 0).then(|| counts.pauses.as_nanos() as f64 / counts.renewals as f64);
     let said = [
         (Said::Renewals, Some(counts.renewals as f64)),
-        (Said::EarlyRenewals, Some(counts.early_renewals as f64)),
         (Said::Work, Some(part(counts.renewal_time))),
         (Said::Part, Some(part(counts.pauses))),
         (Said::Mean, mean),

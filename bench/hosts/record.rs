@@ -307,7 +307,7 @@ impl Record {
 }
 
 impl Said {
-    const OF_INSERTS: [Said; 6] = [Said::Renewals, Said::EarlyRenewals, Said::Work, Said::Part, Said::Longest, Said::Sections];
+    const OF_INSERTS: [Said; 5] = [Said::Renewals, Said::Work, Said::Part, Said::Longest, Said::Sections];
     const OF_CHANGES: [Said; 8] =
         [Said::ChangesASecond, Said::Renewals, Said::Work, Said::Part, Said::Mean, Said::Longest, Said::Sections, Said::Cards];
 
@@ -316,7 +316,6 @@ impl Said {
         match self {
             Said::ChangesASecond => "Changes a second",
             Said::Renewals => "Renewals",
-            Said::EarlyRenewals => "Early ones",
             Said::Work => "Work on renewals, % of a processor",
             Said::Part => "Time in pauses, %",
             Said::Mean => "Mean pause",
