@@ -15,7 +15,7 @@ class Cache:
     """What a function returns (0 to 2**64 - 1) for the keys that were added last: `room` of them, and one more for each thread that is adding one.
 
     Any thread may make any call at any time. If memory is refused, elltree.Refused is raised, and the cache may keep an entry for good. A hit makes no
-    entry younger, so it takes no stamp: keys that come in order, as stamps do, make a map slower.
+    entry younger.
     """
 
     def __init__(self, function, room):
