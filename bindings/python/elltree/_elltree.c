@@ -12,9 +12,10 @@
    other threads want it.
 
    A call on a handle waits for nobody. To let go of the GIL takes half as long as a find, and several times as long where other threads want it. So
-   calls that read one key or number keep it. In a deep tree they may take long nevertheless: if the last call on a handle made more than STEPS_MOST
-   steps, the next one lets others run. A change takes longer, and may have to be tried again, so it lets go of the GIL: threads that do nothing but
-   change keys then go on side by side, where each would else have the processor for the 5 milliseconds after which Python has threads take turns. */
+   calls that read one key or number keep it. A search for the next key may take long nevertheless, if keys go before it: if the last call on a handle
+   made more than STEPS_MOST steps, the next one lets others run. A change takes longer, and may have to be tried again, so it lets go of the GIL:
+   threads that do nothing but change keys then go on side by side, where each would else have the processor for the 5 milliseconds after which Python
+   has threads take turns. */
 #define PY_SSIZE_T_CLEAN
 #define Py_LIMITED_API 0x030a0000
 #include <Python.h>
