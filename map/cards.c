@@ -55,17 +55,17 @@ static uint64_t first_cards(const struct elltree_map *map, uint64_t keys) {
     return map->settings.cards ? map->settings.cards : at_least(at_most(keys, CARDS_LEAST), CARDS_FIRST);
 }
 
-/* How many each of them gets. If calls had to wait for cards, each gets twice as many as the section had, as calls may be about to change the keys of
-   one of them alone. */
+/* How many each of them gets. If calls had to wait for cards, the heirs get twice as many together as the section had. */
 static uint64_t cards_of_each(struct elltree_map *map, const struct renewal *renewal, uint32_t parts) {
     const struct section *section = renewal->sections[0];
     const uint64_t cards = section->cards, most = UINT64_C(1000) * map->settings.renewal_microseconds;
     const bool may_double = likely_effort(section, 2 * cards, renewal->there.count) <= most;
-    uint64_t each;
+    uint64_t all = cards, each;
     if (!atomic_load(&section->spent_at))
-        each = part_of_cards(cards_of_all(map, renewal, may_double), parts);
-    else
-        each = may_double && cards < at_least(weight(renewal->there.count), CARDS_USUAL) ? 2 * cards : cards;
+        all = cards_of_all(map, renewal, may_double);
+    else if (may_double && cards < at_least(weight(renewal->there.count), CARDS_USUAL))
+        all = 2 * cards;
+    each = part_of_cards(all, parts);
     return map->settings.cards ? each : at_least(each, CARDS_LEAST); /* a new map has fewer */
 }
 
