@@ -1,14 +1,15 @@
 /* Keys come in seven orders: ascending, descending, by turns from both ends, in blocks, as the first bits of a number reversed, shuffled, and far
-   apart; each order by one thread, against a plain array. The tree stays flat in each: a find makes 199 steps at most, and a look 131, while
-   keys come, while every other one goes, and afterwards, and a scan finds the keys ascending. Then a queue: two threads put ascending keys in at
-   one end while two take the least keys out at the other, and no find makes more steps. Then a handle opens on so many start keys, and keys come
-   above them: a find makes 259 steps at most. */
+   apart; each order by one thread, against a plain array. The tree stays flat in each: a find makes 199 steps at most, and a look 131, while keys
+   come, while every other one goes, and afterwards, and a scan finds the keys ascending. Then a queue: two threads put ascending keys in at one end
+   while two take the least keys out at the other, and no find makes more steps. Then a handle opens on so many start keys, and keys come above them:
+   a find makes 259 steps at most. At last four threads fill a map with ascending keys, and another with descending ones, and neither makes many more
+   cards than keys. */
 #include "elltree.h"
 #include <pthread.h>
 #include <stdio.h>
 #include <stdlib.h>
 
-enum { KEYS = 4000, TRIES = 1000, DEPTH = 64, DEPTH_ON_KEYS = 84, ENDS = 2, EACH = 20000, START = 1000 };
+enum { KEYS = 4000, TRIES = 1000, DEPTH = 64, DEPTH_ON_KEYS = 84, ENDS = 2, EACH = 20000, START = 1000, FILL = 400000, CARDS_A_KEY = 10 };
 
 static uint64_t random_next(uint64_t *seed) { return *seed ^= *seed << 13, *seed ^= *seed >> 7, *seed ^= *seed << 17; }
 
@@ -146,6 +147,38 @@ static long above_start_keys(void) {
     return wrong + pairs_are_wrong(&handle, KEYS) + (elltree_free(&handle) != ELLTREE_YES);
 }
 
+static struct elltree_map *map;
+
+/* Puts every fourth key in, downwards or upwards. */
+static void *fill(void *at) {
+    struct end *end = at;
+    uint64_t i;
+    for (i = end->number; i < FILL; i += 2 * ENDS) {
+        const uint64_t key = end->puts ? i : FILL - 1 - i;
+        end->wrong += elltree_map_insert(map, key, ~key) != ELLTREE_YES;
+    }
+    return NULL;
+}
+
+static long a_map(int upwards) {
+    pthread_t threads[2 * ENDS];
+    struct elltree_map_counters counters = {0, 0, 0, 0, 0, 0, 0};
+    uint64_t count = 0;
+    long wrong = elltree_map_new(&map) != ELLTREE_YES;
+    int i;
+    for (i = 0; i < 2 * ENDS; i++) {
+        ends[i].number = (uint64_t)i, ends[i].puts = upwards, ends[i].wrong = 0;
+        wrong += pthread_create(&threads[i], NULL, fill, &ends[i]) != 0;
+    }
+    for (i = 0; i < 2 * ENDS; i++)
+        wrong += pthread_join(threads[i], NULL) != 0 || ends[i].wrong;
+    wrong += elltree_map_len(map, &count) != ELLTREE_YES || count != FILL;
+    wrong += elltree_map_counts(map, &counters, sizeof counters) != ELLTREE_YES || counters.cards > CARDS_A_KEY * (uint64_t)FILL;
+    if (counters.cards > CARDS_A_KEY * (uint64_t)FILL)
+        printf("a map of %d keys has %llu cards\n", FILL, (unsigned long long)counters.cards);
+    return wrong + (elltree_map_free(map) != ELLTREE_YES);
+}
+
 int main(void) {
     long all = 0;
     size_t i;
@@ -155,7 +188,7 @@ int main(void) {
             printf("keys %s: %ld answers wrong, or in too many steps\n", names[i], wrong);
         all += wrong;
     }
-    all += a_queue() + above_start_keys();
-    printf("%d keys in each of %d orders, and a queue: %ld wrong\n", KEYS, (int)(sizeof orders / sizeof *orders), all);
+    all += a_queue() + above_start_keys() + a_map(1) + a_map(0);
+    printf("%d keys in each of %d orders, a queue and two maps: %ld wrong\n", KEYS, (int)(sizeof orders / sizeof *orders), all);
     return all ? EXIT_FAILURE : EXIT_SUCCESS;
 }
