@@ -16,15 +16,17 @@ const BLOCK: usize = 1_000;
 #[derive(Clone, Copy, PartialEq, Eq, PartialOrd, Ord)]
 pub enum Order {
     Ascending,
+    Descending,
     Shuffled,
 }
 
 impl Order {
-    pub const ALL: [Order; 2] = [Order::Ascending, Order::Shuffled];
+    pub const ALL: [Order; 3] = [Order::Ascending, Order::Descending, Order::Shuffled];
 
     pub fn name(self) -> &'static str {
         match self {
             Order::Ascending => "ascending",
+            Order::Descending => "descending",
             Order::Shuffled => "shuffled",
         }
     }
@@ -32,10 +34,17 @@ impl Order {
     /// The numbers below this in this order, which is the same each time.
     fn keys(self, count: u64) -> Vec<u64> {
         let mut keys: Vec<u64> = (0..count).collect();
-        if self == Order::Shuffled {
-            Random::new(4).shuffle(&mut keys);
+        match self {
+            Order::Ascending => {}
+            Order::Descending => keys.reverse(),
+            Order::Shuffled => Random::new(4).shuffle(&mut keys),
         }
         keys
+    }
+
+    /// Whether keys are inserted so into a map of this kind. Where keys in order make a tree deep, they would take minutes.
+    fn suits(self, peer: Peer) -> bool {
+        self == Order::Shuffled || !peer.grows_deep()
     }
 }
 
@@ -51,10 +60,12 @@ fn insert_blocks(writer: &mut dyn View, keys: &[u64], next: &AtomicUsize, begin:
     begun.elapsed()
 }
 
-/// Has all writers of a new map without keys insert all of them, in this order: how long an insert took, in nanoseconds of the time of all
-/// threads together, and how often and how long the map paused, if it renews itself.
-pub fn inserts(peer: Peer, sizes: Sizes, order: Order) -> Vec<(Figure, f64)> {
-    let keys = &order.keys(sizes.keys);
+/// Has all writers of a new map without keys insert all of them, in this order, or as many as it may have: how long an insert took, in
+/// nanoseconds of the time of all threads together, and how often and how long the map paused, if it renews itself.
+fn inserts_in(order: Order, peer: Peer, sizes: Sizes) -> Vec<(Figure, f64)> {
+    let mut keys = order.keys(sizes.keys);
+    keys.truncate(peer.most_inserts());
+    let keys = &keys;
     let mut crew = peer.crew(Sizes { keys: 0, ..sizes });
     let (next, begin) = (&AtomicUsize::new(0), &Barrier::new(crew.threads()));
     let took: Vec<Duration> = thread::scope(|scope| {
@@ -69,4 +80,9 @@ pub fn inserts(peer: Peer, sizes: Sizes, order: Order) -> Vec<(Figure, f64)> {
     let longest = took.into_iter().max().expect("a thread");
     let of_pauses = crew.renewing.map(|map| pauses::figures(Load::Inserts(order), map.counts(), longest));
     [vec![(Figure::Insert(order), mean)], of_pauses.unwrap_or_default()].concat()
+}
+
+/// The inserts in each order, into a new map each time.
+pub fn inserts(peer: Peer, sizes: Sizes) -> Vec<(Figure, f64)> {
+    Order::ALL.into_iter().filter(|order| order.suits(peer)).flat_map(|order| inserts_in(order, peer, sizes)).collect()
 }

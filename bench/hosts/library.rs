@@ -1,9 +1,9 @@
 //! The library as a program in Rust has it: the one that is built here, and, if there is one, another that was built before a change, whose
 //! functions have other names.
 
-use crate::peers::{Counters, Crew, Sizes, TRIES, View, boxed};
+use crate::peers::{Counters, Crew, Queue, Sizes, TRIES, View, boxed};
 use crate::ranges::{Ranges, Told, told};
-use ::elltree::Tree;
+use ::elltree::{CARDS_MAX, Handle, Refused, Tree};
 
 /// What a find answers: of a library before 0.3.0 it may be an error.
 trait Found {
@@ -27,6 +27,34 @@ impl Found for ::before::Result<Option<u64>> {
 fn handles(start: &[(u64, u64)], cards: u64, count: u64) -> ::elltree::Result<Vec<::elltree::Handle>> {
     let tree = Tree::open(start, cards)?;
     (0..count).map(|_| tree.handle()).collect()
+}
+
+impl Queue for Handle {
+    fn add_last(&mut self, key: u64) -> bool {
+        match Handle::insert(self, key, key + 7, TRIES) {
+            Ok(is_new) => is_new,
+            Err(Refused::Spent) => false,
+            other => panic!("an insert of {key} answered {other:?}"),
+        }
+    }
+
+    fn take_least(&mut self) -> Option<u64> {
+        loop {
+            let (least, _) = Handle::next_at_least(self, 0)?;
+            match Handle::delete(self, least, TRIES) {
+                Ok(true) => return Some(least),
+                Ok(false) => {}
+                Err(Refused::Spent) => return None,
+                other => panic!("a delete of {least} answered {other:?}"),
+            }
+        }
+    }
+}
+
+/// The threads of a tree that is a queue.
+pub fn queue(sizes: Sizes) -> ::elltree::Result<Crew<dyn Queue>> {
+    let handles = handles(&sizes.full(), CARDS_MAX, sizes.writers)?;
+    Ok(Crew::of(handles.into_iter().map(|it| Box::new(it) as Box<dyn Queue>).collect(), Vec::new()))
 }
 
 /// A module for a library: what a thread does with a handle, and new trees.

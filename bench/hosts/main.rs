@@ -6,6 +6,7 @@
 mod array;
 #[path = "../plain/bare_tree.rs"]
 mod bare_tree;
+mod ends;
 mod inserts;
 #[cfg(java)]
 mod java;
@@ -20,7 +21,8 @@ mod realtime;
 mod record;
 mod work;
 
-use inserts::{Order, inserts};
+use ends::ends;
+use inserts::inserts;
 use pauses::pauses;
 use peers::{Crew, Peer, Sizes};
 use ranges::{Hold, Span, Told, Way, write};
@@ -41,10 +43,13 @@ const COUNTERS: [u64; 3] = [1, 64, 4_096];
 /// How many keys are inserted into a map that was empty.
 const INSERTED: [u64; 2] = [200_000, 1_000_000];
 
+/// How many keys a queue has.
+const QUEUED: [u64; 1] = [100_000];
+
 /// How many keys a map has of which the pauses are told.
 const PAUSING: [u64; 3] = [1_000, 65_536, 262_144];
 
-/// Latencies, and ranges, take longer intervals than other bursts, by so many times, and have fewer rounds, by such a part, as inserts do.
+/// Latencies, and ranges, take longer intervals than other bursts, by so many times, and have fewer rounds, by such a part, as inserts and queues do.
 const LATENCIES_LONGER: f64 = 15.0;
 const RANGES_LONGER: f64 = 2.5;
 const FEWER: usize = 4;
@@ -69,6 +74,8 @@ pub enum Kind {
     Ranges,
     /// Inserts of all keys into a map without keys.
     Inserts,
+    /// Keys that come at the end of a queue, and go at its beginning.
+    Ends,
     /// The pauses of a map that renews itself, for some seconds.
     Pauses,
 }
@@ -81,7 +88,8 @@ pub struct Case {
 }
 
 impl Kind {
-    const ALL: [Kind; 8] = [Kind::Shared, Kind::SharedLooks, Kind::Running, Kind::Stopped, Kind::Counters, Kind::Ranges, Kind::Inserts, Kind::Pauses];
+    const ALL: [Kind; 9] =
+        [Kind::Shared, Kind::SharedLooks, Kind::Running, Kind::Stopped, Kind::Counters, Kind::Ranges, Kind::Inserts, Kind::Ends, Kind::Pauses];
 
     pub fn name(self) -> &'static str {
         match self {
@@ -92,6 +100,7 @@ impl Kind {
             Kind::Counters => "counters",
             Kind::Ranges => "ranges",
             Kind::Inserts => "inserts",
+            Kind::Ends => "ends",
             Kind::Pauses => "pauses",
         }
     }
@@ -104,7 +113,8 @@ impl Kind {
             Kind::Running | Kind::Stopped => all.collect(),
             Kind::Counters => Peer::COUNTING.to_vec(),
             Kind::Ranges => Way::ALL.iter().copied().map(Peer::Ranging).collect(),
-            Kind::Inserts => vec![Peer::OneMap, Peer::Mutex, Peer::Mutexes],
+            Kind::Inserts => Peer::FILLED.to_vec(),
+            Kind::Ends => Peer::QUEUES.to_vec(),
             Kind::Pauses => vec![Peer::OneMap],
         }
     }
@@ -112,9 +122,9 @@ impl Kind {
     /// The peer that is compared with others.
     pub fn ours(self) -> Peer {
         match self {
-            Kind::Shared | Kind::SharedLooks | Kind::Counters | Kind::Running | Kind::Stopped => Peer::Elltree,
             Kind::Ranges => Peer::Ranging(Way::Elltree),
-            Kind::Inserts | Kind::Pauses => Peer::OneMap,
+            Kind::Pauses => Peer::OneMap,
+            _ => Peer::Elltree,
         }
     }
 
@@ -123,6 +133,7 @@ impl Kind {
         match self {
             Kind::Shared | Kind::Counters | Kind::Inserts => Some(Peer::Mutexes),
             Kind::SharedLooks => Some(Peer::RwLocks),
+            Kind::Ends => Some(Peer::Mutex),
             Kind::Running | Kind::Stopped | Kind::Ranges | Kind::Pauses => None,
         }
     }
@@ -133,7 +144,7 @@ impl Kind {
             Kind::Shared => vec![(1, 0), (2, 0), (4, 0)],
             Kind::SharedLooks => vec![(0, 1), (0, 4), (1, 2), (3, 1)],
             Kind::Running | Kind::Stopped => vec![(2, 1)],
-            Kind::Counters | Kind::Inserts => vec![(1, 0), (4, 0)],
+            Kind::Counters | Kind::Inserts | Kind::Ends => vec![(1, 0), (4, 0)],
             Kind::Ranges => vec![(0, 1), (3, 0), (3, 1)],
             Kind::Pauses => vec![(4, 0)],
         }
@@ -145,6 +156,7 @@ impl Kind {
             Kind::Counters => &COUNTERS,
             Kind::Ranges => &RANGED,
             Kind::Inserts => &INSERTED,
+            Kind::Ends => &QUEUED,
             Kind::Pauses => &PAUSING,
             _ => &KEYS,
         }
@@ -158,7 +170,7 @@ impl Kind {
     /// Whether an interval may take seconds. Then its threads are in the normal class, since those of the real-time class lose their
     /// processors for a part of each second.
     fn takes_seconds(self) -> bool {
-        matches!(self, Kind::Inserts | Kind::Pauses)
+        matches!(self, Kind::Inserts | Kind::Ends | Kind::Pauses)
     }
 
     /// What writers do, if a map is kept from round to round.
@@ -170,13 +182,13 @@ impl Kind {
         }
     }
 
-    /// How long an interval takes, unless it takes as long as inserts do, and how many rounds there are.
+    /// How long an interval takes, unless it takes as long as inserts or turns do, and how many rounds there are.
     fn extent(self, wanted: &Wanted) -> (Duration, usize) {
         let &Wanted { burst, rounds, pauses, .. } = wanted;
         match self {
             Kind::Running | Kind::Stopped => (burst.mul_f64(LATENCIES_LONGER), rounds.div_ceil(FEWER)),
             Kind::Ranges => (burst.mul_f64(RANGES_LONGER), rounds.div_ceil(FEWER)),
-            Kind::Inserts => (burst, rounds.div_ceil(FEWER)),
+            Kind::Inserts | Kind::Ends => (burst, rounds.div_ceil(FEWER)),
             Kind::Pauses => (pauses, 1),
             _ => (burst, rounds),
         }
@@ -240,7 +252,8 @@ fn measure_anew(case: Case, peer: Peer, interval: Duration) -> Vec<(Figure, f64)
         }
         (Kind::Counters, _) => adds(peer, sizes, interval).map(|it| (Figure::Add, it)).into_iter().collect(),
         (Kind::Ranges, Peer::Ranging(way)) => measure_ranges(way, sizes, interval),
-        (Kind::Inserts, _) => Order::ALL.into_iter().flat_map(|order| inserts(peer, sizes, order)).collect(),
+        (Kind::Inserts, _) => inserts(peer, sizes),
+        (Kind::Ends, _) => ends(peer, sizes),
         (Kind::Pauses, _) => pauses(peer, sizes, interval),
         _ => unreachable!("{} of {} have no new map each time", kind.name(), peer.name()),
     }
@@ -391,7 +404,7 @@ fn class_of(wanted: &Wanted) -> String {
         return "normal, since an interval takes seconds".to_string();
     }
     let class = realtime::begin(wanted.in_real_time);
-    if normal == 0 { class.to_string() } else { format!("{class}; normal for inserts and pauses") }
+    if normal == 0 { class.to_string() } else { format!("{class}; normal for inserts, ends and pauses") }
 }
 
 fn main() -> ExitCode {

@@ -1,6 +1,6 @@
 //! The library's one map, which all threads share without handles and which renews itself, and when a renewal of it has ended.
 
-use crate::peers::{Counters, Crew, Sizes, View};
+use crate::peers::{Counters, Crew, Queue, Sizes, View};
 use crate::ranges::{Ranges, Told, told};
 use elltree::{Map, MapCounts, MapResult, MapSettings};
 use std::sync::Arc;
@@ -34,6 +34,16 @@ impl View for Arc<Map> {
 impl Counters for Arc<Map> {
     fn add(&mut self, key: u64) -> Option<u64> {
         Some(self.fetch_add(key, 1).unwrap().expect("a counter"))
+    }
+}
+
+impl Queue for Arc<Map> {
+    fn add_last(&mut self, key: u64) -> bool {
+        View::insert(self, key, key + 7)
+    }
+
+    fn take_least(&mut self) -> Option<u64> {
+        self.pop_first().unwrap().map(|(key, _)| key)
     }
 }
 
@@ -72,6 +82,11 @@ pub fn ranging(sizes: Sizes) -> MapResult<Crew<dyn Ranges>> {
 /// A new map of counters.
 pub fn counters(sizes: Sizes) -> MapResult<Crew<dyn Counters>> {
     crew(&sizes.zeros(), sizes, |map| Box::new(map) as Box<dyn Counters>)
+}
+
+/// A new map that is a queue.
+pub fn queue(sizes: Sizes) -> MapResult<Crew<dyn Queue>> {
+    crew(&sizes.full(), sizes, |map| Box::new(map) as Box<dyn Queue>)
 }
 
 /// Waits until there were so many renewals, and returns what has happened to the map then. If there is none for long, it says so, and goes on.

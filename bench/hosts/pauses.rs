@@ -15,17 +15,26 @@ const ALSO_FOUND: u64 = 65_536;
 #[derive(Clone, Copy, PartialEq, Eq, PartialOrd, Ord)]
 pub enum Load {
     Inserts(Order),
+    Turns,
     Work(Work),
 }
 
 impl Load {
-    pub const ALL: [Load; 4] =
-        [Load::Inserts(Order::Ascending), Load::Inserts(Order::Shuffled), Load::Work(Work::Changes), Load::Work(Work::FewChanges)];
+    pub const ALL: [Load; 6] = [
+        Load::Inserts(Order::Ascending),
+        Load::Inserts(Order::Descending),
+        Load::Inserts(Order::Shuffled),
+        Load::Turns,
+        Load::Work(Work::Changes),
+        Load::Work(Work::FewChanges),
+    ];
 
     pub fn name(self) -> &'static str {
         match self {
             Load::Inserts(Order::Ascending) => "ascending inserts",
+            Load::Inserts(Order::Descending) => "descending inserts",
             Load::Inserts(Order::Shuffled) => "shuffled inserts",
+            Load::Turns => "turns",
             Load::Work(Work::Mixed) => "50 % changes",
             Load::Work(Work::Changes) => "changes",
             Load::Work(Work::FewChanges) => "10 % changes",

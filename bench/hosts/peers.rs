@@ -71,6 +71,11 @@ impl Sizes {
         (0..self.keys).filter(move |key| (key / writers).is_multiple_of(2)).map(|key| (key, key + 7))
     }
 
+    /// All keys, ascending, with their values.
+    pub fn full(self) -> Vec<(u64, u64)> {
+        self.all().keys().map(|key| (key, key + 7)).collect()
+    }
+
     /// All keys, each with the value 0.
     pub fn zeros(self) -> Vec<(u64, u64)> {
         self.all().keys().map(|key| (key, 0)).collect()
@@ -95,6 +100,14 @@ pub trait View: Send {
 pub trait Counters: View {
     /// Adds 1 to the value of a key: the value that it had, or none if no card is left, and then nothing was added.
     fn add(&mut self, key: u64) -> Option<u64>;
+}
+
+/// What one thread has of a map that is a queue.
+pub trait Queue: View {
+    /// Whether a key above all others was added: not if no card is left.
+    fn add_last(&mut self, key: u64) -> bool;
+    /// The least key, which was taken: none if there is no key, or no card is left.
+    fn take_least(&mut self) -> Option<u64>;
 }
 
 impl View for Arc<BareTree> {
@@ -227,6 +240,16 @@ impl<L: Lock, const COUNT: usize> Counters for Arc<Shards<L, COUNT>> {
     }
 }
 
+impl<L: Lock> Queue for Arc<Shards<L, 1>> {
+    fn add_last(&mut self, key: u64) -> bool {
+        View::insert(self, key, key + 7)
+    }
+
+    fn take_least(&mut self) -> Option<u64> {
+        self.locks()[0].write(|map| map.pop_first()).map(|(key, _)| key)
+    }
+}
+
 /// The writers of a map, in the order of their stripes, and its readers: one for each thread.
 pub struct Crew<V: ?Sized = dyn View> {
     pub writers: Vec<Box<V>>,
@@ -285,6 +308,11 @@ fn counters_in_locks<L: Lock + 'static, const COUNT: usize>(sizes: Sizes) -> Cre
     Crew::of((0..sizes.writers).map(|_| Box::new(map.clone()) as Box<dyn Counters>).collect(), Vec::new())
 }
 
+fn queue_in_lock(sizes: Sizes) -> Crew<dyn Queue> {
+    let map = Arc::new(Shards::<Mutex<Map>, 1>::start(&sizes.full()));
+    Crew::of((0..sizes.writers).map(|_| Box::new(map.clone()) as Box<dyn Queue>).collect(), Vec::new())
+}
+
 /// What is measured.
 #[derive(Clone, Copy, PartialEq)]
 pub enum Peer {
@@ -335,6 +363,21 @@ impl Peer {
         Peer::Mutexes,
     ];
 
+    /// Those that are filled, in one order of keys or another.
+    pub const FILLED: &[Peer] = &[
+        Peer::Elltree,
+        Peer::OneMap,
+        #[cfg(libcds)]
+        Peer::Libcds(Reclaim::HazardPointers),
+        #[cfg(libcds)]
+        Peer::Libcds(Reclaim::Rcu),
+        Peer::Mutex,
+        Peer::Mutexes,
+    ];
+
+    /// Those that are queues.
+    pub const QUEUES: &[Peer] = &[Peer::Elltree, Peer::OneMap, Peer::Mutex];
+
     pub fn name(self) -> &'static str {
         match self {
             Peer::Elltree => "elltree",
@@ -371,17 +414,35 @@ impl Peer {
         self != Peer::Private
     }
 
-    /// How many changes may be asked of a map in all: half of them change it, and take a card each if there are cards. The other cards
-    /// are for tries that fail. A map that renews itself has no end of cards.
-    pub fn most_changes(self) -> u64 {
-        let takes_cards = match self {
+    /// Whether keys that come in order make the tree deep.
+    pub fn grows_deep(self) -> bool {
+        match self {
+            #[cfg(libcds)]
+            Peer::Libcds(_) => true,
+            _ => self == Peer::Bare,
+        }
+    }
+
+    /// Whether changes take cards, of which there is an end. A map that renews itself has no end of cards.
+    fn takes_cards(self) -> bool {
+        match self {
             Peer::Ranging(way) => way.takes_cards(),
             Peer::Elltree | Peer::Bare => true,
             #[cfg(before)]
             Peer::Before => true,
             _ => false,
-        };
-        if takes_cards { 1_400_000 } else { u64::MAX / 2 }
+        }
+    }
+
+    /// How many changes may be asked of a map in all: half of them change it, and take a card each if there are cards. The other cards
+    /// are for tries that fail.
+    pub fn most_changes(self) -> u64 {
+        if self.takes_cards() { 1_400_000 } else { u64::MAX / 2 }
+    }
+
+    /// How many absent keys may be inserted into a map: here too a tenth of the cards are for tries that fail.
+    pub fn most_inserts(self) -> usize {
+        if self.takes_cards() { 900_000 } else { usize::MAX }
     }
 
     /// A new map of this kind.
@@ -413,6 +474,16 @@ impl Peer {
             Peer::Mutex => counters_in_locks::<Mutex<Map>, 1>(sizes),
             Peer::Mutexes => counters_in_locks::<Mutex<Map>, SHARDS>(sizes),
             _ => unreachable!("{} has no counters", self.name()),
+        }
+    }
+
+    /// A new map of this kind with all keys, as a queue. Only the `QUEUES` are some.
+    pub fn queue(self, sizes: Sizes) -> Crew<dyn Queue> {
+        match self {
+            Peer::Elltree => library::queue(sizes).expect("a tree"),
+            Peer::OneMap => one_map::queue(sizes).expect("a map"),
+            Peer::Mutex => queue_in_lock(sizes),
+            _ => unreachable!("{} is no queue", self.name()),
         }
     }
 }

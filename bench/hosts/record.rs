@@ -29,6 +29,8 @@ pub enum Figure {
     WriteBeside(Span),
     /// An insert into a map in which all keys are inserted in such an order.
     Insert(Order),
+    /// A turn of a queue: an insert of the next key, and a take of the least one.
+    Turn,
     /// What is told of the pauses of a map under such a load.
     Pauses(Load, Said),
 }
@@ -56,6 +58,7 @@ impl Figure {
             Figure::Told(Span::All) => "key of a range of all",
             Figure::Told(Span::Next) => "next key",
             Figure::Write => "write",
+            Figure::Turn => "turn",
             Figure::WriteBeside(Span::Of10) => "write beside ranges of 10",
             Figure::WriteBeside(Span::Of100) => "write beside ranges of 100",
             Figure::WriteBeside(Span::All) => "write beside ranges of all",
@@ -99,10 +102,11 @@ struct Form {
 }
 
 /// The kinds of which each case is a row of a table, and the titles of these.
-const TABLES_OF_CASES: [(Kind, &str); 3] = [
+const TABLES_OF_CASES: [(Kind, &str); 4] = [
     (Kind::Shared, "An operation on shared keys, in nanoseconds."),
     (Kind::SharedLooks, "A look at a shared key; a change beside it, in nanoseconds."),
     (Kind::Counters, "An add to a counter, in nanoseconds."),
+    (Kind::Ends, "A turn of a queue, in nanoseconds of the time of all threads together."),
 ];
 
 /// What a row of a table is of, and what it shows of each peer, one behind the other: figures of cases by their places.
@@ -206,6 +210,7 @@ impl Record {
         let (labels, figures): (&'static [&'static str], &[Figure]) = match kind {
             Kind::SharedLooks => (&["Keys", "Readers", "Writers"], &[Figure::Look, Figure::Change]),
             Kind::Counters => (&["Keys", "Threads"], &[Figure::Add]),
+            Kind::Ends => (&["Keys", "Threads"], &[Figure::Turn]),
             _ => (&["Keys", "Threads"], &[Figure::Operation]),
         };
         let row = |(at, Case { sizes, .. }): (usize, Case)| {
@@ -226,6 +231,7 @@ impl Record {
             self.table_of_writes(file),
             self.table_of_inserts(file),
             self.table_of_pauses(Kind::Inserts, file),
+            self.table_of_pauses(Kind::Ends, file),
             self.table_of_pauses(Kind::Pauses, file),
         ];
         [of_cases.concat(), others.concat()].concat()
@@ -288,6 +294,7 @@ impl Record {
     fn table_of_pauses(&self, kind: Kind, file: &str) -> String {
         let (title, columns): (_, &[Said]) = match kind {
             Kind::Inserts => ("The renewals and pauses of the one map while it is filled so.", &Said::OF_INSERTS),
+            Kind::Ends => ("The renewals and pauses of the one map while it is such a queue.", &Said::OF_INSERTS),
             _ => ("The renewals and pauses of the one map while four threads work without pause.", &Said::OF_CHANGES),
         };
         let told = |at, load, said| self.median(at, Figure::Pauses(load, said), Peer::OneMap);
