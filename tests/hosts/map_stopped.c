@@ -187,7 +187,7 @@ int main(void) {
     for (; at_the_end < ROUNDS / 10 || (!for_cards && at_the_end < ROUNDS); at_the_end++) /* on a busy machine it may take more */
         wrong += stop_writer_at_the_end(&for_cards);
     wrong += (waited == 0) + (for_cards == 0);
-    printf("%d stops, in %ld of which a renewal waited, and in %ld a call without a card, %ld wrong\n", ROUNDS + ROUNDS / 10 + at_the_end, waited, for_cards,
-           wrong);
+    printf("%d stops, in %ld of which a renewal waited, and in %ld a call without a card, %ld wrong\n", ROUNDS + ROUNDS / 10 + at_the_end, waited,
+           for_cards, wrong);
     return wrong != 0;
 }
