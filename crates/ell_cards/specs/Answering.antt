@@ -35,5 +35,5 @@ IsAnsweredInRuns plan v op said =
 
 -- what a pass answered last had its point, whoever may change the key, whatever turns of whatever passes came meanwhile
 abbrev pub AnswersHaveTheirPoints : Type 0
-AnswersHaveTheirPoints = (plan : TablePlan) (v : View) (op : Op) (said : Reply) (card : Option ℕ)
-    → v.answered ≡ Some (record { op = op; said = said; card = card }) → IsAnsweredInRuns plan v op said
+AnswersHaveTheirPoints = (plan : TablePlan) (v : View) (op : Op) (said : Reply) (card took : Option ℕ)
+    → v.answered ≡ Some (record { op = op; said = said; card = card; took = took }) → IsAnsweredInRuns plan v op said

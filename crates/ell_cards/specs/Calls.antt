@@ -25,7 +25,7 @@ use Rattle.ell_cards.specs.declared.call.Call.TheVariants as call
 use Rattle.ell_cards.specs.declared.view.Told.TheVariants.{Met, Key, Value, Frozen}
 use Rattle.ell_cards.specs.declared.view.View.{View}
 use Rattle.ell_cards.specs.Models.{TablePlan, flat_from, IsTold, IsFree, Does, StandsAt, InTable, EndWasUnknown}
-use Rattle.ell_cards.specs.Changes.{counted, with_fact, if_won, exchanged, after_begin, after_again, after_leave, after_answer, after_upd, after_claim, after_flag, after_mark, is_this, told_info, depth_there, after_fill}
+use Rattle.ell_cards.specs.Changes.{counted, forgotten, with_fact, if_won, exchanged, after_begin, after_again, after_leave, after_answer, after_upd, after_claim, after_flag, after_mark, is_this, told_info, depth_there, after_fill}
 use Rattle.ell_cards.specs.Guards.{MayBegin, MayAnswer, MayRead, MayGoDown, MayAsk, KnowsPlace, MayLookDown, MayClaim, MayFill, MayIFlag, MayDFlag, MayIChild, MayMark, MayDChild}
 use Rattle.ell_cards.specs.Depths.{met_at, depth_told}
 use Rattle.ell_word.specs.declared.link.Link.{Link}
@@ -135,7 +135,7 @@ after (call.FrozenChild c p right) n v =
       made = v.made + 1;
     }
 after call.Look n v = counted (record v {
-  told = met_at (depth_told v.told 0 + 1) (link_in n).node v.told;
+  told = met_at 1 (link_in n).node forgotten;
   glances = record { node = (link_in n).node; low = 0; high = greatest_key + 1; whole = true } ∷ [];
   looks = v.looks + 1;
 })

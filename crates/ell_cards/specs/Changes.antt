@@ -27,7 +27,7 @@ use Rattle.ell_cards.specs.declared.view.Told.TheVariants.{Met, Value, Info, Exp
 use Rattle.ell_cards.specs.declared.view.Hindrance.{Hindrance}
 use Rattle.ell_cards.specs.declared.view.Hindrance.TheVariants.{Claim, Found}
 use Rattle.ell_cards.specs.declared.view.View.{View}
-use Rattle.ell_cards.specs.Depths.{met_at, depth_under, tells_grandparent_of, tells_parent_of}
+use Rattle.ell_cards.specs.Depths.{met_at, depth_under, tells_grandparent_of}
 use Rattle.ell_cards.specs.Models.{TablePlan, knows_end, whole_share, given_share}
 use Rattle.ell_core.specs.declared.view.Entry.{Entry}
 use Rattle.ell_core.specs.declared.view.Entry.TheVariants.{Present, Absent}
@@ -152,22 +152,29 @@ abbrev pub child_found : ℕ → Result (Unit {0}) Link → ℕ
 child_found expected (Ok won) = expected
 child_found expected (Err found) = linked found
 
--- nothing is in hand, and the ledger is this one
+-- all that was told is forgotten, but that the root is met
+abbrev pub forgotten : List Told
+forgotten = Met 0 ∷ []
+
+-- nothing is in hand, the ledger is this one, and all that was told is forgotten
 abbrev pub at_rest : List (ℕ × Entry) → View → View
-at_rest ledger v =
-    record v { worker = record (ended v.worker) { ledger = ledger }; here = None; planned = []; stores = []; met = [] }
+at_rest ledger v = record v {
+  worker = record (ended v.worker) { ledger = ledger };
+  told = forgotten;
+  here = None;
+  planned = [];
+  stores = [];
+  met = [];
+}
 
 -- nothing is left of the last operation, answered or laid down, nor of the last look
 abbrev pub afresh : List (ℕ × Entry) → View → View
 afresh ledger v = record (at_rest ledger v) { next = None; glances = []; answered = None; laid_down = None }
 
--- begin: nothing is left of what was before, this operation is in hand, and the search stands at the root, which is met
+-- begin: nothing is left of what was before, this operation is in hand, and the search stands at the root
 abbrev pub after_begin : Option Op → View → View
-after_begin op v = counted (record (afresh v.worker.ledger v) {
-  worker = begun op v.worker;
-  told = Met 0 ∷ v.told;
-  knew_before = v.worker.knows;
-})
+after_begin op v =
+    counted (record (afresh v.worker.ledger v) { worker = begun op v.worker; knew_before = v.worker.knows })
 
 -- again: the try is given up, and the operation begins anew
 abbrev pub after_again : View → View
@@ -189,9 +196,9 @@ answered_ledger (Some (Swap k was value)) (Found there) ledger =
     if there == was then with_entry k (Present value) ledger else ledger
 answered_ledger _ _ ledger = ledger
 
--- the operation that was in hand, with what is answered to it, and the card that was in hand for it
-abbrev pub answered_so : Option Op → Option ℕ → Reply → Option Answered
-answered_so op card said = option_map (λ o. record { op = o; said = said; card = card }) op
+-- the operation that was in hand, with what is answered to it, the card that was in hand for it, and what it took
+abbrev pub answered_so : Option Op → Option ℕ → Reply → Option ℕ → Option Answered
+answered_so op card said took = option_map (λ o. record { op = o; said = said; card = card; took = took }) op
 
 -- the leaf that an entry tells of a card, and the value that it tells of a leaf
 abbrev pub tells_leaf_of : ℕ → Told → Option ℕ
@@ -214,6 +221,10 @@ taken_by (Some (Delete key)) (Some c) Yes told =
     option_and_then (λ leaf. last_told (tells_value_of leaf) told) (last_told (tells_leaf_of c) told)
 taken_by _ _ _ told = None
 
+-- the same of a pass that answers now
+abbrev pub taken_now : Reply → View → Option ℕ
+taken_now said v = taken_by v.worker.operation v.worker.card said v.told
+
 -- a call that is answered now, and took nothing: all that its pass knows of had ended before it began
 abbrev pub deed_of : Op → Reply → List Deed → Deed
 deed_of op said answers = record { op = op; said = said; took = None; before = length answers; own = true }
@@ -234,8 +245,8 @@ inherited answers = map (λ (d : Deed). record d { own = false }) answers
 -- answer: nothing is in hand any more, the ledger goes by the answer, and the pass has it for its last
 abbrev pub after_answer : Reply → View → View
 after_answer said v = counted (record (at_rest (answered_ledger v.worker.operation said v.worker.ledger) v) {
-  answered = answered_so v.worker.operation v.worker.card said;
-  answers = with_answer v.worker.operation said (taken_by v.worker.operation v.worker.card said v.told) v.answers;
+  answered = answered_so v.worker.operation v.worker.card said (taken_now said v);
+  answers = with_answer v.worker.operation said (taken_now said v) v.answers;
 })
 
 -- upd: this update was read at the node where the pass stands
@@ -253,20 +264,17 @@ is_this (Some y) x = y == x
 abbrev pub knows_delete : List Fact → ℕ → Bool
 knows_delete facts c = known_of facts (fact.DFlagged c) || known_of facts (fact.Marked c)
 
--- the depth of a card's node, as far as a pass knows what is above it: a delete's parent is below its grandparent,
--- and the leaf below the parent
+-- the depth of a card's node, as far as a pass knows what is above it: a delete's parent is below its grandparent
 abbrev pub depth_there : View → ℕ → Field → ℕ
 depth_there v c P = if knows_delete v.worker.knows c then depth_under (tells_grandparent_of c) v.told v.told else 0
-depth_there v c L = depth_under (tells_parent_of c) v.told v.told
 depth_there v c _ = 0
 
--- what was told with a word of a card; a node of this depth is met, and the leaf's word has the tag that the card
--- expects
+-- what was told with a word of a card: its grandparent is met, and its parent, which has this depth; the leaf's word
+-- has the tag that the card expects
 abbrev pub told_info : ℕ → ℕ → Field → ℕ → List Told → List Told
 told_info depth c Gp x told = Info c Gp x ∷ Met x ∷ told
 told_info depth c P x told = Info c P x ∷ met_at depth x told
-told_info depth c L x told =
-    Info c L (link_in x).node ∷ Expects c (link_in x).tag ∷ met_at depth (link_in x).node told
+told_info depth c L x told = Info c L (link_in x).node ∷ Expects c (link_in x).tag ∷ told
 told_info depth c f x told = Info c f (says_by f x) ∷ told
 
 -- the value that was told of a leaf the last time, or 0
@@ -377,7 +385,7 @@ abbrev pub idle_view : ℕ → WorkerView → View
 idle_view share worker = record {
   worker = worker;
   share = share;
-  told = Met 0 ∷ [];
+  told = forgotten;
   knew_before = [];
   here = None;
   next = None;
@@ -417,11 +425,10 @@ left_view keys v = counted (record (afresh (filter (λ e. set_of keys e.0) v.wor
   share = v.share - given_share v.share;
 })
 
--- split, the right part: it gets the other keys and a part of the share, and facts and what was told too
+-- split, the right part: it gets the other keys and a part of the share, and facts too
 abbrev pub right_view : List ℕ → View → View
 right_view keys v = record (idle_view (given_share v.share)
     (at_rest (filter (λ e. not (set_of keys e.0)) v.worker.ledger) v).worker) {
-      told = v.told;
       knew_before = v.knew_before;
       next_at_least = v.next_at_least;
       answers = inherited v.answers;
@@ -448,7 +455,6 @@ abbrev pub joined_view : View → View → View
 joined_view v w = record (idle_view ((v.share + w.share) % 2 ^ 64)
     (idle (united_ledgers v.worker.ledger w.worker.ledger) (option_or v.worker.shared w.worker.shared)
     (v.worker.knows ++ w.worker.knows))) {
-      told = v.told ++ w.told;
       won = v.won ++ w.won;
       hindrances = v.hindrances ++ w.hindrances;
       next = later_reading v.next w.next;

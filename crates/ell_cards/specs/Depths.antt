@@ -4,7 +4,7 @@ use Rattle.ell_layout.specs.Branches.{greatest_depth}
 use Rattle.ell_layout.specs.Words.{Words}
 use Rattle.ell_cards.specs.Models.{TablePlan}
 use Rattle.ell_core.specs.tree.Rank.{rank}
-use Rattle.ell_layout.specs.declared.field.Field.TheVariants.{Gp, P}
+use Rattle.ell_layout.specs.declared.field.Field.TheVariants.{Gp}
 use Rattle.ell_cards.specs.declared.view.Told.{Told}
 use Rattle.ell_cards.specs.declared.view.Told.TheVariants.{Met, Depth, Info}
 use Rattle.ell_cards.specs.declared.view.View.{View}
@@ -19,14 +19,10 @@ depth_told (_ ∷ told) x = depth_told told x
 abbrev pub met_at : ℕ → ℕ → List Told → List Told
 met_at depth x told = Met x ∷ Depth x depth ∷ told
 
--- the grandparent that an entry tells of a card, and the parent
+-- the grandparent that an entry tells of a card
 abbrev pub tells_grandparent_of : ℕ → Told → Option ℕ
 tells_grandparent_of c (Info d Gp x) = if d == c then Some x else None
 tells_grandparent_of c _ = None
-
-abbrev pub tells_parent_of : ℕ → Told → Option ℕ
-tells_parent_of c (Info d P x) = if d == c then Some x else None
-tells_parent_of c _ = None
 
 -- the depth of a node below another, if that is known
 abbrev pub depth_below : List Told → Option ℕ → ℕ

@@ -90,16 +90,21 @@ pub record MayGoDown (v : View) (x : ℕ) (right : Bool) : Type 0 where
   pub side : right ≡ nat_le key (key_of op)
   pub no_card : v.worker.card ≡ None
 
--- the words of a card that are nodes
+-- the words of a card that are nodes where it is flagged or marks
 abbrev pub NamesNode : Field → Type 0
 NamesNode field.Gp = Unit {0}
 NamesNode field.P = Unit {0}
-NamesNode field.L = Unit {0}
 NamesNode _ = ⊥
 
--- info: the card is known flagged or marked, and this word of it never changes
-abbrev pub MayAsk : View → ℕ → Field → Type 0
-MayAsk v c f = KnowsCard v c × (is_fixed f ≡ true)
+-- the pass was told where a card is flagged or marks
+abbrev pub KnowsWhere : View → ℕ → Type 0
+KnowsWhere v c = (x : ℕ) × (IsTold v (Info c field.P x) ⊎ IsTold v (Info c field.Gp x))
+
+-- info: the card is known flagged or marked, the pass was told where, and this word of it never changes
+pub record MayAsk (v : View) (c : ℕ) (f : Field) : Type 0 where
+  pub knows : KnowsCard v c
+  pub place : KnowsWhere v c
+  pub fixed : is_fixed f ≡ true
 
 -- a stretch of keys is in a half of the block whose middle a number is
 pub record IsInHalf (number : ℕ) (right : Bool) (keys : Stretch) : Type 0 where
@@ -109,15 +114,15 @@ pub record IsInHalf (number : ℕ) (right : Bool) (keys : Stretch) : Type 0 wher
   pub upto : keys.high ≤ half_end block right
 
 -- these keys go on to the child on a side of a node with this key: they are some by which a look has come there, and
--- which go to that side; where they go on as one, they have come so, and are of a node that has a block keys of that half
--- of it
+-- which go to that side; where they go on as one, they have come so, and are of a node that has a block keys of that
+-- half of it
 pub record GoOnBy (from : ℕ) (glance : Glance) (key : ℕ) (right : Bool) (keys : Stretch) : Type 0 where
   pub low : from_of right glance.low key ≤ keys.low
   pub high : keys.high ≤ upto_of right glance.high key
   pub whole : keys.whole ≡ true → (glance.whole ≡ true) × (has_block from glance.node ≡ true → IsInHalf key right keys)
 
--- look_down, in a tree that is flat from a card on: a look has come to this internal node by these keys, the pass has met
--- it and was told its key, and those keys go on to the child on a side
+-- look_down, in a tree that is flat from a card on: a look has come to this internal node by these keys, the pass has
+-- met it and was told its key, and those keys go on to the child on a side
 pub record MayLookDown (from : ℕ) (v : View) (glance : Glance) (keys : Stretch) (right : Bool) : Type 0 where
   pub come : HasCome v glance.node glance.low glance.high
   pub as_one : glance.whole ≡ true → HasComeWhole v glance.node glance.low glance.high
@@ -133,8 +138,8 @@ pub record KnowsPlace (v : View) (known : Fact) (c : ℕ) (f : Field) (x : ℕ) 
   pub place : IsTold v (Info c f x)
 
 -- what an insert's claim wants of the node at which it ends, of this key, and of that one's parent: it is a leaf of
--- another key, whose value was told, or an internal node whose block lacks the insert's key; the parent's has it; and the
--- card's node gets the key that is for the two keys
+-- another key, whose value was told, or an internal node whose block lacks the insert's key; the parent's has it; and
+-- the card's node gets the key that is for the two keys
 pub record WantsInsert (from : ℕ) (v : View) (k parent x key node_key : ℕ) : Type 0 where
   pub leaf : IsLeaf x → (key ≢ k) × ((value : ℕ) × IsTold v (Value x value))
   pub edge : IsInternal x → (has_block from x ≡ true) × (¬ InBlockOf key k)
@@ -162,8 +167,8 @@ Wants from v (Insert k value) parent x key node_key = WantsInsert from v k paren
 Wants from v (Swap k was value) parent x key node_key = WantsSwap v k was x key node_key
 Wants from v (Delete k) parent x key node_key = WantsDelete v k x key
 
--- claim, in a tree that is flat from a card on, for a card whose node gets this key: next read this card; the pass stands
--- without a card at a node whose key it was told, behind a clean parent
+-- claim, in a tree that is flat from a card on, for a card whose node gets this key: next read this card; the pass
+-- stands without a card at a node whose key it was told, behind a clean parent
 pub record MayClaim (from : ℕ) (v : View) (c node_key : ℕ) : Type 0 where
   pub op : Op
   pub below : ℕ

@@ -167,8 +167,8 @@ pub record IsItsCall (turns : List Turn) (seat : ℕ) (op : Op) (said : Reply) :
 
 -- what a pass answered last is a call of each run from a start that leads there: its sequence has it
 abbrev pub LastAnswersAreOfCalls : Type 0
-LastAnswersAreOfCalls = (plan : TablePlan) (v : View) (op : Op) (said : Reply) (card : Option ℕ)
-    → v.answered ≡ Some (record { op = op; said = said; card = card })
+LastAnswersAreOfCalls = (plan : TablePlan) (v : View) (op : Op) (said : Reply) (card took : Option ℕ)
+    → v.answered ≡ Some (record { op = op; said = said; card = card; took = took })
     → (opened : TableState) → Starts plan opened → (turns : List Turn) (s' : TableState)
     → TableRun plan opened turns s'
     → (seat : ℕ) → get_elem? s'.views seat ≡ some v → IsItsCall turns seat op said

@@ -101,8 +101,9 @@ abbrev pub LacksBetween : ℕ → ℕ → ℕ → ℕ → ℕ → Type 0
 LacksBetween from x key low high =
     IsInternal x × (has_block from x ≡ true) × ((k : ℕ) → low ≤ k → k < high → ¬ InBlockOf key k)
 
--- what a pass was told of a node, with this key, about a stretch of keys, in a tree that is flat from a card on: it is a
--- leaf whose key is one of them, with this value, or none of them; or an internal node whose block lacks them all
+-- what a pass was told of a node, with this key, about a stretch of keys, in a tree that is flat from a card on: it
+-- is a leaf whose key is one of them, with this value, or none of them; or an internal node whose block lacks them
+-- all
 abbrev pub TellsBetween : ℕ → View → ℕ → ℕ → ℕ → ℕ → Option (ℕ × ℕ) → Type 0
 TellsBetween from v x key low high None =
     (IsLeaf x × ((key < low) ⊎ (high ≤ key))) ⊎ LacksBetween from x key low high

@@ -25,9 +25,9 @@ use Rattle.ell_cards.specs.Models.{IsTold, Knows, KnewBefore, stored_at}
 use Rattle.ell_cards.specs.States.{TableState, seated}
 use Rattle.ell_word.specs.Node.{greatest_card}
 
--- what was told holds of the machine's words: a node that was met came into the tree, and a depth that was told of it is
--- at most its level; a key, a value, or what a fixed field of a claimed card says, with the tag that the card expects, is
--- what was told; and so is a child of a parent that stays marked
+-- what was told holds of the machine's words: a node that was met came into the tree, and a depth that was told of it
+-- is at most its level; a key, a value, or what a fixed field of a claimed card says, with the tag that the card
+-- expects, is what was told; and so is a child of a parent that stays marked
 abbrev pub EntryHolds : Words → Stages → Told → Type 0
 EntryHolds w stage (Met x) = Born stage x
 EntryHolds w stage (Depth x d) = Born stage x × (d ≤ level w x)

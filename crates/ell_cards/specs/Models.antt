@@ -103,12 +103,8 @@ pub record HasCome (v : View) (node low high : ℕ) : Type 0 where
 
 -- and by all of them as one
 pub record HasComeWhole (v : View) (node low high : ℕ) : Type 0 where
-  pub glance : Glance
-  pub among : Has v.glances glance
-  pub there : glance.node ≡ node
-  pub from : glance.low ≤ low
-  pub upto : high ≤ glance.high
-  pub whole : glance.whole ≡ true
+  pub come : HasCome v node low high
+  pub whole : come.glance.whole ≡ true
 
 -- the pass knows a fact
 abbrev pub Knows : View → Fact → Type 0

@@ -1,12 +1,11 @@
 use Rattle.std.specs.Prelude.{◌≡◌, ℕ, ◌<◌, ◌≤◌, Option, Some, None, List, [], ◌∷◌, length, slice_index}
 use mathlib.Core.Option.{some}
 use lib.ListN.{get_elem?}
-use Rattle.ell_layout.specs.declared.field.Field.TheVariants.{P}
+use Rattle.ell_core.specs.declared.exchange.Exchange.TheVariants as exchange
 use Rattle.ell_cards.specs.declared.view.Hindrance.{Hindrance}
 use Rattle.ell_cards.specs.declared.view.Hindrance.TheVariants.{Claim, Found}
-use Rattle.ell_cards.specs.declared.view.Told.TheVariants.{Info}
 use Rattle.ell_cards.specs.declared.view.View.{View}
-use Rattle.ell_cards.specs.Models.{TablePlan, IsTold}
+use Rattle.ell_cards.specs.Models.{TablePlan, Has}
 use Rattle.ell_cards.specs.States.{TableState}
 use Rattle.ell_cards.specs.Starts.{IsReached}
 
@@ -31,16 +30,15 @@ abbrev pub ReadingsArePast : Type 0
 ReadingsArePast = (plan : TablePlan) (s : TableState) → IsReached plan s → (id : ℕ) (v : View)
     → get_elem? s.views id ≡ some v → IsPast (slice_index s.words 0) v
 
--- some pass was told of a card, by its parent
-pub record IsToldOf (s : TableState) (c : ℕ) : Type 0 where
+-- some pass has won the claim of a card
+pub record IsClaimedBySome (s : TableState) (c : ℕ) : Type 0 where
   pub seat : ℕ
   pub view : View
   pub there : get_elem? s.views seat ≡ some view
-  pub parent : ℕ
-  pub told : IsTold view (Info c P parent)
+  pub claimed : Has view.won (exchange.Claim, c)
 
--- so is some pass of each card that was claimed, wherever turns have led a table: the cards of the opening tree are not
--- claimed
-abbrev pub ClaimsAreTold : Type 0
-ClaimsAreTold = (plan : TablePlan) (s : TableState) → IsReached plan s → (c : ℕ) → length plan.start < c
-    → c < slice_index s.words 0 → IsToldOf s c
+-- so has some pass of each card that was claimed, wherever turns have led a table: the cards of the opening tree are
+-- not claimed
+abbrev pub ClaimsAreWon : Type 0
+ClaimsAreWon = (plan : TablePlan) (s : TableState) → IsReached plan s → (c : ℕ) → length plan.start < c
+    → c < slice_index s.words 0 → IsClaimedBySome s c

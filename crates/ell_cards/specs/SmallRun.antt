@@ -8,6 +8,8 @@ use Rattle.ell_core.specs.declared.exchange.Exchange.TheVariants as exchange
 use Rattle.ell_layout.specs.declared.field.Field.TheVariants as field
 use Rattle.ell_core.specs.declared.view.Entry.TheVariants.{Absent, Present}
 use Rattle.ell_cards.specs.declared.call.Call.TheVariants as call
+use Rattle.ell_cards.specs.declared.glance.Glance.{Glance}
+use Rattle.ell_cards.specs.declared.glance.Stretch.{Stretch}
 use Rattle.ell_cards.specs.declared.view.View.{View}
 use Rattle.ell_cards.specs.Models.{TablePlan}
 use Rattle.ell_cards.specs.States.{TableState}
@@ -88,11 +90,18 @@ delete_ends =
     Makes 0 (call.KeyOf 14) ∷ Makes 0 (call.DChild 4 4 (record { node = 12; tag = 1 }) 14 false)
     ∷ Makes 0 (call.DUnflag 4 4) ∷ Makes 0 (call.Answer Yes) ∷ []
 
+-- key 7 alone, and node 4 come to by it
+abbrev pub key_7 : Stretch
+key_7 = record { low = 7; high = 8; whole = false }
+
+abbrev pub at_node_4 : Glance
+at_node_4 = record { node = 4; low = 7; high = 8; whole = false }
+
 -- seat 1 looks for key 7, and finds its value
 abbrev pub look : List Turn
 look =
-    Makes 1 call.Look ∷ Makes 1 (call.LookDown (record { node = 4; low = 7; high = 8; whole = false }) (record { low = 7; high = 8; whole = false }) false) ∷ Makes 1
-    (call.KeyOf 14) ∷ Makes 1 (call.ValueOf 14) ∷ []
+    Makes 1 call.Look ∷ Makes 1 (call.KeyOf 4) ∷ Makes 1 (call.LookDown at_node_4 key_7 false)
+    ∷ Makes 1 (call.KeyOf 14) ∷ Makes 1 (call.ValueOf 14) ∷ []
 
 -- it lays a find down, and both passes become one
 abbrev pub ending : List Turn

@@ -75,16 +75,16 @@ pub record StepsBy (old new : PassModel) : Type 0 where
   pub label : new.label ≡ old.label
 
 -- what a step call that found this word leaves of a pass: what it knows is as the call says, and what the call tells is
--- so; what a look has found of its own keys is what its ledger has; it was told no two keys of one node, and no two
--- values; the pass owns the keys and has the share that it did, names what is in its table, and was told no greater depth
--- of a node than a node of the table may have
+-- so; what a look has found of its own keys is what its ledger has; it was told no two keys of one node, nor, before
+-- the call, two values of one leaf; the pass owns the keys and has the share that it did, names what is in its table, and was told no greater
+-- depth of a node than a node of the table may have
 pub record IsTaken (plan : TablePlan) (c : Call) (v : View) (n : ℕ) (w : View) : Type 0 where
   pub view : w ≡ after c n v
   pub tells : Tells plan c v n
   pub own : ReadsItsOwn w
   pub missed : MissesItsOwn (flat_from plan) w
   pub fixed : KeysAreFixed w
-  pub values : ValuesAreFixed w
+  pub values : ValuesAreFixed v
   pub keys : ledger_keys w.worker.ledger ≡ ledger_keys v.worker.ledger
   pub share : SameShare v w
   pub named : IsNamed plan.last_card w

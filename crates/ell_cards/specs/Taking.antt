@@ -1,14 +1,12 @@
-use Rattle.std.specs.Prelude.{◌≡◌, ℕ, Some, List}
+use Rattle.std.specs.Prelude.{◌≡◌, ℕ, Option, Some, List}
 use mathlib.Core.Option.{some}
 use lib.ListN.{get_elem?}
 use Rattle.ell_ops.specs.declared.op.Op.TheVariants.{Delete}
 use Rattle.ell_ops.specs.declared.reply.Reply.TheVariants.{Yes}
 use Rattle.ell_ops.specs.Contents.{contents_of}
 use Rattle.ell_ops.specs.Meaning.{final}
-use Rattle.ell_layout.specs.declared.field.Field.TheVariants as field
-use Rattle.ell_cards.specs.declared.view.Told.TheVariants.{Info, Value}
 use Rattle.ell_cards.specs.declared.view.View.{View}
-use Rattle.ell_cards.specs.Models.{TablePlan, IsTold}
+use Rattle.ell_cards.specs.Models.{TablePlan}
 use Rattle.ell_cards.specs.States.{TableState}
 use Rattle.ell_cards.specs.Turns.{Turn, TableRun}
 use Rattle.ell_cards.specs.Starts.{Starts}
@@ -29,8 +27,8 @@ IsTakenInRuns plan v key value =
     (s : TableState) → Starts plan s → (turns : List Turn) (s' : TableState) → TableRun plan s turns s'
     → (seat : ℕ) → get_elem? s'.views seat ≡ some v → TookInRun plan s turns s' seat key value
 
--- a delete that was answered yes by its card took the value that the pass was told of the card's leaf
-abbrev pub DeletesTakeTheToldValue : Type 0
-DeletesTakeTheToldValue = (plan : TablePlan) (v : View) (key c leaf value : ℕ)
-    → v.answered ≡ Some (record { op = Delete key; said = Yes; card = Some c })
-    → IsTold v (Info c field.L leaf) → IsTold v (Value leaf value) → IsTakenInRuns plan v key value
+-- a delete that was answered yes took the value that its pass says it took
+abbrev pub DeletesTakeWhatTheyTell : Type 0
+DeletesTakeWhatTheyTell = (plan : TablePlan) (v : View) (key : ℕ) (card : Option ℕ) (value : ℕ)
+    → v.answered ≡ Some (record { op = Delete key; said = Yes; card = card; took = Some value })
+    → IsTakenInRuns plan v key value

@@ -11,8 +11,8 @@ pub struct Stretch {
     pub whole: bool,
 }
 
-/// A node to which a look has come, and the keys by which it has come there: all from `low` on and below `high`, each in
-/// some state of the tree.
+/// A node to which a look has come, and the keys by which it has come there: all from `low` on and below `high`, each
+/// in some state of the tree.
 #[derive(Clone, Copy)]
 pub struct Glance {
     pub node: u64,

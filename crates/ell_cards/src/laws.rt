@@ -8,7 +8,7 @@
 ghost use Rattle.ell_cards.specs.OwnWords.{OwnWordsAreSound, StepsStayInside, TablePairsChangeAtWins, TableChangesAreOperations, TableAnswersAreTheMaps, LedgersTellTheTree, TreeKeysAreOwned, TableNodesGoOn};
 ghost use Rattle.ell_cards.specs.Starts.{TablesStart, StartsHaveTheirKeys, FirstPassMayBegin, RunsFromStarts};
 ghost use Rattle.ell_cards.specs.SmallRun.{SmallRunIsMade};
-ghost use Rattle.ell_cards.specs.Readings.{ReadingsArePast, ClaimsAreTold};
+ghost use Rattle.ell_cards.specs.Readings.{ReadingsArePast, ClaimsAreWon};
 ghost use Rattle.ell_cards.specs.Contention.{TriesAreHinderedByOthers};
 ghost use Rattle.ell_cards.specs.Stretches.{FewFlagsWithoutAChange, TablesHaveHeights};
 ghost use Rattle.ell_cards.specs.Meanwhile.{SearchesBeginThere, SearchesReadMeanwhile, SearchesMeetMeanwhile, KnownMilestonesWereReached};
@@ -21,7 +21,7 @@ ghost use Rattle.ell_cards.specs.Stories.{StoriesAreTold};
 ghost use Rattle.ell_cards.specs.Placing.{LooksHavePlaces};
 ghost use Rattle.ell_cards.specs.LayingDown.{LaidDownCallsChangeNothing, LaidDownLastChangesNothing};
 ghost use Rattle.ell_cards.specs.Answering.{AnswersHaveTheirPoints};
-ghost use Rattle.ell_cards.specs.Taking.{DeletesTakeTheToldValue};
+ghost use Rattle.ell_cards.specs.Taking.{DeletesTakeWhatTheyTell};
 ghost use Rattle.ell_cards.specs.Sharing.{SharesAddUp};
 ghost use Rattle.ell_cards.specs.Tellings.{NoGreaterNext, NoGreaterUpdate, NoOtherOutcome, NoUntriedClaimLost};
 ghost use Rattle.ell_cards.specs.Laws.{StepsAreEvents, SplitsAreHandovers, JoinsAreHandovers, MachineIsSound, MachineHasOwnWords};
@@ -146,13 +146,13 @@ pub fn runs_from_starts_are_lawful()
 {}
 
 /// In every state that turns lead a table to, what each pass knows of the claim word belongs to the past: a reading of
-/// it is at most what the word is now, and a card whose claim the pass lost is below it. And some pass was told of each
-/// card that was claimed.
+/// it is at most what the word is now, and a card whose claim the pass lost is below it. And some pass has won the claim of
+/// each card that was claimed.
 pub fn readings_are_past()
     // What a pass knows of the claim word belongs to the past.
     ensures past { ReadingsArePast }
-    // Each claim was told to some pass.
-    ensures told { ClaimsAreTold }
+    // Each claim was won by some pass.
+    ensures claimed { ClaimsAreWon }
 {}
 
 /// In every run from a start, consider the part from where a pass begins a search, for as long as the pass takes no
@@ -233,9 +233,8 @@ pub fn calls_have_their_point()
     ensures thread { TreesAreOfOneThread }
     ensures replies { CallsReplyAsOneThread }
     ensures answered { AnswersHaveTheirPoints }
-    // A delete that answers yes took the value that its pass was told of its card's leaf: the key had it at the call's
-    // point.
-    ensures taken { DeletesTakeTheToldValue }
+    // A delete that answers yes took the value that its pass says it took: the key had it at the call's point.
+    ensures taken { DeletesTakeWhatTheyTell }
 {}
 
 /// A call that was laid down without an answer changes nothing: no turn of any run changes the tree for it, neither

@@ -17,8 +17,8 @@ use ell_word::{State, Update, pack};
 use std::alloc::Allocator;
 
 impl<A: Allocator + Copy> CardTable<A> {
-    /// Takes the card that `next` read in this try, if it is still the next one. Returns `true` if it did. The node of an
-    /// insert's or a swap's card gets this key: the greater one of its two keys, in a flat tree their branch.
+    /// Takes the card that `next` read in this try, if it is still the next one. Returns `true` if it did. The node
+    /// of an insert's or a swap's card gets this key: the greater one of its two keys, in a flat tree their branch.
     #[inline(always)]
     pub fn claim(&self, pass: &mut Pass<A>, card: u64, node_key: u64) -> bool
         requires own { pass.old.table ≡ self.now.id }

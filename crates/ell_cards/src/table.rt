@@ -111,7 +111,7 @@ impl<A: Allocator + Copy> CardTable<A> {
         ensures looked { ReadsItsOwn pass.new.view }
         ensures missed { MissesItsOwn (flat_from self.now.plan) pass.new.view }
         ensures fixed { KeysAreFixed pass.new.view }
-        ensures values { ValuesAreFixed pass.new.view }
+        ensures values { ValuesAreFixed pass.old.view }
         ensures named { IsNamed self.now.plan.last_card pass.new.view }
         ensures shallow { (x : ℕ) → IsShallow (deepest self.now.plan) pass.new.view x }
     {
@@ -127,7 +127,7 @@ impl<A: Allocator + Copy> CardTable<A> {
         requires atomic { atomic_of call ≡ Load }
         ensures step { Steps pass.old pass.new (after call result pass.old.view) }
         ensures tells { Tells self.now.plan call pass.old.view result }
-        ensures values { ValuesAreFixed pass.new.view }
+        ensures values { ValuesAreFixed pass.old.view }
         ensures named { IsNamed self.now.plan.last_card pass.new.view }
         ensures shallow { (x : ℕ) → IsShallow (deepest self.now.plan) pass.new.view x }
     {

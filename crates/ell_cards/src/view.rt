@@ -43,6 +43,8 @@ pub struct Answered {
     pub said: Reply,
     /// The card that the pass had in hand for it then.
     pub card: Option<u64>,
+    /// The value that it took, if it is a delete that took one, as the pass was told.
+    pub took: Option<u64>,
 }
 
 /// A call that was answered, as a pass knows of it.

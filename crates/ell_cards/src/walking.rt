@@ -73,8 +73,8 @@ impl<A: Allocator + Copy> CardTable<A> {
         // The answer on a key that the pass owns is that of the ledger, which becomes what the operation makes of it.
         // An answer on a shared key leaves the ledger unchanged.
         ensures reply { AnswersAsMap (worker_of pass.old.view.worker) (ledger_of pass.new.view.worker.ledger) said }
-        // The pass was told no two leaves of one card, and no two values of one leaf.
-        ensures values { ValuesAreFixed pass.new.view }
+        // The pass had been told no two leaves of one card, and no two values of one leaf.
+        ensures values { ValuesAreFixed pass.old.view }
     {
         self.load(pass, Call::Answer(said), root_key());
     }
@@ -176,8 +176,8 @@ impl<A: Allocator + Copy> CardTable<A> {
         // grandparent. Of an internal node whose block lacks that key, the ledger has it absent. The key of an internal
         // node with a block is in that.
         ensures leaf { TellsKey (flat_from self.now.plan) pass.old.view node result }
-        // What a look has found of a key that the pass owns is what the ledger has, and a key of its own that it has found
-        // missing is one that the ledger has absent.
+        // What a look has found of a key that the pass owns is what the ledger has, and a key of its own that it has
+        // found missing is one that the ledger has absent.
         ensures looked { ReadsItsOwn pass.new.view }
         ensures missed { MissesItsOwn (flat_from self.now.plan) pass.new.view }
         // The pass was told no two different keys of one node.
@@ -201,8 +201,8 @@ impl<A: Allocator + Copy> CardTable<A> {
         ensures step { Sees pass.old pass.new (after (call.ValueOf leaf) result pass.old.view) }
         // The value of the operation's own key is that of the ledger.
         ensures value { TellsLedgerValue pass.old.view leaf result }
-        // What a look has found of a key that the pass owns is what the ledger has, and a key of its own that it has found
-        // missing is one that the ledger has absent.
+        // What a look has found of a key that the pass owns is what the ledger has, and a key of its own that it has
+        // found missing is one that the ledger has absent.
         ensures looked { ReadsItsOwn pass.new.view }
         ensures missed { MissesItsOwn (flat_from self.now.plan) pass.new.view }
         // The pass was told no two different keys of one node.

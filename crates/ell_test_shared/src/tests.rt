@@ -1,5 +1,5 @@
-//! Calls on shared keys that a gate holds, or has begin at once; owners beside shared keys; flat trees; and scans, which
-//! are held too, and whose steps are counted.
+//! Calls on shared keys that a gate holds, or has begin at once; owners beside shared keys; flat trees; and scans,
+//! which are held too, and whose steps are counted.
 mod calling;
 mod counting;
 mod edges;

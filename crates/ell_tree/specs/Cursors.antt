@@ -3,6 +3,7 @@ use Rattle.ell_ops.specs.Meaning.{greatest_key}
 use Rattle.ell_word.specs.Node.{IsInternal}
 use Rattle.ell_layout.specs.Words.{IsLeaf}
 use Rattle.ell_cards.specs.declared.glance.Glance.{Glance}
+use Rattle.ell_cards.specs.declared.view.Told.{Told}
 use Rattle.ell_cards.specs.declared.view.Told.TheVariants.{Met, Key}
 use Rattle.ell_cards.specs.declared.view.View.{View}
 use Rattle.ell_cards.specs.Looking.{TellsBetween, ReadsItsOwn}
@@ -57,9 +58,10 @@ pub record AreKept (last : ℕ) (v : View) (c : Cursor) : Type 0 where
 abbrev pub IsAmong : Cursor → Glance → Type 0
 IsAmong c g = (g ≡ c.first) ⊎ ((i : ℕ) × (i < 32) × (g ≡ kept_at c i))
 
--- a look goes on: it only looks, and what it has come to it has come to
+-- a look goes on: it only looks, and what it was told and has come to stays so
 pub record KeepsLooking (old new : PassModel) (n : ℕ) : Type 0 where
   pub only : OnlyLooks old new n
+  pub told : (e : Told) → IsTold old.view e → IsTold new.view e
   pub glances : (g : Glance) → Has old.view.glances g → Has new.view.glances g
   pub looks : new.view.looks ≡ old.view.looks
 

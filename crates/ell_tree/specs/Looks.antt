@@ -1,8 +1,7 @@
 use Rattle.std.specs.Prelude.{◌≡◌, ℕ, ◌+◌, ◌*◌, ◌≤◌, Option}
-use Rattle.ell_cards.specs.declared.view.Told.{Told}
 use Rattle.ell_cards.specs.declared.view.View.{View}
 use Rattle.ell_cards.specs.Looking.{HasThere, IsFoundInRuns}
-use Rattle.ell_cards.specs.Models.{PassModel, IsTold}
+use Rattle.ell_cards.specs.Models.{PassModel}
 use Rattle.ell_tree.specs.Ledgers.{TreeModel}
 
 -- a pass has at most so many steps more, by both its counts, and was told more, and all else that it has and knows of
@@ -26,7 +25,6 @@ pub record OnlyLooks (old new : PassModel) (n : ℕ) : Type 0 where
   pub found : new.view.found ≡ old.view.found
   pub planned : new.view.planned ≡ old.view.planned
   pub stores : new.view.stores ≡ old.view.stores
-  pub told : (e : Told) → IsTold old.view e → IsTold new.view e
   pub steps : new.steps ≤ old.steps + n
   pub made : new.view.made ≤ old.view.made + n
 

@@ -51,8 +51,8 @@ pub record KnowsPassed (last : ℕ) (w : View) (x : Passed) : Type 0 where
 abbrev pub EndWasUnknownAt : View → Passed → Type 0
 EndWasUnknownAt w x = EndWasUnknown w x.update.state x.update.card
 
--- a search for an operation ends at an internal node of this key, in a tree that is flat from a card on: an insert's does
--- where the node's block lacks its key
+-- a search for an operation ends at an internal node of this key, in a tree that is flat from a card on: an insert's
+-- does where the node's block lacks its key
 abbrev pub EndsAbove : ℕ → Op → ℕ → ℕ → Type 0
 EndsAbove from (Insert k value) x key = (has_block from x ≡ true) × (¬ InBlockOf key k)
 EndsAbove from _ x key = ⊥
@@ -93,9 +93,9 @@ there_at place k = if place.key == k then Some place.value else None
 abbrev pub node_with : Place → ℕ → Link
 node_with place tag = record { node = place.node; tag = tag }
 
--- a search ended at a place, which has of the operation's key what the ledger has, if that has the key. It is a leaf, or an
--- internal node of another key at which a search for the operation ends; if it has the operation's key, there is a
--- grandparent
+-- a search ended at a place, which has of the operation's key what the ledger has, if that has the key. It is a leaf,
+-- or an internal node of another key at which a search for the operation ends; if it has the operation's key, there
+-- is a grandparent
 pub record EndsAt (plan : TablePlan) (w : View) (op : Op) (place : Place) : Type 0 where
   pub at : IsAt w place
   pub node : InTable plan.last_card place.node

@@ -138,7 +138,8 @@ impl Cursor {
     }
 }
 
-/// Returns what is found of the keys by which a look has come to a leaf, and in how many steps. The steps are not counted.
+/// Returns what is found of the keys by which a look has come to a leaf, and in how many steps. The steps are not
+/// counted.
 pub(crate) fn found_at<A: Allocator + Copy, G: StepGate>(
     table: &CardTable<A>,
     pass: &mut Pass<A>,

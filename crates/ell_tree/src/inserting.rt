@@ -133,8 +133,8 @@ fn flag_insert<A: Allocator + Copy, G: StepGate>(
 }
 
 // Fills the card of an insert or a swap: the node where its search ended, with the tag that was read at the parent; an
-// internal node; and below it the leaf of the key and a copy of the old leaf, or the old node itself, the lesser key left,
-// each with its value.
+// internal node; and below it the leaf of the key and a copy of the old leaf, or the old node itself, the lesser key
+// left, each with its value.
 fn fill_insert<A: Allocator + Copy, G: StepGate>(
     table: &CardTable<A>,
     pass: &mut Pass<A>,

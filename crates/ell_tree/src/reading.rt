@@ -107,8 +107,8 @@ pub(crate) fn look_about<A: Allocator + Copy, G: StepGate>(
     about
 }
 
-// The same, but the steps are not counted. Returns what is found, and how many steps there were. All keys of the stretch
-// come to each node as one, so at a node that has a block only those of a half of it go on.
+// The same, but the steps are not counted. Returns what is found, and how many steps there were. All keys of the
+// stretch come to each node as one, so at a node that has a block only those of a half of it go on.
 #[inline(always)]
 fn walk_about<A: Allocator + Copy, G: StepGate>(
     table: &CardTable<A>,
@@ -154,8 +154,8 @@ fn walk_about<A: Allocator + Copy, G: StepGate>(
     (about, steps + at_the_leaf)
 }
 
-// What is found where the block of a node, which has this key, lacks the key that is sought: none of the keys that lie with
-// it on one side of the block.
+// What is found where the block of a node, which has this key, lacks the key that is sought: none of the keys that
+// lie with it on one side of the block.
 fn beside_block(here: Glance, node_key: u64, key: u64) -> About
     requires some { 0 < node_key }
     requires low { here.low ≤ key }
@@ -182,8 +182,8 @@ fn beside_block(here: Glance, node_key: u64, key: u64) -> About
     }
 }
 
-// The keys that go on to a child of a node, which has this key, as one: of a node that has a block those in that half of it,
-// of another those on that side.
+// The keys that go on to a child of a node, which has this key, as one: of a node that has a block those in that half
+// of it, of another those on that side.
 fn keys_below<A: Allocator + Copy>(
     table: &CardTable<A>,
     here: Glance,

@@ -10,7 +10,7 @@ ghost use Rattle.ell_core.specs.acts.Searching.{MayStop};
 ghost use Rattle.ell_layout.specs.Cards.{says_by};
 ghost use Rattle.ell_cards.specs.declared.view.Told.TheVariants as told;
 ghost use Rattle.ell_cards.specs.Models.{Does, IsFree, IsTold, Knows};
-ghost use Rattle.ell_cards.specs.Changes.{answered_so, depth_there, is_mark_of, taken_by, tries_hindered, with_answer};
+ghost use Rattle.ell_cards.specs.Changes.{answered_so, depth_there, is_mark_of, taken_now, tries_hindered, with_answer};
 ghost use Rattle.ell_cards.specs.Depths.{deepest, IsShallow, depth_of};
 ghost use Rattle.ell_cards.specs.Guards.{KnowsPlace, MayAnswer, MayAsk, NamesNode};
 ghost use Rattle.ell_cards.specs.Calls.{TellsNode};
@@ -96,11 +96,11 @@ pub(crate) fn answer<A: Allocator + Copy, G: StepGate>(
     ensures answers { (op : Op) → Does pass.old.view op → Answers table.now op said pass.old pass.new }
     ensures hindrances { pass.new.view.hindrances ≡ pass.old.view.hindrances }
     ensures hindered { pass.new.view.hindered ≡ pass.old.view.hindered }
-    ensures last { pass.new.view.answered ≡ answered_so pass.old.view.worker.operation pass.old.view.worker.card said }
-    ensures deeds { pass.new.view.answers ≡ with_answer pass.old.view.worker.operation said
-        (taken_by pass.old.view.worker.operation pass.old.view.worker.card said pass.old.view.told) pass.old.view.answers }
-    ensures values { ValuesAreFixed pass.new.view }
-    ensures told { pass.new.view.told ≡ pass.old.view.told }
+    ensures last { pass.new.view.answered ≡ answered_so pass.old.view.worker.operation pass.old.view.worker.card said
+        (taken_now said pass.old.view) }
+    ensures deeds { pass.new.view.answers ≡ with_answer pass.old.view.worker.operation said (taken_now said pass.old.view)
+        pass.old.view.answers }
+    ensures values { ValuesAreFixed pass.old.view }
     ensures facts { pass.new.view.worker.knows ≡ pass.old.view.worker.knows }
     ensures least { pass.new.view.next_at_least ≡ pass.old.view.next_at_least }
     ensures room { pass.new.view.next_at_least ≤ table.now.plan.last_card + 1 }

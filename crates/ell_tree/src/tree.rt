@@ -43,8 +43,8 @@ use std::marker::Model;
 ///
 /// How many steps a call makes at most is told by two numbers of its tree. `cards` is the number of the last card: the
 /// number of cards that the tree was asked for, plus one for each of its start keys. `depth` is the most internal nodes
-/// above an internal node: in a flat tree (`reserve_flat`) 64 if there were no start keys, and 84 at most with a million
-/// of them; in any other tree, `cards`.
+/// above an internal node: in a flat tree (`reserve_flat`) 64 if there were no start keys, and 84 at most with a
+/// million of them; in any other tree, `cards`.
 #[derive(Drop)]
 pub struct Tree<A: Allocator + Copy> {
     pub(crate) table: CardTable<A>,
@@ -351,13 +351,14 @@ impl<A: Allocator + Copy> Tree<A> {
     /// is over by then: a card that another pass took first, or a change of a neighbor, which was helped to its end if
     /// no other call had ended it.
     ///
-    /// A call takes at most `tries * (7 * depth + 27) + 1` steps. Each try that ends without an answer shows the pass a card given out, or come to its end, that it did not know of,
-    /// and no card does either twice: so with more than `2 * cards` tries it is never `Busy`, and all calls of a pass
-    /// together take at most `7 * depth + 28` steps each, and `2 * cards * (7 * depth + 27)` more, in every schedule. A
-    /// call that is `Busy` counts all its tries as hindered, and in every run of the tree they are at most two for each
-    /// card that was given out to another pass while it went on, and one for each card that some pass had in hand when
-    /// it began. A call that changes the map takes one card, and at most one more for each try that something hindered;
-    /// any other takes at most one for each of those, and none if it answers on a key of the pass.
+    /// A call takes at most `tries * (7 * depth + 27) + 1` steps. Each try that ends without an answer shows the pass
+    /// a card given out, or come to its end, that it did not know of, and no card does either twice: so with more
+    /// than `2 * cards` tries it is never `Busy`, and all calls of a pass together take at most `7 * depth + 28`
+    /// steps each, and `2 * cards * (7 * depth + 27)` more, in every schedule. A call that is `Busy` counts all its
+    /// tries as hindered, and in every run of the tree they are at most two for each card that was given out to
+    /// another pass while it went on, and one for each card that some pass had in hand when it began. A call that
+    /// changes the map takes one card, and at most one more for each try that something hindered; any other takes at
+    /// most one for each of those, and none if it answers on a key of the pass.
     pub fn insert<G: StepGate>(
         &self,
         pass: &mut Pass<A>,
@@ -433,9 +434,10 @@ impl<A: Allocator + Copy> Tree<A> {
     /// `Spent` if a try finds all cards given out: after either, the call has changed nothing, and nothing of it is
     /// under way.
     ///
-    /// A call takes at most `3 * depth + 7` steps, and `10 * depth + 35` more for each try. No other pass changes anything about a key of the pass, so with more than `2 * cards` tries it
-    /// is never `Busy`; on a shared key, each try that finds it changed is the success of another call. A call that
-    /// ends takes one card, and at most one more for each try that something hindered.
+    /// A call takes at most `3 * depth + 7` steps, and `10 * depth + 35` more for each try. No other pass changes
+    /// anything about a key of the pass, so with more than `2 * cards` tries it is never `Busy`; on a shared key,
+    /// each try that finds it changed is the success of another call. A call that ends takes one card, and at most
+    /// one more for each try that something hindered.
     pub fn put<G: StepGate>(
         &self,
         pass: &mut Pass<A>,

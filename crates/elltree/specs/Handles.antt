@@ -31,8 +31,8 @@ deepest_of h = deepest (arc_value h.tree).plan
 abbrev pub as_pairs : List Pair → List (ℕ × ℕ)
 as_pairs pairs = map (λ pair. (pair.key, pair.value)) pairs
 
--- a handle is the first of a new flat tree in which every key is shared, with these start keys, and so many cards besides;
--- it has the whole share of the tree
+-- a handle is the first of a new flat tree in which every key is shared, with these start keys, and so many cards
+-- besides; it has the whole share of the tree
 pub record IsOpened (start : List (ℕ × ℕ)) (cards : ℕ) (h : Handle) : Type 0 where
   pub plan : (tree_of h).plan
       ≡ record { keys = []; start = start; last_card = last_card start cards; shared = true; flat = true }

@@ -10,3 +10,5 @@ pub mod Depths
 pub mod Steps
 -- a search that goes a node down, and the claim at its end
 pub mod Searches
+-- What a delete takes, by what its pass was told.
+pub mod TakenValues

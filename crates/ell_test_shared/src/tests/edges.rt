@@ -118,8 +118,8 @@ fn a_flat_tree_answers_as_a_map_in_any_order(rt: HostRuntime) {
     }
 }
 
-// Two workers in a flat tree: the operations that fill it; that of worker 1, which is held, and whether it is a look if it
-// is a find; and those that worker 0 makes meanwhile.
+// Two workers in a flat tree: the operations that fill it; that of worker 1, which is held, and whether it is a look
+// if it is a find; and those that worker 0 makes meanwhile.
 #[derive(Clone, Copy)]
 struct Meeting<'a> {
     first: &'a [Op],
@@ -141,8 +141,8 @@ impl Meeting<'_> {
         tally.begun.saturating_add(tally.steps)
     }
 
-    // Holds the operation before a step of this number, from where on the others are made so many steps apart. The answers
-    // and the pairs at the end are those of a map, to which the operation came while it was under way.
+    // Holds the operation before a step of this number, from where on the others are made so many steps apart. The
+    // answers and the pairs at the end are those of a map, to which the operation came while it was under way.
     fn hold<R: Threads + Abort + AllocGlobal + Sync>(&self, rt: &R, step: u64, distance: u64) {
         let Meeting { first, held, ops } = *self;
         let gate = Weaving::new(step, distance, ops.len() as u64);

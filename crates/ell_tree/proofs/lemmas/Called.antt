@@ -1,4 +1,4 @@
-use Rattle.std.proofs.Common.{◌≡◌, ℕ, Option, Some, None, List, ◌∷◌, Ok, refl, sym, ap, ◌∙◌}
+use Rattle.std.proofs.Common.{◌≡◌, ℕ, Option, Some, None, List, ◌∷◌, Ok, refl, ap, ◌∙◌}
 use Rattle.ell_ops.specs.declared.op.Op.{Op}
 use Rattle.ell_ops.specs.declared.op.Op.TheVariants.{Find, Insert, Delete, Swap}
 use Rattle.ell_ops.specs.declared.reply.Reply.{Reply}
@@ -9,9 +9,9 @@ use Rattle.ell_cards.specs.declared.view.Told.{Told}
 use Rattle.ell_cards.specs.declared.view.Told.TheVariants.{Info, Value}
 use Rattle.ell_cards.specs.declared.view.View.{View}
 use Rattle.ell_cards.specs.Models.{Does, IsTold, PassModel}
-use Rattle.ell_cards.specs.Changes.{deed_taking, taken_by, with_answer}
+use Rattle.ell_cards.specs.Changes.{answered_so, deed_taking, taken_by, taken_now, with_answer}
 use Rattle.ell_cards.specs.Looking.{ValuesAreFixed}
-use Rattle.ell_cards.proofs.lemmas.runs.Took.{taken_is}
+use Rattle.ell_cards.proofs.lemmas.views.TakenValues.{taken_is}
 use Rattle.ell_tree.specs.Called.{ByItsDeed, IsTakeCalled, delete_of}
 
 -- what is so of an operation's deed is so of one that may have taken a value
@@ -46,7 +46,7 @@ none_taken key (Some c) told = refl
 -- the deeds of a pass after an answer
 abbrev pub HasAnswered : View → Reply → View → Type 0
 HasAnswered v said w =
-    w.answers ≡ with_answer v.worker.operation said (taken_by v.worker.operation v.worker.card said v.told) v.answers
+    w.answers ≡ with_answer v.worker.operation said (taken_now said v) v.answers
 
 -- a delete that says no takes nothing
 pub takes_none : (p q r : PassModel) (key : ℕ) → q.view.answers ≡ p.view.answers → Does q.view (Delete key) → HasAnswered q.view No r.view → IsTakeCalled key p r (Ok None)
@@ -54,16 +54,31 @@ takes_none p q r key same does h =
     h ∙ (ap (λ o. with_answer o No (taken_by o q.view.worker.card No q.view.told) q.view.answers) does
     ∙ (ap (λ o. deed_taking (Delete key) No o q.view.answers ∷ q.view.answers) (none_taken key q.view.worker.card q.view.told) ∙ ap (λ (l : List Deed). delete_of key None l ∷ l) same))
 
--- and one that says yes by its card takes what it was told of the card's leaf
+-- one that says yes by its card takes what was told of the card's leaf
+taken_yes : (v : View) (key c leaf value : ℕ) → Does v (Delete key) → v.worker.card ≡ Some c → ValuesAreFixed v
+    → IsTold v (Info c field.L leaf) → IsTold v (Value leaf value) → taken_now Yes v ≡ Some value
+taken_yes v key c leaf value does holds fixed at_leaf at_value =
+    ap (λ o. taken_by o v.worker.card Yes v.told) does
+    ∙ (ap (λ o. taken_by (Some (Delete key)) o Yes v.told) holds ∙ taken_is v key c leaf value fixed at_leaf at_value)
+
+-- so it is answered
+pub answered_taking : (v : View) (key c leaf value : ℕ) → Does v (Delete key) → v.worker.card ≡ Some c → ValuesAreFixed v
+    → IsTold v (Info c field.L leaf) → IsTold v (Value leaf value)
+    → answered_so v.worker.operation v.worker.card Yes (taken_now Yes v)
+    ≡ Some (record { op = Delete key; said = Yes; card = Some c; took = Some value })
+answered_taking v key c leaf value does holds fixed at_leaf at_value =
+    ap (λ o. answered_so o v.worker.card Yes (taken_now Yes v)) does
+    ∙ (ap (λ o. answered_so (Some (Delete key)) o Yes (taken_now Yes v)) holds
+    ∙ ap (λ o. answered_so (Some (Delete key)) (Some c) Yes o) (taken_yes v key c leaf value does holds fixed at_leaf at_value))
+
+-- and known of
 pub takes_told : (p q r : PassModel) (key c leaf value : ℕ) → q.view.answers ≡ p.view.answers → Does q.view (Delete key) → q.view.worker.card ≡ Some c
-    → HasAnswered q.view Yes r.view → r.view.told ≡ q.view.told → ValuesAreFixed r.view → IsTold r.view (Info c field.L leaf) → IsTold r.view (Value leaf value)
+    → HasAnswered q.view Yes r.view → ValuesAreFixed q.view → IsTold q.view (Info c field.L leaf) → IsTold q.view (Value leaf value)
     → IsTakeCalled key p r (Ok (Some value))
-takes_told p q r key c leaf value same does holds h stays fixed at_leaf at_value =
-    let taken : taken_by (Some (Delete key)) (Some c) Yes q.view.told ≡ Some value =
-    ap (taken_by (Some (Delete key)) (Some c) Yes) (sym stays) ∙ taken_is r.view key c leaf value fixed at_leaf at_value in
-    h ∙ (ap (λ o. with_answer o Yes (taken_by o q.view.worker.card Yes q.view.told) q.view.answers) does
-    ∙ (ap (λ o. deed_taking (Delete key) Yes (taken_by (Some (Delete key)) o Yes q.view.told) q.view.answers ∷ q.view.answers) holds
-    ∙ (ap (λ o. deed_taking (Delete key) Yes o q.view.answers ∷ q.view.answers) taken ∙ ap (λ (l : List Deed). delete_of key (Some value) l ∷ l) same)))
+takes_told p q r key c leaf value same does holds h fixed at_leaf at_value =
+    let taken = taken_yes q.view key c leaf value does holds fixed at_leaf at_value in
+    h ∙ (ap (λ o. with_answer o Yes (taken_now Yes q.view) q.view.answers) does
+    ∙ (ap (λ o. deed_taking (Delete key) Yes o q.view.answers ∷ q.view.answers) taken ∙ ap (λ (l : List Deed). delete_of key (Some value) l ∷ l) same))
 
 -- what a delete took it took also of what the pass knew before
 pub take_before : (key : ℕ) (taken : Option ℕ) (p q r : PassModel) → q.view.answers ≡ p.view.answers → IsTakeCalled key q r (Ok taken) → IsTakeCalled key p r (Ok taken)

@@ -26,20 +26,22 @@ use Rattle.ell_tree.specs.Cursors.{AreKept, BeginsALook, FindsAbout, IsAmong, Ma
 use Rattle.ell_tree.specs.Ledgers.{present_in}
 use Rattle.ell_tree.specs.Looks.{stretch_steps}
 use Rattle.ell_tree.specs.Scans.{TellsItsOwn, value_there}
-use Rattle.ell_tree.proofs.lemmas.Looks.{come_part, whole_part, reads_mine, misses_mine, only_trans, only_none_yet, look_only, down_only, key_only, value_only, only_counted}
+use Rattle.ell_tree.proofs.lemmas.Looks.{come_part, whole_part, reads_mine, misses_mine, only_trans, only_none_yet, look_only, down_only, key_only, value_only, key_tells, value_tells, only_counted}
+use Rattle.ell_cards.specs.Changes.{forgotten}
 use Rattle.ell_cards.specs.Depths.{depth_of, IsShallow}
-use Rattle.ell_cards.proofs.lemmas.views.Depths.{depth_more, went_deeper}
+use Rattle.ell_cards.proofs.lemmas.views.Depths.{depth_more, met_more, went_deeper}
 
 -- a look that goes on, and on
 pub on_trans : (a b c : PassModel) (m n k : ℕ) → KeepsLooking a b m → KeepsLooking b c n → m + n ≤ k → KeepsLooking a c k
 on_trans a b c m n k h h' le = record {
   only = only_trans a b c m n k h.only h'.only le;
+  told = λ e t. h'.told e (h.told e t);
   glances = λ g has. h'.glances g (h.glances g has);
   looks = h'.looks ∙ h.looks;
 }
 
 pub on_none : (a : PassModel) → KeepsLooking a a 0
-on_none a = record { only = only_none_yet a; glances = λ g has. has; looks = refl }
+on_none a = record { only = only_none_yet a; told = λ e t. t; glances = λ g has. has; looks = refl }
 
 pub on_more : (a b : PassModel) (m n : ℕ) → m ≤ n → KeepsLooking a b m → KeepsLooking a b n
 on_more a b m n le h = on_trans a b b m 0 n h (on_none b) (omega arith)
@@ -49,6 +51,7 @@ key_on old new x k s =
     let view = view_seen old new (after_key_of x k old.view) s in
     record {
       only = key_only old new x k s;
+      told = key_tells old new x k s;
       glances = λ g has. subst (λ (v : View). Has v.glances g) (sym view) has;
       looks = ap (λ (v : View). v.looks) view;
     }
@@ -58,6 +61,7 @@ value_on old new x value s =
     let view = view_seen old new (after_value_of x value old.view) s in
     record {
       only = value_only old new x value s;
+      told = value_tells old new x value s;
       glances = λ g has. subst (λ (v : View). Has v.glances g) (sym view) has;
       looks = ap (λ (v : View). v.looks) view;
     }
@@ -67,6 +71,7 @@ down_on old new from to right n s =
     let view = view_seen old new (after_look_down from to right n old.view) s in
     record {
       only = down_only old new from to right n s;
+      told = λ e h. subst (λ (v : View). IsTold v e) (sym view) (met_more _ _ _ e h);
       glances = λ g has. subst (λ (v : View). Has v.glances g) (sym view) (earlier g _ old.view.glances has);
       looks = ap (λ (v : View). v.looks) view;
     }
@@ -77,6 +82,7 @@ on_counted a b c n k h u s =
     let view = ap (λ (m : PassModel). m.view) s in
     record {
       only = only_counted a b c n k h.only u s;
+      told = λ e t. subst (λ (v : View). IsTold v e) (sym view) (h.told e t);
       glances = λ g has. subst (λ (v : View). Has v.glances g) (sym view) (h.glances g has);
       looks = ap (λ (v : View). v.looks) view ∙ h.looks;
     }
@@ -84,7 +90,7 @@ on_counted a b c n k h u s =
 -- the key of a node stays told
 node_key_on : (cards : ℕ) (p q : PassModel) (n key : ℕ) → KeepsLooking p q n → IsNodeKey cards p.view key → IsNodeKey cards q.view key
 node_key_on cards p q n key h k =
-    record { node = k.node; inner = k.inner; there = k.there; below = k.below; told = h.only.told (Key k.node key) k.told }
+    record { node = k.node; inner = k.inner; there = k.there; below = k.below; told = h.told (Key k.node key) k.told }
 
 pub lower_on : (cards : ℕ) (p q : PassModel) (n low : ℕ) → KeepsLooking p q n → IsLower cards p.view low → IsLower cards q.view low
 lower_on cards p q n low h l = elim l [ inl e ↦ inl e | inr k ↦ inr (node_key_on cards p q n low h k) ]
@@ -93,17 +99,17 @@ pub upper_on : (cards : ℕ) (p q : PassModel) (n high : ℕ) → KeepsLooking p
 upper_on cards p q n high h u = elim u [ inl e ↦ inl e | inr k ↦ inr (node_key_on cards p q n high h k) ]
 
 -- what a look has come to it has come to
-pub come_on : (p q : PassModel) (n x low high : ℕ) → KeepsLooking p q n → HasCome p.view x low high → HasCome q.view x low high
+abbrev pub come_on : (p q : PassModel) (n x low high : ℕ) → KeepsLooking p q n → HasCome p.view x low high → HasCome q.view x low high
 come_on p q n x low high h c =
     record { glance = c.glance; among = h.glances c.glance c.among; there = c.there; from = c.from; upto = c.upto }
 
 pub kept_on : (cards : ℕ) (p q : PassModel) (n : ℕ) (g : Glance) → KeepsLooking p q n → MayGoOnFrom cards p.view g → MayGoOnFrom cards q.view g
 kept_on cards p q n g h k = record {
   come = come_on p q n g.node g.low g.high h k.come;
-  met = h.only.told (Met g.node) k.met;
+  met = h.told (Met g.node) k.met;
   there = k.there;
   below = k.below;
-  deep = (let deep = k.deep in let more = depth_more p.view.told q.view.told h.only.told g.node in omega arith);
+  deep = (let deep = k.deep in let more = depth_more p.view.told q.view.told h.told g.node in omega arith);
   lower = lower_on cards p q n g.low h k.lower;
   upper = upper_on cards p q n g.high h k.upper;
   real = k.real;
@@ -137,7 +143,7 @@ first_kept cards old new n child says s low there =
       met = subst (λ x. IsTold new.view (Met x)) says (subst (λ (v : View). IsTold v (Met (link_in n).node)) (sym view) (latest _ _));
       there = there;
       below = low;
-      deep = (let deep = went_deeper old.view new.view (after_look n old.view) 0 (link_in n).node child view says refl in omega arith);
+      deep = (let deep = went_deeper (record (old.view) { told = forgotten }) new.view (after_look n old.view) 0 (link_in n).node child view says refl in omega arith);
       lower = inl refl;
       upper = inl refl;
       real = omega arith;
@@ -271,7 +277,7 @@ module _ (cards : ℕ) (old a b : PassModel) (key : ℕ) (here : Glance) (cursor
       → depth_of a.view here.node < depth_of d.view child
   child_deeper d to right n child says s =
       let after = after_look_down here to right n b.view in
-      let still = depth_more a.view.told b.view.told asked_on.only.told here.node in
+      let still = depth_more a.view.told b.view.told asked_on.told here.node in
       let deep = went_deeper b.view d.view after here.node (link_in n).node child (view_seen b d after s) says refl in
       omega arith
 
@@ -282,7 +288,7 @@ module _ (cards : ℕ) (old a b : PassModel) (key : ℕ) (here : Glance) (cursor
       let view = view_seen b d (after_look_down here to right n b.view) s in
       let on = down_on b d here to right n s in
       let deep = child_deeper d to right n child says s in
-      let is : IsNodeKey cards d.view k = record { node = here.node; inner = inner; there = at.stands.there; below = at.stands.below; told = on.only.told (Key here.node k) told_key } in
+      let is : IsNodeKey cards d.view k = record { node = here.node; inner = inner; there = at.stands.there; below = at.stands.below; told = on.told (Key here.node k) told_key } in
       record {
         count = at.count + 2;
         on = on_trans old a d at.count 2 (at.count + 2) at.on (on_trans a b d 1 1 2 asked_on on (omega arith)) (omega arith);
@@ -323,7 +329,7 @@ module _ (from : ℕ) (a b : PassModel) (leaf : Glance) (k : ℕ) (outer : IsLea
   tells_one d value s low high = record {
     key = k;
     outer = outer;
-    told = (value_on b d leaf.node value s).only.told (Key leaf.node k) key_told;
+    told = (value_on b d leaf.node value s).told (Key leaf.node k) key_told;
     tells = (
       outer,
       refl,
@@ -397,7 +403,7 @@ pub about_mine : (from : ℕ) (old new : PassModel) (about : About) → HasFound
 about_mine from old new about f own missed same key a b owns = by about.found f.tells
   where
     come : HasCome new.view f.node key (key + 1)
-    come = let c = f.comes in let low = c.from in let high = c.upto in
+    come = let c = f.comes.come in let low = c.from in let high = c.upto in
         record { glance = c.glance; among = c.among; there = c.there; from = omega arith; upto = omega arith }
 
     at_leaf : (o : Option (ℕ × ℕ)) → IsLeaf f.node → TellsBetween from new.view f.node f.node_key about.low about.high o

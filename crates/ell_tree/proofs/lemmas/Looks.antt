@@ -10,7 +10,7 @@ use Rattle.ell_cards.specs.declared.view.Told.TheVariants.{Met, Key, Value}
 use Rattle.ell_cards.specs.declared.glance.Glance.{Glance}
 use Rattle.ell_cards.specs.declared.glance.Stretch.{Stretch}
 use Rattle.ell_cards.specs.declared.view.View.{View}
-use Rattle.ell_cards.specs.Models.{TablePlan, flat_from, PassModel, Counts, Sees, some_more, Has, HasCome, HasComeWhole, latest, earlier, IsTold, InTable}
+use Rattle.ell_cards.specs.Models.{TablePlan, flat_from, PassModel, Counts, Sees, some_more, HasCome, HasComeWhole, latest, earlier, IsTold, InTable}
 use Rattle.ell_cards.proofs.lemmas.views.Afters.{after_look, after_look_down, after_key_of, after_value_of}
 use Rattle.ell_cards.specs.Guards.{GoOnBy, MayLookDown}
 use Rattle.ell_cards.specs.Looking.{HasFound, HasFoundBetween, ReadsItsOwn, MissesItsOwn, HasMissed}
@@ -22,8 +22,9 @@ use Rattle.ell_tree.proofs.lemmas.Counts.{took_counted}
 use Rattle.ell_tree.specs.Ledgers.{Owns, present_in}
 use Rattle.ell_cards.proofs.lemmas.views.Steps.{view_seen}
 use Rattle.ell_tree.specs.Looks.{OnlyLooks, look_steps}
+use Rattle.ell_cards.specs.Changes.{forgotten}
 use Rattle.ell_cards.specs.Depths.{deepest, depth_of, IsShallow}
-use Rattle.ell_cards.proofs.lemmas.views.Depths.{depth_more, met_more, went_deeper}
+use Rattle.ell_cards.proofs.lemmas.views.Depths.{depth_more, went_deeper}
 
 pub only_trans : (a b c : PassModel) (m n k : ℕ) → OnlyLooks a b m → OnlyLooks b c n → m + n ≤ k → OnlyLooks a c k
 only_trans a b c m n k h h' le = record {
@@ -43,7 +44,6 @@ only_trans a b c m n k h h' le = record {
   found = h'.found ∙ h.found;
   planned = h'.planned ∙ h.planned;
   stores = h'.stores ∙ h.stores;
-  told = λ e t. h'.told e (h.told e t);
   steps = omega (arith, h.steps, h'.steps, le);
   made = omega (arith, h.made, h'.made, le);
 }
@@ -66,16 +66,15 @@ only_none_yet a = record {
   found = refl;
   planned = refl;
   stores = refl;
-  told = λ e h. h;
   steps = omega arith;
   made = omega arith;
 }
 
--- a step that tells more, and moves no more than the look
+-- a step that moves no more than the look
 only_step : (old new : PassModel) (told : List Told) (here : Option ℕ) (glances : List Glance) (looks : ℕ)
-    → Sees old new (record (old.view) { told = told; here = here; glances = glances; looks = looks; made = old.view.made + 1 }) → ((e : Told) → IsTold old.view e → Has told e)
+    → Sees old new (record (old.view) { told = told; here = here; glances = glances; looks = looks; made = old.view.made + 1 })
     → OnlyLooks old new 1
-only_step old new told here glances looks s more = subst (λ (m : PassModel). OnlyLooks old m 1) (sym s) (record {
+only_step old new told here glances looks s = subst (λ (m : PassModel). OnlyLooks old m 1) (sym s) (record {
   table = refl;
   label = refl;
   worker = refl;
@@ -92,7 +91,6 @@ only_step old new told here glances looks s more = subst (λ (m : PassModel). On
   found = refl;
   planned = refl;
   stores = refl;
-  told = more;
   steps = omega arith;
   made = omega arith;
 })
@@ -118,24 +116,30 @@ only_counted a b c n k h u s =
       found = h.found;
       planned = h.planned;
       stores = h.stores;
-      told = h.told;
       steps = took.steps;
       made = took.made;
     })
 
 -- the steps of a look
 pub look_only : (old new : PassModel) (n : ℕ) → Sees old new (after_look n old.view) → OnlyLooks old new 1
-look_only old new n s = only_step old new _ _ _ _ s (met_more _ _ _)
+look_only old new n s = only_step old new _ _ _ _ s
 
 pub down_only : (old new : PassModel) (from : Glance) (to : Stretch) (right : Bool) (n : ℕ) → Sees old new (after_look_down from to right n old.view)
     → OnlyLooks old new 1
-down_only old new from to right n s = only_step old new _ _ _ _ s (met_more _ _ _)
+down_only old new from to right n s = only_step old new _ _ _ _ s
 
 pub key_only : (old new : PassModel) (x key : ℕ) → Sees old new (after_key_of x key old.view) → OnlyLooks old new 1
-key_only old new x key s = only_step old new _ _ _ _ s (λ e h. earlier e _ _ h)
+key_only old new x key s = only_step old new _ _ _ _ s
 
 pub value_only : (old new : PassModel) (x value : ℕ) → Sees old new (after_value_of x value old.view) → OnlyLooks old new 1
-value_only old new x value s = only_step old new _ _ _ _ s (λ e h. earlier e _ _ h)
+value_only old new x value s = only_step old new _ _ _ _ s
+
+-- what was told stays told where a key or a value is asked
+pub key_tells : (old new : PassModel) (x key : ℕ) → Sees old new (after_key_of x key old.view) → (e : Told) → IsTold old.view e → IsTold new.view e
+key_tells old new x key s e h = subst (λ (v : View). IsTold v e) (sym (view_seen old new (after_key_of x key old.view) s)) (earlier e _ _ h)
+
+pub value_tells : (old new : PassModel) (x value : ℕ) → Sees old new (after_value_of x value old.view) → (e : Told) → IsTold old.view e → IsTold new.view e
+value_tells old new x value s e h = subst (λ (v : View). IsTold v e) (sym (view_seen old new (after_value_of x value old.view) s)) (earlier e _ _ h)
 
 -- a look for a key has come to a node by it, and maybe others, in at most two steps for each internal node that there is down to it
 pub record Comes (plan : TablePlan) (old new : PassModel) (key : ℕ) (here : Glance) : Type 0 where
@@ -161,12 +165,12 @@ comes_first plan old new key n child says real s shallow there =
     record {
       count = 1;
       only = look_only old new n s;
-      few = (let deep = went_deeper old.view new.view (after_look n old.view) 0 (link_in n).node child view says refl in omega arith);
+      few = (let deep = went_deeper (record (old.view) { told = forgotten }) new.view (after_look n old.view) 0 (link_in n).node child view says refl in omega arith);
       shallow = shallow;
       come = subst (λ (v : View). HasCome v child 0 (greatest_key + 1)) (sym view)
           (record { glance = glance; among = latest _ _; there = says; from = omega arith; upto = omega arith });
       as_one = λ whole. subst (λ (v : View). HasComeWhole v child 0 (greatest_key + 1)) (sym view)
-          (record { glance = glance; among = latest _ _; there = says; from = omega arith; upto = omega arith; whole = refl });
+          (record { come = record { glance = glance; among = latest _ _; there = says; from = omega arith; upto = omega arith }; whole = refl });
       from = omega arith;
       upto = omega arith;
       real = omega arith;
@@ -176,7 +180,7 @@ comes_first plan old new key n child says real s shallow there =
     }
 
 -- where a look has come by some keys it has come by a part of them
-pub come_part : (v : View) (node low high from upto : ℕ) → low ≤ from → upto ≤ high → HasCome v node low high → HasCome v node from upto
+abbrev pub come_part : (v : View) (node low high from upto : ℕ) → low ≤ from → upto ≤ high → HasCome v node low high → HasCome v node from upto
 come_part v node low high from upto a b c = record {
   glance = c.glance;
   among = c.among;
@@ -186,14 +190,8 @@ come_part v node low high from upto a b c = record {
 }
 
 pub whole_part : (v : View) (node low high from upto : ℕ) → low ≤ from → upto ≤ high → HasComeWhole v node low high → HasComeWhole v node from upto
-whole_part v node low high from upto a b c = record {
-  glance = c.glance;
-  among = c.among;
-  there = c.there;
-  from = (let f = c.from in omega arith);
-  upto = (let u = c.upto in omega arith);
-  whole = c.whole;
-}
+whole_part v node low high from upto a b c =
+    record { come = come_part v node low high from upto a b c.come; whole = c.whole }
 
 -- so it has come by the key alone
 pub comes_alone : (plan : TablePlan) (old new : PassModel) (key node low high : ℕ) (whole : Bool)
@@ -234,11 +232,13 @@ module _ (plan : TablePlan) (old a b : PassModel) (key : ℕ) (here : Glance) (k
   one_still whole =
       let c = at.as_one whole in
       subst (λ (v : View). HasComeWhole v here.node here.low here.high) (sym asked_view) (record {
-        glance = c.glance;
-        among = c.among;
-        there = c.there;
-        from = c.from;
-        upto = c.upto;
+        come = record {
+          glance = c.come.glance;
+          among = c.come.among;
+          there = c.come.there;
+          from = c.come.from;
+          upto = c.come.upto;
+        };
         whole = c.whole;
       })
 
@@ -249,10 +249,10 @@ module _ (plan : TablePlan) (old a b : PassModel) (key : ℕ) (here : Glance) (k
   told_key = subst (λ (v : View). IsTold v (Key here.node k)) (sym asked_view) (latest (Key here.node k) a.view.told)
 
   pub met_still : IsTold b.view (Met here.node)
-  met_still = (key_only a b here.node k asked).told (Met here.node) at.met
+  met_still = key_tells a b here.node k asked (Met here.node) at.met
 
   pub deep_still : depth_of a.view here.node ≤ depth_of b.view here.node
-  deep_still = depth_more a.view.told b.view.told (key_only a b here.node k asked).told here.node
+  deep_still = depth_more a.view.told b.view.told (key_tells a b here.node k asked) here.node
 
   pub one_none : b.view.looks ≡ old.view.looks + 1
   one_none = ap (λ (v : View). v.looks) asked_view ∙ at.one
@@ -285,7 +285,7 @@ module _ (plan : TablePlan) (old a b : PassModel) (key : ℕ) (here : Glance) (k
         come = subst (λ (v : View). HasCome v child to.low to.high) (sym view)
             (record { glance = next; among = latest _ _; there = says; from = omega arith; upto = omega arith });
         as_one = λ whole. subst (λ (v : View). HasComeWhole v child to.low to.high) (sym view)
-            (record { glance = next; among = latest _ _; there = says; from = omega arith; upto = omega arith; whole = whole });
+            (record { come = record { glance = next; among = latest _ _; there = says; from = omega arith; upto = omega arith }; whole = whole });
         from = low;
         upto = high;
         real = real;
@@ -326,7 +326,7 @@ module _ (plan : TablePlan) (old a b : PassModel) (key : ℕ) (here : Glance) (k
           upto = alone_still.upto;
         });
         outer = outer;
-        told = (value_only b d here.node value s).told (Key here.node k) told_key;
+        told = value_tells b d here.node value s (Key here.node k) told_key;
         tells = (same, subst (λ (v : View). IsTold v (Value here.node value)) (sym view) (latest (Value here.node value) b.view.told));
       }
 

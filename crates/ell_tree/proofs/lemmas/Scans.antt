@@ -31,13 +31,13 @@ found_on old new n key there on f = record {
   leaf_key = f.leaf_key;
   comes = come_on old new n f.leaf key (key + 1) on f.comes;
   outer = f.outer;
-  told = on.only.told (Key f.leaf f.leaf_key) f.told;
+  told = on.told (Key f.leaf f.leaf_key) f.told;
   tells = by there f.tells;
 }
   where
     by : (there : Option ℕ) → TellsOf old.view f.leaf f.leaf_key key there → TellsOf new.view f.leaf f.leaf_key key there
     by None tells = tells
-    by (Some value) tells = (tells.0, on.only.told (Value f.leaf value) tells.1)
+    by (Some value) tells = (tells.0, on.told (Value f.leaf value) tells.1)
 
 -- a key that none of these pairs has is not among them
 pub none_gathered : (pairs : List (ℕ × ℕ)) (key : ℕ) → All (λ k. k ≢ key) (keys_of pairs) → contents_of pairs key ≡ None

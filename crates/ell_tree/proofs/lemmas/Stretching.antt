@@ -136,12 +136,12 @@ stretches_more plan was is More Then old now new s more on passes fixed key ends
   count = s.count + 1;
   only = only_trans old now new (s.count * stretch_steps (deepest plan) + 1) (stretch_steps (deepest plan)) ((s.count + 1) * stretch_steps (deepest plan) + 1) s.only on.only
       (omega arith);
-  few = (let still = s.fewer more in let least = keys_still plan.last_card now new was is on.only.told passes in omega arith);
+  few = (let still = s.fewer more in let least = keys_still plan.last_card now new was is on.told passes in omega arith);
   fewer = λ keeps. elim ends [
     | inl none ↦ absurd (none keeps)
     | inr at ↦
         let still = s.fewer more in
-        let one = keys_more plan.last_card now new was is on.only.told passes fixed key at before after in
+        let one = keys_more plan.last_card now new was is on.told passes fixed key at before after in
         omega arith
   ];
 }

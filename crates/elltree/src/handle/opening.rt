@@ -17,7 +17,8 @@ impl Handle {
     /// `BadKey` if a start key is above `KEY_MAX`, then `BadCards` if the number of cards is not 1 to 1,000,000, and
     /// only then `NoMemory` if an allocation fails.
     pub fn open(alloc: Global, start: &[Pair], cards: u64) -> Result<Handle, Refusal>
-        // The handle is the first of a new flat tree with the start pairs and the cards asked for, and has the whole share.
+        // The handle is the first of a new flat tree with the start pairs and the cards asked for, and has the whole
+        // share.
         ensures opened { IfOk result (IsOpened (as_pairs start.now) cards) }
         // `BadStart` is returned exactly if the start keys do not strictly ascend or there are more than 1,000,000,
         // then `BadKey` exactly for a key above the greatest one, then `BadCards` exactly if the number of cards is not

@@ -1,6 +1,5 @@
 use Rattle.std.proofs.Common.{◌≡◌, ◌≢◌, ◌⊎◌, ℕ, true, false, ◌||◌, List, [], ◌∷◌, ◌++◌, length, set, Option, Bool, Some, None, refl, sym, ap, ◌∙◌, subst, inl, inr, ⊎_elim, length-set, ◌≤◌, max, arith, true≢false, ◌↔◌, ◌%◌, ◌^◌, ◌+◌}
 use Rattle.ell_core.proofs.lemmas.stages.Advances.{stages_same}
-use Rattle.ell_core.proofs.lemmas.stages.LaterKeys.{start_there}
 use Rattle.std.specs.Prelude.{Contains}
 use Rattle.std.proofs.lemmas.Option.{same_Some}
 use mathlib.Core.Option.{some}
@@ -19,12 +18,11 @@ use Rattle.ell_cards.specs.Changes.{united_ledgers, later_reading, joined_view, 
 use Rattle.std.specs.Option.{option_or}
 use Rattle.ell_cards.specs.Naming.{IsNamed}
 use Rattle.ell_cards.specs.States.{seat_worker, seated}
-use Rattle.ell_cards.specs.Machines.{EntryHolds, ViewHolds}
+use Rattle.ell_cards.specs.Machines.{ViewHolds}
 use Rattle.ell_cards.specs.Inside.{PassFits}
 use Rattle.ell_cards.specs.Laws.{JoinsAreHandovers}
-use Rattle.ell_cards.proofs.lemmas.seats.Entries.{told_either}
 use Rattle.ell_cards.proofs.lemmas.seats.Seats.{inside, seated_put, mine_is, mine_sound}
-use Rattle.ell_cards.proofs.lemmas.lifetimes.Idle.{rest_holds, rest_named, met_root}
+use Rattle.ell_cards.proofs.lemmas.lifetimes.Idle.{rest_holds, rest_named}
 use Rattle.ell_ops.specs.KeySet.{Lists, set_of, union}
 use Rattle.ell_ops.proofs.lemmas.Merges.{keys_united, lists_united}
 use Rattle.ell_ops.proofs.lemmas.Sets.{one_list}
@@ -161,10 +159,9 @@ joins_are_handovers plan s r id other v w here there apart free other_free =
         shape = r.shape;
         settled = r.settled;
         views = each_joined s.views id other v w here there turned both (ViewHolds s.words r.words r.stages)
-            (rest_holds s.words r.words r.stages both (λ e told. elim (told_either v.told w.told e told) [ inl a ↦ h.entries e a | inr b ↦ g.entries e b ]) refl refl refl
+            (rest_holds s.words r.words r.stages r.invariant.words both refl refl refl refl
             (later_most r.words.next v.next w.next h.read g.read) (let a = h.least in let b = g.least in omega arith) (λ f k. absurd (true≢false (sym k))))
-            (rest_holds s.words r.words r.stages spent_view
-            (λ e told. met_root (EntryHolds r.words r.stages) (start_there r.words r.stages r.invariant.words 0 (omega arith) refl) e told) refl refl refl (λ n at. absurd (some_not_none at refl)) (omega arith) (λ f k. absurd (true≢false (sym k))))
+            (rest_holds s.words r.words r.stages r.invariant.words spent_view refl refl refl refl (λ n at. absurd (some_not_none at refl)) (omega arith) (λ f k. absurd (true≢false (sym k))))
             r.views;
         owned = λ j k. each_joined s.views id other v w here there turned both (λ u. WorkerOwns (worker_of u.worker) k → Contains plan.keys k)
             (λ has. elim (ledger_united v.worker.ledger w.worker.ledger k) [
@@ -182,8 +179,7 @@ joins_are_handovers plan s r id other v w here there apart free other_free =
 
 -- the pass of both names what they named
 joined_named : (cards : ℕ) (v w : View) → IsNamed cards v → IsNamed cards w → IsNamed cards (joined_view v w)
-joined_named cards v w h g = rest_named cards (joined_view v w)
-    (λ e told. elim (told_either v.told w.told e told) [ inl a ↦ h.entries e a | inr b ↦ g.entries e b ])
+joined_named cards v w h g = rest_named cards (joined_view v w) refl
     (λ f k. elim (known_either v.worker.knows w.worker.knows f k) [ inl a ↦ h.facts f a | inr b ↦ g.facts f b ])
     refl refl (let a = h.next in let b = g.next in omega arith)
 

@@ -1,5 +1,4 @@
 use Rattle.std.proofs.Common.{◌≡◌, ℕ, zero, suc, Bool, true, false, ◌≤◌, ◌&&◌, not, nat_le, Some, List, [], ◌∷◌, length, ◌+◌, refl, sym, ap, ◌∙◌, subst, arith, All, ◌-◌, le-leb, ◌⊎◌, inl, inr, get_or, ◌↔◌, ◌≢◌, None, if◌then◌else◌}
-use Rattle.ell_core.proofs.lemmas.stages.LaterKeys.{start_there}
 use Rattle.std.specs.Prelude.{Contains}
 use Rattle.std.specs.List.Sorted.{IsStrictlyIncreasing}
 use mathlib.Core.Option.{some, some-injective, some-ne-none}
@@ -23,11 +22,11 @@ use Rattle.std.specs.Map.{keys_of as pair_keys}
 use Rattle.ell_cards.specs.Changes.{ledger_keys, first_of, ownable_if}
 use Rattle.ell_cards.specs.Inside.{PassFits}
 use Rattle.ell_cards.specs.States.{seat_worker, seated}
-use Rattle.ell_cards.specs.Machines.{EntryHolds, ViewHolds}
+use Rattle.ell_cards.specs.Machines.{ViewHolds}
 use Rattle.ell_cards.specs.Starts.{MayStart, StartWords, IsSharedIn}
 use Rattle.ell_cards.specs.RunLaws.{StartIsKept}
 use Rattle.ell_cards.proofs.lemmas.words.Keys.{owned_among, among_contains}
-use Rattle.ell_cards.proofs.lemmas.lifetimes.Idle.{rest_holds, root_named, met_root}
+use Rattle.ell_cards.proofs.lemmas.lifetimes.Idle.{rest_holds, rest_named}
 use Rattle.std.proofs.lemmas.Bool.{false≢true, leb-true}
 use Rattle.ell_ops.specs.KeySet.{set_of}
 use Rattle.ell_ops.specs.Meaning.{greatest_key}
@@ -126,8 +125,7 @@ opening_is_kept plan words may at =
         shape = start_shape plan.flat plan.start;
         settled = λ c f calm. sym (words_are_listed words c f) ∙ ap (λ (v : Words). table_word v c f) at.are;
         views = each_first first (ViewHolds words w stages)
-            (rest_holds words w stages first
-            (λ e told. met_root (EntryHolds w stages) (start_there w stages invariant.words 0 (let next = start_next plan.flat plan.start in omega arith) refl) e told) refl refl refl (λ n at. absurd (some_not_none at refl)) (omega arith) (λ f k. k));
+            (rest_holds words w stages invariant.words first refl refl refl refl (λ n at. absurd (some_not_none at refl)) (omega arith) (λ f k. k));
         owned = λ j k. each_first first (λ v. WorkerOwns (worker_of v.worker) k → Contains plan.keys k)
             (λ owns. subst (λ (ks : List ℕ). Contains ks k) (keys_start plan.keys plan.start)
             (among_contains (ledger_keys (keys_at_start plan.keys plan.start)) k (owned_among (keys_at_start plan.keys plan.start) k owns))) j;
@@ -144,7 +142,7 @@ first_fits plan words rising = record {
   owned = sym (keys_start plan.keys plan.start);
   ascending = rising;
   share = record { units = refl; counts = mode plan.shared };
-  named = λ cards size. root_named cards (first_of plan) refl refl refl refl refl;
+  named = λ cards size. rest_named cards (first_of plan) refl (λ f k. absurd (false≢true k)) refl refl (omega arith);
 }
   where
     mode : (shared : Bool) → (shared ≡ true) ↔ (ownable_if shared plan.keys ≢ None)

@@ -105,8 +105,8 @@ splits_are_handovers plan s r id v chosen here free =
         shape = r.shape;
         settled = r.settled;
         views = each_split s.views id v here left right (ViewHolds s.words r.words r.stages)
-            (rest_holds s.words r.words r.stages left h.entries refl refl refl (λ n at. absurd (some_not_none at refl)) h.least h.knew)
-            (rest_holds s.words r.words r.stages right h.entries refl refl refl (λ n at. absurd (some_not_none at refl)) h.least h.knew)
+            (rest_holds s.words r.words r.stages r.invariant.words left refl refl refl refl (λ n at. absurd (some_not_none at refl)) h.least h.knew)
+            (rest_holds s.words r.words r.stages r.invariant.words right refl refl refl refl (λ n at. absurd (some_not_none at refl)) h.least h.knew)
             r.views;
         owned = λ j k. each_split s.views id v here left right (λ u. WorkerOwns (worker_of u.worker) k → Contains plan.keys k)
             (λ has. r.owned id k v here ((owns k).0 has))
@@ -138,7 +138,7 @@ module _ (cards : ℕ) (v : View) (keys chosen : List ℕ) (are : keys ≡ ledge
     owned = sym (keys_on chosen v.worker.ledger ∙ (ap (filter (set_of chosen)) (sym are)
         ∙ (ascending_parts keys chosen rising rise (owned_all v.worker.ledger keys chosen are all)).taken));
     ascending = rise;
-    named = λ named. rest_named cards (left_view chosen v) named.entries named.facts refl refl named.next;
+    named = λ named. rest_named cards (left_view chosen v) refl named.facts refl refl named.next;
   }
 
   -- the right part has the rest
@@ -146,5 +146,5 @@ module _ (cards : ℕ) (v : View) (keys chosen : List ℕ) (are : keys ≡ ledge
   right_has rest is = record {
     owned = is ∙ (ap (filter (λ k. not (set_of chosen k))) are ∙ sym (keys_off chosen v.worker.ledger));
     ascending = subst IsStrictlyIncreasing (sym is) (IsStrictlyIncreasing-filter (λ k. not (set_of chosen k)) keys rising);
-    named = λ named. rest_named cards (right_view chosen v) named.entries named.facts refl refl named.next;
+    named = λ named. rest_named cards (right_view chosen v) refl named.facts refl refl named.next;
   }

@@ -16,7 +16,7 @@ use Rattle.ell_cards.specs.declared.call.Call.TheVariants as call
 use Rattle.ell_cards.specs.declared.view.Answered.{Answered}
 use Rattle.ell_cards.specs.declared.view.View.{View}
 use Rattle.ell_cards.specs.Models.{TablePlan}
-use Rattle.ell_cards.specs.Changes.{answered_so, after_claim, after_flag, after_mark, is_mark_of, with_fact, unmarking, left_view, right_view, joined_view, spent_view, first_of}
+use Rattle.ell_cards.specs.Changes.{answered_so, taken_now, after_claim, after_flag, after_mark, is_mark_of, with_fact, unmarking, left_view, right_view, joined_view, spent_view, first_of}
 use Rattle.ell_cards.specs.Calls.{after}
 use Rattle.ell_cards.specs.States.{TableState}
 use Rattle.ell_cards.specs.Turns.{Turn, Makes, Splits, Joins, CallIsMade, TableTurns, TableRun, found_by, view_after}
@@ -144,12 +144,12 @@ module _ (plan : TablePlan) (seat : ℕ) (Has : View → Type 0) (Is : Call → 
 
 module _ (op : Op) (said : Reply) where
   -- a pass has this for its last answer
-  abbrev Answers : Option ℕ → View → Type 0
-  Answers card v = v.answered ≡ Some (record { op = op; said = said; card = card })
+  abbrev Answers : Option ℕ → Option ℕ → View → Type 0
+  Answers card took v = v.answered ≡ Some (record { op = op; said = said; card = card; took = took })
 
   -- the call that answered it so
-  abbrev IsAnswer : Option ℕ → Call → View → Type 0
-  IsAnswer card c v = (c ≡ call.Answer said) × (v.worker.operation ≡ Some op) × (v.worker.card ≡ card)
+  abbrev IsAnswer : Option ℕ → Option ℕ → Call → View → Type 0
+  IsAnswer card took c v = (c ≡ call.Answer said) × (v.worker.operation ≡ Some op) × (v.worker.card ≡ card) × (taken_now said v ≡ took)
 
   claim_answered : (b : Bool) (c q : ℕ) (v : View) → (after_claim b c q v).answered ≡ v.answered
   claim_answered true c q v = refl
@@ -168,37 +168,40 @@ module _ (op : Op) (said : Reply) where
       by false = refl
 
   -- what was in hand when an answer was given
-  answered_op : (card : Option ℕ) (o : Option Op) (hand : Option ℕ) (other : Reply) → answered_so o hand other ≡ Some (record { op = op; said = said; card = card })
-      → (other ≡ said) × (o ≡ Some op) × (hand ≡ card)
-  answered_op card None hand other e = absurd (some_not_none e refl)
-  answered_op card (Some this) hand other e =
-      let same = same_Some (record { op = this; said = other; card = hand }) (record { op = op; said = said; card = card }) e in
-      (ap (λ (a : Answered). a.said) same, ap (λ (a : Answered). Some a.op) same, ap (λ (a : Answered). a.card) same)
+  answered_op : (card took : Option ℕ) (o : Option Op) (hand : Option ℕ) (other : Reply) (taken : Option ℕ)
+      → answered_so o hand other taken ≡ Some (record { op = op; said = said; card = card; took = took })
+      → (other ≡ said) × (o ≡ Some op) × (hand ≡ card) × (taken ≡ took)
+  answered_op card took None hand other taken e = absurd (some_not_none e refl)
+  answered_op card took (Some this) hand other taken e =
+      let same = same_Some (record { op = this; said = other; card = hand; took = taken }) (record { op = op; said = said; card = card; took = took }) e in
+      (ap (λ (a : Answered). a.said) same, ap (λ (a : Answered). Some a.op) same, ap (λ (a : Answered). a.card) same, ap (λ (a : Answered). a.took) same)
 
-  answer_before : (card : Option ℕ) (c : Call) (n : ℕ) (v : View) → Answers card (after c n v) → IsAnswer card c v ⊎ (Unit {0} × Answers card v)
-  answer_before card (call.Answer other) n v e = let is = answered_op card v.worker.operation v.worker.card other e in inl (ap call.Answer is.0, is.1, is.2)
-  answer_before card (call.Begin next) n v e = absurd (some_not_none e refl)
-  answer_before card call.Again n v e = absurd (some_not_none e refl)
-  answer_before card (call.Claim c q) n v e = inr (tt, sym (claim_answered (n == c) c q v) ∙ e)
-  answer_before card (call.IFlag c p from) n v e = inr (tt, sym (flag_answered (n == packed from) (fact.IFlagged c) p (unpacked n) v) ∙ e)
-  answer_before card (call.DFlag c gp from) n v e = inr (tt, sym (flag_answered (n == packed from) (fact.DFlagged c) gp (unpacked n) v) ∙ e)
-  answer_before card (call.Mark c p was) n v e = inr (tt, sym (mark_answered (n == was) c p (unpacked n) v) ∙ e)
-  answer_before card call.Leave n v e = inr (tt, e)
-  answer_before card (call.Upd x) n v e = inr (tt, e)
-  answer_before card (call.Down x right) n v e = inr (tt, e)
-  answer_before card call.Next n v e = inr (tt, e)
-  answer_before card (call.KeyOf x) n v e = inr (tt, e)
-  answer_before card (call.ValueOf x) n v e = inr (tt, e)
-  answer_before card (call.Info c f) n v e = inr (tt, e)
-  answer_before card (call.FrozenChild c p right) n v e = inr (tt, e)
-  answer_before card call.Look n v e = inr (tt, e)
-  answer_before card (call.LookDown from key right) n v e = inr (tt, e)
-  answer_before card (call.Fill c f value) n v e = inr (tt, e)
-  answer_before card (call.IChild c p l q right) n v e = inr (tt, e)
-  answer_before card (call.IUnflag c p) n v e = inr (tt, e)
-  answer_before card (call.DChild c gp p y right) n v e = inr (tt, e)
-  answer_before card (call.DUnflag c gp) n v e = inr (tt, e)
-  answer_before card (call.Backtrack c gp) n v e = inr (tt, e)
+  answer_before : (card took : Option ℕ) (c : Call) (n : ℕ) (v : View) → Answers card took (after c n v) → IsAnswer card took c v ⊎ (Unit {0} × Answers card took v)
+  answer_before card took (call.Answer other) n v e =
+      let is = answered_op card took v.worker.operation v.worker.card other (taken_now other v) e in
+      inl (ap call.Answer is.0, is.1, is.2, ap (λ r. taken_now r v) (sym is.0) ∙ is.3)
+  answer_before card took (call.Begin next) n v e = absurd (some_not_none e refl)
+  answer_before card took call.Again n v e = absurd (some_not_none e refl)
+  answer_before card took (call.Claim c q) n v e = inr (tt, sym (claim_answered (n == c) c q v) ∙ e)
+  answer_before card took (call.IFlag c p from) n v e = inr (tt, sym (flag_answered (n == packed from) (fact.IFlagged c) p (unpacked n) v) ∙ e)
+  answer_before card took (call.DFlag c gp from) n v e = inr (tt, sym (flag_answered (n == packed from) (fact.DFlagged c) gp (unpacked n) v) ∙ e)
+  answer_before card took (call.Mark c p was) n v e = inr (tt, sym (mark_answered (n == was) c p (unpacked n) v) ∙ e)
+  answer_before card took call.Leave n v e = inr (tt, e)
+  answer_before card took (call.Upd x) n v e = inr (tt, e)
+  answer_before card took (call.Down x right) n v e = inr (tt, e)
+  answer_before card took call.Next n v e = inr (tt, e)
+  answer_before card took (call.KeyOf x) n v e = inr (tt, e)
+  answer_before card took (call.ValueOf x) n v e = inr (tt, e)
+  answer_before card took (call.Info c f) n v e = inr (tt, e)
+  answer_before card took (call.FrozenChild c p right) n v e = inr (tt, e)
+  answer_before card took call.Look n v e = inr (tt, e)
+  answer_before card took (call.LookDown from key right) n v e = inr (tt, e)
+  answer_before card took (call.Fill c f value) n v e = inr (tt, e)
+  answer_before card took (call.IChild c p l q right) n v e = inr (tt, e)
+  answer_before card took (call.IUnflag c p) n v e = inr (tt, e)
+  answer_before card took (call.DChild c gp p y right) n v e = inr (tt, e)
+  answer_before card took (call.DUnflag c gp) n v e = inr (tt, e)
+  answer_before card took (call.Backtrack c gp) n v e = inr (tt, e)
 
   -- a pass has the operation in hand
   abbrev pub Busy : View → Type 0
@@ -249,14 +252,15 @@ module _ (op : Op) (said : Reply) where
   busy_before (call.DUnflag c gp) n v e = inr (tt, e)
   busy_before (call.Backtrack c gp) n v e = inr (tt, e)
 
--- what a pass answered last it answered in the run, and began in it, and it had this card in hand then
-pub answers_with_card : (plan : TablePlan) (v : View) (op : Op) (said : Reply) (card : Option ℕ) → v.answered ≡ Some (record { op = op; said = said; card = card })
+-- what a pass answered last it answered in the run, and began in it; it had this card in hand then, and took this
+pub answers_with_card : (plan : TablePlan) (v : View) (op : Op) (said : Reply) (card took : Option ℕ)
+    → v.answered ≡ Some (record { op = op; said = said; card = card; took = took })
     → (s : TableState) → Starts plan s → (turns : List Turn) (s' : TableState) → TableRun plan s turns s' → (seat : ℕ) → get_elem? s'.views seat ≡ some v
-    → (a : AnsweredInRun plan s turns s' seat op said) × (a.called.answers.view.worker.card ≡ card)
-answers_with_card plan v op said card last s starts turns s' run seat there =
-    elim (run_back plan seat (Answers op said card) (IsAnswer op said card) (λ c. Unit {0}) (answer_before op said card) (λ chosen v e. some_not_none e refl)
+    → (a : AnsweredInRun plan s turns s' seat op said) × (a.called.answers.view.worker.operation ≡ Some op) × (a.called.answers.view.worker.card ≡ card) × (taken_now said a.called.answers.view ≡ took)
+answers_with_card plan v op said card took last s starts turns s' run seat there =
+    elim (run_back plan seat (Answers op said card took) (IsAnswer op said card took) (λ c. Unit {0}) (answer_before op said card took) (λ chosen v e. some_not_none e refl)
     (λ chosen v e. some_not_none e refl) (λ v w e. some_not_none e refl) (λ e. some_not_none e refl) s turns s' run (record { view = v; there = there; has = last })) [
-      | inr h ↦ absurd (each_first (first_of plan) (λ u. Answers op said card u → ⊥) (λ e. some_not_none e refl) seat h.1.view
+      | inr h ↦ absurd (each_first (first_of plan) (λ u. Answers op said card took u → ⊥) (λ e. some_not_none e refl) seat h.1.view
           (ap (λ (t : TableState). get_elem? t.views seat) (sym starts.is) ∙ h.1.there) h.1.has)
       | inl a ↦ elim (run_back plan seat (Busy op said) (IsBegin op said) KeepsOn (busy_before op said) (λ chosen v e. some_not_none e refl)
           (λ chosen v e. some_not_none e refl) (λ v w e. some_not_none e refl) (λ e. some_not_none e refl) s a.before a.from a.led
@@ -270,7 +274,9 @@ answers_with_card plan v op said card last s starts turns s' run seat there =
                   run = b.since;
                   on = keep_on seat b.later b.on;
                   answers = subst (λ c. CallIsMade plan a.from seat c a.to) a.is.0 a.made;
-                } in (
+                } in
+                let last_is = subst (λ (u : View). (u.worker.operation ≡ Some op) × (u.worker.card ≡ card) × (taken_now said u ≡ took))
+                (some-injective a.made.view called.answers.view (sym a.made.there ∙ called.answers.there)) (a.is.1, a.is.2, a.is.3) in (
                   record {
                     earlier = b.before;
                     during = b.later;
@@ -285,13 +291,15 @@ answers_with_card plan v op said card last s starts turns s' run seat there =
                     since = a.since;
                     point = calls_reply_as_one_thread plan s starts b.before b.from b.led seat op b.to b.later a.from said called;
                   },
-                  subst (λ (u : View). u.worker.card ≡ card) (some-injective a.made.view called.answers.view (sym a.made.there ∙ called.answers.there)) a.is.2,
+                  last_is.0,
+                  last_is.1,
+                  last_is.2,
                 )
           ]
     ]
 
 pub answers_have_their_points : AnswersHaveTheirPoints
-answers_have_their_points plan v op said card last s starts turns s' run seat there = (answers_with_card plan v op said card last s starts turns s' run seat there).0
+answers_have_their_points plan v op said card took last s starts turns s' run seat there = (answers_with_card plan v op said card took last s starts turns s' run seat there).0
 
 -- the turn before which a pass has an operation in hand: the call that begins it, or another, before which it had it
 pub turn_begun : (plan : TablePlan) (seat : ℕ) (op : Op) (s : TableState) (t : Turn) (s' : TableState) → TableTurns plan s t s' → (v : View) → get_elem? s'.views seat ≡ some v

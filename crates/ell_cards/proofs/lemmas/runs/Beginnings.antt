@@ -167,7 +167,7 @@ since_it_began plan v what g among s starts turns s' run seat there so =
 -- what a look has found of a stretch was so
 pub stretches_are_of_one_state : StretchesAreOfOneState
 stretches_are_of_one_state plan v low high said found s starts turns s' run seat there =
-    since_it_began plan v (HasBetween low high said) found.comes.glance found.comes.among s starts turns s' run seat there
+    since_it_began plan v (HasBetween low high said) found.comes.come.glance found.comes.come.among s starts turns s' run seat there
     (λ from kept to call more after on. stretches_of_one_state plan v low high said found from kept seat to call more s' after on there)
 
 -- of two looks, one after the other, the second is of no earlier state

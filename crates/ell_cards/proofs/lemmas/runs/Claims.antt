@@ -1,36 +1,36 @@
 use Rattle.ell_cards.specs.Depths.{met_at, depth_told}
 use Rattle.ell_cards.proofs.lemmas.views.Depths.{met_more}
-use Rattle.std.proofs.Common.{◌≡◌, ◌≢◌, ℕ, ◌+◌, ◌<◌, ◌==◌, if◌then◌else◌, Bool, true, false, Some, List, [], ◌∷◌, ◌++◌, get_or, set, length, unwrap_or, refl, sym, ap, ◌∙◌, subst, inl, inr, eqb-true, get_or-set_other, arith}
+use Rattle.std.proofs.Common.{◌≡◌, ◌≢◌, ℕ, ◌+◌, ◌<◌, ◌==◌, if◌then◌else◌, Bool, true, false, List, [], ◌∷◌, ◌++◌, get_or, set, length, refl, sym, ap, ◌∙◌, subst, inl, inr, eqb-true, get_or-set_other, arith}
 use Rattle.std.proofs.lemmas.Bool.{cases_eq}
 use lib.Seq.{set-get_or}
 use mathlib.Core.Option.{some, some-injective}
 use lib.ListN.{get_elem?}
 use Rattle.atomic_table.proofs.Lists.{set_else, at_longer}
-use Rattle.ell_ops.specs.declared.op.Op.{Op}
-use Rattle.ell_ops.specs.declared.op.Op.TheVariants.{Find, Insert, Delete, Swap}
 use Rattle.ell_word.specs.Link.{link_in}
 use Rattle.ell_word.specs.Word.{packed, unpacked}
 use Rattle.ell_word.specs.declared.update.Update.{Update}
+use Rattle.ell_core.specs.declared.exchange.Exchange.{Exchange}
+use Rattle.ell_core.specs.declared.exchange.Exchange.TheVariants as exchange
 use Rattle.ell_core.specs.declared.fact.Fact.{Fact}
 use Rattle.ell_core.specs.declared.fact.Fact.TheVariants as fact
-use Rattle.ell_layout.specs.declared.field.Field.TheVariants.{P, Gp}
 use Rattle.ell_layout.specs.Words.{Words}
 use Rattle.ell_layout.proofs.lemmas.Listed.{listed_next}
 use Rattle.ell_cards.specs.declared.call.Call.{Call}
 use Rattle.ell_cards.specs.declared.call.Call.TheVariants as call
 use Rattle.ell_cards.specs.declared.view.Told.{Told}
-use Rattle.ell_cards.specs.declared.view.Told.TheVariants.{Met, Key, Value, Info, Frozen, Expects}
+use Rattle.ell_cards.specs.declared.view.Told.TheVariants.{Key, Value, Frozen, Expects}
 use Rattle.ell_cards.specs.declared.view.View.{View}
 use Rattle.ell_cards.specs.Models.{TablePlan, flat_from, Has, latest, earlier, IsTold}
-use Rattle.ell_cards.specs.Changes.{expected_tag, told_filling, filling_of, filling_for, value_told, after_claim, after_flag, after_mark, is_mark_of, with_fact, unmarking, left_view, right_view, joined_view, spent_view, depth_there}
-use Rattle.ell_cards.specs.Guards.{MayClaim, Wants}
+use Rattle.ell_cards.specs.Changes.{expected_tag, told_filling, filling_of, after_claim, after_flag, after_mark, is_mark_of, with_fact, unmarking, left_view, right_view, joined_view, spent_view, depth_there}
+use Rattle.ell_cards.specs.Guards.{MayClaim}
 use Rattle.ell_cards.proofs.lemmas.lifetimes.Openings.{start_next}
 use Rattle.ell_cards.specs.Calls.{word_of, atomic_of, left_by, after}
 use Rattle.ell_cards.specs.States.{TableState}
 use Rattle.ell_cards.specs.Turns.{Turn, Makes, Splits, Joins, TableTurns, TableRun, found_by, state_after}
 use Rattle.ell_cards.specs.Starts.{IsReached}
-use Rattle.ell_cards.specs.Readings.{IsToldOf, ClaimsAreTold}
+use Rattle.ell_cards.specs.Readings.{IsClaimedBySome, ClaimsAreWon}
 use Rattle.ell_cards.proofs.lemmas.views.Entries.{places_more, info_more, filling_more}
+use Rattle.ell_cards.proofs.lemmas.runs.Won.{won_by, after_won}
 use Rattle.ell_cards.proofs.lemmas.seats.Seats.{set_there}
 
 -- what a flag or a mark, won or lost, leaves of what was told
@@ -50,52 +50,49 @@ claim_told : (b : Bool) (c q : ℕ) (v : View) (e : Told) → IsTold v e → IsT
 claim_told true c q v e h = earlier e (Expects c (expected_tag v)) (told_filling c (filling_of c q v) v.told) (filling_more c (filling_of c q v) v.told e h)
 claim_told false c q v e h = h
 
--- what was told stays told
-pub after_told : (c : Call) (n : ℕ) (v : View) (e : Told) → IsTold v e → IsTold (after c n v) e
-after_told (call.Begin op) n v e h = earlier e (Met 0) v.told h
-after_told call.Again n v e h = earlier e (Met 0) v.told h
-after_told (call.Upd x) n v e h = places_more x (unpacked n).state (unpacked n).card v.told e h
-after_told (call.Down x right) n v e h = met_more (depth_told v.told x + 1) (link_in n).node v.told e h
-after_told (call.KeyOf x) n v e h = earlier e (Key x n) v.told h
-after_told (call.ValueOf x) n v e h = earlier e (Value x n) v.told h
-after_told (call.Info c f) n v e h = info_more (depth_there v c f) c f n v.told e h
-after_told (call.FrozenChild c p right) n v e h =
+-- a call that forgets nothing of what was told
+abbrev pub Remembers : Call → Type 0
+Remembers (call.Begin op) = ⊥
+Remembers call.Again = ⊥
+Remembers call.Leave = ⊥
+Remembers (call.Answer said) = ⊥
+Remembers call.Look = ⊥
+Remembers _ = Unit {0}
+
+-- what was told stays told by such
+pub after_told : (c : Call) → Remembers c → (n : ℕ) (v : View) (e : Told) → IsTold v e → IsTold (after c n v) e
+after_told (call.Begin op) keeps n v e h = absurd keeps
+after_told call.Again keeps n v e h = absurd keeps
+after_told call.Leave keeps n v e h = absurd keeps
+after_told (call.Answer said) keeps n v e h = absurd keeps
+after_told call.Look keeps n v e h = absurd keeps
+after_told (call.Upd x) keeps n v e h = places_more x (unpacked n).state (unpacked n).card v.told e h
+after_told (call.Down x right) keeps n v e h = met_more (depth_told v.told x + 1) (link_in n).node v.told e h
+after_told (call.KeyOf x) keeps n v e h = earlier e (Key x n) v.told h
+after_told (call.ValueOf x) keeps n v e h = earlier e (Value x n) v.told h
+after_told (call.Info c f) keeps n v e h = info_more (depth_there v c f) c f n v.told e h
+after_told (call.FrozenChild c p right) keeps n v e h =
     earlier e (Frozen c right (link_in n).node) (met_at (depth_told v.told p + 1) (link_in n).node v.told) (met_more (depth_told v.told p + 1) (link_in n).node v.told e h)
-after_told call.Look n v e h = met_more (depth_told v.told 0 + 1) (link_in n).node v.told e h
-after_told (call.LookDown from key right) n v e h = met_more (depth_told v.told from.node + 1) (link_in n).node v.told e h
-after_told (call.Claim c q) n v e h = claim_told (n == c) c q v e h
-after_told (call.IFlag c p from) n v e h = flag_told (n == packed from) (fact.IFlagged c) p (unpacked n) v e h
-after_told (call.DFlag c gp from) n v e h = flag_told (n == packed from) (fact.DFlagged c) gp (unpacked n) v e h
-after_told (call.Mark c p was) n v e h = mark_told (n == was) c p (unpacked n) v e h
-after_told _ n v e h = h
+after_told (call.LookDown from key right) keeps n v e h = met_more (depth_told v.told from.node + 1) (link_in n).node v.told e h
+after_told (call.Claim c q) keeps n v e h = claim_told (n == c) c q v e h
+after_told (call.IFlag c p from) keeps n v e h = flag_told (n == packed from) (fact.IFlagged c) p (unpacked n) v e h
+after_told (call.DFlag c gp from) keeps n v e h = flag_told (n == packed from) (fact.DFlagged c) gp (unpacked n) v e h
+after_told (call.Mark c p was) keeps n v e h = mark_told (n == was) c p (unpacked n) v e h
+after_told _ keeps n v e h = h
 
--- who claims a card is told its parent
-claims_told : (from : ℕ) (v : View) (c q : ℕ) (may : MayClaim from v c q) → IsTold (after_claim true c q v) (Info c P may.parent.node)
-claims_told from v c q may = earlier (Info c P may.parent.node) (Expects c (expected_tag v)) (told_filling c (filling_of c q v) v.told) (by may.op may.busy may.wants)
-  where
-    by : (op : Op) → v.worker.operation ≡ Some op → Wants from v op may.parent.node may.below may.key q → Has (told_filling c (filling_of c q v) v.told) (Info c P may.parent.node)
-    by (Find k) busy wants = absurd wants
-    by (Insert k value) busy wants =
-        subst (λ es. Has (told_filling c es v.told) (Info c P may.parent.node))
-        (λ i. filling_for c q (sym busy i) (sym may.stands i) (sym may.behind i) v.worker.search.grandparent (unwrap_or v.here 0) (value_told v.told))
-        (latest (Info c P may.parent.node) _)
-    by (Swap k was value) busy wants =
-        subst (λ es. Has (told_filling c es v.told) (Info c P may.parent.node))
-        (λ i. filling_for c q (sym busy i) (sym may.stands i) (sym may.behind i) v.worker.search.grandparent (unwrap_or v.here 0) (value_told v.told))
-        (latest (Info c P may.parent.node) _)
-    by (Delete k) busy wants =
-        subst (λ es. Has (told_filling c es v.told) (Info c P may.parent.node))
-        (λ i. filling_for c q (sym busy i) (sym may.stands i) (sym may.behind i) (sym wants.grandparent i) (unwrap_or v.here 0) (value_told v.told))
-        (earlier (Info c P may.parent.node) (Info c Gp wants.above.node) _ (latest (Info c P may.parent.node) _))
+-- what one list has two have
+has_left : {A : Type 0} (a b : List A) (e : A) → Has a e → Has (a ++ b) e
+has_left [] b e h = elim h [ ]
+has_left (d ∷ a) b e (latest _ _) = latest d (a ++ b)
+has_left (d ∷ a) b e (earlier _ _ _ h) = earlier e d (a ++ b) (has_left a b e h)
 
-told_left : (a b : List Told) (e : Told) → Has a e → Has (a ++ b) e
-told_left [] b e h = elim h [ ]
-told_left (d ∷ a) b e (latest _ _) = latest d (a ++ b)
-told_left (d ∷ a) b e (earlier _ _ _ h) = earlier e d (a ++ b) (told_left a b e h)
+has_right : {A : Type 0} (a b : List A) (e : A) → Has b e → Has (a ++ b) e
+has_right [] b e h = h
+has_right (d ∷ a) b e h = earlier e d (a ++ b) (has_right a b e h)
 
-told_right : (a b : List Told) (e : Told) → Has b e → Has (a ++ b) e
-told_right [] b e h = h
-told_right (d ∷ a) b e h = earlier e d (a ++ b) (told_right a b e h)
+-- what was won stays won
+won_on : (c : Call) (n : ℕ) (v : View) (e : Exchange × ℕ) → Has v.won e → Has (after c n v).won e
+won_on c n v e h = subst (λ ws. Has ws e) (sym (after_won c n v)) (has_right (won_by c n) v.won e h)
 
 -- the first word of a list that is not empty
 pub first_set : (ws : List ℕ) (m : ℕ) → 0 < get_or ws 0 0 → get_or (set ws 0 m) 0 0 ≡ m
@@ -116,48 +113,47 @@ leaves_next (call.DUnflag c gp) ws apart = get_or-set_other ws (word_of (call.DU
 leaves_next (call.Backtrack c gp) ws apart = get_or-set_other ws (word_of (call.Backtrack c gp)) 0 _ 0 (λ e. omega arith)
 leaves_next c ws apart = ap (λ (l : List ℕ). get_or l 0 0) (set-get_or ws (word_of c) 0)
 
--- some card was claimed from the first on, and each that was claimed since was told to some pass
-pub record AllTold (first : ℕ) (s : TableState) : Type 0 where
+-- some card was claimed from the first on, and each claim since then was won by some pass
+pub record AllClaimed (first : ℕ) (s : TableState) : Type 0 where
   pub next : first < get_or s.words 0 0
-  pub told : (c : ℕ) → first < c → c < get_or s.words 0 0 → IsToldOf s c
+  pub won : (c : ℕ) → first < c → c < get_or s.words 0 0 → IsClaimedBySome s c
 
--- what some pass was told stays told where another view is in a seat that was told no less
-told_on : (s : TableState) (words : List ℕ) (id : ℕ) (v w : View) → get_elem? s.views id ≡ some v → ((e : Told) → IsTold v e → IsTold w e)
-    → (c : ℕ) → IsToldOf s c → IsToldOf (record { words = words; homes = s.homes; views = set s.views id w }) c
-told_on s words id v w here more c h = elim (cases_eq h.seat id) [
+-- what some pass has won it has won where another view is in a seat that has won no less
+claimed_on : (s : TableState) (words : List ℕ) (id : ℕ) (v w : View) → get_elem? s.views id ≡ some v → ((e : Exchange × ℕ) → Has v.won e → Has w.won e)
+    → (c : ℕ) → IsClaimedBySome s c → IsClaimedBySome (record { words = words; homes = s.homes; views = set s.views id w }) c
+claimed_on s words id v w here more c h = elim (cases_eq h.seat id) [
   | inl e ↦ record {
     seat = id;
     view = w;
     there = set_there s.views id w v here;
-    parent = h.parent;
-    told = more (Info c P h.parent) (subst (λ (u : View). IsTold u (Info c P h.parent))
-        (some-injective h.view v (sym h.there ∙ (ap (get_elem? s.views) e ∙ here))) h.told);
+    claimed = more (exchange.Claim, c) (subst (λ (u : View). Has u.won (exchange.Claim, c))
+        (some-injective h.view v (sym h.there ∙ (ap (get_elem? s.views) e ∙ here))) h.claimed);
   }
-  | inr n ↦ record { seat = h.seat; view = h.view; there = set_else s.views id h.seat w n ∙ h.there; parent = h.parent; told = h.told }
+  | inr n ↦ record { seat = h.seat; view = h.view; there = set_else s.views id h.seat w n ∙ h.there; claimed = h.claimed }
 ]
 
-module _ (plan : TablePlan) (first : ℕ) (s : TableState) (h : AllTold first s) where
+module _ (plan : TablePlan) (first : ℕ) (s : TableState) (h : AllClaimed first s) where
   -- a call that is no claim
-  call_told : (id : ℕ) (v : View) (c : Call) → get_elem? s.views id ≡ some v → ((d q : ℕ) → c ≢ call.Claim d q) → AllTold first (state_after s id v c)
-  call_told id v c here apart =
+  call_claimed : (id : ℕ) (v : View) (c : Call) → get_elem? s.views id ≡ some v → ((d q : ℕ) → c ≢ call.Claim d q) → AllClaimed first (state_after s id v c)
+  call_claimed id v c here apart =
       let s' = state_after s id v c in
       let same = leaves_next c s.words apart in
       let more = h.next in record {
         next = omega arith;
-        told = λ d low below. told_on s s'.words id v (after c (found_by s c) v) here (after_told c (found_by s c) v) d (h.told d low (omega arith));
+        won = λ d low below. claimed_on s s'.words id v (after c (found_by s c) v) here (won_on c (found_by s c) v) d (h.won d low (omega arith));
       }
 
   -- a claim
-  claimed_told : (id : ℕ) (v : View) (c q : ℕ) → get_elem? s.views id ≡ some v → MayClaim (flat_from plan) v c q → AllTold first (state_after s id v (call.Claim c q))
-  claimed_told id v c q here may = by (get_or s.words 0 0 == c) refl
+  claim_claimed : (id : ℕ) (v : View) (c q : ℕ) → get_elem? s.views id ≡ some v → MayClaim (flat_from plan) v c q → AllClaimed first (state_after s id v (call.Claim c q))
+  claim_claimed id v c q here may = by (get_or s.words 0 0 == c) refl
     where
       by : (b : Bool) → (get_or s.words 0 0 == c) ≡ b
-          → AllTold first (record { words = set s.words 0 (if b then c + 1 else get_or s.words 0 0); homes = s.homes; views = set s.views id (after_claim b c q v) })
+          → AllClaimed first (record { words = set s.words 0 (if b then c + 1 else get_or s.words 0 0); homes = s.homes; views = set s.views id (after_claim b c q v) })
       by false is =
           let same = ap (λ (l : List ℕ). get_or l 0 0) (set-get_or s.words 0 0) in
           let more = h.next in record {
             next = omega arith;
-            told = λ d low below. told_on s (set s.words 0 (get_or s.words 0 0)) id v (after_claim false c q v) here (claim_told false c q v) d (h.told d low (omega arith));
+            won = λ d low below. claimed_on s (set s.words 0 (get_or s.words 0 0)) id v (after_claim false c q v) here (λ e h. h) d (h.won d low (omega arith));
           }
       by true is =
           let n = get_or s.words 0 0 in
@@ -165,71 +161,68 @@ module _ (plan : TablePlan) (first : ℕ) (s : TableState) (h : AllTold first s)
           let more = h.next in
           let next = first_set s.words (c + 1) (omega arith) in record {
             next = omega arith;
-            told = λ d low below. elim (cases_eq d c) [
+            won = λ d low below. elim (cases_eq d c) [
               | inl e ↦ record {
                 seat = id;
                 view = after_claim true c q v;
                 there = set_there s.views id (after_claim true c q v) v here;
-                parent = may.parent.node;
-                told = subst (λ (k : ℕ). IsTold (after_claim true c q v) (Info k P may.parent.node)) (sym e) (claims_told (flat_from plan) v c q may);
+                claimed = subst (λ (k : ℕ). Has (after_claim true c q v).won (exchange.Claim, k)) (sym e) (latest (exchange.Claim, c) v.won);
               }
-              | inr apart ↦ told_on s (set s.words 0 (c + 1)) id v (after_claim true c q v) here (claim_told true c q v) d (h.told d low (omega arith))
+              | inr apart ↦ claimed_on s (set s.words 0 (c + 1)) id v (after_claim true c q v) here (λ e h. earlier e (exchange.Claim, c) v.won h) d (h.won d low (omega arith))
             ];
           }
 
-  turn_told : (t : Turn) (s' : TableState) → TableTurns plan s t s' → AllTold first s'
-  turn_told (Makes id (call.Claim c q)) s' turn = subst (AllTold first) (sym turn.gives) (claimed_told id turn.view c q turn.there turn.may.0)
-  turn_told (Makes id c) s' turn = subst (AllTold first) (sym turn.gives) (call_told id turn.view c turn.there (λ d q e. (cc)))
-  turn_told (Splits id chosen) s' turn =
+  turn_claimed : (t : Turn) (s' : TableState) → TableTurns plan s t s' → AllClaimed first s'
+  turn_claimed (Makes id (call.Claim c q)) s' turn = subst (AllClaimed first) (sym turn.gives) (claim_claimed id turn.view c q turn.there turn.may.0)
+  turn_claimed (Makes id c) s' turn = subst (AllClaimed first) (sym turn.gives) (call_claimed id turn.view c turn.there (λ d q e. (cc)))
+  turn_claimed (Splits id chosen) s' turn =
       let v = turn.view in
       let left = left_view chosen v in
-      subst (AllTold first) (sym turn.gives) (record {
+      subst (AllClaimed first) (sym turn.gives) (record {
         next = h.next;
-        told = λ d low below.
-            let on = told_on s s.words id v left turn.there (λ e x. x) d (h.told d low below) in
-            record { seat = on.seat; view = on.view; there = at_longer (set s.views id left) (right_view chosen v ∷ []) on.seat on.view on.there; parent = on.parent; told = on.told };
+        won = λ d low below.
+            let on = claimed_on s s.words id v left turn.there (λ e x. x) d (h.won d low below) in
+            record { seat = on.seat; view = on.view; there = at_longer (set s.views id left) (right_view chosen v ∷ []) on.seat on.view on.there; claimed = on.claimed };
       })
-  turn_told (Joins id other) s' turn =
+  turn_claimed (Joins id other) s' turn =
       let v = turn.view in
       let w = turn.view' in
       let both = joined_view v w in
-      subst (AllTold first) (sym turn.gives) (record {
+      subst (AllClaimed first) (sym turn.gives) (record {
         next = h.next;
-        told = λ d low below. joined d (told_on s s.words id v both turn.there (λ e x. told_left v.told w.told e x) d (h.told d low below)) (h.told d low below);
+        won = λ d low below. joined d (claimed_on s s.words id v both turn.there (λ e x. has_left v.won w.won e x) d (h.won d low below)) (h.won d low below);
       })
     where
-      joined : (d : ℕ) → IsToldOf (record { words = s.words; homes = s.homes; views = set s.views id (joined_view turn.view turn.view') }) d → IsToldOf s d
-          → IsToldOf (record { words = s.words; homes = s.homes; views = set (set s.views id (joined_view turn.view turn.view')) other spent_view }) d
+      joined : (d : ℕ) → IsClaimedBySome (record { words = s.words; homes = s.homes; views = set s.views id (joined_view turn.view turn.view') }) d → IsClaimedBySome s d
+          → IsClaimedBySome (record { words = s.words; homes = s.homes; views = set (set s.views id (joined_view turn.view turn.view')) other spent_view }) d
       joined d on was = elim (cases_eq on.seat other) [
         | inl e ↦ record {
           seat = id;
           view = joined_view turn.view turn.view';
           there = set_else (set s.views id (joined_view turn.view turn.view')) other id spent_view turn.apart ∙ set_there s.views id (joined_view turn.view turn.view') turn.view turn.there;
-          parent = on.parent;
-          told = told_right turn.view.told turn.view'.told (Info d P on.parent) (subst (λ (u : View). IsTold u (Info d P on.parent))
+          claimed = has_right turn.view.won turn.view'.won (exchange.Claim, d) (subst (λ (u : View). Has u.won (exchange.Claim, d))
               (some-injective on.view turn.view' (sym on.there ∙ (ap (get_elem? (set s.views id (joined_view turn.view turn.view'))) e
-              ∙ (set_else s.views id other (joined_view turn.view turn.view') (λ same. turn.apart (sym same)) ∙ turn.there')))) on.told);
+              ∙ (set_else s.views id other (joined_view turn.view turn.view') (λ same. turn.apart (sym same)) ∙ turn.there')))) on.claimed);
         }
         | inr n ↦ record {
           seat = on.seat;
           view = on.view;
           there = set_else (set s.views id (joined_view turn.view turn.view')) other on.seat spent_view n ∙ on.there;
-          parent = on.parent;
-          told = on.told;
+          claimed = on.claimed;
         }
       ]
 
-run_told : (plan : TablePlan) (first : ℕ) (s : TableState) (turns : List Turn) (s' : TableState) → TableRun plan s turns s' → AllTold first s → AllTold first s'
-run_told plan first s [] s' run h = subst (AllTold first) (sym run) h
-run_told plan first s (t ∷ ts) s' run h = run_told plan first run.0 ts s' run.2 (turn_told plan first s h t run.0 run.1)
+run_claimed : (plan : TablePlan) (first : ℕ) (s : TableState) (turns : List Turn) (s' : TableState) → TableRun plan s turns s' → AllClaimed first s → AllClaimed first s'
+run_claimed plan first s [] s' run h = subst (AllClaimed first) (sym run) h
+run_claimed plan first s (t ∷ ts) s' run h = run_claimed plan first run.0 ts s' run.2 (turn_claimed plan first s h t run.0 run.1)
 
-pub all_told : (plan : TablePlan) (s : TableState) → IsReached plan s → AllTold (length plan.start) s
-all_told plan s h =
+pub all_claimed : (plan : TablePlan) (s : TableState) → IsReached plan s → AllClaimed (length plan.start) s
+all_claimed plan s h =
     let opens : get_or h.first.words 0 0 ≡ length plan.start + 1 = sym (listed_next h.first.words) ∙ ap (λ (w : Words). w.next) h.starts.words.are ∙ start_next plan.flat plan.start in
-    run_told plan (length plan.start) h.first h.turns s h.run (record {
+    run_claimed plan (length plan.start) h.first h.turns s h.run (record {
       next = omega arith;
-      told = λ c low below. absurd (omega arith);
+      won = λ c low below. absurd (omega arith);
     })
 
-pub claims_are_told : ClaimsAreTold
-claims_are_told plan s h = (all_told plan s h).told
+pub claims_are_won : ClaimsAreWon
+claims_are_won plan s h = (all_claimed plan s h).won

@@ -449,8 +449,9 @@ module _ (plan : TablePlan) (seat : ℕ) where
 
     came_as_one : (x low high : ℕ) → HasComeWhole at.view x low high → Came plan s0 turns s x low high
     came_as_one x low high c =
-        came_part plan s0 turns s x c.glance.low c.glance.high low high c.from c.upto
-        (subst (λ y. Came plan s0 turns s y c.glance.low c.glance.high) c.there ((at.came c.glance c.among).whole c.whole))
+        let glance = c.come.glance in
+        came_part plan s0 turns s x glance.low glance.high low high c.come.from c.come.upto
+        (subst (λ y. Came plan s0 turns s y glance.low glance.high) c.come.there ((at.came glance c.come.among).whole c.whole))
 
     goes_down : (from : Glance) (to : Stretch) (right : Bool) → MayLookDown (flat_from plan) at.view from to right → AllCame (view_after s at.view (call.LookDown from to right))
     goes_down from to right may g (latest _ _) =
@@ -673,11 +674,11 @@ pub stretches_of_one_state : (plan : TablePlan) (v : View) (low high : ℕ) (the
     → (s : TableState) → HasMachine plan s → (seat : ℕ) (s1 : TableState) → CallIsMade plan s seat call.Look s1 → (turns : List Turn) (s' : TableState)
     → TableRun plan s1 turns s' → LooksOn seat turns → get_elem? s'.views seat ≡ some v → WasSo plan s1 turns s' (HasBetween low high there)
 stretches_of_one_state plan v low high what found s r seat s1 call turns s' run on there =
-    let c = found.comes in
+    let c = found.comes.come in
     let came = looked plan v s r seat s1 call turns s' run on there c.glance c.among in
     came_there plan s1 turns s' seat v there found.node found.node_key low high what found.told found.tells
     (came_part plan s1 turns s' found.node c.glance.low c.glance.high low high c.from c.upto
-    (subst (λ x. Came plan s1 turns s' x c.glance.low c.glance.high) c.there (came.whole c.whole)))
+    (subst (λ x. Came plan s1 turns s' x c.glance.low c.glance.high) c.there (came.whole found.comes.whole)))
 
 -- and what it finds of one key
 pub keys_of_one_state : (plan : TablePlan) (v : View) (key node node_key : ℕ) (there : Option (ℕ × ℕ)) → HasCome v node key (key + 1) → IsTold v (Key node node_key)

@@ -64,6 +64,6 @@ call_among seat op said earlier during later on = record {
 
 -- what a pass answered last is a call's
 pub last_answers_are_of_calls : LastAnswersAreOfCalls
-last_answers_are_of_calls plan v op said card answered opened starts turns s' run seat there =
-    let h = answers_have_their_points plan v op said card answered opened starts turns s' run seat there in
+last_answers_are_of_calls plan v op said card took answered opened starts turns s' run seat there =
+    let h = answers_have_their_points plan v op said card took answered opened starts turns s' run seat there in
     subst (λ ts. IsItsCall ts seat op said) (sym h.is) (call_among seat op said h.earlier h.during h.later h.called.on)

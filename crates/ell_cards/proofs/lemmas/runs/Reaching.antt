@@ -105,7 +105,7 @@ module _ (plan : TablePlan) where
             own = (looks_read_their_own plan s' on id w (set_there s.views id w v here)).0;
             missed = (looks_read_their_own plan s' on id w (set_there s.views id w v here)).1;
             fixed = told_once s' on id w (set_there s.views id w v here);
-            values = told_one_value s' on id w (set_there s.views id w v here);
+            values = told_one_value s h id v here;
             keys = keys_stay c n v;
             share = same_share c n v;
             named = kept_named plan s' (reached_kept s' on) id w (set_there s.views id w v here);

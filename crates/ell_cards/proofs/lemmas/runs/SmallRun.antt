@@ -246,12 +246,12 @@ at_4 = run_leads at_3 insert_flags
 mark_is_lost_asks : RunAsks small_plan at_4 mark_is_lost
 mark_is_lost_asks =
     (refl, (record { knows = refl; place = told_at 2 _ _ refl }, told_at 4 _ _ refl))
-    ▸ (refl, (inl refl, refl))
-    ▸ (refl, (inl refl, refl))
-    ▸ (refl, (inl refl, refl))
-    ▸ (refl, record { parent_key = infinity1; right_key = 7; left_key = 5; knows = refl; parent = told_at 6 _ _ refl; leaf = told_at 2 _ _ refl; expects = told_at 3 _ _ refl; told_parent = told_at 15 _ _ refl; told_right = told_at 1 _ _ refl; told_left = told_at 0 _ _ refl; brings = refl; side = refl })
+    ▸ (refl, record { knows = inl refl; place = (4, inl (told_at 0 _ _ refl)); fixed = refl })
+    ▸ (refl, record { knows = inl refl; place = (4, inl (told_at 2 _ _ refl)); fixed = refl })
+    ▸ (refl, record { knows = inl refl; place = (4, inl (told_at 3 _ _ refl)); fixed = refl })
+    ▸ (refl, record { parent_key = infinity1; right_key = 7; left_key = 5; knows = refl; parent = told_at 4 _ _ refl; leaf = told_at 2 _ _ refl; expects = told_at 3 _ _ refl; told_parent = told_at 13 _ _ refl; told_right = told_at 1 _ _ refl; told_left = told_at 0 _ _ refl; brings = refl; side = refl })
+    ▸ (refl, record { knows = refl; place = told_at 4 _ _ refl })
     ▸ (refl, record { knows = refl; place = told_at 6 _ _ refl })
-    ▸ (refl, record { knows = refl; place = told_at 8 _ _ refl })
     ▸ tt
 
 abbrev at_5 : TableState
@@ -312,7 +312,8 @@ at_8 = run_leads at_7 delete_ends
 look_asks : RunAsks small_plan at_8 look
 look_asks =
     (refl, refl)
-    ▸ (refl, record { come = record { glance = record { node = 4; low = 0; high = greatest_key + 1; whole = true }; among = latest _ _; there = refl; from = omega arith; upto = omega arith }; as_one = λ is. absurd (false≢true is); met = told_at 0 _ _ refl; inner = refl; key = infinity1; told = told_at 14 _ _ refl; goes = record { low = omega arith; high = omega arith; whole = λ is. absurd (false≢true is) } })
+    ▸ (refl, told_at 0 _ _ refl)
+    ▸ (refl, record { come = record { glance = record { node = 4; low = 0; high = greatest_key + 1; whole = true }; among = latest _ _; there = refl; from = omega arith; upto = omega arith }; as_one = λ is. absurd (false≢true is); met = told_at 1 _ _ refl; inner = refl; key = infinity1; told = told_at 0 _ _ refl; goes = record { low = omega arith; high = omega arith; whole = λ is. absurd (false≢true is) } })
     ▸ (refl, told_at 0 _ _ refl)
     ▸ (refl, (told_at 1 _ _ refl, leaf_14))
     ▸ tt

@@ -1,4 +1,4 @@
-use Rattle.std.proofs.Common.{◌≡◌, ℕ, ◌==◌, if◌then◌else◌, Some, None, is_some, List, ◌∷◌, ◌++◌, [], drop, inl, inr, refl, sym, ap, ◌∙◌, subst}
+use Rattle.std.proofs.Common.{◌≡◌, ℕ, ◌==◌, if◌then◌else◌, Some, None, is_some, List, ◌∷◌, [], drop, inl, inr, refl, sym, ap, ◌∙◌, subst}
 use Rattle.std.proofs.lemmas.Bool.{eq-eqb}
 use Rattle.std.proofs.lemmas.Option.{same_Some}
 use mathlib.Core.Option.{some}
@@ -14,21 +14,22 @@ use Rattle.ell_core.proofs.lemmas.stages.Order.{delete_won-delete}
 use Rattle.ell_core.proofs.lemmas.stages.LaterKeys.{value_later}
 use Rattle.ell_core.proofs.lemmas.words.Sides.{card_value-delete}
 use Rattle.ell_cards.specs.Models.{TablePlan}
-use Rattle.ell_cards.specs.declared.call.Call.TheVariants as call
 use Rattle.ell_cards.specs.declared.view.Told.TheVariants.{Info, Value}
 use Rattle.ell_cards.specs.declared.view.View.{View}
 use Rattle.ell_cards.specs.Models.{IsTold}
 use Rattle.ell_cards.specs.States.{TableState}
 use Rattle.ell_cards.specs.Machines.{HasMachine}
-use Rattle.ell_cards.specs.Turns.{Turn, Makes, TableTurns, TableRun}
+use Rattle.ell_cards.specs.Turns.{Turn, TableTurns, TableRun}
 use Rattle.ell_cards.specs.TurnEffects.{own_words, turn_wins}
 use Rattle.ell_cards.specs.Changing.{run_effects}
-use Rattle.ell_cards.specs.Taking.{DeletesTakeTheToldValue}
+use Rattle.ell_cards.specs.Taking.{DeletesTakeWhatTheyTell}
+use Rattle.ell_cards.specs.Changes.{taken_by}
+use Rattle.ell_cards.proofs.lemmas.views.TakenValues.{takes_by}
 use Rattle.ell_cards.proofs.lemmas.own_words.OwnWords.{own_taken_value}
 use Rattle.ell_cards.proofs.lemmas.runs.GoingOn.{run_goes}
 use Rattle.ell_cards.proofs.lemmas.runs.Points.{dchild_flagged, dchild_claimed}
 use Rattle.ell_cards.proofs.lemmas.runs.Starting.{starts_are_kept}
-use Rattle.ell_cards.proofs.lemmas.runs.AsMap.{trees_are_of_one_thread, runs_on, run_kept}
+use Rattle.ell_cards.proofs.lemmas.runs.AsMap.{trees_are_of_one_thread, run_kept}
 use Rattle.ell_cards.proofs.lemmas.runs.Answering.{answers_with_card}
 
 -- the value that goes with a delete's card before its child exchange is the one that a pass is told of the card's leaf later
@@ -53,26 +54,28 @@ says_no there key says leaves =
     let none : there key ≡ None = sym leaves ∙ ap (λ b. if b then None else there key) (eq-eqb key key refl) in
     let e : Yes ≡ No = says ∙ ap (λ o. yes_if (is_some o)) none in cc
 
--- a delete that was answered yes took what its pass was told of its card's leaf
-pub deletes_take_the_told_value : DeletesTakeTheToldValue
-deletes_take_the_told_value plan v key c leaf value last told_leaf told_value s starts turns s' run seat there =
-    let a = answers_with_card plan v (Delete key) Yes (Some c) last s starts turns s' run seat there in
+-- a delete that was answered yes took what its pass says it took
+pub deletes_take_what_they_tell : DeletesTakeWhatTheyTell
+deletes_take_what_they_tell plan v key card value last s starts turns s' run seat there =
+    let a = answers_with_card plan v (Delete key) Yes card (Some value) last s starts turns s' run seat there in
     let did = a.0 in
     let p = did.point in
     let had = final (contents_of plan.start) (run_effects plan s p.all p.state p.led) in
     let map = trees_are_of_one_thread plan s starts p.all p.state p.led in
     let kept = run_kept plan s (starts_are_kept plan s starts).kept p.all p.state p.led in
-    let rest = runs_on plan p.state (drop p.first did.during) did.at (Makes seat (call.Answer Yes) ∷ did.later) s' p.after
-    (did.called.ended, did.called.answers, did.since) in
+    let answering = did.called.answers.view in
     record {
       call = did;
       had = elim p.goes [
         | inl leaves ↦ absurd (says_no had key p.says (leaves had map key))
         | inr next ↦
-            let card : next.card ≡ c = same_Some next.card c (sym (next.hand.holds did.called.answers.view did.called.answers.there).0 ∙ a.1) in
+            let holds = next.hand.holds answering did.called.answers.there in
+            let t = takes_by (Delete key) answering.worker.card Yes answering.told value
+            (ap (λ o. taken_by o answering.worker.card Yes answering.told) (sym a.1) ∙ a.3) in
+            let card_is : next.card ≡ t.c = same_Some next.card t.c (sym holds.0 ∙ t.holds) in
             (map key (card_value (own_words p.state) next.card)).0 next.finds
             ∙ ap (λ n. Some n) (told_is_value plan p.state kept next.turn next.next next.now next.card next.own
-            (drop p.first did.during ++ Makes seat (call.Answer Yes) ∷ did.later) s' rest seat v there leaf value
-            (subst (λ d. IsTold v (Info d field.L leaf)) (sym card) told_leaf) told_value)
+            (drop p.first did.during) did.at p.after seat answering did.called.answers.there t.leaf value
+            (subst (λ d. IsTold answering (Info d field.L t.leaf)) (sym card_is) t.at_leaf) t.at_value)
       ];
     }

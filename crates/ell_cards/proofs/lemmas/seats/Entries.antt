@@ -1,4 +1,4 @@
-use Rattle.std.proofs.Common.{◌≡◌, ◌≢◌, refl, ℕ, ◌≤◌, ◌+◌, ◌*◌, ◌<◌, ◌++◌, ap, ◌⊎◌, ◌==◌, if◌then◌else◌, eq-eqb, eqb-true, Bool, true, false, List, [], ◌∷◌, sym, ◌∙◌, inl, inr, arith, true≢false}
+use Rattle.std.proofs.Common.{◌≡◌, ◌≢◌, refl, ℕ, ◌≤◌, ◌+◌, ◌*◌, ◌<◌, ap, ◌==◌, if◌then◌else◌, eq-eqb, eqb-true, Bool, true, false, List, [], ◌∷◌, sym, ◌∙◌, arith, true≢false}
 use Rattle.ell_word.specs.Node.{card, IsInternal}
 use Rattle.ell_word.specs.declared.update.State.{State}
 use Rattle.ell_word.specs.declared.update.State.TheVariants as state
@@ -88,12 +88,6 @@ told_value_is w stage (d ∷ es) x value old (earlier _ _ _ h) = by d old (told_
     by (Info c f n) holds rest = rest
     by (Expects c tag) holds rest = rest
     by (Frozen c right n) holds rest = rest
-
--- what one of two lists tells, both together tell
-pub told_either : (a b : List Told) (e : Told) → Has (a ++ b) e → Has a e ⊎ Has b e
-told_either [] b e h = inr h
-told_either (d ∷ a) b e (latest _ _) = inl (latest d a)
-told_either (d ∷ a) b e (earlier _ _ _ h) = elim (told_either a b e h) [ inl g ↦ inl (earlier e d a g) | inr g ↦ inr g ]
 
 -- what is so of each entry of a list is so of each of the list with one more
 pub with_entry : (P : Told → Type 0) (d : Told) (es : List Told) → P d → ((e : Told) → Has es e → P e) → (e : Told) → Has (d ∷ es) e → P e

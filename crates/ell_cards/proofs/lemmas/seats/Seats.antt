@@ -11,7 +11,7 @@ use Rattle.ell_core.specs.declared.event.Stepped.{Stepped}
 use Rattle.ell_layout.specs.declared.field.Field.{Field}
 use Rattle.ell_layout.specs.Layout.{listed}
 use Rattle.ell_layout.specs.Words.{Words, table_word, put}
-use Rattle.ell_core.specs.state.Machine.{Worker, Machine, Scene, scene, with_scene, worker_of}
+use Rattle.ell_core.specs.state.Machine.{Worker, Machine, Scene, scene, with_scene, worker_of, no_search}
 use Rattle.ell_core.specs.acts.Events.{Happens, Steps}
 use Rattle.ell_core.specs.soundness.Sound.{WorkerOwns}
 use Rattle.ell_core.specs.history.Stages.{Stages, Born, waits}
@@ -22,7 +22,7 @@ use Rattle.ell_core.specs.statements.StepLaws.{Reliance}
 use Rattle.ell_layout.proofs.lemmas.Writes.{put_same, put_other}
 use Rattle.ell_core.proofs.lemmas.following.Lawful.{events_lawful}
 use Rattle.ell_core.proofs.lemmas.following.Reliance.{may_rely}
-use Rattle.ell_cards.specs.Models.{TablePlan}
+use Rattle.ell_cards.specs.Models.{TablePlan, IsFree}
 use Rattle.ell_cards.specs.declared.view.Told.{Told}
 use Rattle.ell_ops.specs.Meaning.{key_of}
 use Rattle.ell_core.specs.declared.fact.Fact.{Fact}
@@ -89,6 +89,10 @@ module _ (plan : TablePlan) (s : TableState) (r : HasMachine plan s) (id : ℕ) 
   -- that worker is sound
   pub mine_sound : WorkerIsSound r.words r.stages (worker_of v.worker)
   mine_sound = subst (WorkerIsSound r.words r.stages) mine_is (r.invariant.workers.each id)
+
+  -- where no operation is in hand, the search stands nowhere
+  pub rests_nowhere : IsFree v → v.worker.search ≡ no_search
+  rests_nowhere free = ap (λ (u : Worker). u.search) (mine_sound.free free)
 
   -- what the seat may rely on
   pub relies : Reliance machine r.stages id

@@ -14,7 +14,7 @@ use Rattle.ell_cards.specs.declared.call.Call.TheVariants as call
 use Rattle.ell_cards.specs.declared.view.Told.{Told}
 use Rattle.ell_cards.specs.declared.view.Told.TheVariants.{Met, Key, Info, Frozen, Expects}
 use Rattle.ell_cards.specs.declared.view.View.{View}
-use Rattle.ell_cards.specs.Depths.{depth_told, depth_under, met_at, level, tells_grandparent_of, tells_parent_of}
+use Rattle.ell_cards.specs.Depths.{depth_told, depth_under, met_at, level, tells_grandparent_of}
 use Rattle.ell_cards.specs.Models.{IsTold, Has, earlier, InTable, KnowsCard, KnowsDelete}
 use Rattle.ell_cards.specs.Changes.{told_info, depth_there}
 use Rattle.ell_core.specs.state.Facts.{known_of}
@@ -26,7 +26,7 @@ use Rattle.ell_cards.specs.Machines.{EntryHolds, HasMachine}
 use Rattle.ell_core.specs.statements.Told.{is_fixed}
 use Rattle.ell_cards.specs.Laws.{IsEvent}
 use Rattle.ell_cards.proofs.lemmas.views.Entries.{info_more}
-use Rattle.ell_cards.proofs.lemmas.views.Depths.{met_more, under_at_most, grandparent_is, parent_is}
+use Rattle.ell_cards.proofs.lemmas.views.Depths.{met_more, under_at_most, grandparent_is}
 use Rattle.ell_cards.proofs.lemmas.seats.Entries.{with_entry, met_holds, below_holds, told_within}
 use Rattle.ell_cards.proofs.lemmas.seats.Seats.{mine_sound}
 use Rattle.ell_cards.proofs.lemmas.seats.Frames.{kept_told, is_no_event}
@@ -91,7 +91,7 @@ module _ (plan : TablePlan) (s : TableState) (r : HasMachine plan s) (id : ℕ) 
   p_inner : (c : ℕ) → KnowsCard v c → IsInternal (r.words.p c)
   p_inner c k = elim (known_card plan s r id v here c k) [ inl i ↦ i.parent.inner | inr d ↦ d.parent.inner ]
 
-  -- a delete's parent has a greater level than its grandparent, and a leaf than its parent
+  -- a delete's parent has a greater level than its grandparent
   parent_there : (c p : ℕ) → r.words.p c ≡ p → depth_there v c field.P ≤ level r.words p
   parent_there c p is = by (known_of v.worker.knows (DFlagged c)) (known_of v.worker.knows (Marked c)) refl refl
     where
@@ -108,13 +108,6 @@ module _ (plan : TablePlan) (s : TableState) (r : HasMachine plan s) (id : ℕ) 
       by true b flagged marked = under (inl flagged)
       by false true flagged marked = under (inr marked)
       by false false flagged marked = omega arith
-
-  leaf_there : (c l : ℕ) → KnowsCard v c → r.words.l c ≡ l → depth_there v c field.L ≤ level r.words l
-  leaf_there c l k is = under_at_most (tells_parent_of c) v.told v.told (level r.words l) (λ e p has tells.
-      let p_is : r.words.p c ≡ p = told_is plan s r id v here c field.P p (subst (IsTold v) (parent_is c e p tells) has) in
-      let less = level_rises r.words p l (subst IsInternal p_is (p_inner c k)) (ranks_are (r.words.p c) (r.words.l c) p l p_is is (deeper c k)) in
-      let at = told_within r.words r.stages v.told (r.views id v here).entries p in
-      omega arith)
 
   -- what is told of a card's word
   info_entries : (c : ℕ) (f : Field) (n : ℕ) → KnowsCard v c → is_fixed f ≡ true → table_word r.words c f ≡ n
@@ -139,13 +132,9 @@ module _ (plan : TablePlan) (s : TableState) (r : HasMachine plan s) (id : ℕ) 
           let link = link_in n in
           let read = leaf_read c n k eq in
           let claimed = known_claimed plan s r id v here c k in
-          let depth = depth_there v c field.L in
-          with_entry (EntryHolds r.words r.stages) (Info c field.L link.node) (Expects c link.tag ∷ met_at depth link.node v.told)
+          with_entry (EntryHolds r.words r.stages) (Info c field.L link.node) (Expects c link.tag ∷ v.told)
           (claimed, fixed, ap (λ (l : Link). l.node) (sym read))
-          (with_entry (EntryHolds r.words r.stages) (Expects c link.tag) (met_at depth link.node v.told)
-          (claimed, ap (λ (l : Link). l.tag) (sym read))
-          (met_holds r.words r.stages depth link.node v.told (subst (Born r.stages) (ap (λ (l : Link). l.node) (sym read)) (l_born c k))
-          (leaf_there c link.node k (ap (λ (l : Link). l.node) (sym read))) old))
+          (with_entry (EntryHolds r.words r.stages) (Expects c link.tag) v.told (claimed, ap (λ (l : Link). l.tag) (sym read)) old)
       by field.Was fixed eq = with_entry (EntryHolds r.words r.stages) (Info c field.Was n) v.told (known_claimed plan s r id v here c k, fixed, eq) old
       by field.Key fixed eq = with_entry (EntryHolds r.words r.stages) (Info c field.Key n) v.told (known_claimed plan s r id v here c k, fixed, eq) old
       by field.LeftLeafKey fixed eq = with_entry (EntryHolds r.words r.stages) (Info c field.LeftLeafKey n) v.told (known_claimed plan s r id v here c k, fixed, eq) old
@@ -170,11 +159,11 @@ module _ (plan : TablePlan) (s : TableState) (r : HasMachine plan s) (id : ℕ) 
   keeps_info c f may =
       let n = get_or s.words (address c f) 0 in
       let h = r.views id v here in
-      let is : table_word r.words c f ≡ n = sym (r.settled c f (known_settled plan s r id v here c may.0)) in
-      let said = says c f n may.0 may.1 is in
+      let is : table_word r.words c f ≡ n = sym (r.settled c f (known_settled plan s r id v here c may.knows)) in
+      let said = says c f n may.knows may.fixed is in
       is_no_event plan s r id v here (call.Info c f)
       (kept_told plan s r id v here (after_info c f n v) refl (record {
-        entries = info_entries c f n may.0 may.1 is;
+        entries = info_entries c f n may.knows may.fixed is;
         here = λ y key at told. info_more (depth_there v c f) c f n v.told (Key y key) (h.here y key at told);
         hand = h.hand;
         read = h.read;
@@ -182,7 +171,7 @@ module _ (plan : TablePlan) (s : TableState) (r : HasMachine plan s) (id : ℕ) 
         knew = h.knew;
         walk = h.walk;
       }) (address c f))
-      refl refl (tells_node c f n may.0 said)
+      refl refl (tells_node c f n may.knows said)
 
   -- frozen_child
   pub keeps_frozen_child : (c p : ℕ) (right : Bool) → KnowsPlace v (Marked c) c field.P p → IsEvent plan s r id v (call.FrozenChild c p right)

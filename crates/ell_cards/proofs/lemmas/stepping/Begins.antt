@@ -1,4 +1,4 @@
-use Rattle.std.proofs.Common.{◌≡◌, ◌≢◌, ◌⊎◌, ◌∷◌, ◌==◌, Bool, true, false, set, if◌then◌else◌, ℕ, eq-eqb, ne_eqb, List, Option, Some, None, refl, sym, ap, ◌∙◌, subst, inl, inr, arith}
+use Rattle.std.proofs.Common.{◌≡◌, ◌≢◌, ◌⊎◌, ◌==◌, Bool, true, false, set, if◌then◌else◌, ℕ, eq-eqb, ne_eqb, List, Option, Some, None, refl, sym, ap, ◌∙◌, subst, inl, inr, arith}
 use Rattle.ell_core.proofs.lemmas.stages.LaterKeys.{start_there}
 use mathlib.Core.Option.{some}
 use lib.ListN.{get_elem?}
@@ -17,10 +17,8 @@ use Rattle.ell_core.proofs.lemmas.outcomes.Decide.{some_not_none}
 use Rattle.ell_core.proofs.lemmas.following.Lawful.{events_lawful}
 use Rattle.ell_cards.specs.Models.{TablePlan}
 use Rattle.ell_cards.specs.declared.call.Call.TheVariants as call
-use Rattle.ell_cards.specs.declared.view.Told.{Told}
-use Rattle.ell_cards.specs.declared.view.Told.TheVariants.{Met, Value}
+use Rattle.ell_cards.specs.declared.view.Told.TheVariants.{Value}
 use Rattle.ell_cards.specs.declared.view.View.{View}
-use Rattle.ell_cards.specs.Models.{Has}
 use Rattle.ell_cards.specs.Calls.{key_address}
 use Rattle.ell_cards.specs.Changes.{with_entry as with_entry_for, after_begin, after_again, after_leave, after_answer, answered_ledger, with_entry as put_entry}
 use Rattle.ell_cards.specs.Guards.{MayBegin, MayAnswer, TellsOf, KnowsAnswerAtLeaf, KnowsAnswerByCard, CardIsOver}
@@ -34,11 +32,11 @@ use Rattle.ell_core.proofs.lemmas.following.Walks.{roots_avoid}
 use Rattle.ell_core.proofs.lemmas.stages.Ended.{over-cut}
 use Rattle.std.proofs.lemmas.Option.{same_Some}
 use Rattle.ell_cards.specs.States.{TableState, seated, seat_worker}
-use Rattle.ell_cards.specs.Machines.{EntryHolds, over_before, HasMachine}
+use Rattle.ell_cards.specs.Machines.{over_before, HasMachine}
 use Rattle.ell_cards.specs.Laws.{IsEvent}
-use Rattle.ell_cards.proofs.lemmas.seats.Entries.{with_entry}
 use Rattle.ell_cards.proofs.lemmas.seats.Seats.{leads, machine, mine, becomes, mine_is, mine_sound, set_there}
 use Rattle.ell_cards.proofs.lemmas.seats.Frames.{Onward, looks, is_event}
+use Rattle.ell_cards.proofs.lemmas.lifetimes.Idle.{forgotten_holds}
 use Rattle.ell_cards.proofs.lemmas.stepping.Looks.{here_key}
 use Rattle.ell_cards.proofs.lemmas.stepping.Settling.{settled_put, settled_none}
 use Rattle.ell_core.specs.declared.view.Entry.{Entry}
@@ -66,10 +64,6 @@ bare w stage v after no_key no_card owns list read least before knew walk = reco
 }
 
 module _ (plan : TablePlan) (s : TableState) (r : HasMachine plan s) (id : ℕ) (v : View) (here : get_elem? s.views id ≡ some v) where
-  -- what a pass that stands at the root was told
-  root_entries : (e : Told) → Has (Met 0 ∷ v.told) e → EntryHolds r.words r.stages e
-  root_entries = with_entry (EntryHolds r.words r.stages) (Met 0) v.told (start_there r.words r.stages r.invariant.words 0 (omega arith) refl) (r.views id v here).entries
-
   -- where a search begins, its walk comes by nothing that was cut out
   root_walk : (op : Op) (x : ℕ) → Some 0 ≡ Some x → Born r.stages x × Avoids r.words (λ c. known_of v.worker.knows (DOver c)) (key_of op) x
   root_walk op x at = subst (λ y. Born r.stages y × Avoids r.words (λ c. known_of v.worker.knows (DOver c)) (key_of op) y) (same_Some 0 x at) (
@@ -88,7 +82,7 @@ module _ (plan : TablePlan) (s : TableState) (r : HasMachine plan s) (id : ℕ) 
         room = λ h. h;
       } in
       is_event plan s r id v here (call.Begin op) (act.Begin op) Moved r.words
-      (looks plan s r id v here (act.Begin op) Moved after happens (λ c. refl) root_entries
+      (looks plan s r id v here (act.Begin op) Moved after happens (λ c. refl) (forgotten_holds r.words r.stages r.invariant.words)
       (bare r.words r.stages v after refl refl (λ k h. h) refl (λ n at. absurd (some_not_none at refl)) refl (λ f k. k) (λ f k. k) (λ o x busy at. root_walk o x at)) (key_address 0))
       refl refl tt
 
@@ -102,7 +96,7 @@ module _ (plan : TablePlan) (s : TableState) (r : HasMachine plan s) (id : ℕ) 
         room = λ h. h;
       } in
       is_event plan s r id v here call.Again act.Again Moved r.words
-      (looks plan s r id v here act.Again Moved after happens (λ c. refl) root_entries
+      (looks plan s r id v here act.Again Moved after happens (λ c. refl) (forgotten_holds r.words r.stages r.invariant.words)
       (bare r.words r.stages v after refl refl (λ k h. h) refl (λ n at. absurd (some_not_none at refl)) refl (λ f k. k) (λ f k. k) (λ o x busy at. root_walk o x at)) (key_address 0))
       refl refl tt
 
@@ -116,8 +110,7 @@ module _ (plan : TablePlan) (s : TableState) (r : HasMachine plan s) (id : ℕ) 
         room = λ h. h;
       } in
       is_event plan s r id v here call.Leave act.Leave Moved r.words
-      (looks plan s r id v here act.Leave Moved after happens (λ c. refl)
-      (r.views id v here).entries
+      (looks plan s r id v here act.Leave Moved after happens (λ c. refl) (forgotten_holds r.words r.stages r.invariant.words)
       (bare r.words r.stages v after refl refl (λ k h. h) refl (λ n at. at) refl (r.views id v here).knew (r.views id v here).knew (λ o x busy at. absurd (some_not_none at refl))) (key_address 0))
       refl refl (let low = (r.views id v here).least in let room = r.invariant.limit in omega arith)
 
@@ -207,7 +200,7 @@ module _ (plan : TablePlan) (s : TableState) (r : HasMachine plan s) (id : ℕ) 
       (subst (λ (u : Worker). AnswersAsMap u (seat_worker (get_elem? (set s.views id after) id)).ledger said) same told) in
       is_event plan s r id v here (call.Answer said) act.Answer (Answered said) r.words
       (looks plan s r id v here act.Answer (Answered said) after happens (λ c. refl)
-      (r.views id v here).entries
+      (forgotten_holds r.words r.stages r.invariant.words)
       (bare r.words r.stages v after refl refl (λ k has none. has ((set_now.owned k).1 none)) refl (λ n at. at) refl (r.views id v here).knew (r.views id v here).knew
       (λ o x busy at. absurd (some_not_none at refl))) (key_address 0))
       refl refl (set_now, (let low = (r.views id v here).least in let room = r.invariant.limit in omega arith))

@@ -4,6 +4,8 @@ use lib.ListN.{get_elem?}
 use Rattle.ell_word.specs.Node.{IsInternal}
 use Rattle.ell_core.specs.history.Stages.{Born}
 use Rattle.ell_core.proofs.lemmas.stages.LaterKeys.{root_born}
+use Rattle.ell_core.specs.declared.view.Search.{Search}
+use Rattle.ell_core.proofs.lemmas.outcomes.Decide.{some_not_none}
 use Rattle.ell_cards.specs.Models.{TablePlan, flat_from}
 use Rattle.ell_cards.specs.declared.call.Call.TheVariants as call
 use Rattle.ell_cards.specs.declared.view.Told.TheVariants.{Met, Key}
@@ -12,6 +14,7 @@ use Rattle.ell_cards.specs.declared.glance.Stretch.{Stretch}
 use Rattle.ell_cards.specs.declared.view.View.{View}
 use Rattle.ell_cards.specs.Models.{IsFree}
 use Rattle.ell_cards.proofs.lemmas.views.Afters.{after_look, after_look_down}
+use Rattle.ell_cards.specs.Changes.{forgotten}
 use Rattle.ell_cards.specs.Guards.{MayLookDown}
 use Rattle.ell_cards.specs.Calls.{child_address}
 use Rattle.ell_cards.specs.States.{TableState}
@@ -19,6 +22,8 @@ use Rattle.ell_cards.specs.Machines.{HasMachine}
 use Rattle.ell_cards.specs.Laws.{IsEvent}
 use Rattle.ell_cards.proofs.lemmas.seats.Entries.{below_holds}
 use Rattle.ell_cards.proofs.lemmas.seats.Frames.{kept_told, is_no_event}
+use Rattle.ell_cards.proofs.lemmas.lifetimes.Idle.{forgotten_holds}
+use Rattle.ell_cards.proofs.lemmas.seats.Seats.{rests_nowhere}
 use Rattle.ell_cards.proofs.lemmas.stepping.Looks.{born_in_table, child_read}
 use Rattle.ell_cards.specs.Depths.{depth_told}
 use Rattle.ell_core.specs.tree.Rank.{rank}
@@ -44,8 +49,9 @@ module _ (plan : TablePlan) (s : TableState) (r : HasMachine plan s) (id : ℕ) 
       let child = child_there 0 false refl (root_born r.words r.stages r.invariant.words) in
       is_no_event plan s r id v here call.Look
       (kept_told plan s r id v here (after_look n v) refl (record {
-        entries = below_holds r.words r.stages 0 (link_in n).node v.told child.0 refl child.1 h.entries;
-        here = λ y k at told. met_more (depth_told v.told 0 + 1) (link_in n).node v.told (Key y k) (h.here y k at told);
+        entries = below_holds r.words r.stages 0 (link_in n).node forgotten child.0 refl child.1
+            (forgotten_holds r.words r.stages r.invariant.words);
+        here = λ y k at told. absurd (some_not_none at (ap (λ (k : Search). k.node) (rests_nowhere plan s r id v here may)));
         hand = h.hand;
         read = h.read;
         least = h.least;

@@ -9,7 +9,7 @@ use Rattle.ell_core.specs.state.Facts.{known_of}
 use Rattle.ell_core.specs.declared.fact.Fact.TheVariants.{DFlagged, Marked}
 use Rattle.ell_cards.specs.Changes.{depth_there}
 use Rattle.ell_cards.specs.Models.{Has, latest, earlier, IsTold, KnowsDelete}
-use Rattle.ell_cards.specs.Depths.{depth_told, depth_below, depth_under, met_at, tells_grandparent_of, tells_parent_of, most_depth, depth_of, IsShallow}
+use Rattle.ell_cards.specs.Depths.{depth_told, depth_below, depth_under, met_at, tells_grandparent_of, most_depth, depth_of, IsShallow}
 
 -- no depth that was told of a node is more than the one that it has by all of them
 pub depth_at_least : (told : List Told) (x d : ℕ) → Has told (Depth x d) → d ≤ depth_told told x
@@ -94,7 +94,7 @@ under_at_most such told (d ∷ es) most each =
     by None is = omega arith
     by (Some y) is = each d y (latest d es) is
 
--- the entries that tell the grandparent and the parent of a card
+-- the entry that tells the grandparent of a card
 pub grandparent_is : (c : ℕ) (e : Told) (gp : ℕ) → tells_grandparent_of c e ≡ Some gp → e ≡ Info c field.Gp gp
 grandparent_is c (Info d field.Gp x) gp e = by (d == c) refl e
   where
@@ -102,14 +102,6 @@ grandparent_is c (Info d field.Gp x) gp e = by (d == c) refl e
     by true same is = (let card = eqb-true d c same in let at = same_Some x gp is in cc)
     by false other is = absurd cc
 grandparent_is c _ gp e = absurd cc
-
-pub parent_is : (c : ℕ) (e : Told) (p : ℕ) → tells_parent_of c e ≡ Some p → e ≡ Info c field.P p
-parent_is c (Info d field.P x) p e = by (d == c) refl e
-  where
-    by : (b : Bool) → (d == c) ≡ b → (if b then Some x else None) ≡ Some p → Info d field.P x ≡ Info c field.P p
-    by true same is = (let card = eqb-true d c same in let at = same_Some x p is in cc)
-    by false other is = absurd cc
-parent_is c _ p e = absurd cc
 
 -- a node of which no depth was told but such as internal nodes and leaves may have
 pub told_shallow : (deepest : ℕ) (v : View) (x : ℕ) → ((d : ℕ) → IsTold v (Depth x d) → d ≤ most_depth deepest x) → IsShallow deepest v x

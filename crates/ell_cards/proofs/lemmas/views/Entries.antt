@@ -24,8 +24,7 @@ places_more x state.Clean c told e h = h
 pub info_more : (depth : ℕ) (c : ℕ) (f : Field) (x : ℕ) (told : List Told) (e : Told) → Has told e → Has (told_info depth c f x told) e
 info_more depth c field.Gp x told e h = earlier e _ _ (earlier e (Met x) told h)
 info_more depth c field.P x told e h = earlier e _ _ (met_more depth x told e h)
-info_more depth c field.L x told e h =
-    earlier e _ _ (earlier e _ _ (met_more depth (link_in x).node told e h))
+info_more depth c field.L x told e h = earlier e _ _ (earlier e _ _ h)
 info_more depth c f x told e h = earlier e _ told h
 
 -- what it says is told, and a node that it names is met
@@ -38,7 +37,6 @@ info_latest depth c f x told = latest _ told
 pub info_node : (depth : ℕ) (c : ℕ) (f : Field) (x : ℕ) (told : List Told) → NamesNode f → Has (told_info depth c f x told) (Met (says_by f x))
 info_node depth c field.Gp x told h = earlier (Met x) (Info c field.Gp x) (Met x ∷ told) (latest (Met x) told)
 info_node depth c field.P x told h = earlier _ _ _ (met_there depth x told)
-info_node depth c field.L x told h = earlier _ _ _ (earlier _ _ _ (met_there depth (link_in x).node told))
 info_node depth c f x told h = absurd h
 
 -- with the leaf's word the tag that the card expects is told

@@ -52,5 +52,4 @@ info_deep old new c f x s = subst (λ (w : View). depth_there old.view c f ≤ d
   where
     by : (g : Field) → depth_there old.view c g ≤ depth_of (after_info c g x old.view) (says_by g x)
     by field.P = met_deep (depth_there old.view c field.P) x old.view.told
-    by field.L = met_deep (depth_there old.view c field.L) (link_in x).node old.view.told
     by _ = omega arith

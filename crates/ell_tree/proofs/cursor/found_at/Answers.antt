@@ -33,7 +33,7 @@ returns-then-leaf_key-low-clause-on g c =
 pub value_of-value-requires-clause-met : goal.value_of-value-requires-clause-met
 value_of-value-requires-clause-met g c =
     let k = c.key_of-leaf_key in
-    (key_on c.args.pass.now k.new.pass c.args.leaf.node k.result k.ensures.step).only.told (Met c.args.leaf.node) c.requires.met
+    (key_on c.args.pass.now k.new.pass c.args.leaf.node k.result k.ensures.step).told (Met c.args.leaf.node) c.requires.met
 
 pub returns-clause-tells : goal.returns-clause-tells
 returns-clause-tells g c =

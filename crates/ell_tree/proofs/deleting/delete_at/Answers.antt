@@ -1,16 +1,13 @@
-use Rattle.std.proofs.Common.{◌+◌, ◌≡◌, ◌≢◌, Some, List, refl, sym, ap, ◌∙◌, subst, rules, arith}
+use Rattle.std.proofs.Common.{◌+◌, ◌≡◌, ◌≢◌, Some, refl, ap, ◌∙◌, rules, arith}
 use Rattle.ell_ops.specs.declared.op.Op.TheVariants.{Delete}
-use Rattle.ell_ops.specs.declared.reply.Reply.TheVariants.{Yes}
 use Rattle.ell_word.specs.declared.update.State.TheVariants.{Clean}
 use Rattle.ell_core.specs.declared.view.Search.{Search}
-use Rattle.ell_cards.specs.declared.view.Told.{Told}
-use Rattle.ell_cards.specs.Models.{flat_from, Does, Has, IsTold}
-use Rattle.ell_cards.specs.Changes.{answered_so}
-use Rattle.ell_cards.proofs.lemmas.runs.Taking.{deletes_take_the_told_value}
+use Rattle.ell_cards.specs.Models.{flat_from, Does}
+use Rattle.ell_cards.proofs.lemmas.runs.Taking.{deletes_take_what_they_tell}
 use Rattle.ell_tree.specs.CardsTaken.{cards_taken}
 use Rattle.ell_tree.specs.Hindrances.{way_of}
 use Rattle.ell_tree.specs.Searches.{seen_any, below, node_with}
-use Rattle.ell_tree.proofs.lemmas.Called.{takes_told}
+use Rattle.ell_tree.proofs.lemmas.Called.{answered_taking, takes_told}
 use Rattle.ell_tree.proofs.lemmas.Keeping.{inner_kept, share_trans}
 use Rattle.ell_tree.proofs.lemmas.Owning.{keeps_answers, had_value, would_delete}
 use Rattle.ell_tree.proofs.lemmas.Meeting.{meets_trans, meets_more, above_way, parent_way, nowhere_way, way_over, way_free, no_way}
@@ -270,7 +267,6 @@ returns-clause-took g c =
     let card = c.in-Card.card in
     let busy : Does m.view (Delete c.args.key) = search rules in
     let hand : m.view.worker.card ≡ Some card = c.finish_own.ensures.keeps_but_met.card ∙ c.in_default-flag_delete.ensures.flags.card in
-    let stays : (e : Told) → IsTold m.view e → IsTold new.view e = λ e has. subst (λ (es : List Told). Has es e) (sym said.ensures.told) has in
     let leaf = told_leaf t.view f.view card place c.flag_delete.ensures.keeps.view c.args.key c.in-Some.above
     (delete_card a.view t.view card 0 c.args.key place c.in-Some.above c.in-Some.is c.requires.searched.busy ends.at c.in-Card.ensures.claims.0) in
     let value = c.flag_delete.ensures.keeps.view.told _ (c.take_card.ensures.keeps.view.told _ (ends.at.leaf (ends.outer c.requires.key))) in
@@ -278,11 +274,10 @@ returns-clause-took g c =
     let same = c.finish_own.ensures.keeps_but_met.keeps.view.answers ∙ (c.flag_delete.ensures.keeps.view.answers ∙ c.take_card.ensures.keeps.view.answers) in (
       record {
         mine = had_value c.args.table.now.plan a a refl place c.args.key ends c.requires.key;
-        took = deletes_take_the_told_value c.args.table.now.plan new.view c.args.key card place.node place.value
-            (said.ensures.last ∙ (ap (λ o. answered_so o m.view.worker.card Yes) busy ∙ ap (λ o. answered_so (Some (Delete c.args.key)) o Yes) hand))
-            (stays _ (on _ leaf)) (stays _ (on _ value));
+        took = deletes_take_what_they_tell c.args.table.now.plan new.view c.args.key (Some card) place.value
+            (said.ensures.last ∙ answered_taking m.view c.args.key card place.node place.value busy hand said.ensures.values (on _ leaf) (on _ value));
       },
-      takes_told a m new c.args.key card place.node place.value same busy hand said.ensures.deeds said.ensures.told said.ensures.values (stays _ (on _ leaf)) (stays _ (on _ value)),
+      takes_told a m new c.args.key card place.node place.value same busy hand said.ensures.deeds said.ensures.values (on _ leaf) (on _ value),
     )
 
 -- the cards of each

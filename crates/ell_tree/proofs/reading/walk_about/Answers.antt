@@ -9,6 +9,7 @@ use Rattle.ell_cards.specs.Looking.{HasFoundBetween}
 use Rattle.ell_cards.proofs.lemmas.views.Afters.{after_look, after_key_of}
 use Rattle.ell_tree.proofs.lemmas.Counts.{uncounted_one, uncounted_trans}
 use Rattle.ell_tree.proofs.lemmas.Links.{child_same}
+use Rattle.ell_tree.proofs.lemmas.Cursors.{come_on, found_between}
 use Rattle.ell_tree.proofs.lemmas.Looks.{Comes, comes_first, comes_down, found_beside, may_down, only_none}
 use Rattle.ell_tree.proofs.reading.walk_about.Goals as goal
 use Rattle.ell_tree.proofs.reading.walk_about.Goals.{else-has_block-via-then-has_block+else-not-is_in_block, else-has_block-via-else-has_block}
@@ -73,3 +74,12 @@ loop-pass-preserved g c =
           (uncounted_trans l.pass k.new.pass d.new.pass 1 1 (uncounted_one l.pass k.new.pass (after_key_of l.here.node k.result l.pass.view) k.ensures.step refl)
           (uncounted_one k.new.pass d.new.pass _ d.ensures.step refl));
     }
+
+pub returns-clause-found : goal.returns-clause-found
+returns-clause-found g c =
+    let plan = c.args.table.now.plan in
+    let l = c.loop-pass in
+    let f = c.found_at-at_the_leaf in
+    let come = l.invariant.comes.as_one l.invariant.whole in
+    found_between (flat_from plan) f.new.pass.view l.here f.result.0 f.ensures.tells f.ensures.low f.ensures.high
+    (record { come = come_on l.pass f.new.pass 2 l.here.node l.here.low l.here.high f.ensures.on come.come; whole = come.whole })

@@ -7,7 +7,7 @@ use Rattle.ell_tree.specs.Ledgers.{present_in, Owns, ledger}
 use Rattle.ell_tree.proofs.lemmas.Called.{of_taken}
 use Rattle.ell_tree.proofs.steps.answer.Goals as goal
 use Rattle.ell_cards.proofs.lemmas.runs.Answering.{answers_have_their_points}
-use Rattle.ell_cards.specs.Changes.{answered_so, deed_taking, taken_by, with_answer}
+use Rattle.ell_cards.specs.Changes.{answered_so, taken_now, deed_taking, taken_by, with_answer}
 use Rattle.ell_cards.specs.Accounts.{own_calls}
 use Rattle.ell_cards.specs.Models.{PassModel}
 
@@ -32,8 +32,8 @@ returns-clause-answers g c op busy =
       says = subst (λ (o : Op). Owns old (key_of o) → c.args.said ≡ reply_of o (present_in old)) is a.says;
       map = subst (λ (o : Op). Owns old (key_of o) → (key : ℕ) → present_in new key ≡ after o (present_in old) key) is a.map;
       stays = subst (λ (o : Op). ¬ Owns old (key_of o) → ledger new ≡ ledger old) is (λ other. a.stays (none_of (ledger_of old.view.worker.ledger (key_of a.op)) other));
-      point = answers_have_their_points c.args.table.now.plan new.view op c.args.said old.view.worker.card
-          (ap (λ (p : PassModel). p.view.answered) c.answer.ensures.step ∙ ap (λ o. answered_so o old.view.worker.card c.args.said) busy);
+      point = answers_have_their_points c.args.table.now.plan new.view op c.args.said old.view.worker.card (taken_now c.args.said old.view)
+          (ap (λ (p : PassModel). p.view.answered) c.answer.ensures.step ∙ ap (λ o. answered_so o old.view.worker.card c.args.said (taken_now c.args.said old.view)) busy);
       share = search rules;
       owned = λ key. (λ has none. has ((a.owned key).1 none), λ has none. has ((a.owned key).0 none));
       answered = let more = ap (λ l. length (own_calls l)) called in omega arith;

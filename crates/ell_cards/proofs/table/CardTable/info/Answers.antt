@@ -5,7 +5,7 @@ use Rattle.ell_cards.proofs.table.CardTable.info.Goals as goal
 
 pub address-requires : goal.address-requires
 address-requires g c =
-    let low = known_fits c.args.self.now.plan.last_card c.args.pass.now.view c.args.card c.names.ensures.named c.requires.may.0 in
+    let low = known_fits c.args.self.now.plan.last_card c.args.pass.now.view c.args.card c.names.ensures.named c.requires.may.knows in
     let room = c.names.ensures.room in
     omega arith
 
