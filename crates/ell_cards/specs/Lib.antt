@@ -71,6 +71,8 @@ pub mod Stories
 pub mod Placing
 -- what its public clauses cite of the crates below
 pub use Rattle.ell_ops.specs.KeySet
+-- What step calls touch, and what was there before.
+pub mod Touching
 pub use Rattle.ell_ops.specs.Meaning
 pub use Rattle.ell_word.specs.Node
 pub use Rattle.ell_word.specs.Word

@@ -22,6 +22,7 @@ ghost use Rattle.ell_cards.specs.Placing.{LooksHavePlaces};
 ghost use Rattle.ell_cards.specs.LayingDown.{LaidDownCallsChangeNothing, LaidDownLastChangesNothing};
 ghost use Rattle.ell_cards.specs.Answering.{AnswersHaveTheirPoints};
 ghost use Rattle.ell_cards.specs.Taking.{DeletesTakeWhatTheyTell};
+ghost use Rattle.ell_cards.specs.Touching.{CallsTouchTheirWords, TablesHaveOuts, CallsTouchNothingGone};
 ghost use Rattle.ell_cards.specs.Sharing.{SharesAddUp};
 ghost use Rattle.ell_cards.specs.Tellings.{NoGreaterNext, NoGreaterUpdate, NoOtherOutcome, NoUntriedClaimLost};
 ghost use Rattle.ell_cards.specs.Laws.{StepsAreEvents, SplitsAreHandovers, JoinsAreHandovers, MachineIsSound, MachineHasOwnWords};
@@ -310,4 +311,16 @@ pub fn steps_tell_what_is_there()
     // No step can tell another outcome of an exchange, or that a claim was lost that was not tried.
     ensures outcome { NoOtherOutcome }
     ensures untried { NoUntriedClaimLost }
+{}
+
+/// What a pass was told it has forgotten where it begins an operation or a look, and again where that ends. So from there on,
+/// in every run, each step call of the pass touches only what was not gone then: the word of a node that no card had taken
+/// out of the tree for good, or that of a card that had not come to its end.
+pub fn calls_touch_nothing_gone()
+    // Each step call touches a word of the node or of the card that it is said to touch.
+    ensures words { CallsTouchTheirWords }
+    // Wherever turns have led a table, what was taken out is not in the tree, and one card has taken it out.
+    ensures outs { TablesHaveOuts }
+    // From where a pass forgets, its step calls touch nothing that was gone then.
+    ensures touches { CallsTouchNothingGone }
 {}

@@ -24,7 +24,8 @@ pub use closed::Closed;
 pub use fault::{CardFault, SplitFault};
 pub use glance::{Glance, Stretch};
 pub use laws::{
-    calls_have_their_point, histories_are_linearizable, laid_down_calls_change_nothing,
+    calls_have_their_point, calls_touch_nothing_gone, histories_are_linearizable,
+    laid_down_calls_change_nothing,
     looks_are_of_one_state, looks_have_places, readings_are_past, runs_are_lawful,
     runs_are_linearizable, runs_from_starts_are_lawful, searches_read_meanwhile, shares_add_up,
     splits_and_joins_are_handovers, steps_are_events, steps_tell_what_is_there, stories_are_told,

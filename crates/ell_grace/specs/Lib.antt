@@ -14,3 +14,5 @@ pub mod Grace
 pub mod Periods
 -- The premises of the laws can be met.
 pub mod Premises
+-- A state that comes from an earlier one.
+pub mod Since

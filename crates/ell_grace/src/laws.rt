@@ -2,6 +2,7 @@
 ghost use Rattle.ell_grace.specs.Gone.{EveryStateHasOuts};
 ghost use Rattle.ell_grace.specs.Operations.{OperationsMeetNothingGone};
 ghost use Rattle.ell_grace.specs.Looks.{LooksMeetNothingGone};
+ghost use Rattle.ell_grace.specs.Since.{StatesComeFromThemselves, EventsLeadOn, ChildrenWereNotGone};
 ghost use Rattle.ell_grace.specs.Edges.{EdgeNodeIsGone};
 ghost use Rattle.ell_grace.specs.Periods.{GraceStarts, GraceGoesOn, TakenCardsWereGone};
 ghost use Rattle.ell_grace.specs.Premises.{BeginsWhenGone, TakesWhenBusy};
@@ -19,6 +20,17 @@ pub fn operations_meet_nothing_gone()
     ensures operations { OperationsMeetNothingGone }
     // No look from node 0 comes to a node that was gone when it began.
     ensures looks { LooksMeetNothingGone }
+{}
+
+/// What comes from an earlier state: whoever knows an internal node that was not gone then may load each child of it, whatever
+/// the child is by now, since that was not gone then either.
+pub fn children_were_not_gone()
+    // A state comes from itself, as far as its cards have come.
+    ensures begins { StatesComeFromThemselves }
+    // Each event of each worker leads on from a state that comes from the earlier one.
+    ensures events { EventsLeadOn }
+    // A child of an internal node that was not gone in the earlier state was not gone there.
+    ensures children { ChildrenWereNotGone }
 {}
 
 /// Why the law leaves out the internal node above which an insert has put its own: that node is in the tree still, and a delete

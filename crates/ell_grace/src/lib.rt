@@ -6,6 +6,6 @@
 mod laws;
 
 pub use laws::{
-    edge_nodes_may_be_gone, grace_premises_can_be_met, operations_meet_nothing_gone,
-    taken_cards_were_gone,
+    children_were_not_gone, edge_nodes_may_be_gone, grace_premises_can_be_met,
+    operations_meet_nothing_gone, taken_cards_were_gone,
 };

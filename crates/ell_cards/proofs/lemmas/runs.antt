@@ -114,3 +114,5 @@ pub mod Histories
 pub mod Stories
 -- the places of looks
 pub mod Placing
+-- What step calls touch was there when the operation began.
+pub mod Touching

@@ -12,3 +12,5 @@ pub mod Walks
 pub mod Facts
 -- What a worker comes to know was not gone when it began.
 pub mod Workers
+-- A state that comes from an earlier one.
+pub mod Coming

@@ -58,16 +58,24 @@ module _ (views : List View) (id other : ℕ) (v w : View) (here : get_elem? vie
       sym ((λ t. put (λ i. seated_put views id v here both i t) other nobody j)
       ∙ seated_put (set views id both) other w still_there spent_view j)
 
-  -- what is so of the view of both, of what is left, and of all others, is so of the view in each seat after a join
-  pub each_joined : (P : View → Type 0) → P both → P spent_view → ((j : ℕ) (u : View) → get_elem? views j ≡ some u → P u)
-      → (j : ℕ) (u : View) → get_elem? (set (set views id both) other spent_view) j ≡ some u → P u
-  each_joined P of_both of_spent others j u at = ⊎_elim
-      (λ (t : (j ≡ other) × (spent_view ≡ u)). subst P t.1 of_spent)
+  -- the view in a seat after a join is that of both, or what is left of one, or was there
+  pub of_join : (j : ℕ) (u : View) → get_elem? (set (set views id both) other spent_view) j ≡ some u
+      → (both ≡ u) ⊎ ((spent_view ≡ u) ⊎ (get_elem? views j ≡ some u))
+  of_join j u at = ⊎_elim
+      (λ (t : (j ≡ other) × (spent_view ≡ u)). inr (inl t.1))
       (λ (t : (j ≢ other) × (get_elem? (set views id both) j ≡ some u)). ⊎_elim
-      (λ (q : (j ≡ id) × (both ≡ u)). subst P q.1 of_both)
-      (λ (q : (j ≢ id) × (get_elem? views j ≡ some u)). others j u q.1)
+      (λ (q : (j ≡ id) × (both ≡ u)). inl q.1)
+      (λ (q : (j ≢ id) × (get_elem? views j ≡ some u)). inr (inr q.1))
       (at_set views id j both u t.1))
       (at_set (set views id both) other j spent_view u at)
+
+  -- so what is so of both, of what is left, and of all others, is so of it
+  pub each_joined : (P : View → Type 0) → P both → P spent_view → ((j : ℕ) (u : View) → get_elem? views j ≡ some u → P u)
+      → (j : ℕ) (u : View) → get_elem? (set (set views id both) other spent_view) j ≡ some u → P u
+  each_joined P of_both of_spent others j u at = elim (of_join j u at) [
+    | inl b ↦ subst P b of_both
+    | inr o ↦ elim o [ inl e ↦ subst P e of_spent | inr was ↦ others j u was ]
+  ]
 
 none_of : (o : Option Entry) → (o ≢ None → ⊥) → o ≡ None
 none_of None h = refl

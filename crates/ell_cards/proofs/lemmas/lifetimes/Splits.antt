@@ -1,4 +1,4 @@
-use Rattle.std.proofs.Common.{◌≡◌, ◌≢◌, ℕ, zero, suc, ◌+◌, List, [], ◌∷◌, ◌++◌, length, set, get_or, filter, not, true, None, refl, sym, ap, ◌∙◌, subst, inl, inr, ⊎_elim, arith, length-set, Some, ◌-◌}
+use Rattle.std.proofs.Common.{◌⊎◌, inl, inr, ◌≡◌, ◌≢◌, ℕ, zero, suc, ◌+◌, List, [], ◌∷◌, ◌++◌, length, set, get_or, filter, not, true, None, refl, sym, ap, ◌∙◌, subst, inl, inr, ⊎_elim, arith, length-set, Some, ◌-◌}
 use Rattle.ell_core.proofs.lemmas.stages.Advances.{stages_same}
 use Rattle.std.specs.Prelude.{Contains}
 use Rattle.std.specs.List.{All}
@@ -52,16 +52,24 @@ module _ (views : List View) (id : ℕ) (v : View) (here : get_elem? views id �
         ∙ sym (put_other workers (length views) (worker_of right.worker) j n ∙ seated_put views id v here left j)
   ]
 
-  -- what is so of both parts, and of all others, is so of the view in each seat after a split
+  -- the view in a seat after a split is one of the parts, or was there
+  pub of_split : (j : ℕ) (u : View) → get_elem? (set views id left ++ right ∷ []) j ≡ some u
+      → (left ≡ u) ⊎ ((right ≡ u) ⊎ (get_elem? views j ≡ some u))
+  of_split j u at = ⊎_elim
+      (λ (a : get_elem? (set views id left) j ≡ some u). ⊎_elim
+      (λ (t : (j ≡ id) × (left ≡ u)). inl t.1)
+      (λ (t : (j ≢ id) × (get_elem? views j ≡ some u)). inr (inr t.1))
+      (at_set views id j left u a))
+      (λ (p : right ≡ u). inr (inl p))
+      (at_snoc (set views id left) right u j at)
+
+  -- so what is so of both parts, and of all others, is so of it
   pub each_split : (P : View → Type 0) → P left → P right → ((j : ℕ) (u : View) → get_elem? views j ≡ some u → P u)
       → (j : ℕ) (u : View) → get_elem? (set views id left ++ right ∷ []) j ≡ some u → P u
-  each_split P of_left of_right others j u at = ⊎_elim
-      (λ (a : get_elem? (set views id left) j ≡ some u). ⊎_elim
-      (λ (t : (j ≡ id) × (left ≡ u)). subst P t.1 of_left)
-      (λ (t : (j ≢ id) × (get_elem? views j ≡ some u)). others j u t.1)
-      (at_set views id j left u a))
-      (λ (p : right ≡ u). subst P p of_right)
-      (at_snoc (set views id left) right u j at)
+  each_split P of_left of_right others j u at = elim (of_split j u at) [
+    | inl l ↦ subst P l of_left
+    | inr o ↦ elim o [ inl r ↦ subst P r of_right | inr was ↦ others j u was ]
+  ]
 
 -- a split is one of the machine
 pub splits_are_handovers : SplitsAreHandovers

@@ -1,7 +1,7 @@
 use Rattle.ell_cards.specs.Depths.{met_at, depth_told}
 use Rattle.ell_cards.proofs.lemmas.views.Depths.{met_more}
 use Rattle.std.proofs.Common.{◌≡◌, ◌≢◌, ℕ, ◌+◌, ◌<◌, ◌==◌, if◌then◌else◌, Bool, true, false, List, [], ◌∷◌, ◌++◌, get_or, set, length, refl, sym, ap, ◌∙◌, subst, inl, inr, eqb-true, get_or-set_other, arith}
-use Rattle.std.proofs.lemmas.Bool.{cases_eq}
+use Rattle.std.proofs.lemmas.Bool.{cases_eq, true≢false}
 use lib.Seq.{set-get_or}
 use mathlib.Core.Option.{some, some-injective}
 use lib.ListN.{get_elem?}
@@ -25,6 +25,7 @@ use Rattle.ell_cards.specs.Changes.{expected_tag, told_filling, filling_of, afte
 use Rattle.ell_cards.specs.Guards.{MayClaim}
 use Rattle.ell_cards.proofs.lemmas.lifetimes.Openings.{start_next}
 use Rattle.ell_cards.specs.Calls.{word_of, atomic_of, left_by, after}
+use Rattle.ell_cards.specs.Touching.{forgets}
 use Rattle.ell_cards.specs.States.{TableState}
 use Rattle.ell_cards.specs.Turns.{Turn, Makes, Splits, Joins, TableTurns, TableRun, found_by, state_after}
 use Rattle.ell_cards.specs.Starts.{IsReached}
@@ -50,22 +51,13 @@ claim_told : (b : Bool) (c q : ℕ) (v : View) (e : Told) → IsTold v e → IsT
 claim_told true c q v e h = earlier e (Expects c (expected_tag v)) (told_filling c (filling_of c q v) v.told) (filling_more c (filling_of c q v) v.told e h)
 claim_told false c q v e h = h
 
--- a call that forgets nothing of what was told
-abbrev pub Remembers : Call → Type 0
-Remembers (call.Begin op) = ⊥
-Remembers call.Again = ⊥
-Remembers call.Leave = ⊥
-Remembers (call.Answer said) = ⊥
-Remembers call.Look = ⊥
-Remembers _ = Unit {0}
-
--- what was told stays told by such
-pub after_told : (c : Call) → Remembers c → (n : ℕ) (v : View) (e : Told) → IsTold v e → IsTold (after c n v) e
-after_told (call.Begin op) keeps n v e h = absurd keeps
-after_told call.Again keeps n v e h = absurd keeps
-after_told call.Leave keeps n v e h = absurd keeps
-after_told (call.Answer said) keeps n v e h = absurd keeps
-after_told call.Look keeps n v e h = absurd keeps
+-- what was told stays told by a call that forgets nothing
+pub after_told : (c : Call) → forgets c ≡ false → (n : ℕ) (v : View) (e : Told) → IsTold v e → IsTold (after c n v) e
+after_told (call.Begin op) keeps n v e h = absurd (true≢false keeps)
+after_told call.Again keeps n v e h = absurd (true≢false keeps)
+after_told call.Leave keeps n v e h = absurd (true≢false keeps)
+after_told (call.Answer said) keeps n v e h = absurd (true≢false keeps)
+after_told call.Look keeps n v e h = absurd (true≢false keeps)
 after_told (call.Upd x) keeps n v e h = places_more x (unpacked n).state (unpacked n).card v.told e h
 after_told (call.Down x right) keeps n v e h = met_more (depth_told v.told x + 1) (link_in n).node v.told e h
 after_told (call.KeyOf x) keeps n v e h = earlier e (Key x n) v.told h

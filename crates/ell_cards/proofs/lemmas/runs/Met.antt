@@ -109,24 +109,24 @@ after_met plan (call.Begin op) n v may rests h = met_root (after (call.Begin op)
 after_met plan call.Again n v may rests h = met_root (after call.Again n v) refl (latest (Met 0) []) refl refl
 after_met plan call.Leave n v may rests h = met_nowhere (after call.Leave n v) refl refl refl
 after_met plan (call.Answer said) n v may rests h = met_nowhere (after (call.Answer said) n v) refl refl refl
-after_met plan (call.Upd x) n v may rests h = met_still v (after (call.Upd x) n v) (after_told (call.Upd x) tt n v) (λ y e. e) refl refl h
+after_met plan (call.Upd x) n v may rests h = met_still v (after (call.Upd x) n v) (after_told (call.Upd x) refl n v) (λ y e. e) refl refl h
 after_met plan (call.Down x right) n v may rests h =
     let w = after (call.Down x right) n v in
-    let more = after_told (call.Down x right) tt n v in record {
+    let more = after_told (call.Down x right) refl n v in record {
       node = λ y e. subst (λ z. IsTold w (Met z)) (some_same e) (met_there (depth_told v.told x + 1) (link_in n).node v.told);
       parent = λ seen e. subst (IsPassed w) (seen_met (seen_below v x n) seen e) (record { inner = may.inner; met = more (Met x) (h.node x may.stands) });
       grandparent = λ seen e. passed_still v w more seen.node (h.parent seen e);
     }
-after_met plan (call.Claim c q) n v may rests h = met_same v (after (call.Claim c q) n v) (after_told (call.Claim c q) tt n v) (claim_search (n == c) c q v) h
+after_met plan (call.Claim c q) n v may rests h = met_same v (after (call.Claim c q) n v) (after_told (call.Claim c q) refl n v) (claim_search (n == c) c q v) h
 after_met plan (call.IFlag c p from) n v may rests h =
-    flag_met (n == packed from) (fact.IFlagged c) p (unpacked n) v (after (call.IFlag c p from) n v) refl (after_told (call.IFlag c p from) tt n v) h
+    flag_met (n == packed from) (fact.IFlagged c) p (unpacked n) v (after (call.IFlag c p from) n v) refl (after_told (call.IFlag c p from) refl n v) h
 after_met plan (call.DFlag c gp from) n v may rests h =
-    flag_met (n == packed from) (fact.DFlagged c) gp (unpacked n) v (after (call.DFlag c gp from) n v) refl (after_told (call.DFlag c gp from) tt n v) h
+    flag_met (n == packed from) (fact.DFlagged c) gp (unpacked n) v (after (call.DFlag c gp from) n v) refl (after_told (call.DFlag c gp from) refl n v) h
 after_met plan (call.Mark c p was) n v may rests h =
-    met_same v (after (call.Mark c p was) n v) (after_told (call.Mark c p was) tt n v) (mark_search (n == was) c p (unpacked n) v) h
+    met_same v (after (call.Mark c p was) n v) (after_told (call.Mark c p was) refl n v) (mark_search (n == was) c p (unpacked n) v) h
 after_met plan call.Look n v may rests h =
     met_nowhere (after call.Look n v) (ap (λ (k : Search). k.node) (rests may)) (ap (λ (k : Search). k.parent) (rests may)) (ap (λ (k : Search). k.grandparent) (rests may))
-after_met plan c n v may rests h = met_same v (after c n v) (after_told c tt n v) refl h
+after_met plan c n v may rests h = met_same v (after c n v) (after_told c refl n v) refl h
 
 abbrev AllMet : TableState → Type 0
 AllMet s = (j : ℕ) (v : View) → get_elem? s.views j ≡ some v → SearchIsMet v

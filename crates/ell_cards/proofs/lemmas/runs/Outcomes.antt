@@ -52,7 +52,8 @@ use Rattle.ell_cards.proofs.lemmas.words.Updates.{is_mark}
 use Rattle.ell_cards.proofs.lemmas.own_words.OwnTree.{update_same}
 use Rattle.ell_cards.proofs.lemmas.own_words.OwnWords.{same_card}
 use Rattle.ell_cards.proofs.lemmas.runs.OfReached.{steps_stay_inside}
-use Rattle.ell_cards.proofs.lemmas.runs.Claims.{Remembers, after_told}
+use Rattle.ell_cards.specs.Touching.{forgets}
+use Rattle.ell_cards.proofs.lemmas.runs.Claims.{after_told}
 use Rattle.ell_cards.proofs.lemmas.runs.Met.{some_same, IsPassed, searches_are_met}
 use Rattle.ell_cards.proofs.lemmas.runs.Reaching.{reached_on, reached_kept}
 use Rattle.ell_cards.proofs.lemmas.runs.Won.{number, one, count, times, total, won_by, other_kind, call_total}
@@ -187,7 +188,7 @@ module _ (plan : TablePlan) (s : TableState) (h : IsReached plan s) (id : ℕ) (
 -- a flag that the pass in a seat may set for its card in hand at a node, and its word told otherwise
 module _ (plan : TablePlan) (s : TableState) (h : IsReached plan s) (id : ℕ) (v : View) (here : get_elem? s.views id ≡ some v)
     (c : Call) (may : May plan c v) (n : ℕ) (on : IsReached plan (told_of s id v c n))
-    (d : ℕ) (hand : MayFill v d) (x : ℕ) (passed : IsPassed v x) (at : word_of c ≡ update_address x) (keeps : Remembers c) where
+    (d : ℕ) (hand : MayFill v d) (x : ℕ) (passed : IsPassed v x) (at : word_of c ≡ update_address x) (keeps : forgets c ≡ false) where
   abbrev before : HasMachine plan s
   before = reached_kept plan s h
 
@@ -331,7 +332,7 @@ module _ (plan : TablePlan) (s : TableState) (h : IsReached plan s) (id : ℕ) (
       there = told_there plan s h id v here (call.Mark c p was) may n on
 
       parent : r.words.p c ≡ p
-      parent = ((r.views id (after (call.Mark c p was) n v) there).entries (Info c field.P p) (after_told (call.Mark c p was) tt n v (Info c field.P p) may.0.place)).2
+      parent = ((r.views id (after (call.Mark c p was) n v) there).entries (Info c field.P p) (after_told (call.Mark c p was) refl n v (Info c field.P p) may.0.place)).2
 
       -- the word at the parent
       stands : is_delete (r.stages c) ≡ true → (if found == was then marked c else found) ≡ r.words.update p
@@ -404,10 +405,10 @@ module _ (plan : TablePlan) (s : TableState) (h : IsReached plan s) (id : ℕ) (
       won_lost : (n == packed from) ≡ false → (found_by s i == packed from) ≡ true → ⊥
       won_lost e g =
           let there = told_there plan s h id v here i may n on in
-          let born = (r.views id (after i n v) there).entries (Met p) (after_told i tt n v (Met p) passed.met) in
-          in_no_hand plan s h id v here i may n on c may.may p passed refl tt r (flag_aside (n == packed from) (fact.IFlagged c) p (unpacked n) e)
+          let born = (r.views id (after i n v) there).entries (Met p) (after_told i refl n v (Met p) passed.met) in
+          in_no_hand plan s h id v here i may n on c may.may p passed refl refl r (flag_aside (n == packed from) (fact.IFlagged c) p (unpacked n) e)
           (r.invariant.workers.insert_in_hand c ((r.invariant.words.updates p passed.inner born).iflagged c
-          (sym (flag_listed plan s h id v here i may n on c may.may p passed refl tt r) ∙ ap (λ (b : Bool). if b then iflag c else found_by s i) g)).0)
+          (sym (flag_listed plan s h id v here i may n on c may.may p passed refl refl r) ∙ ap (λ (b : Bool). if b then iflag c else found_by s i) g)).0)
 
       -- by its search the card goes to that parent
       goes : (q : HasMachine plan s) → q.words.p c ≡ p
@@ -422,13 +423,13 @@ module _ (plan : TablePlan) (s : TableState) (h : IsReached plan s) (id : ℕ) (
           let q = reached_kept plan s h in
           let counts = told_counts plan s h id v here i may n on in
           let won : (stages : Stages) → Invariant (machine_of_table plan (told_of s id v i n) counts.machine) stages → insert_won (stages c) ≡ true =
-          λ stages invariant. knows_then plan s h id v here i may n on c may.may p passed refl tt counts stages invariant
+          λ stages invariant. knows_then plan s h id v here i may n on c may.may p passed refl refl counts stages invariant
           (fact.IFlagged c) (flag_known (n == packed from) (fact.IFlagged c) p (unpacked n) e) in
           let opens = insert-opens (counts.stages c) (won counts.stages counts.invariant)
-          (sym (counts.counted exchange.IUnflag (omega arith) c) ∙ none_told plan s h id v here i may n on c may.may p passed refl tt (n == packed from) exchange.IFlag exchange.IUnflag (omega arith) refl refl) in
-          waits-no_insert (q.stages c) (waits_there plan s h id v here i may n on c may.may p passed refl tt q q.stages q.invariant)
-          ((q.invariant.words.updates p passed.inner (born_before plan s h id v here i may n on c may.may p passed refl tt)).iflagged c
-          (flag_before plan s h id v here i may n on c may.may p passed refl tt counts field.P (iflag c) may.filled
+          (sym (counts.counted exchange.IUnflag (omega arith) c) ∙ none_told plan s h id v here i may n on c may.may p passed refl refl (n == packed from) exchange.IFlag exchange.IUnflag (omega arith) refl refl) in
+          waits-no_insert (q.stages c) (waits_there plan s h id v here i may n on c may.may p passed refl refl q q.stages q.invariant)
+          ((q.invariant.words.updates p passed.inner (born_before plan s h id v here i may n on c may.may p passed refl refl)).iflagged c
+          (flag_before plan s h id v here i may n on c may.may p passed refl refl counts field.P (iflag c) may.filled
           (ap (λ (b : Bool). if b then iflag c else found_by s i) g) (insert_won-settled (counts.machine.stages c) (won counts.machine.stages counts.machine.invariant))
           (goes q) ((counts.invariant.words.inserts c).flag opens))).0
 
@@ -447,10 +448,10 @@ module _ (plan : TablePlan) (s : TableState) (h : IsReached plan s) (id : ℕ) (
       won_lost : (n == packed from) ≡ false → (found_by s i == packed from) ≡ true → ⊥
       won_lost e g =
           let there = told_there plan s h id v here i may n on in
-          let born = (r.views id (after i n v) there).entries (Met gp) (after_told i tt n v (Met gp) passed.met) in
-          in_no_hand plan s h id v here i may n on c may.may gp passed refl tt r (flag_aside (n == packed from) (fact.DFlagged c) gp (unpacked n) e)
+          let born = (r.views id (after i n v) there).entries (Met gp) (after_told i refl n v (Met gp) passed.met) in
+          in_no_hand plan s h id v here i may n on c may.may gp passed refl refl r (flag_aside (n == packed from) (fact.DFlagged c) gp (unpacked n) e)
           (r.invariant.workers.delete_in_hand c ((r.invariant.words.updates gp passed.inner born).dflagged c
-          (sym (flag_listed plan s h id v here i may n on c may.may gp passed refl tt r) ∙ ap (λ (b : Bool). if b then dflag c else found_by s i) g)).0)
+          (sym (flag_listed plan s h id v here i may n on c may.may gp passed refl refl r) ∙ ap (λ (b : Bool). if b then dflag c else found_by s i) g)).0)
 
       -- by its search the card goes to that grandparent
       goes : (q : HasMachine plan s) → q.words.gp c ≡ gp
@@ -465,14 +466,14 @@ module _ (plan : TablePlan) (s : TableState) (h : IsReached plan s) (id : ℕ) (
           let q = reached_kept plan s h in
           let counts = told_counts plan s h id v here i may n on in
           let won : (stages : Stages) → Invariant (machine_of_table plan (told_of s id v i n) counts.machine) stages → delete_won (stages c) ≡ true =
-          λ stages invariant. knows_then plan s h id v here i may n on c may.may gp passed refl tt counts stages invariant
+          λ stages invariant. knows_then plan s h id v here i may n on c may.may gp passed refl refl counts stages invariant
           (fact.DFlagged c) (flag_known (n == packed from) (fact.DFlagged c) gp (unpacked n) e) in
           let opens = delete-opens (counts.stages c) (won counts.stages counts.invariant)
-          (sym (counts.counted exchange.DUnflag (omega arith) c) ∙ none_told plan s h id v here i may n on c may.may gp passed refl tt (n == packed from) exchange.DFlag exchange.DUnflag (omega arith) refl refl)
-          (sym (counts.counted exchange.Backtrack (omega arith) c) ∙ none_told plan s h id v here i may n on c may.may gp passed refl tt (n == packed from) exchange.DFlag exchange.Backtrack (omega arith) refl refl) in
-          waits-no_delete (q.stages c) (waits_there plan s h id v here i may n on c may.may gp passed refl tt q q.stages q.invariant)
-          ((q.invariant.words.updates gp passed.inner (born_before plan s h id v here i may n on c may.may gp passed refl tt)).dflagged c
-          (flag_before plan s h id v here i may n on c may.may gp passed refl tt counts field.Gp (dflag c) may.filled
+          (sym (counts.counted exchange.DUnflag (omega arith) c) ∙ none_told plan s h id v here i may n on c may.may gp passed refl refl (n == packed from) exchange.DFlag exchange.DUnflag (omega arith) refl refl)
+          (sym (counts.counted exchange.Backtrack (omega arith) c) ∙ none_told plan s h id v here i may n on c may.may gp passed refl refl (n == packed from) exchange.DFlag exchange.Backtrack (omega arith) refl refl) in
+          waits-no_delete (q.stages c) (waits_there plan s h id v here i may n on c may.may gp passed refl refl q q.stages q.invariant)
+          ((q.invariant.words.updates gp passed.inner (born_before plan s h id v here i may n on c may.may gp passed refl refl)).dflagged c
+          (flag_before plan s h id v here i may n on c may.may gp passed refl refl counts field.Gp (dflag c) may.filled
           (ap (λ (b : Bool). if b then dflag c else found_by s i) g) (delete_won-settled (counts.machine.stages c) (won counts.machine.stages counts.machine.invariant))
           (goes q) ((counts.invariant.words.deletes c).flag opens))).0
 

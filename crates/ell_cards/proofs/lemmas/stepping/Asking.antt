@@ -70,7 +70,7 @@ module _ (plan : TablePlan) (s : TableState) (r : HasMachine plan s) (id : ℕ) 
       ∙ link_back (r.words.l c) (r.words.expects c) (born_small plan s r id v here (r.words.l c) (l_born c k))
 
   -- what a fixed field says by the table's word
-  says : (c : ℕ) (f : Field) (n : ℕ) → KnowsCard v c → is_fixed f ≡ true → table_word r.words c f ≡ n → word r.words c f ≡ says_by f n
+  pub says : (c : ℕ) (f : Field) (n : ℕ) → KnowsCard v c → is_fixed f ≡ true → table_word r.words c f ≡ n → word r.words c f ≡ says_by f n
   says c field.L n k fixed is = ap (λ (l : Link). l.node) (sym (leaf_read c n k is))
   says c field.Gp n k fixed is = is
   says c field.P n k fixed is = is

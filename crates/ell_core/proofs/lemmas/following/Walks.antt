@@ -58,7 +58,7 @@ module _ (old new : Words) (stage : Stages) (sound : WordsAreSound old stage) (w
   ]
 
 -- a marked node is told from the others
-marked_or_not : (u : ℕ) → ((c : ℕ) × (u ≡ marked c)) ⊎ ((c : ℕ) → u ≢ marked c)
+pub marked_or_not : (u : ℕ) → ((c : ℕ) × (u ≡ marked c)) ⊎ ((c : ℕ) → u ≢ marked c)
 marked_or_not u = elim (cases_eq u (marked (u / 4))) [
   | inl e ↦ inl (u / 4, e)
   | inr n ↦ inr (λ c e. n (omega arith))

@@ -50,7 +50,7 @@ module _ (m : Machine) (stage : Stages) (old : Machine) (before : Stages) (first
   not_then c un = unended_before stage before later c un
 
   -- a parent that is marked was gone if the card had ended
-  marked_fresh : (x c : ℕ) → ¬ IsGone m.words stage x → is_marked (before c) ≡ true → old.words.p c ≡ x → has_ended (stage c) ≡ true → ⊥
+  pub marked_fresh : (x c : ℕ) → ¬ IsGone m.words stage x → is_marked (before c) ≡ true → old.words.p c ≡ x → has_ended (stage c) ≡ true → ⊥
   marked_fresh x c stays mark place ended =
       let cut = cut_then c mark ended in
       let low = (first.words.cards c).claimed.0 (delete-claimed (stage c) (cut-delete (stage c) cut)) in

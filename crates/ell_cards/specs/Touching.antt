@@ -1,0 +1,85 @@
+use Rattle.std.specs.Prelude.{◌≡◌, ℕ, ◌⊎◌, Bool, true, false, List}
+use mathlib.Core.Option.{some}
+use lib.ListN.{get_elem?}
+use Rattle.ell_word.specs.Node.{card}
+use Rattle.ell_layout.specs.declared.field.Field.{Field}
+use Rattle.ell_layout.specs.Layout.{address}
+use Rattle.ell_layout.specs.Words.{Words}
+use Rattle.ell_core.specs.history.Stages.{Stages}
+use Rattle.ell_core.specs.statements.Since.{has_ended}
+use Rattle.ell_grace.specs.Gone.{IsGone, HasOuts}
+use Rattle.ell_cards.specs.declared.call.Call.{Call}
+use Rattle.ell_cards.specs.declared.call.Call.TheVariants as call
+use Rattle.ell_cards.specs.declared.view.View.{View}
+use Rattle.ell_cards.specs.Models.{TablePlan}
+use Rattle.ell_cards.specs.Calls.{May, word_of}
+use Rattle.ell_cards.specs.States.{TableState}
+use Rattle.ell_cards.specs.Machines.{HasMachine}
+use Rattle.ell_cards.specs.Laws.{machine_of_table}
+use Rattle.ell_cards.specs.Starts.{IsReached}
+use Rattle.ell_cards.specs.Turns.{Turn, CallIsMade, TableRun}
+
+-- whether a call forgets what its pass was told before it
+abbrev pub forgets : Call → Bool
+forgets (call.Begin op) = true
+forgets call.Again = true
+forgets call.Leave = true
+forgets (call.Answer said) = true
+forgets call.Look = true
+forgets _ = false
+
+-- whose word a call touches: a node's; a card's, which says where it goes; or no card's but the root's, or the claim word
+pub data Touched : Type 0 where
+  AtNode : ℕ → Touched
+  OfCard : ℕ → Touched
+  AtRoot : Touched
+
+abbrev pub touched_by : Call → Touched
+touched_by (call.Upd x) = AtNode x
+touched_by (call.Down x right) = AtNode x
+touched_by (call.KeyOf x) = AtNode x
+touched_by (call.ValueOf x) = AtNode x
+touched_by (call.Info c f) = OfCard c
+touched_by (call.FrozenChild c p right) = AtNode p
+touched_by (call.LookDown from to right) = AtNode from.node
+touched_by (call.Fill c f value) = OfCard c
+touched_by (call.IFlag c p from) = AtNode p
+touched_by (call.IChild c p l q right) = AtNode p
+touched_by (call.IUnflag c p) = AtNode p
+touched_by (call.DFlag c gp from) = AtNode gp
+touched_by (call.Mark c p was) = AtNode p
+touched_by (call.DChild c gp p s right) = AtNode gp
+touched_by (call.DUnflag c gp) = AtNode gp
+touched_by (call.Backtrack c gp) = AtNode gp
+touched_by _ = AtRoot
+
+-- a word is one of these
+abbrev pub IsWordOf : Touched → ℕ → Type 0
+IsWordOf (AtNode x) n = (f : Field) × (n ≡ address (card x) f)
+IsWordOf (OfCard c) n = (f : Field) × (n ≡ address c f)
+IsWordOf AtRoot n = (n ≡ 0) ⊎ ((f : Field) × (n ≡ address 0 f))
+
+-- so is the word of each call
+abbrev pub CallsTouchTheirWords : Type 0
+CallsTouchTheirWords = (c : Call) → IsWordOf (touched_by c) (word_of c)
+
+-- at these words and stages that was not gone: the node was not, and the card had not ended
+abbrev pub WasThere : Words → Stages → Touched → Type 0
+WasThere w stage (AtNode x) = ¬ IsGone w stage x
+WasThere w stage (OfCard c) = has_ended (stage c) ≡ false
+WasThere w stage AtRoot = Unit {0}
+
+-- wherever turns have led a table, its machine has taken out of the tree what it has taken out
+abbrev pub TablesHaveOuts : Type 0
+TablesHaveOuts = (plan : TablePlan) (s : TableState) → IsReached plan s
+    → (r : HasMachine plan s) × HasOuts (machine_of_table plan s r)
+
+-- From where a pass makes a call by which it forgets, as where it begins an operation or a look, on through any turns of
+-- any passes: each step call that it may make touches nothing that was gone in the state in which it made that call.
+abbrev pub CallsTouchNothingGone : Type 0
+CallsTouchNothingGone = (plan : TablePlan) (s : TableState) → IsReached plan s → (seat : ℕ) (c : Call) (begun : TableState)
+    → CallIsMade plan s seat c begun → forgets c ≡ true
+    → (r : HasMachine plan s) (has : HasOuts (machine_of_table plan s r))
+    → (turns : List Turn) (now : TableState) → TableRun plan begun turns now
+    → (v : View) → get_elem? now.views seat ≡ some v → (next : Call) → May plan next v
+    → WasThere r.words has.stages (touched_by next)
