@@ -13,8 +13,11 @@ use Rattle.ell_cards.specs.declared.glance.Stretch.{Stretch}
 use Rattle.ell_cards.specs.declared.view.View.{View}
 use Rattle.ell_cards.specs.Models.{TablePlan}
 use Rattle.ell_cards.specs.States.{TableState}
-use Rattle.ell_cards.specs.Starts.{Starts}
-use Rattle.ell_cards.specs.Turns.{Turn, Makes, Splits, Joins, TableRun}
+use Rattle.ell_cards.specs.Starts.{Starts, IsReached}
+use Rattle.ell_cards.specs.Machines.{HasMachine}
+use Rattle.ell_cards.specs.Laws.{machine_of_table}
+use Rattle.ell_grace.specs.Gone.{IsGone, HasOuts}
+use Rattle.ell_cards.specs.Turns.{Turn, Makes, Splits, Joins, CallIsMade, TableRun}
 use Rattle.ell_cards.specs.TurnEffects.{run_wins}
 use Rattle.ell_word.specs.Link.{linked}
 
@@ -108,11 +111,15 @@ abbrev pub ending : List Turn
 ending =
     Makes 1 (call.Begin (Find 7)) ∷ Makes 1 call.Leave ∷ Joins 0 1 ∷ []
 
+-- all that comes before the look
+abbrev pub before_the_look : List Turn
+before_the_look =
+    parting ++ delete_flags ++ insert_claims ++ insert_flags ++ mark_is_lost ++ insert_ends ++ delete_begins_anew
+    ++ delete_ends
+
 -- a small run, in which each step call is made, and a split and a join
 abbrev pub small_run : List Turn
-small_run =
-    parting ++ delete_flags ++ insert_claims ++ insert_flags ++ mark_is_lost ++ insert_ends ++ delete_begins_anew
-    ++ delete_ends ++ look ++ ending
+small_run = before_the_look ++ look ++ ending
 
 -- the small table has such a run: card 2 is that of the delete whose mark is lost, card 3 that of the insert, and card
 -- 4 that of the delete that is made; in the end the one pass has key 7 present with its value, and key 5 not
@@ -132,3 +139,12 @@ pub record SmallRunIsMade : Type 0 where
   pub view : View
   pub there : get_elem? last.views 0 ≡ some view
   pub ledger : view.worker.ledger ≡ (5, Absent) ∷ (7, Present 70) ∷ []
+
+-- seat 1's look in it begins when a node is gone: node 12, which the delete has cut out with the leaf of key 5
+pub record LookBeginsWhenGone : Type 0 where
+  pub state : TableState
+  pub reached : IsReached small_plan state
+  pub begun : TableState
+  pub begins : CallIsMade small_plan state 1 call.Look begun
+  pub gone : (r : HasMachine small_plan state) (has : HasOuts (machine_of_table small_plan state r))
+      → IsGone r.words has.stages 12

@@ -7,7 +7,7 @@
 //! `runs_from_starts_are_lawful` is the law of all such runs, and says nothing of machines.
 ghost use Rattle.ell_cards.specs.OwnWords.{OwnWordsAreSound, StepsStayInside, TablePairsChangeAtWins, TableChangesAreOperations, TableAnswersAreTheMaps, LedgersTellTheTree, TreeKeysAreOwned, TableNodesGoOn};
 ghost use Rattle.ell_cards.specs.Starts.{TablesStart, StartsHaveTheirKeys, FirstPassMayBegin, RunsFromStarts};
-ghost use Rattle.ell_cards.specs.SmallRun.{SmallRunIsMade};
+ghost use Rattle.ell_cards.specs.SmallRun.{SmallRunIsMade, LookBeginsWhenGone};
 ghost use Rattle.ell_cards.specs.Readings.{ReadingsArePast, ClaimsAreWon};
 ghost use Rattle.ell_cards.specs.Contention.{TriesAreHinderedByOthers};
 ghost use Rattle.ell_cards.specs.Stretches.{FewFlagsWithoutAChange, TablesHaveHeights};
@@ -323,4 +323,6 @@ pub fn calls_touch_nothing_gone()
     ensures outs { TablesHaveOuts }
     // From where a pass forgets, its step calls touch nothing that was gone then.
     ensures touches { CallsTouchNothingGone }
+    // There is a run in which a look begins when a node is gone.
+    ensures premise { LookBeginsWhenGone }
 {}

@@ -1,4 +1,4 @@
-use Rattle.std.proofs.Common.{None, ◌≡◌, ◌≢◌, ℕ, ◌≤◌, zero, suc, true, Some, List, [], ◌∷◌, ◌++◌, ◌+◌, inl, inr, refl, sym, subst, arith, ◌∙◌, ◌⊎◌}
+use Rattle.std.proofs.Common.{ap, None, ◌≡◌, ◌≢◌, ℕ, ◌≤◌, zero, suc, true, Some, List, [], ◌∷◌, ◌++◌, ◌+◌, inl, inr, refl, sym, subst, arith, ◌∙◌, ◌⊎◌}
 use Rattle.std.specs.List.{All}
 use Rattle.std.specs.List.Sorted.{IsStrictlyIncreasing}
 use Rattle.std.specs.Map.{keys_of}
@@ -9,14 +9,21 @@ use Rattle.ell_ops.specs.Meaning.{greatest_key}
 use Rattle.ell_ops.specs.declared.op.Op.TheVariants.{Find, Insert, Delete}
 use Rattle.ell_word.specs.Link.{linked}
 use Rattle.ell_word.specs.Node.{infinity1, infinity2}
-use Rattle.ell_core.specs.declared.fact.Fact.TheVariants.{Backed}
 use Rattle.ell_layout.specs.declared.field.Field.{Field}
 use Rattle.ell_layout.specs.declared.field.Field.TheVariants as field
 use Rattle.ell_layout.specs.Cards.{stored, put_filling, delete_filling}
 use Rattle.ell_layout.specs.Words.{IsLeaf}
 use Rattle.ell_core.proofs.lemmas.outcomes.Decide.{some_not_none}
+use Rattle.ell_core.specs.declared.fact.Fact.TheVariants as fact
+use Rattle.ell_core.specs.state.Machine.{Worker}
+use Rattle.ell_core.specs.history.Stages.{Stage, delete_over}
+use Rattle.ell_core.specs.statements.Since.{has_ended}
+use Rattle.ell_core.proofs.lemmas.stages.Ended.{over-cut}
+use Rattle.ell_cards.proofs.lemmas.seats.Seats.{mine_is}
+use Rattle.ell_cards.proofs.lemmas.stepping.Known.{known_settled}
 use Rattle.std.proofs.lemmas.Bool.{false≢true}
 use Rattle.ell_core.proofs.lemmas.tree.Blocks.{none_plain}
+use Rattle.ell_cards.specs.declared.call.Call.TheVariants as call
 use Rattle.ell_cards.specs.declared.view.Told.{Told}
 use Rattle.ell_cards.specs.declared.view.View.{View}
 use Rattle.ell_cards.specs.Models.{Has, latest, earlier, IsFree, Knows, stored_at, MayPart}
@@ -25,7 +32,7 @@ use Rattle.ell_cards.specs.Calls.{May}
 use Rattle.ell_cards.specs.States.{TableState}
 use Rattle.ell_cards.specs.Starts.{Starts, StartWords, MayStart, IsSharedIn}
 use Rattle.ell_cards.specs.Turns.{Turn, Makes, Splits, Joins, TableTurns, TableRun, state_after, state_split, state_joined}
-use Rattle.ell_cards.specs.SmallRun.{small_plan, small_run, SmallRunIsMade, parting, delete_flags, insert_claims, insert_flags, mark_is_lost, insert_ends, delete_begins_anew, delete_ends, look, ending}
+use Rattle.ell_cards.specs.SmallRun.{before_the_look, LookBeginsWhenGone, small_plan, small_run, SmallRunIsMade, parting, delete_flags, insert_claims, insert_flags, mark_is_lost, insert_ends, delete_begins_anew, delete_ends, look, ending}
 use Rattle.ell_cards.proofs.lemmas.lifetimes.StartLists.{start_list_starts, small_list, small_words}
 use Rattle.ell_cards.specs.Models.{TablePlan}
 
@@ -271,7 +278,7 @@ at_6 = run_leads at_5 insert_ends
 -- seat 0 tries again: it searches, and takes card 4
 delete_begins_anew_asks : RunAsks small_plan at_6 delete_begins_anew
 delete_begins_anew_asks =
-    (refl, record { op = Delete 5; busy = refl; backed = λ c is flagged. of_card (λ d. Knows (view_at at_6 0) (Backed d)) 2 c is refl })
+    (refl, record { op = Delete 5; busy = refl; backed = λ c is flagged. of_card (λ d. Knows (view_at at_6 0) (fact.Backed d)) 2 c is refl })
     ▸ (refl, record { stands = refl; inner = refl; unread = refl })
     ▸ (refl, told_at 0 _ _ refl)
     ▸ (refl, record { op = Delete 5; word = 11; key = infinity2; busy = refl; stands = refl; inner = refl; read = refl; told = refl; side = refl; no_card = refl })
@@ -332,17 +339,17 @@ ending_asks =
 abbrev at_10 : TableState
 at_10 = run_leads at_9 ending
 
+before_asks : RunAsks small_plan at_0 before_the_look
+before_asks = asks_more small_plan at_0 parting (delete_flags ++ insert_claims ++ insert_flags ++ mark_is_lost ++ insert_ends ++ delete_begins_anew ++ delete_ends) parting_asks
+    (asks_more small_plan at_1 delete_flags (insert_claims ++ insert_flags ++ mark_is_lost ++ insert_ends ++ delete_begins_anew ++ delete_ends) delete_flags_asks
+    (asks_more small_plan at_2 insert_claims (insert_flags ++ mark_is_lost ++ insert_ends ++ delete_begins_anew ++ delete_ends) insert_claims_asks
+    (asks_more small_plan at_3 insert_flags (mark_is_lost ++ insert_ends ++ delete_begins_anew ++ delete_ends) insert_flags_asks
+    (asks_more small_plan at_4 mark_is_lost (insert_ends ++ delete_begins_anew ++ delete_ends) mark_is_lost_asks
+    (asks_more small_plan at_5 insert_ends (delete_begins_anew ++ delete_ends) insert_ends_asks
+    (asks_more small_plan at_6 delete_begins_anew delete_ends delete_begins_anew_asks delete_ends_asks))))))
+
 all_asks : RunAsks small_plan at_0 small_run
-all_asks = asks_more small_plan at_0 parting (delete_flags ++ insert_claims ++ insert_flags ++ mark_is_lost ++ insert_ends ++ delete_begins_anew ++ delete_ends ++ look ++ ending) parting_asks
-    (asks_more small_plan at_1 delete_flags (insert_claims ++ insert_flags ++ mark_is_lost ++ insert_ends ++ delete_begins_anew ++ delete_ends ++ look ++ ending) delete_flags_asks
-    (asks_more small_plan at_2 insert_claims (insert_flags ++ mark_is_lost ++ insert_ends ++ delete_begins_anew ++ delete_ends ++ look ++ ending) insert_claims_asks
-    (asks_more small_plan at_3 insert_flags (mark_is_lost ++ insert_ends ++ delete_begins_anew ++ delete_ends ++ look ++ ending) insert_flags_asks
-    (asks_more small_plan at_4 mark_is_lost (insert_ends ++ delete_begins_anew ++ delete_ends ++ look ++ ending) mark_is_lost_asks
-    (asks_more small_plan at_5 insert_ends (delete_begins_anew ++ delete_ends ++ look ++ ending) insert_ends_asks
-    (asks_more small_plan at_6 delete_begins_anew (delete_ends ++ look ++ ending) delete_begins_anew_asks
-    (asks_more small_plan at_7 delete_ends (look ++ ending) delete_ends_asks
-    (asks_more small_plan at_8 look (ending) look_asks
-    ending_asks))))))))
+all_asks = asks_more small_plan at_0 before_the_look (look ++ ending) before_asks (asks_more small_plan at_8 look ending look_asks ending_asks)
 
 pub small_run_is_made : SmallRunIsMade
 small_run_is_made = record {
@@ -356,4 +363,22 @@ small_run_is_made = record {
   view = view_at at_10 0;
   there = refl;
   ledger = refl;
+}
+
+-- a delete that is over has ended, and has cut
+over-ended : (s : Stage) → delete_over s ≡ true → has_ended s ≡ true
+over-ended s h = grind arith
+
+-- when seat 1 looks, the delete of seat 0 is over, and has taken its card's parent out
+pub look_begins_when_gone : LookBeginsWhenGone
+look_begins_when_gone = record {
+  state = at_8;
+  reached = record { first = at_0; starts = starts_there; turns = before_the_look; run = run_made small_plan at_0 before_the_look before_asks };
+  begun = state_after at_8 1 (view_at at_8 1) call.Look;
+  begins = record { view = view_at at_8 1; there = refl; may = refl; gives = refl };
+  gone = λ r has.
+      let over : delete_over (has.stages 4) ≡ true =
+      (has.invariant.workers.each 0).facts (fact.DOver 4) (ap (λ (u : Worker). u.knows (fact.DOver 4)) (mine_is small_plan at_8 r 0 (view_at at_8 0) refl)) in
+      let parent : r.words.p 4 ≡ 12 = sym (r.settled 4 field.P (known_settled small_plan at_8 r 0 (view_at at_8 0) refl 4 (inr (inr refl)))) in
+      record { taker = 4; ended = over-ended (has.stages 4) over; takes = inr (over-cut (has.stages 4) over, inl parent) };
 }

@@ -144,7 +144,7 @@ module _ (plan : TablePlan) (m : Machine) (stage : Stages) (first : Invariant m 
   root_since now from = (
     root_born now.words from.stages from.invariant.words,
     reached_was_not_gone m stage first now from 0
-    (reached_stays now.words from.stages from.invariant.words from.outs 0 (record { path = []; leads = refl })),
+        (reached_stays now.words from.stages from.invariant.words from.outs 0 (record { path = []; leads = refl })),
   )
 
   forgotten_since : (now : Machine) (from : ComesFrom m stage now) (e : Told) → Has forgotten e → Since from.stages e

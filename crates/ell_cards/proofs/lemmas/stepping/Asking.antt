@@ -59,10 +59,6 @@ module _ (plan : TablePlan) (s : TableState) (r : HasMachine plan s) (id : ℕ) 
   ranks_are : (x y x' y' : ℕ) → x ≡ x' → y ≡ y' → rank r.words x < rank r.words y → rank r.words x' < rank r.words y'
   ranks_are x y x' y' a b less = let first = ap (rank r.words) a in let second = ap (rank r.words) b in omega arith
 
-  -- its leaf is below its parent
-  deeper : (c : ℕ) → KnowsCard v c → rank r.words (r.words.p c) < rank r.words (r.words.l c)
-  deeper c k = elim (known_card plan s r id v here c k) [ inl i ↦ i.above | inr d ↦ d.above ]
-
   -- the leaf's word is read as the leaf and the tag that the card expects
   leaf_read : (c n : ℕ) → KnowsCard v c → table_word r.words c field.L ≡ n
       → link_in n ≡ record { node = r.words.l c; tag = r.words.expects c }
