@@ -3,15 +3,18 @@ use mathlib.Core.Option.{some}
 use lib.ListN.{get_elem?}
 use Rattle.ell_word.specs.Node.{card}
 use Rattle.ell_layout.specs.declared.field.Field.{Field}
+use Rattle.ell_layout.specs.declared.field.Field.TheVariants as field
 use Rattle.ell_layout.specs.Layout.{address}
-use Rattle.ell_layout.specs.Words.{Words}
+use Rattle.ell_layout.specs.Words.{Words, IsLeaf}
+use Rattle.ell_core.specs.declared.fact.Fact.TheVariants as fact
 use Rattle.ell_core.specs.history.Stages.{Stages}
 use Rattle.ell_core.specs.statements.Since.{has_ended}
 use Rattle.ell_grace.specs.Gone.{IsGone, HasOuts}
 use Rattle.ell_cards.specs.declared.call.Call.{Call}
 use Rattle.ell_cards.specs.declared.call.Call.TheVariants as call
 use Rattle.ell_cards.specs.declared.view.View.{View}
-use Rattle.ell_cards.specs.Models.{TablePlan}
+use Rattle.ell_cards.specs.declared.view.Told.TheVariants.{Info}
+use Rattle.ell_cards.specs.Models.{TablePlan, IsTold, Knows}
 use Rattle.ell_cards.specs.Calls.{May, word_of}
 use Rattle.ell_cards.specs.States.{TableState}
 use Rattle.ell_cards.specs.Machines.{HasMachine}
@@ -83,3 +86,16 @@ CallsTouchNothingGone = (plan : TablePlan) (s : TableState) → IsReached plan s
     → (turns : List Turn) (now : TableState) → TableRun plan begun turns now
     → (v : View) → get_elem? now.views seat ≡ some v → (next : Call) → May plan next v
     → WasThere r.words has.stages (touched_by next)
+
+-- By what a pass knows, a card that is over has taken a node out: an insert or a swap the leaf in whose place its node came,
+-- or a delete its leaf or the leaf's parent.
+abbrev pub KnowsTakenOut : View → ℕ → ℕ → Type 0
+KnowsTakenOut v c x =
+    (Knows v (fact.IOver c) × IsLeaf x × IsTold v (Info c field.L x))
+    ⊎ (Knows v (fact.DOver c) × (IsTold v (Info c field.P x) ⊎ IsTold v (Info c field.L x)))
+
+-- such a node is gone
+abbrev pub KnownTakenOutIsGone : Type 0
+KnownTakenOutIsGone = (plan : TablePlan) (s : TableState) (seat : ℕ) (v : View)
+    → get_elem? s.views seat ≡ some v → (c x : ℕ) → KnowsTakenOut v c x
+    → (r : HasMachine plan s) (has : HasOuts (machine_of_table plan s r)) → IsGone r.words has.stages x

@@ -22,7 +22,7 @@ ghost use Rattle.ell_cards.specs.Placing.{LooksHavePlaces};
 ghost use Rattle.ell_cards.specs.LayingDown.{LaidDownCallsChangeNothing, LaidDownLastChangesNothing};
 ghost use Rattle.ell_cards.specs.Answering.{AnswersHaveTheirPoints};
 ghost use Rattle.ell_cards.specs.Taking.{DeletesTakeWhatTheyTell};
-ghost use Rattle.ell_cards.specs.Touching.{CallsTouchTheirWords, TablesHaveOuts, CallsTouchNothingGone};
+ghost use Rattle.ell_cards.specs.Touching.{CallsTouchTheirWords, TablesHaveOuts, CallsTouchNothingGone, KnownTakenOutIsGone};
 ghost use Rattle.ell_cards.specs.Sharing.{SharesAddUp};
 ghost use Rattle.ell_cards.specs.Tellings.{NoGreaterNext, NoGreaterUpdate, NoOtherOutcome, NoUntriedClaimLost};
 ghost use Rattle.ell_cards.specs.Laws.{StepsAreEvents, SplitsAreHandovers, JoinsAreHandovers, MachineIsSound, MachineHasOwnWords};
@@ -325,4 +325,6 @@ pub fn calls_touch_nothing_gone()
     ensures touches { CallsTouchNothingGone }
     // There is a run in which a look begins when a node is gone.
     ensures premise { LookBeginsWhenGone }
+    // A node is gone if a pass knows that a card is over that took the node out.
+    ensures gone { KnownTakenOutIsGone }
 {}

@@ -35,4 +35,4 @@ pub use laws::{
 pub use lifetime::is_card_count;
 pub use pass::Pass;
 pub use table::CardTable;
-pub use view::{Answered, Deed, Hindrance, Plan, Told, View};
+pub use view::{Answered, Deed, Hindrance, Plan, TableKind, Told, View};

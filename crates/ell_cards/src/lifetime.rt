@@ -1,5 +1,5 @@
 //! How a table begins, and how its passes part and come together.
-ghost use Rattle.std.specs.Prelude.{◌≡◌, ◌≢◌, ◌≤◌, ◌<◌, ◌+◌, ◌*◌, ◌↔◌, if◌then◌else◌, IsTrue, [], filter, not, max, true, false, length, None, IfOk, IfErr, OnOk, replicate, vec_len};
+ghost use Rattle.std.specs.Prelude.{◌≡◌, ◌≢◌, ◌⊎◌, ◌≤◌, ◌<◌, ◌+◌, ◌*◌, ◌↔◌, if◌then◌else◌, IsTrue, [], filter, not, max, true, false, length, None, IfOk, IfErr, OnOk, replicate, vec_len};
 ghost use Rattle.std.specs.List.{All};
 ghost use Rattle.std.specs.List.Sorted.{IsStrictlyIncreasing};
 ghost use Rattle.std.specs.Map.{keys_of};
@@ -20,7 +20,7 @@ use crate::pass::Pass;
 use crate::rule::{CardRule, Joined, PartedBy, SplitInto};
 use crate::share::{Share, WHOLE_SHARE};
 use crate::table::CardTable;
-use crate::view::{Plan, View};
+use crate::view::{Plan, TableKind, View};
 use atomic_table::{Seat, Table};
 use ell_layout::{table_size, write_opening};
 use ell_ops::{NoMemory, united_keys};
@@ -29,48 +29,35 @@ use std::alloc::{AllocError, Allocator};
 use std::marker::Brand;
 
 impl<A: Allocator + Copy> CardTable<A> {
-    /// Creates a table of an empty tree with this many cards to be claimed, 1 to `CARDS_MAX`, and one pass that owns
-    /// all these keys, each absent. `BadCards` is returned exactly if the number of cards asked for is not 1 to
-    /// `CARDS_MAX`, and `NoMemory` if an allocation fails. Conditions: the keys are strictly ascending, and at most
-    /// `KEY_MAX`.
-    pub fn reserve(alloc: A, keys: &[u64], cards: u64) -> Result<(CardTable<A>, Pass<A>), CardFault>
-        requires ascending { IsStrictlyIncreasing keys.now }
-        requires real { All (λ k. k ≤ greatest_key) keys.now }
-        // It succeeds only with 1 to 1,000,000 cards.
-        ensures cards { OnOk result (IsCardCount cards) }
-        // The table has this plan, and the pass knows what a first pass does: it owns the keys, of which the start keys
-        // are present, and has made no step.
-        ensures opened { IfOk result (OpensBy
-            (record { keys = keys.now; start = []; last_card = cards; shared = false; flat = false })) }
-        // `BadCards` is returned exactly if the number of cards is not 1 to 1,000,000; the only other error is
-        // `NoMemory`.
-        ensures refused { IfErr result (RefusesCards cards) }
-    {
-        CardTable::reserve_from(alloc, &[], keys, cards)
-    }
-
-    /// Creates a table of a tree that has these start keys with their values, balanced, with this many cards to be
-    /// claimed, and one pass that owns all these keys: the start keys are present, the others absent. The tree of the
-    /// start keys has a card for each of them, so the number of the last card is the number of cards asked for plus
-    /// that of the start keys. Errors are those of `reserve`. Conditions: those of `reserve`; the start keys are
-    /// strictly ascending, among the keys, and at most `START_MAX`.
-    pub fn reserve_from(
+    /// Creates a table of this kind, of a tree that has these start keys with their values, balanced, with this many cards
+    /// to be claimed, 1 to `CARDS_MAX`, and one pass that owns these keys: those of them that are start keys are present,
+    /// the others absent. The tree of the start keys has a card for each of them, so the number of the last card is the
+    /// number of cards asked for plus that of the start keys. `BadCards` is returned exactly if the number of cards asked
+    /// for is not 1 to `CARDS_MAX`, and `NoMemory` if an allocation fails. Conditions: the keys are strictly ascending, and
+    /// at most `KEY_MAX`; the start keys are strictly ascending, at most `START_MAX`, and each is among the keys or shared.
+    pub fn reserve(
         alloc: A,
         start: &[(u64, u64)],
         keys: &[u64],
         cards: u64,
+        kind: TableKind,
     ) -> Result<(CardTable<A>, Pass<A>), CardFault>
         requires ascending { IsStrictlyIncreasing keys.now }
         requires real { All (λ k. k ≤ greatest_key) keys.now }
         requires start_ascending { IsStrictlyIncreasing (keys_of start.now) }
-        requires given { All (λ k. set_of keys.now k ≡ true) (keys_of start.now) }
+        requires given { All (λ k. (set_of keys.now k ≡ true) ⊎ ((kind.shared ≡ true) × (k ≤ greatest_key))) (keys_of start.now) }
         requires few { length start.now ≤ most_start }
         // It succeeds only with 1 to 1,000,000 cards.
         ensures cards { OnOk result (IsCardCount cards) }
         // The table has this plan, and the pass knows what a first pass does: it owns the keys, of which the start keys
         // are present, and has made no step.
-        ensures opened { IfOk result (OpensBy
-            (record { keys = keys.now; start = start.now; last_card = last_card start.now cards; shared = false; flat = false })) }
+        ensures opened { IfOk result (OpensBy (record {
+          keys = keys.now;
+          start = start.now;
+          last_card = last_card start.now cards;
+          shared = kind.shared;
+          flat = kind.flat;
+        })) }
         // `BadCards` is returned exactly if the number of cards is not 1 to 1,000,000; the only other error is
         // `NoMemory`.
         ensures refused { IfErr result (RefusesCards cards) }
@@ -82,97 +69,8 @@ impl<A: Allocator + Copy> CardTable<A> {
             last_card: cards + start.len() as u64,
             keys: copied(alloc, keys)?,
             start: copied(alloc, start)?,
-            shared: false,
-            flat: false,
-        };
-        Ok(CardTable::open(alloc, plan)?)
-    }
-
-    /// Creates a table of a tree that has these start keys with their values, balanced, with this many cards to be
-    /// claimed, in which every key up to `KEY_MAX` that is not among these keys is shared, and one pass, which owns
-    /// these keys: of them the start keys are present, the others absent. Any pass may change a shared key. Errors are
-    /// those of `reserve`, and the number of the last card is that of `reserve_from`. Conditions: the keys are strictly
-    /// ascending, and at most `KEY_MAX`; so are the start keys, which need not be among the keys; there are at most
-    /// `START_MAX` start keys.
-    pub fn reserve_shared(
-        alloc: A,
-        start: &[(u64, u64)],
-        keys: &[u64],
-        cards: u64,
-    ) -> Result<(CardTable<A>, Pass<A>), CardFault>
-        requires ascending { IsStrictlyIncreasing keys.now }
-        requires real { All (λ k. k ≤ greatest_key) keys.now }
-        requires start_ascending { IsStrictlyIncreasing (keys_of start.now) }
-        requires start_real { All (λ k. k ≤ greatest_key) (keys_of start.now) }
-        requires few { length start.now ≤ most_start }
-        // It succeeds only with 1 to 1,000,000 cards.
-        ensures cards { OnOk result (IsCardCount cards) }
-        // The table has this plan, and the pass knows what a first pass does: it owns the keys, of which the start keys
-        // are present, and has made no step.
-        ensures opened { IfOk result (OpensBy
-            (record { keys = keys.now; start = start.now; last_card = last_card start.now cards; shared = true; flat = false })) }
-        // `BadCards` is returned exactly if the number of cards is not 1 to 1,000,000; the only other error is
-        // `NoMemory`.
-        ensures refused { IfErr result (RefusesCards cards) }
-    {
-        CardTable::reserve_of(alloc, start, keys, cards, false)
-    }
-
-    /// Creates a table of a tree of shared keys, as `reserve_shared` does, that is flat: each node that a card adds has
-    /// the branch of its two sides as its key, so that no internal node is more than 64 deeper than the tree of the
-    /// start keys, in whatever order keys come. Errors, the number of the last card and conditions are those of
-    /// `reserve_shared`.
-    pub fn reserve_flat(
-        alloc: A,
-        start: &[(u64, u64)],
-        keys: &[u64],
-        cards: u64,
-    ) -> Result<(CardTable<A>, Pass<A>), CardFault>
-        requires ascending { IsStrictlyIncreasing keys.now }
-        requires real { All (λ k. k ≤ greatest_key) keys.now }
-        requires start_ascending { IsStrictlyIncreasing (keys_of start.now) }
-        requires start_real { All (λ k. k ≤ greatest_key) (keys_of start.now) }
-        requires few { length start.now ≤ most_start }
-        // It succeeds only with 1 to 1,000,000 cards.
-        ensures cards { OnOk result (IsCardCount cards) }
-        // The table has this plan, and the pass knows what a first pass does: it owns the keys, of which the start keys
-        // are present, and has made no step.
-        ensures opened { IfOk result (OpensBy
-            (record { keys = keys.now; start = start.now; last_card = last_card start.now cards; shared = true; flat = true })) }
-        // `BadCards` is returned exactly if the number of cards is not 1 to 1,000,000; the only other error is
-        // `NoMemory`.
-        ensures refused { IfErr result (RefusesCards cards) }
-    {
-        CardTable::reserve_of(alloc, start, keys, cards, true)
-    }
-
-    // A table of shared keys, flat or not.
-    fn reserve_of(
-        alloc: A,
-        start: &[(u64, u64)],
-        keys: &[u64],
-        cards: u64,
-        flat: bool,
-    ) -> Result<(CardTable<A>, Pass<A>), CardFault>
-        requires ascending { IsStrictlyIncreasing keys.now }
-        requires real { All (λ k. k ≤ greatest_key) keys.now }
-        requires start_ascending { IsStrictlyIncreasing (keys_of start.now) }
-        requires start_real { All (λ k. k ≤ greatest_key) (keys_of start.now) }
-        requires few { length start.now ≤ most_start }
-        ensures cards { OnOk result (IsCardCount cards) }
-        ensures opened { IfOk result (OpensBy
-            (record { keys = keys.now; start = start.now; last_card = last_card start.now cards; shared = true; flat = flat })) }
-        ensures refused { IfErr result (RefusesCards cards) }
-    {
-        if !is_card_count(cards) {
-            return Err(CardFault::BadCards);
-        }
-        let plan = Plan {
-            last_card: cards + start.len() as u64,
-            keys: copied(alloc, keys)?,
-            start: copied(alloc, start)?,
-            shared: true,
-            flat,
+            shared: kind.shared,
+            flat: kind.flat,
         };
         Ok(CardTable::open(alloc, plan)?)
     }

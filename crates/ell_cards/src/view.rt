@@ -110,6 +110,16 @@ pub struct View {
     pub made: u64,
 }
 
+/// What a table is like, beside its keys and its cards.
+#[derive(Clone, Copy)]
+pub struct TableKind {
+    /// Whether every key up to `KEY_MAX` that has no owner when the table is created is shared: any pass may change it.
+    pub shared: bool,
+    /// Whether the tree is flat: each node that a card adds has the branch of its two sides as its key, so that no internal
+    /// node is more than 64 deeper than the tree of the start keys, in whatever order keys come.
+    pub flat: bool,
+}
+
 /// What a table is opened with. A table keeps the number of its last card; the keys go to its first pass, and the start keys into
 /// its words.
 #[derive(Drop)]

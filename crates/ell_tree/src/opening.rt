@@ -11,7 +11,7 @@ ghost use Rattle.ell_cards.specs.Models.{IsCardCount, RefusesCards};
 ghost use Rattle.ell_tree.specs.PassParts.{IsFirst};
 
 use crate::tree::Tree;
-use ell_cards::{CardFault, CardTable, Pass};
+use ell_cards::{CardFault, CardTable, Pass, TableKind};
 use std::alloc::Allocator;
 
 impl<A: Allocator + Copy> Tree<A> {
@@ -72,7 +72,11 @@ impl<A: Allocator + Copy> Tree<A> {
         // `BadCards` is returned exactly if the number of cards is not 1 to 1,000,000, and otherwise only `NoMemory`.
         ensures refused { IfErr result (RefusesCards cards) }
     {
-        let (table, pass) = CardTable::reserve_from(alloc, start, keys, cards)?;
+        let owned = TableKind {
+            shared: false,
+            flat: false,
+        };
+        let (table, pass) = CardTable::reserve(alloc, start, keys, cards, owned)?;
         Ok((Tree { table, alloc }, pass))
     }
 
@@ -111,7 +115,11 @@ impl<A: Allocator + Copy> Tree<A> {
         // `BadCards` is returned exactly if the number of cards is not 1 to 1,000,000, and otherwise only `NoMemory`.
         ensures refused { IfErr result (RefusesCards cards) }
     {
-        let (table, pass) = CardTable::reserve_shared(alloc, start, keys, cards)?;
+        let shared = TableKind {
+            shared: true,
+            flat: false,
+        };
+        let (table, pass) = CardTable::reserve(alloc, start, keys, cards, shared)?;
         Ok((Tree { table, alloc }, pass))
     }
 
@@ -150,7 +158,11 @@ impl<A: Allocator + Copy> Tree<A> {
         // `BadCards` is returned exactly if the number of cards is not 1 to 1,000,000, and otherwise only `NoMemory`.
         ensures refused { IfErr result (RefusesCards cards) }
     {
-        let (table, pass) = CardTable::reserve_flat(alloc, start, keys, cards)?;
+        let flat = TableKind {
+            shared: true,
+            flat: true,
+        };
+        let (table, pass) = CardTable::reserve(alloc, start, keys, cards, flat)?;
         Ok((Tree { table, alloc }, pass))
     }
 }

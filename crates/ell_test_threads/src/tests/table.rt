@@ -2,7 +2,7 @@
 ghost use Rattle.std.specs.Prelude.{◌≡◌};
 ghost use Rattle.ell_cards.specs.Models.{IsFree};
 
-use ell_cards::{CardFault, CardTable, Closed, Pass};
+use ell_cards::{CardFault, CardTable, Closed, Pass, TableKind};
 use ell_layout::Field;
 use ell_tree::{NotDone, SplitFault};
 use std::alloc::Global;
@@ -55,7 +55,11 @@ fn joined(
 
 #[test]
 fn a_table_begins_parts_and_ends(rt: HostRuntime) {
-    let made = CardTable::reserve_from(rt.alloc(), &START, &KEYS, 1);
+    let kind = TableKind {
+        shared: false,
+        flat: false,
+    };
+    let made = CardTable::reserve(rt.alloc(), &START, &KEYS, 1, kind);
     let (table, mut pass) = made.expect(&rt, "table");
     assert!(rt; table.last_card() == 4 && table.next(&mut pass) == 4);
     assert!(rt; pass.keys() == KEYS.as_slice() && pass.owns(4));

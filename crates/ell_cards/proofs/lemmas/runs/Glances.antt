@@ -59,6 +59,64 @@ use Rattle.ell_cards.proofs.lemmas.runs.TurnsOfRuns.{one_more_turn, run_append, 
 use Rattle.ell_cards.proofs.lemmas.runs.GoingOn.{run_goes}
 use Rattle.ell_cards.proofs.lemmas.runs.Walked.{child_lacks, key_in_block}
 
+-- a state of a run, with its machine, and the turns before and after it
+pub record Amid (plan : TablePlan) (s0 : TableState) (turns : List Turn) (s : TableState) : Type 0 where
+  pub before : List Turn
+  pub after : List Turn
+  pub are : turns ≡ before ++ after
+  pub state : TableState
+  pub kept : HasMachine plan state
+  pub first : TableRun plan s0 before state
+  pub last : TableRun plan state after s
+
+-- so it is of the run with a turn more at its end, or at its start; and a state of a later part of it
+abbrev amid_more : (plan : TablePlan) (s0 : TableState) (turns : List Turn) (s : TableState) (t : Turn) (s' : TableState) → TableTurns plan s t s'
+    → Amid plan s0 turns s → Amid plan s0 (turns ++ t ∷ []) s'
+amid_more plan s0 turns s t s' turn at = record {
+  before = at.before;
+  after = at.after ++ t ∷ [];
+  are = ap (λ us. us ++ t ∷ []) at.are ∙ append_assoc at.before at.after (t ∷ []);
+  state = at.state;
+  kept = at.kept;
+  first = at.first;
+  last = one_more_turn plan at.state at.after s t s' at.last turn;
+}
+
+abbrev amid_later : (plan : TablePlan) (s : TableState) (t : Turn) (between : TableState) (ts : List Turn) (s' : TableState) → TableTurns plan s t between
+    → Amid plan between ts s' → Amid plan s (t ∷ ts) s'
+amid_later plan s t between ts s' turn at = record {
+  before = t ∷ at.before;
+  after = at.after;
+  are = ap (λ us. t ∷ us) at.are;
+  state = at.state;
+  kept = at.kept;
+  first = (between, turn, at.first);
+  last = at.last;
+}
+
+abbrev amid_within : (plan : TablePlan) (s0 : TableState) (turns : List Turn) (s : TableState) (at : Amid plan s0 turns s) → Amid plan at.state at.after s
+    → Amid plan s0 turns s
+amid_within plan s0 turns s at later = record {
+  before = at.before ++ later.before;
+  after = later.after;
+  are = at.are ∙ (ap (λ us. at.before ++ us) later.are ∙ sym (append_assoc at.before later.before later.after));
+  state = later.state;
+  kept = later.kept;
+  first = run_append plan s0 at.before at.state later.before later.state at.first later.first;
+  last = later.last;
+}
+
+is_amid : (plan : TablePlan) (s0 : TableState) (turns : List Turn) (s : TableState) (at : Amid plan s0 turns s) → IsAmid plan s0 turns s at.state
+is_amid plan s0 turns s at =
+    let n = length at.before in
+    let first : take n turns ≡ at.before = ap (take n) at.are ∙ take-append_seam at.before at.after in
+    let last : drop n turns ≡ at.after = ap (drop n) at.are ∙ drop-append_seam at.before at.after in
+    record {
+      first = n;
+      before = subst (λ us. TableRun plan s0 us at.state) (sym first) at.first;
+      after = subst (λ us. TableRun plan at.state us s) (sym last) at.last;
+    }
+
 -- a claim, a flag and a mark leave a look where it is
 pub claim_look : (b : Bool) (c q : ℕ) (v : View) → (after_claim b c q v).glances ≡ v.glances
 claim_look true c q v = refl
@@ -120,26 +178,14 @@ module _ (x low high key : ℕ) (right : Bool) (inner : IsInternal x) (a : low �
 
     -- in a state of a run all keys of the stretch came by the node, whose child was then as it is in the end
     record CameSince (s : TableState) (turns : List Turn) (s' : TableState) (end : HasMachine plan s') : Type 0 where
-      before : List Turn
-      after : List Turn
-      are : turns ≡ before ++ after
-      state : TableState
-      kept : HasMachine plan state
-      first : TableRun plan s before state
-      last : TableRun plan state after s'
-      come : AllCome kept.words x low high
-      child : end.words.child x right ≡ kept.words.child x right
+      at : Amid plan s turns s'
+      come : AllCome at.kept.words x low high
+      child : end.words.child x right ≡ at.kept.words.child x right
 
     later_since : (s : TableState) (t : Turn) (between : TableState) (ts : List Turn) (s' : TableState) (end : HasMachine plan s') → TableTurns plan s t between
         → CameSince between ts s' end → CameSince s (t ∷ ts) s' end
     later_since s t between ts s' end turn c = record {
-      before = t ∷ c.before;
-      after = c.after;
-      are = ap (λ us. t ∷ us) c.are;
-      state = c.state;
-      kept = c.kept;
-      first = (between, turn, c.first);
-      last = c.last;
+      at = amid_later plan s t between ts s' turn c.at;
       come = c.come;
       child = c.child;
     }
@@ -158,13 +204,7 @@ module _ (x low high key : ℕ) (right : Bool) (inner : IsInternal x) (a : low �
             | inl same ↦ elim turn.2.0.child [
               | inl was ↦ inl (same ∙ was)
               | inr come ↦ inr (record {
-                before = t ∷ [];
-                after = ts;
-                are = refl;
-                state = run.0;
-                kept = turn.0;
-                first = (run.0, run.1, refl);
-                last = run.2;
+                at = record { before = t ∷ []; after = ts; are = refl; state = run.0; kept = turn.0; first = (run.0, run.1, refl); last = run.2 };
                 come = come;
                 child = same;
               })
@@ -176,26 +216,14 @@ module _ (x low high key : ℕ) (right : Bool) (inner : IsInternal x) (a : low �
 module _ (plan : TablePlan) where
   -- in a state of a run all keys of a stretch came by a node
   pub record Came (s0 : TableState) (turns : List Turn) (s : TableState) (x low high : ℕ) : Type 0 where
-    pub before : List Turn
-    pub after : List Turn
-    pub are : turns ≡ before ++ after
-    pub state : TableState
-    pub kept : HasMachine plan state
-    pub first : TableRun plan s0 before state
-    pub last : TableRun plan state after s
-    pub come : AllCome kept.words x low high
+    pub at : Amid plan s0 turns s
+    pub come : AllCome at.kept.words x low high
     pub real : high ≤ greatest_key + 1
 
   came_more : (s0 : TableState) (turns : List Turn) (s : TableState) (t : Turn) (s' : TableState) (x low high : ℕ) → TableTurns plan s t s'
       → Came s0 turns s x low high → Came s0 (turns ++ t ∷ []) s' x low high
   came_more s0 turns s t s' x low high turn c = record {
-    before = c.before;
-    after = c.after ++ t ∷ [];
-    are = ap (λ us. us ++ t ∷ []) c.are ∙ append_assoc c.before c.after (t ∷ []);
-    state = c.state;
-    kept = c.kept;
-    first = c.first;
-    last = one_more_turn plan c.state c.after s t s' c.last turn;
+    at = amid_more plan s0 turns s t s' turn c.at;
     come = c.come;
     real = c.real;
   }
@@ -204,27 +232,15 @@ module _ (plan : TablePlan) where
   came_part : (s0 : TableState) (turns : List Turn) (s : TableState) (x low high from upto : ℕ) → low ≤ from → upto ≤ high → Came s0 turns s x low high
       → Came s0 turns s x from upto
   came_part s0 turns s x low high from upto a b c = record {
-    before = c.before;
-    after = c.after;
-    are = c.are;
-    state = c.state;
-    kept = c.kept;
-    first = c.first;
-    last = c.last;
+    at = c.at;
     come = λ k l u. c.come k (omega arith) (omega arith);
     real = let r = c.real in omega arith;
   }
 
   -- or the stretch is one key, which the tree lacked in such a state, and the node's block lacks in the last one
   pub record Strayed (s0 : TableState) (turns : List Turn) (s : TableState) (x low high : ℕ) : Type 0 where
-    pub before : List Turn
-    pub after : List Turn
-    pub are : turns ≡ before ++ after
-    pub state : TableState
-    pub kept : HasMachine plan state
-    pub first : TableRun plan s0 before state
-    pub last : TableRun plan state after s
-    pub absent : ¬ IsTreeKey kept.words low
+    pub at : Amid plan s0 turns s
+    pub absent : ¬ IsTreeKey at.kept.words low
     pub one : high ≤ low + 1
     pub real : high ≤ greatest_key + 1
     pub end : HasMachine plan s
@@ -245,13 +261,7 @@ module _ (plan : TablePlan) where
   strayed_more s0 turns s t s' x low high turn c =
       let goes = run_goes plan s c.end c.end.stages c.end.invariant (t ∷ []) s' (s', turn, refl) in
       record {
-        before = c.before;
-        after = c.after ++ t ∷ [];
-        are = ap (λ us. us ++ t ∷ []) c.are ∙ append_assoc c.before c.after (t ∷ []);
-        state = c.state;
-        kept = c.kept;
-        first = c.first;
-        last = one_more_turn plan c.state c.after s t s' c.last turn;
+        at = amid_more plan s0 turns s t s' turn c.at;
         absent = c.absent;
         one = c.one;
         real = c.real;
@@ -276,13 +286,7 @@ module _ (plan : TablePlan) where
   none_came : (s0 : TableState) (turns : List Turn) (s : TableState) (x y low high from upto : ℕ) → upto ≤ from → upto ≤ greatest_key + 1 → Came s0 turns s x low high
       → Came s0 turns s y from upto
   none_came s0 turns s x y low high from upto none real c = record {
-    before = c.before;
-    after = c.after;
-    are = c.are;
-    state = c.state;
-    kept = c.kept;
-    first = c.first;
-    last = c.last;
+    at = c.at;
     come = λ k l u. absurd (omega (arith, none, l, u));
     real = real;
   }
@@ -302,13 +306,7 @@ module _ (plan : TablePlan) where
         let sound = c.end.invariant.words in
         let is = listed c.end c.born in
         record {
-          before = c.before;
-          after = c.after;
-          are = c.are;
-          state = c.state;
-          kept = c.kept;
-          first = c.first;
-          last = c.last;
+          at = c.at;
           absent = c.absent;
           one = c.one;
           real = c.real;
@@ -319,71 +317,53 @@ module _ (plan : TablePlan) where
 
     -- a stretch by which a look came to the node, on a side of it, and in its block
     came_down : (s0 : TableState) (turns : List Turn) (low high : ℕ) (right : Bool) (n : ℕ) → IsInternal x → ((end : HasMachine plan s) → Born end.stages x → end.words.child x right ≡ n)
-        → low < high → ((j : ℕ) → low ≤ j → j < high → nat_le k j ≡ right) → (c : Came s0 turns s x low high) → AllInBlock c.kept.words x low high → Came s0 turns s n low high
+        → low < high → ((j : ℕ) → low ≤ j → j < high → nat_le k j ≡ right) → (c : Came s0 turns s x low high) → AllInBlock c.at.kept.words x low high → Came s0 turns s n low high
     came_down s0 turns low high right n inner listed less sides c blocks =
-        let w = c.kept.words in
-        let sound = c.kept.invariant.words in
-        let born = walk_born w c.kept.stages sound low (root_born w c.kept.stages sound) (c.come low (omega arith) less) in
-        let has = key_there c.state c.kept c.after c.last born in
+        let w = c.at.kept.words in
+        let sound = c.at.kept.invariant.words in
+        let born = walk_born w c.at.kept.stages sound low (root_born w c.at.kept.stages sound) (c.come low (omega arith) less) in
+        let has = key_there c.at.state c.at.kept c.at.after c.at.last born in
         let side : (j : ℕ) → low ≤ j → j < high → is_right w x j ≡ right = λ j l u. ap (λ m. nat_le m j) has ∙ sides j l u in
-        let course : AllOnCourse w x low high = λ i l u. let r = c.real in walk_course w c.kept.stages sound i (root_born w c.kept.stages sound) (root_course w c.kept.stages sound i (omega arith)) (c.come i l u) in
+        let course : AllOnCourse w x low high = λ i l u. let r = c.real in walk_course w c.at.kept.stages sound i (root_born w c.at.kept.stages sound) (root_course w c.at.kept.stages sound i (omega arith)) (c.come i l u) in
         let down : (y : Words) → AllCome y x low high → y.key x ≡ k → n ≡ y.child x right → AllCome y n low high =
         λ y come key child. subst (λ z. AllCome y z low high) (sym child)
         (all_come_down y x low high right inner (λ j l u. ap (λ m. nat_le m j) key ∙ sides j l u) come) in
-        let since = same_or_since x low high low right inner (omega arith) less plan c.state c.kept born course blocks (side low (omega arith) less) c.after s c.last in
+        let since = same_or_since x low high low right inner (omega arith) less plan c.at.state c.at.kept born course blocks (side low (omega arith) less) c.at.after s c.at.last in
         let is = sym (listed since.0 ((since.0.views seat v there).entries (Key x k) told).0) in
         elim since.1 [
           | inl same ↦ record {
-            before = c.before;
-            after = c.after;
-            are = c.are;
-            state = c.state;
-            kept = c.kept;
-            first = c.first;
-            last = c.last;
+            at = c.at;
             come = down w c.come has (is ∙ same);
             real = c.real;
           }
           | inr later ↦
-              let u = later.kept.words in
-              let sound' = later.kept.invariant.words in
-              let born' = walk_born u later.kept.stages sound' low (root_born u later.kept.stages sound') (later.come low (omega arith) less) in
+              let u = later.at.kept.words in
+              let sound' = later.at.kept.invariant.words in
+              let born' = walk_born u later.at.kept.stages sound' low (root_born u later.at.kept.stages sound') (later.come low (omega arith) less) in
               record {
-                before = c.before ++ later.before;
-                after = later.after;
-                are = c.are ∙ (ap (λ us. c.before ++ us) later.are ∙ sym (append_assoc c.before later.before later.after));
-                state = later.state;
-                kept = later.kept;
-                first = run_append plan s0 c.before c.state later.before later.state c.first later.first;
-                last = later.last;
-                come = down u later.come (key_there later.state later.kept later.after later.last born') (is ∙ later.child);
+                at = amid_within plan s0 turns s c.at later.at;
+                come = down u later.come (key_there later.at.state later.at.kept later.at.after later.at.last born') (is ∙ later.child);
                 real = c.real;
               }
         ]
 
     -- one key that the node's block lacks, by which a look came to it: the tree lacked it then
-    strays : (s0 : TableState) (turns : List Turn) (low high : ℕ) → IsInternal x → low < high → high ≤ low + 1 → (c : Came s0 turns s x low high) → ¬ IsInBlock c.kept.words x low
+    strays : (s0 : TableState) (turns : List Turn) (low high : ℕ) → IsInternal x → low < high → high ≤ low + 1 → (c : Came s0 turns s x low high) → ¬ IsInBlock c.at.kept.words x low
         → Strayed s0 turns s x low high
     strays s0 turns low high inner less one c lacks =
-        let w = c.kept.words in
-        let sound = c.kept.invariant.words in
+        let w = c.at.kept.words in
+        let sound = c.at.kept.invariant.words in
         let on = c.come low (omega arith) less in
-        let born = walk_born w c.kept.stages sound low (root_born w c.kept.stages sound) on in
-        let goes = run_goes plan c.state c.kept c.kept.stages c.kept.invariant c.after s c.last in
+        let born = walk_born w c.at.kept.stages sound low (root_born w c.at.kept.stages sound) on in
+        let goes = run_goes plan c.at.state c.at.kept c.at.kept.stages c.at.kept.invariant c.at.after s c.at.last in
         record {
-          before = c.before;
-          after = c.after;
-          are = c.are;
-          state = c.state;
-          kept = c.kept;
-          first = c.first;
-          last = c.last;
-          absent = λ tree. lacks (key_in_block w c.kept.stages sound x low inner on tree);
+          at = c.at;
+          absent = λ tree. lacks (key_in_block w c.at.kept.stages sound x low inner on tree);
           one = one;
           real = c.real;
           end = goes.0;
           born = goes.2.born x born;
-          lacks = λ in_block. lacks (block_before w goes.0.words c.kept.stages sound goes.1.words x x low low refl refl born in_block);
+          lacks = λ in_block. lacks (block_before w goes.0.words c.at.kept.stages sound goes.1.words x x low low refl refl born in_block);
         }
 
     -- keys that are in a half of the node's block are in its block
@@ -397,10 +377,10 @@ module _ (plan : TablePlan) where
     key_down : (s0 : TableState) (turns : List Turn) (j : ℕ) (right : Bool) (n : ℕ) → IsInternal x → ((end : HasMachine plan s) → Born end.stages x → end.words.child x right ≡ n)
         → nat_le k j ≡ right → Comes s0 turns s x j (j + 1) → Comes s0 turns s n j (j + 1)
     key_down s0 turns j right n inner listed side (inr c) = inr (strayed_down s0 turns j (j + 1) right n inner listed c)
-    key_down s0 turns j right n inner listed side (inl c) = elim (in_block-or_not c.kept.words x j) [
+    key_down s0 turns j right n inner listed side (inl c) = elim (in_block-or_not c.at.kept.words x j) [
       | inl there ↦ inl (came_down s0 turns j (j + 1) right n inner listed (omega arith)
           (λ i l u. let same : j ≡ i = omega arith in subst (λ m. nat_le k m ≡ right) same side) c
-          (λ i l u. let same : j ≡ i = omega arith in subst (IsInBlock c.kept.words x) same there))
+          (λ i l u. let same : j ≡ i = omega arith in subst (IsInBlock c.at.kept.words x) same there))
       | inr lacks ↦ inr (strayed_down s0 turns j (j + 1) right n inner listed (strays s0 turns j (j + 1) inner (omega arith) (omega arith) c lacks))
     ]
 
@@ -422,12 +402,12 @@ module _ (plan : TablePlan) where
             let low_on = goes_on to.low (omega arith) less in
             let most = upto_real right high k high (omega arith) in
             let b = came_part s0 turns s x low high to.low to.high low_on.0 (omega arith) c in
-            let w = b.kept.words in
-            let born = walk_born w b.kept.stages b.kept.invariant.words to.low (root_born w b.kept.stages b.kept.invariant.words) (b.come to.low (omega arith) less) in
+            let w = b.at.kept.words in
+            let born = walk_born w b.at.kept.stages b.at.kept.invariant.words to.low (root_born w b.at.kept.stages b.at.kept.invariant.words) (b.come to.low (omega arith) less) in
             came_down s0 turns to.low to.high right n inner listed less (λ j l u. (goes_on j l u).2) b
             (elim (cases_Bool (has_block w.flat_from x)) [
               | inr none ↦ (λ j l u. no_block w x j none)
-              | inl has ↦ half_there w right to inner (key_there b.state b.kept b.after b.last born) (half (ap (λ m. has_block m x) (sym b.kept.shape) ∙ has))
+              | inl has ↦ half_there w right to inner (key_there b.at.state b.at.kept b.at.after b.at.last born) (half (ap (λ m. has_block m x) (sym b.at.kept.shape) ∙ has))
             ])
       ]
 
@@ -557,7 +537,11 @@ module _ (plan : TablePlan) (seat : ℕ) where
       first g (latest _ _) kept come =
           let n = (link_in (found_by s call.Look)).node in
           let came : Came plan s1 [] s1 n 0 (greatest_key + 1) =
-          record { before = []; after = []; are = refl; state = s1; kept = kept; first = refl; last = refl; come = come; real = omega arith } in
+          record {
+            at = record { before = []; after = []; are = refl; state = s1; kept = kept; first = refl; last = refl };
+            come = come;
+            real = omega arith;
+          } in
           record {
             each = λ j l u. inl (came_part plan s1 [] s1 n 0 (greatest_key + 1) j (j + 1) l (omega arith) came);
             whole = λ is. came;
@@ -567,57 +551,44 @@ module _ (plan : TablePlan) (seat : ℕ) where
           nowhere : (g : Glance) → Has [] g → ⊥
           nowhere g has = elim has [ ]
 
--- a state by which a run came is amid it
-amid_by : (plan : TablePlan) (s0 : TableState) (turns before after : List Turn) (state s : TableState) → turns ≡ before ++ after → TableRun plan s0 before state
-    → TableRun plan state after s → IsAmid plan s0 turns s state
-amid_by plan s0 turns before after state s are run rest =
-    let n = length before in
-    let first : take n turns ≡ before = ap (take n) are ∙ take-append_seam before after in
-    let last : drop n turns ≡ after = ap (drop n) are ∙ drop-append_seam before after in
-    record {
-      first = n;
-      before = subst (λ us. TableRun plan s0 us state) (sym first) run;
-      after = subst (λ us. TableRun plan state us s) (sym last) rest;
-    }
-
 module _ (plan : TablePlan) (s0 : TableState) (turns : List Turn) (s : TableState) (seat : ℕ) (v : View) (there : get_elem? s.views seat ≡ some v) where
   -- what was found at a node by all keys of a stretch
   came_there : (node node_key low high : ℕ) (what : Option (ℕ × ℕ)) → IsTold v (Key node node_key) → TellsBetween (flat_from plan) v node node_key low high what
       → Came plan s0 turns s node low high → WasSo plan s0 turns s (HasBetween low high what)
   unfolding HasBetween
   came_there node node_key low high what told tell c =
-      record { state = c.state; amid = amid_by plan s0 turns c.before c.after c.state s c.are c.first c.last; so = by what tell }
+      record { state = c.at.state; amid = is_amid plan s0 turns s c.at; so = by what tell }
     where
       w : Words
-      w = c.kept.words
+      w = c.at.kept.words
 
-      born : (k : ℕ) → low ≤ k → k < high → Born c.kept.stages node
-      born k a b = walk_born w c.kept.stages c.kept.invariant.words k (root_born w c.kept.stages c.kept.invariant.words) (c.come k a b)
+      born : (k : ℕ) → low ≤ k → k < high → Born c.at.kept.stages node
+      born k a b = walk_born w c.at.kept.stages c.at.kept.invariant.words k (root_born w c.at.kept.stages c.at.kept.invariant.words) (c.come k a b)
 
       has : (k : ℕ) → low ≤ k → k < high → w.key node ≡ node_key
-      has k a b = key_there plan seat s v there node node_key told c.state c.kept c.after c.last (born k a b)
+      has k a b = key_there plan seat s v there node node_key told c.at.state c.at.kept c.at.after c.at.last (born k a b)
 
-      tree : (k : ℕ) → IsTreeKey (own_words c.state) k → IsTreeKey w k
-      tree k = (same_keys (own_words c.state) w (own_pairs plan c.state c.kept) k).1
+      tree : (k : ℕ) → IsTreeKey (own_words c.at.state) k → IsTreeKey w k
+      tree k = (same_keys (own_words c.at.state) w (own_pairs plan c.at.state c.at.kept) k).1
 
       -- a key of the stretch that the tree has is that of the leaf
-      only : IsLeaf node → (k : ℕ) → low ≤ k → k < high → IsTreeKey (own_words c.state) k → node_key ≡ k
-      only outer k a b in_tree = sym (has k a b) ∙ walk_ends w k (c.come k a b) outer (tree_key_leads w c.kept.invariant.words.tree.ordered k (tree k in_tree))
+      only : IsLeaf node → (k : ℕ) → low ≤ k → k < high → IsTreeKey (own_words c.at.state) k → node_key ≡ k
+      only outer k a b in_tree = sym (has k a b) ∙ walk_ends w k (c.come k a b) outer (tree_key_leads w c.at.kept.invariant.words.tree.ordered k (tree k in_tree))
 
       -- and one in the block of an internal node
-      inside : IsInternal node → has_block (flat_from plan) node ≡ true → (k : ℕ) → low ≤ k → k < high → IsTreeKey (own_words c.state) k → InBlockOf node_key k
+      inside : IsInternal node → has_block (flat_from plan) node ≡ true → (k : ℕ) → low ≤ k → k < high → IsTreeKey (own_words c.at.state) k → InBlockOf node_key k
       inside inner has_it k a b in_tree =
           subst (λ n. InBlockOf n k) (has k a b)
-          ((key_in_block w c.kept.stages c.kept.invariant.words node k inner (c.come k a b) (tree k in_tree)).inner inner
-          (ap (λ m. has_block m node) c.kept.shape ∙ has_it))
+          ((key_in_block w c.at.kept.stages c.at.kept.invariant.words node k inner (c.come k a b) (tree k in_tree)).inner inner
+          (ap (λ m. has_block m node) c.at.kept.shape ∙ has_it))
 
-      value_there : (value : ℕ) → IsTold v (Value node value) → Born c.kept.stages node → w.value node ≡ value
+      value_there : (value : ℕ) → IsTold v (Value node value) → Born c.at.kept.stages node → w.value node ≡ value
       value_there value says born' =
-          let goes = run_goes plan c.state c.kept c.kept.stages c.kept.invariant c.after s c.last in
-          sym (goes.1.words.value node ((c.kept.invariant.words.cards (card node)).claimed.0 (born-claimed (c.kept.stages (card node)) (node % 4) born')))
+          let goes = run_goes plan c.at.state c.at.kept c.at.kept.stages c.at.kept.invariant c.at.after s c.at.last in
+          sym (goes.1.words.value node ((c.at.kept.invariant.words.cards (card node)).claimed.0 (born-claimed (c.at.kept.stages (card node)) (node % 4) born')))
           ∙ ((goes.0.views seat v there).entries (Value node value) says).1
 
-      by : (o : Option (ℕ × ℕ)) → TellsBetween (flat_from plan) v node node_key low high o → HasBetween low high o (own_words c.state)
+      by : (o : Option (ℕ × ℕ)) → TellsBetween (flat_from plan) v node node_key low high o → HasBetween low high o (own_words c.at.state)
       by None tells = λ k a b in_tree. elim tells [
         | inl leaf ↦ (let is = only leaf.0 k a b in_tree in elim leaf.1 [ inl less ↦ absurd (omega arith) | inr more ↦ absurd (omega arith) ])
         | inr edge ↦ edge.2 k a b (inside edge.0 edge.1 k a b in_tree)
@@ -625,7 +596,7 @@ module _ (plan : TablePlan) (s0 : TableState) (turns : List Turn) (s : TableStat
       by (Some pair) tells = (
         tells.2,
         tells.3,
-        (own_pairs plan c.state c.kept pair.0 pair.1).0 (record {
+        (own_pairs plan c.at.state c.at.kept pair.0 pair.1).0 (record {
           leaf = node;
           reached = OnWalk-below w pair.0 (c.come pair.0 tells.2 tells.3);
           outer = tells.0;
@@ -641,13 +612,13 @@ module _ (plan : TablePlan) (s0 : TableState) (turns : List Turn) (s : TableStat
       → Strayed plan s0 turns s node low high → WasSo plan s0 turns s (HasBetween low high what)
   unfolding HasBetween
   strayed_there node node_key low high what told tell c =
-      record { state = c.state; amid = amid_by plan s0 turns c.before c.after c.state s c.are c.first c.last; so = by what tell }
+      record { state = c.at.state; amid = is_amid plan s0 turns s c.at; so = by what tell }
     where
-      by : (o : Option (ℕ × ℕ)) → TellsBetween (flat_from plan) v node node_key low high o → HasBetween low high o (own_words c.state)
+      by : (o : Option (ℕ × ℕ)) → TellsBetween (flat_from plan) v node node_key low high o → HasBetween low high o (own_words c.at.state)
       by None tells = λ k a b in_tree.
           let o = c.one in
           let same : k ≡ low = omega arith in
-          c.absent (subst (IsTreeKey c.kept.words) same ((same_keys (own_words c.state) c.kept.words (own_pairs plan c.state c.kept) k).1 in_tree))
+          c.absent (subst (IsTreeKey c.at.kept.words) same ((same_keys (own_words c.at.state) c.at.kept.words (own_pairs plan c.at.state c.at.kept) k).1 in_tree))
       by (Some pair) tells =
           let o = c.one in
           let a = tells.2 in

@@ -15,10 +15,10 @@ use Rattle.ell_core.specs.declared.fact.Fact.TheVariants as fact
 use Rattle.ell_layout.specs.declared.field.Field.{Field}
 use Rattle.ell_layout.specs.declared.field.Field.TheVariants as field
 use Rattle.ell_layout.specs.Layout.{address}
-use Rattle.ell_layout.specs.Words.{Words, word, key_field, child_field}
+use Rattle.ell_layout.specs.Words.{Words, IsLeaf, word, key_field, child_field}
 use Rattle.ell_layout.specs.Cards.{says_by}
 use Rattle.ell_core.specs.state.Machine.{Machine, Worker}
-use Rattle.ell_core.specs.history.Stages.{Stage, Stages, Born, is_claimed, insert_won, is_changed, delete_won, is_cut, is_unmarkable, waits, allows}
+use Rattle.ell_core.specs.history.Stages.{insert_over, delete_over, Stage, Stages, Born, is_claimed, insert_won, is_changed, delete_won, is_cut, is_unmarkable, waits, allows}
 use Rattle.ell_core.specs.history.Invariant.{Invariant}
 use Rattle.ell_core.specs.history.Later.{WordsLater, StagesLater, wins_of}
 use Rattle.ell_core.specs.statements.Since.{has_ended}
@@ -55,7 +55,7 @@ use Rattle.ell_cards.specs.Laws.{machine_of_table}
 use Rattle.ell_cards.specs.Turns.{Turn, Makes, Splits, Joins, CallIsMade, TableTurns, TableRun, found_by}
 use Rattle.ell_cards.specs.Starts.{IsReached}
 use Rattle.ell_cards.specs.Runs.{GoesBy}
-use Rattle.ell_cards.specs.Touching.{forgets, AtRoot, touched_by, IsWordOf, WasThere, CallsTouchTheirWords, CallsTouchNothingGone, TablesHaveOuts}
+use Rattle.ell_cards.specs.Touching.{forgets, AtRoot, touched_by, IsWordOf, WasThere, CallsTouchTheirWords, CallsTouchNothingGone, TablesHaveOuts, KnownTakenOutIsGone}
 use Rattle.ell_cards.proofs.lemmas.seats.Seats.{mine_is, set_there}
 use Rattle.ell_cards.proofs.lemmas.seats.Entries.{with_entry}
 use Rattle.ell_cards.proofs.lemmas.lifetimes.Splits.{of_split}
@@ -570,3 +570,35 @@ tables_have_outs plan s h =
     } in
     let ran = run_comes plan m r.stages r.invariant h.first r (states_come_from_themselves m has) h.turns s h.run in
     (ran.0, record { stages = ran.1.stages; invariant = ran.1.invariant; outs = ran.1.outs })
+
+-- a card that is over has ended, and has made its child exchange
+iover-ended : (s : Stage) → insert_over s ≡ true → (has_ended s ≡ true) × (is_changed s ≡ true)
+iover-ended s h = (grind arith, grind arith)
+
+dover-ended : (s : Stage) → delete_over s ≡ true → (has_ended s ≡ true) × (is_cut s ≡ true)
+dover-ended s h = (grind arith, grind arith)
+
+-- so what a pass knows to be taken out is gone
+pub known_taken_out_is_gone : KnownTakenOutIsGone
+known_taken_out_is_gone plan s seat v there c x knows r has = elim knows [
+  | inl put ↦
+      let over = iover-ended (has.stages c) (allowed (fact.IOver c) put.0) in
+      let leaf = told_is plan s r seat v there c field.L x put.2 in
+      record { taker = c; ended = over.0; takes = inl (over.1, subst IsLeaf (sym leaf) put.1, leaf) }
+  | inr cut ↦
+      let over = dover-ended (has.stages c) (allowed (fact.DOver c) cut.0) in
+      record {
+        taker = c;
+        ended = over.0;
+        takes = inr (
+          over.1,
+          elim cut.1 [
+            | inl p ↦ inl (told_is plan s r seat v there c field.P x p)
+            | inr l ↦ inr (told_is plan s r seat v there c field.L x l)
+          ],
+        );
+      }
+]
+  where
+    allowed : (f : Fact) → Knows v f → allows f (has.stages (card_of_fact f)) ≡ true
+    allowed f k = (has.invariant.workers.each seat).facts f (ap (λ (u : Worker). u.knows f) (mine_is plan s r seat v there) ∙ k)

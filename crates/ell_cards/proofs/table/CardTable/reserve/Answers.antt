@@ -1,23 +1,37 @@
-use Rattle.std.proofs.Common.{◌≡◌, ℕ, ◌≤◌, List, All, ◌⊎◌, inl, length, true, subst, sym, arith, ◌<◌}
+use Rattle.std.proofs.Common.{◌≡◌, ℕ, ◌≤◌, List, All, ◌⊎◌, inl, inr, length, true, subst, sym, arith, ◌<◌}
+use Rattle.std.proofs.lemmas.Bool.{cases_Bool}
 use Rattle.std.specs.List.Sorted.{IsStrictlyIncreasing}
 use Rattle.std.specs.Map.{keys_of}
 use Rattle.ell_ops.specs.KeySet.{set_of}
 use Rattle.ell_ops.specs.Meaning.{greatest_key}
 use Rattle.ell_cards.specs.Models.{TablePlan}
 use Rattle.ell_cards.specs.Starts.{MayStart, IsSharedIn}
-use Rattle.ell_cards.proofs.table.CardTable.reserve_from.Goals as goal
+use Rattle.ell_cards.proofs.table.CardTable.reserve.Goals as goal
 use Rattle.ell_word.specs.Node.{greatest_card}
 
--- a table may open with copies of keys and start keys that are among them
+-- what is so of a list is so of a copy of it
+abbrev Given : TablePlan → List ℕ → List (ℕ × ℕ) → Type 0
+Given plan keys start = All (λ k. (set_of keys k ≡ true) ⊎ ((plan.shared ≡ true) × (k ≤ greatest_key))) (keys_of start)
+
+-- a start key that has no owner is shared
+given_there : (plan : TablePlan) (k : ℕ) → (set_of plan.keys k ≡ true) ⊎ ((plan.shared ≡ true) × (k ≤ greatest_key))
+    → (set_of plan.keys k ≡ true) ⊎ IsSharedIn plan k
+given_there plan k (inl owned) = inl owned
+given_there plan k (inr shared) = elim (cases_Bool (set_of plan.keys k)) [
+  | inl owned ↦ inl owned
+  | inr other ↦ inr (record { mode = shared.0; real = shared.1; other = other })
+]
+
+-- a table may open with copies of keys and start keys that are among them, or shared
 may_start : (plan : TablePlan) (keys : List ℕ) (start : List (ℕ × ℕ)) → plan.keys ≡ keys → plan.start ≡ start → IsStrictlyIncreasing keys
-    → All (λ k. k ≤ greatest_key) keys → IsStrictlyIncreasing (keys_of start) → All (λ k. set_of keys k ≡ true) (keys_of start)
+    → All (λ k. k ≤ greatest_key) keys → IsStrictlyIncreasing (keys_of start) → Given plan keys start
     → length start ≤ plan.last_card → length start < greatest_card → plan.last_card ≤ greatest_card → MayStart plan
 may_start plan keys start copied started ascending real start_ascending given room few limit =
-    let owned = subst (λ ks. All (λ k. set_of ks k ≡ true) (keys_of start)) (sym copied) given in record {
+    let here = subst (λ pairs. Given plan plan.keys pairs) (sym started) (subst (λ ks. Given plan ks start) (sym copied) given) in record {
       ascending = subst IsStrictlyIncreasing (sym copied) ascending;
       real = subst (All (λ k. k ≤ greatest_key)) (sym copied) real;
       start_ascending = subst (λ pairs. IsStrictlyIncreasing (keys_of pairs)) (sym started) start_ascending;
-      given = subst (λ pairs. All (λ k. (set_of plan.keys k ≡ true) ⊎ IsSharedIn plan k) (keys_of pairs)) (sym started) (λ i d below. inl (owned i d below));
+      given = λ i d below. given_there plan _ (here i d below);
       room = subst (λ pairs. length pairs ≤ plan.last_card) (sym started) room;
       few = subst (λ pairs. length pairs < greatest_card) (sym started) few;
       limit = limit;
