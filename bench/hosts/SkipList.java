@@ -1,20 +1,42 @@
 import java.io.BufferedReader;
 import java.io.IOException;
 import java.io.InputStreamReader;
+import java.lang.ref.Reference;
 import java.util.ArrayList;
+import java.util.HashSet;
 import java.util.List;
 import java.util.Map;
+import java.util.Set;
 import java.util.concurrent.ConcurrentSkipListMap;
 import java.util.concurrent.CyclicBarrier;
+import java.util.concurrent.atomic.AtomicLong;
+import java.util.concurrent.atomic.LongAdder;
 import java.util.function.LongUnaryOperator;
+import java.util.function.ToLongFunction;
+import java.util.stream.LongStream;
 
 /**
- * Java's ConcurrentSkipListMap, of which java.rs asks one line at a time: what a map answers, or how long writes and ranges take. That is
- * measured as work.rs does it, after once without a record, which has the code compiled.
+ * Java's ConcurrentSkipListMap, of which java.rs asks one line at a time: what a map answers, how long writes, ranges, operations and
+ * inserts take, or how much memory. Times are measured as work.rs and inserts.rs do it, once the code has been compiled.
  */
 final class SkipList {
     /** How many writes a thread makes before it sees whether the interval is over. */
     private static final int BATCH = 16;
+
+    /** How many keys a thread that fills a map takes at a time. */
+    private static final long BLOCK = 1_000;
+
+    /** How often the garbage is collected before what is left of it counts. */
+    private static final int COLLECTIONS = 3;
+
+    /** The verbs of lines that ask for a time. */
+    private static final Set<String> TIMED = Set.of("measure", "operate", "fill");
+
+    /** For how many nanoseconds what such a verb asks for is done before its code is taken to be compiled. */
+    private static final long COMPILING = 2_000_000_000;
+
+    /** The verbs for which that was done. */
+    private static final Set<String> COMPILED = new HashSet<>();
 
     private final ConcurrentSkipListMap<Long, Long> map = new ConcurrentSkipListMap<>();
     private final long keys;
@@ -68,6 +90,16 @@ final class SkipList {
         };
     }
 
+    /** Finds, inserts or deletes, of which a half are finds and a quarter inserts: what that answers, as a number. */
+    private long operate(long random) {
+        long key = below(keys, random);
+        return switch ((int) Long.remainderUnsigned(random, 4)) {
+            case 0 -> insert(key, random) ? 1 : 0;
+            case 1 -> delete(key) ? 1 : 0;
+            default -> map.getOrDefault(key, 0L);
+        };
+    }
+
     /** Asks for a range over so many numbers, or for the next key if that is 1: how many answers there are. */
     private long ask(long width, long random) {
         if (width == 1) {
@@ -83,7 +115,7 @@ final class SkipList {
     /** Where what nobody needs is put, so that it is made. */
     private static Object sink;
 
-    /** A thread that acts until it is told to end: how long it took, and how many answers it had. */
+    /** A thread that acts until it is told to end: how long it took, how often it acted, and the sum of its answers. */
     private static final class Worker extends Thread {
         private final CyclicBarrier begin;
         private final long seed;
@@ -91,6 +123,7 @@ final class SkipList {
         private final LongUnaryOperator act;
         private volatile boolean isOver;
         private long nanoseconds;
+        private long acts;
         private long answers;
 
         Worker(CyclicBarrier begin, long seed, int batch, LongUnaryOperator act) {
@@ -104,15 +137,20 @@ final class SkipList {
         @Override
         public void run() {
             long random = (seed + 1) * 0x9E3779B97F4A7C15L;
+            long batches = 0;
+            long sum = 0;
             await(begin);
             long begun = System.nanoTime();
             do {
                 for (int i = 0; i < batch; i++) {
                     random = next(random);
-                    answers += act.applyAsLong(random);
+                    sum += act.applyAsLong(random);
                 }
+                batches++;
             } while (!isOver);
             nanoseconds = System.nanoTime() - begun;
+            acts = batches * batch;
+            answers = sum;
         }
     }
 
@@ -130,19 +168,19 @@ final class SkipList {
         }
     }
 
-    /** Ends all of these: how long they took in all, and how many answers they had. */
-    private static String end(List<Worker> workers) throws InterruptedException {
+    /** Ends all of these: how long they took in all, and how much of what counts they did. */
+    private static String end(List<Worker> workers, ToLongFunction<Worker> counted) throws InterruptedException {
         long nanoseconds = 0;
-        long answers = 0;
+        long count = 0;
         for (Worker worker : workers) {
             worker.isOver = true;
         }
         for (Worker worker : workers) {
             worker.join();
             nanoseconds += worker.nanoseconds;
-            answers += worker.answers;
+            count += counted.applyAsLong(worker);
         }
-        return nanoseconds + " " + answers;
+        return nanoseconds + " " + count;
     }
 
     /** Has a map written to and scanned by so many threads: what its writers and its scanners took. */
@@ -156,10 +194,7 @@ final class SkipList {
         CyclicBarrier begin = new CyclicBarrier((int) (owners + readers) + 1);
         List<Worker> writers = new ArrayList<>();
         for (long seed = 0; seed < owners; seed++) {
-            writers.add(new Worker(begin, seed, BATCH, it -> {
-                list.write(it);
-                return 1;
-            }));
+            writers.add(new Worker(begin, seed, BATCH, list::write));
         }
         List<Worker> scanners = new ArrayList<>();
         for (long seed = 0; seed < readers; seed++) {
@@ -167,12 +202,117 @@ final class SkipList {
         }
         await(begin);
         Thread.sleep(interval / 1_000_000);
-        String scanned = end(scanners);
-        return end(writers) + " " + scanned;
+        String scanned = end(scanners, worker -> worker.answers);
+        return end(writers, worker -> worker.acts) + " " + scanned;
+    }
+
+    /** Has so many threads operate on all keys for so long: what they took in all, and how many operations there were. */
+    private String operations(long threads, long interval) throws InterruptedException {
+        CyclicBarrier begin = new CyclicBarrier((int) threads + 1);
+        List<Worker> workers = new ArrayList<>();
+        for (long seed = 0; seed < threads; seed++) {
+            workers.add(new Worker(begin, seed, BATCH, this::operate));
+        }
+        await(begin);
+        Thread.sleep(interval / 1_000_000);
+        return end(workers, worker -> worker.acts);
+    }
+
+    /** Inserts the next block of ascending keys that no thread has taken, again and again. */
+    private void insertBlocks(AtomicLong next, long end) {
+        for (long block = next.getAndAdd(BLOCK); block < end; block = next.getAndAdd(BLOCK)) {
+            for (long key = block; key < Math.min(block + BLOCK, end); key++) {
+                insert(key, key + 7);
+            }
+        }
+    }
+
+    /** Has so many threads insert ascending keys into a new map: what they took in all, and how many keys there are. */
+    private static String fill(long end, long threads) throws InterruptedException {
+        SkipList list = new SkipList(0, 0);
+        AtomicLong next = new AtomicLong();
+        CyclicBarrier begin = new CyclicBarrier((int) threads);
+        LongAdder took = new LongAdder();
+        List<Thread> filling = new ArrayList<>();
+        for (long i = 0; i < threads; i++) {
+            Thread thread = new Thread(() -> {
+                await(begin);
+                long begun = System.nanoTime();
+                list.insertBlocks(next, end);
+                took.add(System.nanoTime() - begun);
+            });
+            thread.start();
+            filling.add(thread);
+        }
+        for (Thread thread : filling) {
+            thread.join();
+        }
+        if (list.map.size() != end) {
+            throw new IllegalStateException("a key is not there");
+        }
+        return took + " " + end;
+    }
+
+    /** The numbers below another as inserts.rs shuffles them. */
+    private static long[] shuffled(int count) {
+        long[] keys = LongStream.range(0, count).toArray();
+        long random = 5 * 0x9E3779B97F4A7C15L;
+        for (int last = count - 1; last > 0; last--) {
+            random = next(random);
+            int other = (int) ((random >>> 32) % (last + 1));
+            long key = keys[last];
+            keys[last] = keys[other];
+            keys[other] = key;
+        }
+        return keys;
+    }
+
+    /** The bytes of the heap that are used once the garbage is collected. */
+    private static long usedHeap() {
+        for (int i = 0; i < COLLECTIONS; i++) {
+            System.gc();
+        }
+        Runtime runtime = Runtime.getRuntime();
+        return runtime.totalMemory() - runtime.freeMemory();
+    }
+
+    /** By how many bytes of the heap a map of so many shuffled keys is heavier than none, and how many keys there are. */
+    private static String weigh(long count) {
+        long[] keys = shuffled((int) count);
+        long before = usedHeap();
+        SkipList list = new SkipList(0, 0);
+        for (long key : keys) {
+            list.insert(key, key + 7);
+        }
+        long after = usedHeap();
+        Reference.reachabilityFence(keys);
+        return after - before + " " + list.map.size();
     }
 
     private static String shown(Long value) {
         return value == null ? "none" : Long.toUnsignedString(value);
+    }
+
+    /** What a new map takes for what a line asks of it, or null if it asks the map that is there. */
+    private static String once(String verb, long[] words) throws InterruptedException {
+        return switch (verb) {
+            case "measure" -> measure(words[0], words[1], words[2], words[3], words[4]);
+            case "operate" -> new SkipList(words[0], words[1]).operations(words[1], words[2]);
+            case "fill" -> fill(words[0], words[1]);
+            case "weigh" -> weigh(words[0]);
+            default -> null;
+        };
+    }
+
+    /** The same. What is timed is done without a record before, and again and again for a while if it is the first of its verb. */
+    private static String measured(String verb, long[] words) throws InterruptedException {
+        if (TIMED.contains(verb)) {
+            long end = System.nanoTime() + (COMPILED.add(verb) ? COMPILING : 0);
+            do {
+                once(verb, words);
+            } while (System.nanoTime() < end);
+        }
+        return once(verb, words);
     }
 
     private String answer(String verb, long[] words) {
@@ -208,11 +348,9 @@ final class SkipList {
             if (parts[0].equals("start")) {
                 list = new SkipList(words[0], words[1]);
                 System.out.println("started");
-            } else if (parts[0].equals("measure")) {
-                measure(words[0], words[1], words[2], words[3], words[4]);
-                System.out.println(measure(words[0], words[1], words[2], words[3], words[4]));
             } else {
-                System.out.println(list.answer(parts[0], words));
+                String measured = measured(parts[0], words);
+                System.out.println(measured == null ? list.answer(parts[0], words) : measured);
             }
         }
     }

@@ -32,7 +32,7 @@ impl Order {
     }
 
     /// The numbers below this in this order, which is the same each time.
-    fn keys(self, count: u64) -> Vec<u64> {
+    pub fn keys(self, count: u64) -> Vec<u64> {
         let mut keys: Vec<u64> = (0..count).collect();
         match self {
             Order::Ascending => {}
@@ -48,21 +48,26 @@ impl Order {
     }
 }
 
+/// Inserts these keys, which are absent.
+pub fn fill(writer: &mut dyn View, keys: &[u64]) {
+    for &key in keys {
+        assert!(writer.insert(key, key + 7), "{key} was absent");
+    }
+}
+
 /// Inserts the next block of these keys that no thread has taken, again and again, and returns how long it took.
 fn insert_blocks(writer: &mut dyn View, keys: &[u64], next: &AtomicUsize, begin: &Barrier) -> Duration {
     begin.wait();
     let begun = Instant::now();
     while let Some(block) = keys.chunks(BLOCK).nth(next.fetch_add(1, Ordering::Relaxed)) {
-        for &key in block {
-            assert!(writer.insert(key, key + 7), "{key} was absent");
-        }
+        fill(writer, block);
     }
     begun.elapsed()
 }
 
 /// Has all writers of a new map without keys insert all of them, in this order, or as many as it may have: how long an insert took, in
 /// nanoseconds of the time of all threads together, and how often and how long the map paused, if it renews itself.
-fn inserts_in(order: Order, peer: Peer, sizes: Sizes) -> Vec<(Figure, f64)> {
+pub fn inserts_in(order: Order, peer: Peer, sizes: Sizes) -> Vec<(Figure, f64)> {
     let mut keys = order.keys(sizes.keys);
     keys.truncate(peer.most_inserts());
     let keys = &keys;

@@ -1,5 +1,6 @@
 //! Java's ConcurrentSkipListMap, by `SkipList.java`: a process that is asked one line at a time, and has one map.
 
+use crate::front::Part;
 use crate::peers::{Sizes, View};
 use crate::ranges::{Ranges, Span, Told};
 use crate::work::Speeds;
@@ -61,6 +62,20 @@ impl SkipList {
         let took = ask(&line).expect("what they took");
         let mean = |nanoseconds, answers| (answers > 0).then(|| nanoseconds as f64 / answers as f64);
         Speeds { writers: mean(took[0], took[1]), readers: mean(took[2], took[3]) }
+    }
+
+    /// What the front tells of a new map: how long an operation or an insert takes, in nanoseconds of the time of all threads together,
+    /// or how many bytes a key does.
+    pub fn measure(part: Part, sizes: Sizes, interval: Duration) -> f64 {
+        let Sizes { keys, writers, .. } = sizes;
+        let line = match part {
+            Part::Operations => format!("operate {keys} {writers} {}", interval.as_nanos()),
+            Part::Inserts => format!("fill {keys} {writers}"),
+            Part::Memory => format!("weigh {keys}"),
+            Part::Stops => unreachable!("no thread of Java is stopped"),
+        };
+        let told = ask(&line).expect("what it took, and of how many");
+        told[0] as f64 / told[1] as f64
     }
 }
 

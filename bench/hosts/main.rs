@@ -1,18 +1,20 @@
 //! Measures elltree, as a program in Rust has it, as one map and through the handles of a tree, beside the same tree over bare atomic words and as
 //! libcds has it, `BTreeMap`s behind locks, one or 16 of them, and a private `BTreeMap` for each thread; of ranges also as a program in C has it,
-//! beside Java's skip list. A library that was built before a change may be one more. `bench/hosts/run` builds it, and says what its words are; the
-//! tables go to standard output.
+//! beside Java's skip list; and of some figures beside further maps of libcds, of TBB and of Java. A library that was built before a
+//! change may be one more. `bench/hosts/run` builds it, and says what its words are; the tables go to standard output.
 
 mod array;
 #[path = "../plain/bare_tree.rs"]
 mod bare_tree;
+#[cfg(cpp_map)]
+mod cpp;
 mod ends;
+mod front;
 mod inserts;
 #[cfg(java)]
 mod java;
-#[cfg(libcds)]
-mod libcds;
 mod library;
+mod memory;
 mod one_map;
 mod pauses;
 mod peers;
@@ -22,7 +24,9 @@ mod record;
 mod work;
 
 use ends::ends;
-use inserts::inserts;
+use front::Part;
+use inserts::{Order, inserts, inserts_in};
+use memory::memory;
 use pauses::pauses;
 use peers::{Crew, Peer, Sizes};
 use ranges::{Hold, Span, Told, Way, write};
@@ -78,6 +82,8 @@ pub enum Kind {
     Ends,
     /// The pauses of a map that renews itself, for some seconds.
     Pauses,
+    /// A part of the table for the first screen of README.md.
+    Front(Part),
 }
 
 /// What is measured of each peer, one after the other.
@@ -88,8 +94,21 @@ pub struct Case {
 }
 
 impl Kind {
-    const ALL: [Kind; 9] =
-        [Kind::Shared, Kind::SharedLooks, Kind::Running, Kind::Stopped, Kind::Counters, Kind::Ranges, Kind::Inserts, Kind::Ends, Kind::Pauses];
+    const ALL: [Kind; 13] = [
+        Kind::Shared,
+        Kind::SharedLooks,
+        Kind::Running,
+        Kind::Stopped,
+        Kind::Counters,
+        Kind::Ranges,
+        Kind::Inserts,
+        Kind::Ends,
+        Kind::Pauses,
+        Kind::Front(Part::Operations),
+        Kind::Front(Part::Inserts),
+        Kind::Front(Part::Stops),
+        Kind::Front(Part::Memory),
+    ];
 
     pub fn name(self) -> &'static str {
         match self {
@@ -102,6 +121,7 @@ impl Kind {
             Kind::Inserts => "inserts",
             Kind::Ends => "ends",
             Kind::Pauses => "pauses",
+            Kind::Front(_) => "front",
         }
     }
 
@@ -116,6 +136,7 @@ impl Kind {
             Kind::Inserts => Peer::FILLED.to_vec(),
             Kind::Ends => Peer::QUEUES.to_vec(),
             Kind::Pauses => vec![Peer::OneMap],
+            Kind::Front(part) => Peer::FRONT.iter().copied().filter(|peer| part.suits(*peer)).collect(),
         }
     }
 
@@ -131,10 +152,10 @@ impl Kind {
     /// The peer to whose times in the same round those of the others are compared.
     pub fn reference(self) -> Option<Peer> {
         match self {
-            Kind::Shared | Kind::Counters | Kind::Inserts => Some(Peer::Mutexes),
+            Kind::Running | Kind::Stopped | Kind::Front(Part::Stops) | Kind::Ranges | Kind::Pauses => None,
+            Kind::Shared | Kind::Counters | Kind::Inserts | Kind::Front(_) => Some(Peer::Mutexes),
             Kind::SharedLooks => Some(Peer::RwLocks),
             Kind::Ends => Some(Peer::Mutex),
-            Kind::Running | Kind::Stopped | Kind::Ranges | Kind::Pauses => None,
         }
     }
 
@@ -147,6 +168,7 @@ impl Kind {
             Kind::Counters | Kind::Inserts | Kind::Ends => vec![(1, 0), (4, 0)],
             Kind::Ranges => vec![(0, 1), (3, 0), (3, 1)],
             Kind::Pauses => vec![(4, 0)],
+            Kind::Front(part) => part.crews(),
         }
     }
 
@@ -158,25 +180,26 @@ impl Kind {
             Kind::Inserts => &INSERTED,
             Kind::Ends => &QUEUED,
             Kind::Pauses => &PAUSING,
+            Kind::Front(part) => part.keys(),
             _ => &KEYS,
         }
     }
 
     /// Whether all writers change the same keys.
     fn is_of_shared_keys(self) -> bool {
-        !matches!(self, Kind::Running | Kind::Stopped)
+        !matches!(self, Kind::Running | Kind::Stopped | Kind::Front(Part::Stops))
     }
 
     /// Whether an interval may take seconds. Then its threads are in the normal class, since those of the real-time class lose their
     /// processors for a part of each second.
     fn takes_seconds(self) -> bool {
-        matches!(self, Kind::Inserts | Kind::Ends | Kind::Pauses)
+        matches!(self, Kind::Inserts | Kind::Ends | Kind::Pauses | Kind::Front(Part::Inserts | Part::Memory))
     }
 
     /// What writers do, if a map is kept from round to round.
     fn work(self) -> Option<Work> {
         match self {
-            Kind::Shared => Some(Work::Mixed),
+            Kind::Shared | Kind::Front(Part::Operations) => Some(Work::Mixed),
             Kind::SharedLooks => Some(Work::Changes),
             _ => None,
         }
@@ -186,9 +209,9 @@ impl Kind {
     fn extent(self, wanted: &Wanted) -> (Duration, usize) {
         let &Wanted { burst, rounds, pauses, .. } = wanted;
         match self {
-            Kind::Running | Kind::Stopped => (burst.mul_f64(LATENCIES_LONGER), rounds.div_ceil(FEWER)),
+            Kind::Running | Kind::Stopped | Kind::Front(Part::Stops) => (burst.mul_f64(LATENCIES_LONGER), rounds.div_ceil(FEWER)),
             Kind::Ranges => (burst.mul_f64(RANGES_LONGER), rounds.div_ceil(FEWER)),
-            Kind::Inserts | Kind::Ends => (burst, rounds.div_ceil(FEWER)),
+            Kind::Inserts | Kind::Ends | Kind::Front(Part::Inserts | Part::Memory) => (burst, rounds.div_ceil(FEWER)),
             Kind::Pauses => (pauses, 1),
             _ => (burst, rounds),
         }
@@ -227,7 +250,8 @@ struct Measured {
 
 impl Measured {
     fn of(case: Case, peer: Peer) -> Measured {
-        Measured { case, peer, kept: case.kind.work().map(|work| Bursts::new(peer, case.sizes, work)) }
+        let work = case.kind.work().filter(|_| peer.is_of_this_process());
+        Measured { case, peer, kept: work.map(|work| Bursts::new(peer, case.sizes, work)) }
     }
 
     /// What a round of this peer has.
@@ -246,8 +270,10 @@ impl Measured {
 fn measure_anew(case: Case, peer: Peer, interval: Duration) -> Vec<(Figure, f64)> {
     let Case { kind, sizes } = case;
     match (kind, peer) {
-        (Kind::Running | Kind::Stopped, _) => {
-            let Latencies { writers, readers } = latencies(peer, sizes, kind == Kind::Stopped, interval);
+        #[cfg(java)]
+        (Kind::Front(part), Peer::SkipList) => vec![(part.figure(), java::SkipList::measure(part, sizes, interval))],
+        (Kind::Running | Kind::Stopped | Kind::Front(Part::Stops), _) => {
+            let Latencies { writers, readers } = latencies(peer, sizes, kind != Kind::Running, interval);
             [spread(readers, Figure::OF_LOOKS), spread(writers, Figure::OF_OPERATIONS)].concat()
         }
         (Kind::Counters, _) => adds(peer, sizes, interval).map(|it| (Figure::Add, it)).into_iter().collect(),
@@ -255,6 +281,8 @@ fn measure_anew(case: Case, peer: Peer, interval: Duration) -> Vec<(Figure, f64)
         (Kind::Inserts, _) => inserts(peer, sizes),
         (Kind::Ends, _) => ends(peer, sizes),
         (Kind::Pauses, _) => pauses(peer, sizes, interval),
+        (Kind::Front(Part::Inserts), _) => inserts_in(Order::Ascending, peer, sizes),
+        (Kind::Front(Part::Memory), _) => memory(peer, sizes),
         _ => unreachable!("{} of {} have no new map each time", kind.name(), peer.name()),
     }
 }
@@ -276,13 +304,13 @@ fn measure_ranges(way: Way, sizes: Sizes, interval: Duration) -> Vec<(Figure, f6
     Span::ALL.into_iter().flat_map(figures).flatten().collect()
 }
 
-/// What the writers of a map answer to a fixed sequence of operations, in turn, and what its readers say of a key after each.
-fn answers(peer: Peer, sizes: Sizes) -> [Vec<Option<u64>>; 2] {
+/// What the writers of a map answer to a fixed sequence of so many operations, in turn, and what its readers say of a key after each.
+fn answers(peer: Peer, sizes: Sizes, turns: usize) -> [Vec<Option<u64>>; 2] {
     let Crew { mut writers, mut readers, .. } = peer.crew(sizes);
     let stripes: Vec<_> = sizes.stripes().collect();
     let mut random = Random::new(1);
     let [mut operations, mut looks] = [Vec::new(), Vec::new()];
-    for turn in 0..100_000 {
+    for turn in 0..turns {
         let at = turn % writers.len();
         operations.push(Work::Mixed.act(&mut *writers[at], stripes[at], random.next()));
         let key = sizes.all().random_key(random.next());
@@ -291,14 +319,14 @@ fn answers(peer: Peer, sizes: Sizes) -> [Vec<Option<u64>>; 2] {
     [operations, looks]
 }
 
-/// Whether all peers answer alike, on keys of their own and on shared ones. Private maps have no readers.
-fn agree() -> bool {
+/// Whether these peers answer so many turns alike, on keys of their own and on shared ones. Private maps have no readers.
+fn agree(peers: &[Peer], turns: usize) -> bool {
     let parted = KEYS.map(|keys| Sizes { keys, writers: 4, readers: 2, shared: false });
     let shared = parted.map(|sizes| Sizes { shared: true, ..sizes });
     parted.into_iter().chain(shared).all(|sizes| {
-        let expected = answers(Peer::Mutex, sizes);
-        Peer::ALL.iter().filter(|peer| !sizes.shared || peer.can_share()).all(|peer| {
-            let [operations, looks] = answers(*peer, sizes);
+        let expected = answers(Peer::Mutex, sizes, turns);
+        peers.iter().filter(|peer| !sizes.shared || peer.can_share()).all(|peer| {
+            let [operations, looks] = answers(*peer, sizes, turns);
             operations == expected[0] && (looks == expected[1] || *peer == Peer::Private)
         })
     })
@@ -334,6 +362,13 @@ fn ranges_agree() -> bool {
         let expected = answers_of_ranges(Way::Mutex(Hold::Range), sizes);
         Way::ALL.iter().all(|way| answers_of_ranges(*way, sizes) == expected)
     })
+}
+
+/// Whether all that these kinds compare answers alike. A process of Java is asked less often, since each answer takes a message.
+fn all_agree(kinds: &[Kind]) -> bool {
+    agree(Peer::ALL, 100_000)
+        && (!kinds.contains(&Kind::Ranges) || ranges_agree())
+        && (!kinds.iter().any(|kind| matches!(kind, Kind::Front(_))) || agree(Peer::FRONT, 20_000))
 }
 
 /// Measures one case of these kinds after the other: in each round all of its peers, in another order each time.
@@ -404,11 +439,15 @@ fn class_of(wanted: &Wanted) -> String {
         return "normal, since an interval takes seconds".to_string();
     }
     let class = realtime::begin(wanted.in_real_time);
-    if normal == 0 { class.to_string() } else { format!("{class}; normal for inserts, ends and pauses") }
+    if normal == 0 { class.to_string() } else { format!("{class}; normal for inserts, ends, pauses and memory") }
 }
 
 fn main() -> ExitCode {
     let words: Vec<String> = env::args().skip(1).collect();
+    if let Some(bytes) = memory::answer(&words) {
+        println!("{bytes}");
+        return ExitCode::SUCCESS;
+    }
     let Some(wanted) = Wanted::of(&words) else {
         eprintln!(
             "hosts: give seconds, rounds, seconds for pauses, a kind or all, a number of keys or all, real-time or normal, a limit in \
@@ -418,7 +457,7 @@ fn main() -> ExitCode {
     };
     realtime::end_after(wanted.limit);
     let class = class_of(&wanted);
-    if !agree() || wanted.kinds.contains(&Kind::Ranges) && !ranges_agree() {
+    if !all_agree(&wanted.kinds) {
         eprintln!("hosts: the answers differ");
         return ExitCode::FAILURE;
     }

@@ -2,8 +2,10 @@
 //! its values are counters, and all writers add to any. Those of which ranges are told are in `ranges`.
 
 use crate::bare_tree::BareTree;
-#[cfg(libcds)]
-use crate::libcds::{EllenTree, Reclaim};
+#[cfg(cpp_map)]
+use crate::cpp::{CppMap, Template};
+#[cfg(java)]
+use crate::java::SkipList;
 use crate::library;
 use crate::one_map;
 use crate::ranges::Way;
@@ -281,9 +283,9 @@ pub fn bare_tree(sizes: Sizes) -> Arc<BareTree> {
 }
 
 impl Crew {
-    #[cfg(libcds)]
-    fn of_libcds(reclaim: Reclaim, sizes: Sizes) -> Crew {
-        Crew::sharing(Arc::new(EllenTree::start(reclaim, &sizes.start().collect::<Vec<_>>())), sizes)
+    #[cfg(cpp_map)]
+    fn of_cpp(template: Template, sizes: Sizes) -> Crew {
+        Crew::sharing(Arc::new(CppMap::start(template, &sizes.start().collect::<Vec<_>>())), sizes)
     }
 
     fn of_locks<L: Lock + 'static, const COUNT: usize>(sizes: Sizes) -> Crew {
@@ -324,8 +326,12 @@ pub enum Peer {
     #[cfg(before)]
     Before,
     Bare,
-    #[cfg(libcds)]
-    Libcds(Reclaim),
+    /// A map of a library in C++.
+    #[cfg(cpp_map)]
+    Cpp(Template),
+    /// The skip list of a process of Java.
+    #[cfg(java)]
+    SkipList,
     Mutex,
     RwLock,
     Mutexes,
@@ -343,9 +349,9 @@ impl Peer {
         Peer::Before,
         Peer::Bare,
         #[cfg(libcds)]
-        Peer::Libcds(Reclaim::HazardPointers),
+        Peer::Cpp(Template::EllenHazards),
         #[cfg(libcds)]
-        Peer::Libcds(Reclaim::Rcu),
+        Peer::Cpp(Template::EllenRcu),
         Peer::Mutex,
         Peer::RwLock,
         Peer::Mutexes,
@@ -368,15 +374,31 @@ impl Peer {
         Peer::Elltree,
         Peer::OneMap,
         #[cfg(libcds)]
-        Peer::Libcds(Reclaim::HazardPointers),
+        Peer::Cpp(Template::EllenHazards),
         #[cfg(libcds)]
-        Peer::Libcds(Reclaim::Rcu),
+        Peer::Cpp(Template::EllenRcu),
         Peer::Mutex,
         Peer::Mutexes,
     ];
 
     /// Those that are queues.
     pub const QUEUES: &[Peer] = &[Peer::Elltree, Peer::OneMap, Peer::Mutex];
+
+    /// Those of the first screen of README.md.
+    pub const FRONT: &[Peer] = &[
+        Peer::OneMap,
+        Peer::Elltree,
+        Peer::Mutex,
+        Peer::Mutexes,
+        #[cfg(libcds)]
+        Peer::Cpp(Template::Avl),
+        #[cfg(libcds)]
+        Peer::Cpp(Template::SkipList),
+        #[cfg(tbb)]
+        Peer::Cpp(Template::Hash),
+        #[cfg(java)]
+        Peer::SkipList,
+    ];
 
     pub fn name(self) -> &'static str {
         match self {
@@ -385,10 +407,10 @@ impl Peer {
             #[cfg(before)]
             Peer::Before => "before",
             Peer::Bare => "bare atomics",
-            #[cfg(libcds)]
-            Peer::Libcds(Reclaim::HazardPointers) => "libcds HP",
-            #[cfg(libcds)]
-            Peer::Libcds(Reclaim::Rcu) => "libcds RCU",
+            #[cfg(cpp_map)]
+            Peer::Cpp(template) => template.name(),
+            #[cfg(java)]
+            Peer::SkipList => "Java skip list",
             Peer::Mutex => "Mutex",
             Peer::RwLock => "RwLock",
             Peer::Mutexes => "16 Mutex",
@@ -417,9 +439,18 @@ impl Peer {
     /// Whether keys that come in order make the tree deep.
     pub fn grows_deep(self) -> bool {
         match self {
-            #[cfg(libcds)]
-            Peer::Libcds(_) => true,
+            #[cfg(cpp_map)]
+            Peer::Cpp(template) => template.grows_deep(),
             _ => self == Peer::Bare,
+        }
+    }
+
+    /// Whether the threads that use it are those of this process.
+    pub fn is_of_this_process(self) -> bool {
+        match self {
+            #[cfg(java)]
+            Peer::SkipList | Peer::Ranging(Way::SkipList) => false,
+            _ => true,
         }
     }
 
@@ -453,8 +484,10 @@ impl Peer {
             #[cfg(before)]
             Peer::Before => library::before::sharing(sizes).expect("a tree"),
             Peer::Bare => Crew::sharing(bare_tree(sizes), sizes),
-            #[cfg(libcds)]
-            Peer::Libcds(reclaim) => Crew::of_libcds(reclaim, sizes),
+            #[cfg(cpp_map)]
+            Peer::Cpp(template) => Crew::of_cpp(template, sizes),
+            #[cfg(java)]
+            Peer::SkipList => Crew::sharing(SkipList::start(sizes), sizes),
             Peer::Mutex => Crew::of_locks::<Mutex<Map>, 1>(sizes),
             Peer::RwLock => Crew::of_locks::<RwLock<Map>, 1>(sizes),
             Peer::Mutexes => Crew::of_locks::<Mutex<Map>, SHARDS>(sizes),

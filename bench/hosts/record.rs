@@ -1,5 +1,8 @@
 //! What was measured, as tables in Markdown and as rows of a file.
 
+#[cfg(tbb)]
+use crate::cpp::Template;
+use crate::front::Part;
 use crate::inserts::Order;
 use crate::pauses::{Load, Said};
 use crate::peers::Peer;
@@ -8,7 +11,7 @@ use crate::{Case, Kind};
 use std::collections::BTreeMap;
 use std::fmt::Write;
 
-/// What a number says: of nanoseconds, but for some of `Pauses`.
+/// What a number says: of nanoseconds, but for some of `Pauses`, and `BytesAKey`.
 #[derive(Clone, Copy, PartialEq, Eq, PartialOrd, Ord)]
 pub enum Figure {
     Operation,
@@ -33,6 +36,8 @@ pub enum Figure {
     Turn,
     /// What is told of the pauses of a map under such a load.
     Pauses(Load, Said),
+    /// How many bytes of memory a map takes for each key.
+    BytesAKey,
 }
 
 impl Figure {
@@ -59,6 +64,7 @@ impl Figure {
             Figure::Told(Span::Next) => "next key",
             Figure::Write => "write",
             Figure::Turn => "turn",
+            Figure::BytesAKey => "bytes a key",
             Figure::WriteBeside(Span::Of10) => "write beside ranges of 10",
             Figure::WriteBeside(Span::Of100) => "write beside ranges of 100",
             Figure::WriteBeside(Span::All) => "write beside ranges of all",
@@ -74,10 +80,19 @@ impl Figure {
             _ => 0,
         }
     }
+
+    /// Such a number as a table has it: the worst latencies in milliseconds, and others as the rows have them.
+    fn shown(self, number: f64) -> String {
+        let whole = number.round_ties_even();
+        match self {
+            Figure::LookWorst | Figure::OperationWorst => format!("{:.1}", whole / 1e6),
+            _ => counted(whole as u64),
+        }
+    }
 }
 
 /// A number with commas.
-fn counted(number: u64) -> String {
+pub fn counted(number: u64) -> String {
     match number {
         1_000.. => format!("{},{:03}", counted(number / 1_000), number % 1_000),
         _ => number.to_string(),
@@ -97,8 +112,6 @@ struct Form {
     title: &'static str,
     /// The heads of the columns that say what a row is of.
     labels: &'static [&'static str],
-    /// Times are shown in milliseconds, and else in nanoseconds.
-    in_milliseconds: bool,
 }
 
 /// The kinds of which each case is a row of a table, and the titles of these.
@@ -184,7 +197,8 @@ impl Record {
         kind.peers().into_iter().filter(|peer| has(*peer)).collect()
     }
 
-    /// A table as docs/SPEED.md has them, if anything was measured of it: the medians of each peer's times, and of the ratios.
+    /// A table as docs/SPEED.md has them, if anything was measured of it: the medians of each peer's times, and of the ratios. It has no row
+    /// of cases that were not asked for.
     fn table(&self, form: Form, file: &str, rows: Vec<Row>) -> String {
         let peers = self.peers(form.kind, &rows);
         if peers.is_empty() {
@@ -195,8 +209,8 @@ impl Record {
         let names = names.chain(compared.iter().map(|(one, other)| format!("{} to {}", form.kind.title(*one), form.kind.title(*other))));
         let heads: Vec<String> = form.labels.iter().map(|it| it.to_string()).chain(names).collect();
         let mut lines = format!("\n{}\n\n<!-- {file} -->\n\n|{}|\n{}|\n", form.title, heads.join("|"), "|---".repeat(heads.len()));
-        for row in rows {
-            let times = peers.iter().map(|peer| row.cell(|at, figure| Some(form.shown(self.median(at, figure, *peer)?))));
+        for row in rows.into_iter().filter(|row| !row.shown.is_empty()) {
+            let times = peers.iter().map(|peer| row.cell(|at, figure| Some(figure.shown(self.median(at, figure, *peer)?))));
             let ratio =
                 |(one, other): &(Peer, Peer)| row.cell(|at, figure| Some(format!("{:.2}", self.ratio(at, figure, one.name(), other.name())?)));
             let cells: Vec<String> = row.labels.iter().cloned().chain(times).chain(compared.iter().map(ratio)).collect();
@@ -219,13 +233,14 @@ impl Record {
             Row { labels: threads.into_iter().flatten().map(counted).collect(), shown: figures.iter().map(|figure| (at, *figure)).collect() }
         };
         let rows = self.cases_of(kind).map(row).collect();
-        self.table(Form { kind, title, labels, in_milliseconds: false }, file, rows)
+        self.table(Form { kind, title, labels }, file, rows)
     }
 
     /// All tables, for figures that stand in such a file.
     pub fn tables(&self, file: &str) -> String {
         let of_cases = TABLES_OF_CASES.map(|(kind, title)| self.table_of_cases(kind, title, file));
         let others = [
+            self.table_of_front(file),
             self.table_of_latencies(file),
             self.table_of_ranges(file),
             self.table_of_writes(file),
@@ -243,6 +258,14 @@ impl Record {
         cases.filter(|(_, case)| case.sizes.keys == keys).map(|(at, _)| at).collect()
     }
 
+    /// The small table of all parts of the front, of which each case is a row.
+    fn table_of_front(&self, file: &str) -> String {
+        let row = |part: Part, (at, case): (usize, Case)| Row { labels: vec![part.label(case.sizes)], shown: vec![(at, part.figure())] };
+        let rows = Part::ALL.into_iter().flat_map(|part| self.cases_of(Kind::Front(part)).map(move |case| row(part, case))).collect();
+        let title = "The maps of this library beside others: each time in nanoseconds is of the time of all threads together.";
+        self.table(Form { kind: Kind::Front(Part::Operations), title, labels: &[""] }, file, rows)
+    }
+
     fn table_of_latencies(&self, file: &str) -> String {
         let row = |figure: Figure, name: &str, keys: u64| Row {
             labels: vec![format!("{name}, {} keys, ms", counted(keys))],
@@ -251,7 +274,7 @@ impl Record {
         let of = |figure, name| Kind::Running.keys().iter().map(move |keys| row(figure, name, *keys));
         let rows = of(Figure::LookWorst, "look").chain(of(Figure::OperationWorst, "operation")).collect();
         let title = "The worst latency beside a writer without pause; beside one that is stopped at times, in milliseconds.";
-        self.table(Form { kind: Kind::Running, title, labels: &[""], in_milliseconds: true }, file, rows)
+        self.table(Form { kind: Kind::Running, title, labels: &[""] }, file, rows)
     }
 
     /// The rows of ranges: of each number of keys those that are asked for, with figures of such cases.
@@ -266,7 +289,7 @@ impl Record {
     fn table_of_ranges(&self, file: &str) -> String {
         let lines = ["10", "100", "all", "next key"].into_iter().zip(Span::ALL.map(Figure::Told)).collect::<Vec<_>>();
         let title = "A key of a range, or a next key, in nanoseconds: alone; beside three writers.";
-        let form = Form { kind: Kind::Ranges, title, labels: &["Keys", "Range"], in_milliseconds: false };
+        let form = Form { kind: Kind::Ranges, title, labels: &["Keys", "Range"] };
         self.table(form, file, self.rows_of_ranges(&lines))
     }
 
@@ -275,7 +298,7 @@ impl Record {
         let beside = names.into_iter().zip(Span::ALL.map(Figure::WriteBeside));
         let lines: Vec<_> = [("no range", Figure::Write)].into_iter().chain(beside).collect();
         let title = "A write by one of three threads, in nanoseconds, beside a thread that asks for such ranges.";
-        let form = Form { kind: Kind::Ranges, title, labels: &["Keys", "Beside"], in_milliseconds: false };
+        let form = Form { kind: Kind::Ranges, title, labels: &["Keys", "Beside"] };
         self.table(form, file, self.rows_of_ranges(&lines))
     }
 
@@ -286,7 +309,7 @@ impl Record {
         };
         let rows = self.cases_of(Kind::Inserts).flat_map(|case| Order::ALL.map(|order| row(case, order))).collect();
         let title = "An insert into a map that was empty, in nanoseconds of the time of all threads together.";
-        let form = Form { kind: Kind::Inserts, title, labels: &["Keys", "Threads", "Order"], in_milliseconds: false };
+        let form = Form { kind: Kind::Inserts, title, labels: &["Keys", "Threads", "Order"] };
         self.table(form, file, rows)
     }
 
@@ -344,24 +367,17 @@ impl Said {
 }
 
 impl Row {
-    /// The cell of a peer: what is shown of it, one behind the other.
+    /// The cell of a peer: what is shown of it, one behind the other, or a dash if that is nothing.
     fn cell(&self, show: impl Fn(usize, Figure) -> Option<String>) -> String {
-        self.shown.iter().filter_map(|(at, figure)| show(*at, *figure)).collect::<Vec<_>>().join("; ")
-    }
-}
-
-impl Form {
-    /// A time as the table has it: what the rows have, or that in milliseconds.
-    fn shown(&self, nanoseconds: f64) -> String {
-        let whole = nanoseconds.round_ties_even();
-        if self.in_milliseconds { format!("{:.1}", whole / 1e6) } else { counted(whole as u64) }
+        let shown: Vec<_> = self.shown.iter().filter_map(|(at, figure)| show(*at, *figure)).collect();
+        if shown.is_empty() { "-".to_string() } else { shown.join("; ") }
     }
 }
 
 impl Kind {
     /// The peers whose ratios within a round a table shows, each with the one that it is compared with.
     fn compared(self) -> Vec<(Peer, Peer)> {
-        if matches!(self, Kind::Running | Kind::Stopped) {
+        if matches!(self, Kind::Running | Kind::Stopped | Kind::Front(_)) {
             return Vec::new();
         }
         let ours = self.ours();
@@ -385,6 +401,8 @@ impl Kind {
             Peer::Ranging(Way::Array) => "Array",
             Peer::Bare | Peer::Ranging(Way::Bare) => "Bare atomics",
             Peer::Private => "Private maps",
+            #[cfg(tbb)]
+            Peer::Cpp(Template::Hash) => "TBB hash map, unordered",
             _ => peer.name(),
         };
         name.replace("Mutex", "`Mutex`").replace("RwLock", "`RwLock`")
