@@ -184,6 +184,10 @@ after_again v = after_begin v.worker.operation (given_up v)
 abbrev pub after_leave : View → View
 after_leave v = counted (record (at_rest v.worker.ledger (given_up v)) { laid_down = v.worker.operation })
 
+-- rest: a look is over: what it told is forgotten, and it has come nowhere any more
+abbrev pub after_rest : View → View
+after_rest v = counted (record (at_rest v.worker.ledger v) { glances = [] })
+
 -- the ledger where a key's entry is this one now
 abbrev pub with_entry : ℕ → Entry → List (ℕ × Entry) → List (ℕ × Entry)
 with_entry k entry ledger = map (λ e. (e.0, if k == e.0 then entry else e.1)) ledger

@@ -54,9 +54,10 @@ pub record HasFound (v : View) (key : ℕ) (there : Option ℕ) : Type 0 where
   pub told : IsTold v (Key leaf leaf_key)
   pub tells : TellsOf v leaf leaf_key key there
 
--- a step call that begins neither a look nor an operation
+-- a step call that begins neither a look nor an operation, and ends no look
 abbrev pub BeginsNothing : Call → Type 0
 BeginsNothing call.Look = ⊥
+BeginsNothing call.Rest = ⊥
 BeginsNothing (call.Begin op) = ⊥
 BeginsNothing _ = Unit {0}
 
@@ -67,7 +68,8 @@ LooksOn seat (Makes other c ∷ ts) = (other ≡ seat → BeginsNothing c) × Lo
 LooksOn seat (Splits other left ∷ ts) = (other ≢ seat) × LooksOn seat ts
 LooksOn seat (Joins one other ∷ ts) = (one ≢ seat) × (other ≢ seat) × LooksOn seat ts
 
--- the last look of the pass in a seat began here in a run: the pass made its call, and has begun nothing since
+-- the last look of the pass in a seat began here in a run: the pass made its call, and has neither begun anything since
+-- nor ended the look
 pub record Began (plan : TablePlan) (s : TableState) (turns : List Turn) (s' : TableState) (seat : ℕ) : Type 0 where
   pub first : ℕ
   pub from : TableState

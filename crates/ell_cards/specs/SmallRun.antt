@@ -100,11 +100,11 @@ key_7 = record { low = 7; high = 8; whole = false }
 abbrev pub at_node_4 : Glance
 at_node_4 = record { node = 4; low = 7; high = 8; whole = false }
 
--- seat 1 looks for key 7, and finds its value
+-- seat 1 looks for key 7, finds its value, and ends the look
 abbrev pub look : List Turn
 look =
     Makes 1 call.Look ∷ Makes 1 (call.KeyOf 4) ∷ Makes 1 (call.LookDown at_node_4 key_7 false)
-    ∷ Makes 1 (call.KeyOf 14) ∷ Makes 1 (call.ValueOf 14) ∷ []
+    ∷ Makes 1 (call.KeyOf 14) ∷ Makes 1 (call.ValueOf 14) ∷ Makes 1 call.Rest ∷ []
 
 -- it lays a find down, and both passes become one
 abbrev pub ending : List Turn

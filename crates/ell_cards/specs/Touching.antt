@@ -29,6 +29,7 @@ forgets call.Again = true
 forgets call.Leave = true
 forgets (call.Answer said) = true
 forgets call.Look = true
+forgets call.Rest = true
 forgets _ = false
 
 -- whose word a call touches: a node's; a card's, which says where it goes; or no card's but the root's, or the claim word

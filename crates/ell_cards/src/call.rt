@@ -33,6 +33,8 @@ pub enum Call {
     Look,
     /// Goes down in a look from a node to which it has come, by these keys, to the right child or to the left one.
     LookDown(Glance, Stretch, bool),
+    /// Ends a look.
+    Rest,
     /// Takes a card: card, the key that its node gets if it is an insert's or a swap's.
     Claim(u64, u64),
     /// Stores a word of a card.

@@ -125,8 +125,8 @@ pub fn tables_start()
 /// and three cards to give out, of which one key is there at the start, has this run of two passes: a delete flags the
 /// root; an insert flags the node that the delete is about to mark; the delete loses its mark to that flag, helps the
 /// insert to its end, and takes its own flag away; the insert finds itself made; the delete is tried again, marks, cuts
-/// its node out and answers; the other pass looks for the key that was inserted, and finds it; and it begins a find,
-/// which it lays down.
+/// its node out and answers; the other pass looks for the key that was inserted, finds it, and ends the look; and it
+/// begins a find, which it lays down.
 pub fn each_call_can_be_made()
     // The conditions of the step calls can be met: a small run from a start makes each of them, a split and a join. In
     // it a delete loses its mark to an insert and helps it, and then is made.

@@ -100,8 +100,8 @@ pub struct View {
     pub met: LinkedList<Hindrance>,
     /// How many tries it gave up that were hindered by something that was over by then.
     pub hindered: u64,
-    /// Where the look that it began last has come to, the last first: nowhere once an operation begins, or the pass is
-    /// split or joined.
+    /// Where the look that it began last has come to, the last first: nowhere once that ends, an operation begins, or the
+    /// pass is split or joined.
     pub glances: LinkedList<Glance>,
     /// How many looks it began.
     pub looks: u64,

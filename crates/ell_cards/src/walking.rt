@@ -9,7 +9,7 @@ ghost use Rattle.ell_core.specs.statements.Effects.{AnswersAsMap};
 ghost use Rattle.ell_core.specs.acts.Searching.{MayStop};
 ghost use Rattle.ell_cards.specs.declared.view.Told.TheVariants.{Met};
 ghost use Rattle.ell_cards.specs.Models.{Sees, Steps, flat_from, IsTold, InTable, EndWasUnknown, IsFree};
-ghost use Rattle.ell_cards.specs.Changes.{after_begin, after_again, after_leave, after_answer, after_upd};
+ghost use Rattle.ell_cards.specs.Changes.{after_begin, after_again, after_leave, after_answer, after_rest, after_upd};
 ghost use Rattle.ell_cards.specs.declared.call.Call.TheVariants as call;
 ghost use Rattle.ell_cards.specs.Guards.{MayBegin, MayAnswer, MayRead, MayGoDown, MayLookDown};
 ghost use Rattle.ell_cards.specs.Calls.{after, TellsKey, TellsLedgerValue};
@@ -159,6 +159,17 @@ impl<A: Allocator + Copy> CardTable<A> {
         self.names(pass);
         let word = child_address(from.node, right);
         Link::of(self.see(pass, Call::LookDown(from, keys, right), word))
+    }
+
+    /// Ends a look: the pass forgets what it told, and where it had come to.
+    #[inline(always)]
+    pub fn end_look(&self, pass: &mut Pass<A>)
+        requires own { pass.old.table ≡ self.now.id }
+        requires free { IsFree pass.old.view }
+        // It makes one step and counts it. The pass then knows exactly what this call tells.
+        ensures step { Steps pass.old pass.new (after_rest pass.old.view) }
+    {
+        self.load(pass, Call::Rest, root_key());
     }
 
     /// Reads the key of a node that the pass has met. For the leaf where the pass stands, it is the operation's key

@@ -53,6 +53,7 @@ module _ (plan : TablePlan) (seat : ℕ) where
   look_before (call.Mark c p was) n v may e = inr (tt, subst IsSome (mark_look (n == was) c p (unpacked n) v) e)
   look_before (call.Begin op) n v may e = absurd e
   look_before call.Again n v may e = absurd e
+  look_before call.Rest n v may e = absurd e
   look_before call.Leave n v may e = inr (tt, e)
   look_before (call.Answer said) n v may e = inr (tt, e)
   look_before (call.Upd x) n v may e = inr (tt, e)

@@ -58,6 +58,7 @@ after_told call.Again keeps n v e h = absurd (true≢false keeps)
 after_told call.Leave keeps n v e h = absurd (true≢false keeps)
 after_told (call.Answer said) keeps n v e h = absurd (true≢false keeps)
 after_told call.Look keeps n v e h = absurd (true≢false keeps)
+after_told call.Rest keeps n v e h = absurd (true≢false keeps)
 after_told (call.Upd x) keeps n v e h = places_more x (unpacked n).state (unpacked n).card v.told e h
 after_told (call.Down x right) keeps n v e h = met_more (depth_told v.told x + 1) (link_in n).node v.told e h
 after_told (call.KeyOf x) keeps n v e h = earlier e (Key x n) v.told h

@@ -156,10 +156,10 @@ module _ (plan : TablePlan) (opened : TableState) (starts : Starts plan opened) 
   makes_begin : (seat other : ℕ) (c d : Call) → Makes seat c ≡ Makes other d → (seat ≡ other) × (c ≡ d)
   makes_begin seat other c d e = (cc, cc)
 
-  plain_knows : (p seat : ℕ) (c : Call) (n : ℕ) (v : View) → get_elem? turns p ≡ some (Makes seat c) → IsPlain c → (after c n v).answers ≡ v.answers
+  plain_knows : (p seat : ℕ) (c : Call) (n : ℕ) (v : View) → get_elem? turns p ≡ some (Makes seat c) → IsPlain c → May plan c v → (after c n v).answers ≡ v.answers
       → Knows p seat v → Knows (suc p) seat (after c n v)
-  plain_knows p seat c n v at plain same k =
-      on_knows p seat v (after c n v) same (λ op does. sym (does_stay c n v plain) ∙ does)
+  plain_knows p seat c n v at plain may same k =
+      on_knows p seat v (after c n v) same (λ op does. sym (does_stay plan c n v plain may) ∙ does)
       (λ op begins. plain_begin c op plain (makes_begin seat seat c (call.Begin op) (other_turn p (Makes seat c) (Makes seat (call.Begin op)) at begins)).1) k
 
   call_knows : (p seat : ℕ) (c : Call) (n : ℕ) (v : View) → get_elem? turns p ≡ some (Makes seat c) → May plan c v
@@ -189,7 +189,7 @@ module _ (plan : TablePlan) (opened : TableState) (starts : Starts plan opened) 
       (omega arith, ended_later p (suc p) k.spans (omega arith) k.ended) refl
   call_knows p seat call.Leave n v at may there k =
       free_knows (suc p) seat (after call.Leave n v) k.spans k.fits (ended_later p (suc p) k.spans (omega arith) k.ended) refl
-  call_knows p seat c n v at may there k = plain_knows p seat c n v at tt (answers_stay c n v tt) k
+  call_knows p seat c n v at may there k = plain_knows p seat c n v at tt may (answers_stay c n v tt) k
 
   -- a turn of others
   others_know : (p j : ℕ) (u : View) (t : Turn) → get_elem? turns p ≡ some t → ((op : Op) → t ≢ Makes j (call.Begin op)) → Knows p j u → Knows (suc p) j u

@@ -457,6 +457,7 @@ module _ (plan : TablePlan) (seat : ℕ) where
 
     call_came : (c : Call) → BeginsNothing c → May plan c at.view → AllCame (view_after s at.view c)
     call_came call.Look keeps may = absurd keeps
+    call_came call.Rest keeps may = absurd keeps
     call_came (call.LookDown from to right) keeps may = goes_down from to right may
     call_came (call.Claim c q) keeps may = came_still (claim_look (found_by s (call.Claim c q) == c) c q at.view)
     call_came (call.IFlag c p from) keeps may =

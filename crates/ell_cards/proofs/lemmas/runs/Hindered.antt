@@ -44,7 +44,7 @@ use Rattle.ell_cards.specs.declared.call.Call.TheVariants as call
 use Rattle.ell_cards.specs.declared.view.Hindrance.{Hindrance}
 use Rattle.ell_cards.specs.declared.view.Hindrance.TheVariants.{Claim, Found}
 use Rattle.ell_cards.specs.declared.view.View.{View}
-use Rattle.ell_cards.specs.Changes.{unless_clean, read_in_way, first_in_way, in_the_way, way_now, after_again, after_leave, after_answer, after_claim, after_flag, after_mark, if_won, exchanged, with_fact, unmarking, is_mark_of, is_this}
+use Rattle.ell_cards.specs.Changes.{unless_clean, read_in_way, first_in_way, in_the_way, way_now, after_again, after_leave, after_answer, after_rest, after_claim, after_flag, after_mark, if_won, exchanged, with_fact, unmarking, is_mark_of, is_this}
 use Rattle.ell_cards.specs.Calls.{after, May, seen_below}
 use Rattle.ell_cards.specs.States.{TableState, seat_worker}
 use Rattle.ell_cards.specs.Machines.{HasMachine}
@@ -520,6 +520,7 @@ module _ (plan : TablePlan) (m0 : Machine) (stage : Stages) (first : Invariant m
   call_hindered call.Again keeps may = tried (after_again v) (way_now v) refl way_was_met refl refl refl (λ n e. absurd (some_not_none e refl)) refl
   call_hindered call.Leave keeps may = tried (after_leave v) (way_now v) refl way_was_met refl refl refl hindered.next refl
   call_hindered (call.Answer said) keeps may = tried (after_answer said v) [] refl tt refl refl refl hindered.next refl
+  call_hindered call.Rest keeps may = tried (after_rest v) [] refl tt refl refl refl hindered.next refl
   call_hindered (call.Upd x) keeps may = quiet _ refl refl refl refl refl refl (λ seen h. h)
   call_hindered (call.Down x right) keeps may =
       calm (after (call.Down x right) (found_by s (call.Down x right)) v) refl refl hindered.next (went_down x right may) hindered.own in_hand_still

@@ -35,6 +35,7 @@ use Rattle.ell_cards.proofs.lemmas.runs.Searched.{first_keeps}
 keeps_free : (plan : TablePlan) (c : Call) (n : ℕ) (v : View) → KeepsOn c → May plan c v → IsFree v → IsFree (after c n v)
 keeps_free plan (call.Begin op) n v keeps may free = absurd keeps
 keeps_free plan call.Look n v keeps may free = free
+keeps_free plan call.Rest n v keeps may free = refl
 keeps_free plan c n v keeps may free = (call_free plan c n v keeps may free).free
 
 -- nor after a run in which it takes none
@@ -68,6 +69,7 @@ held_by plan c (call.Begin op) n v keeps may fresh h = absurd keeps
 held_by plan c call.Again n v keeps may fresh h = absurd (fresh (may.backed c h.holds h.flagged))
 held_by plan c call.Leave n v keeps may fresh h = absurd (fresh (may.backed c h.holds h.flagged))
 held_by plan c (call.Answer said) n v keeps may fresh h = inl refl
+held_by plan c call.Rest n v keeps may fresh h = inl refl
 held_by plan c (call.Claim d q) n v keeps may fresh h = absurd (some_not_none h.holds may.0.no_card)
 held_by plan c (call.IFlag d p from) n v keeps may fresh h = absurd (false≢true (sym may.may.unflagged ∙ h.flagged))
 held_by plan c (call.DFlag d gp from) n v keeps may fresh h = absurd (false≢true (sym may.may.unflagged ∙ h.flagged))

@@ -46,6 +46,7 @@ mark_free false c x u v w same free = by (is_mark_of c u.state u.card) same
 pub call_free : (plan : TablePlan) (c : Call) (n : ℕ) (v : View) → BeginsNothing c → May plan c v → IsFree v → StaysFree v (after c n v)
 call_free plan (call.Begin op) n v begins may free = absurd begins
 call_free plan call.Look n v begins may free = absurd begins
+call_free plan call.Rest n v begins may free = absurd begins
 call_free plan call.Again n v begins may free = absurd (some_not_none may.busy free)
 call_free plan call.Leave n v begins may free = absurd (some_not_none may.busy free)
 call_free plan (call.Answer said) n v begins may free = absurd (some_not_none may.busy free)

@@ -45,15 +45,16 @@ does_mark false c x u v = by (is_mark_of c u.state u.card)
 abbrev Hand : Call → View → View → Type 0
 Hand c v w = ((said : Reply) × (c ≡ call.Answer said)) ⊎ ((c ≡ call.Leave) ⊎ (w.worker.operation ≡ v.worker.operation))
 
-hand_after : (c : Call) (n : ℕ) (v : View) → KeepsOn c → Hand c v (after c n v)
-hand_after (call.Begin op) n v keeps = absurd keeps
-hand_after (call.Answer said) n v keeps = inl (said, refl)
-hand_after call.Leave n v keeps = inr (inl refl)
-hand_after (call.Claim c q) n v keeps = inr (inr (does_claim (n == c) c q v))
-hand_after (call.IFlag c p from) n v keeps = inr (inr (does_flag (n == packed from) (fact.IFlagged c) p (unpacked n) v))
-hand_after (call.DFlag c gp from) n v keeps = inr (inr (does_flag (n == packed from) (fact.DFlagged c) gp (unpacked n) v))
-hand_after (call.Mark c p was) n v keeps = inr (inr (does_mark (n == was) c p (unpacked n) v))
-hand_after _ n v keeps = inr (inr refl)
+hand_after : (plan : TablePlan) (c : Call) (n : ℕ) (v : View) → KeepsOn c → May plan c v → Hand c v (after c n v)
+hand_after plan (call.Begin op) n v keeps may = absurd keeps
+hand_after plan (call.Answer said) n v keeps may = inl (said, refl)
+hand_after plan call.Leave n v keeps may = inr (inl refl)
+hand_after plan call.Rest n v keeps may = inr (inr (sym may))
+hand_after plan (call.Claim c q) n v keeps may = inr (inr (does_claim (n == c) c q v))
+hand_after plan (call.IFlag c p from) n v keeps may = inr (inr (does_flag (n == packed from) (fact.IFlagged c) p (unpacked n) v))
+hand_after plan (call.DFlag c gp from) n v keeps may = inr (inr (does_flag (n == packed from) (fact.DFlagged c) gp (unpacked n) v))
+hand_after plan (call.Mark c p was) n v keeps may = inr (inr (does_mark (n == was) c p (unpacked n) v))
+hand_after plan _ n v keeps may = inr (inr refl)
 
 -- a call that neither begins an operation, nor answers it, nor lays it down
 abbrev pub IsPlain : Call → Type 0
@@ -62,15 +63,16 @@ IsPlain (call.Answer said) = ⊥
 IsPlain call.Leave = ⊥
 IsPlain _ = Unit {0}
 
-pub does_stay : (c : Call) (n : ℕ) (v : View) → IsPlain c → (after c n v).worker.operation ≡ v.worker.operation
-does_stay (call.Begin op) n v plain = absurd plain
-does_stay (call.Answer said) n v plain = absurd plain
-does_stay call.Leave n v plain = absurd plain
-does_stay (call.Claim c q) n v plain = does_claim (n == c) c q v
-does_stay (call.IFlag c p from) n v plain = does_flag (n == packed from) (fact.IFlagged c) p (unpacked n) v
-does_stay (call.DFlag c gp from) n v plain = does_flag (n == packed from) (fact.DFlagged c) gp (unpacked n) v
-does_stay (call.Mark c p was) n v plain = does_mark (n == was) c p (unpacked n) v
-does_stay _ n v plain = refl
+pub does_stay : (plan : TablePlan) (c : Call) (n : ℕ) (v : View) → IsPlain c → May plan c v → (after c n v).worker.operation ≡ v.worker.operation
+does_stay plan (call.Begin op) n v plain may = absurd plain
+does_stay plan (call.Answer said) n v plain may = absurd plain
+does_stay plan call.Leave n v plain may = absurd plain
+does_stay plan call.Rest n v plain may = sym may
+does_stay plan (call.Claim c q) n v plain may = does_claim (n == c) c q v
+does_stay plan (call.IFlag c p from) n v plain may = does_flag (n == packed from) (fact.IFlagged c) p (unpacked n) v
+does_stay plan (call.DFlag c gp from) n v plain may = does_flag (n == packed from) (fact.DFlagged c) gp (unpacked n) v
+does_stay plan (call.Mark c p was) n v plain may = does_mark (n == was) c p (unpacked n) v
+does_stay plan _ n v plain may = refl
 
 -- a pass that has an operation in hand begins no other, and is not split or joined
 keeps_of : (plan : TablePlan) (c : Call) (v : View) (op : Op) → Does v op → May plan c v → KeepsOn c
@@ -125,7 +127,7 @@ module _ (plan : TablePlan) (opened : TableState) (starts : Starts plan opened) 
           there = next.there;
           does = elim next.made [
             | inl same ↦ subst (λ (w : View). Does w op) (sym same) h.does
-            | inr c ↦ subst (λ (w : View). Does w op) (sym c.3) (by c.0 (hand_after c.0 (found_by (state q) c.0) h.view c.1) (at ∙ ap (λ (u : Turn). some u) c.4))
+            | inr c ↦ subst (λ (w : View). Does w op) (sym c.3) (by c.0 (hand_after plan c.0 (found_by (state q) c.0) h.view c.1 c.2) (at ∙ ap (λ (u : Turn). some u) c.4))
           ];
           on = more_on turns seat i q t at (keep_one seat t only) h.on;
         }

@@ -162,6 +162,7 @@ module _ (plan : TablePlan) where
   hand_by old low call.Again n v keeps fresh h = λ c e. absurd (some_not_none e refl)
   hand_by old low call.Leave n v keeps fresh h = λ c e. absurd (some_not_none e refl)
   hand_by old low (call.Answer said) n v keeps fresh h = λ c e. absurd (some_not_none e refl)
+  hand_by old low call.Rest n v keeps fresh h = λ c e. absurd (some_not_none e refl)
   hand_by old low (call.Claim d q) n v keeps fresh h = hand_claim old low (n == d) d q v
       (λ e. elim fresh [ inl least ↦ (let same = eqb-true n d e in omega arith) | inr none ↦ absurd (none d q refl) ]) h
   hand_by old low (call.IFlag d p from) n v keeps fresh h = hand_flag old low (n == packed from) (fact.IFlagged d) p (unpacked n) v (after (call.IFlag d p from) n v) refl h
@@ -185,6 +186,7 @@ module _ (plan : TablePlan) where
   claims_or_not (call.FrozenChild c p right) = inr (λ d q e. cc)
   claims_or_not call.Look = inr (λ d q e. cc)
   claims_or_not (call.LookDown from key right) = inr (λ d q e. cc)
+  claims_or_not call.Rest = inr (λ d q e. cc)
   claims_or_not (call.Fill c f value) = inr (λ d q e. cc)
   claims_or_not (call.IFlag c p from) = inr (λ d q e. cc)
   claims_or_not (call.IChild c p l q right) = inr (λ d q e. cc)

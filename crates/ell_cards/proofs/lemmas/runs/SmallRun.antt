@@ -315,7 +315,7 @@ delete_ends_asks =
 abbrev at_8 : TableState
 at_8 = run_leads at_7 delete_ends
 
--- seat 1 looks for key 7, and finds its value
+-- seat 1 looks for key 7, finds its value, and ends the look
 look_asks : RunAsks small_plan at_8 look
 look_asks =
     (refl, refl)
@@ -323,6 +323,7 @@ look_asks =
     ▸ (refl, record { come = record { glance = record { node = 4; low = 0; high = greatest_key + 1; whole = true }; among = latest _ _; there = refl; from = omega arith; upto = omega arith }; as_one = λ is. absurd (false≢true is); met = told_at 1 _ _ refl; inner = refl; key = infinity1; told = told_at 0 _ _ refl; goes = record { low = omega arith; high = omega arith; whole = λ is. absurd (false≢true is) } })
     ▸ (refl, told_at 0 _ _ refl)
     ▸ (refl, (told_at 1 _ _ refl, leaf_14))
+    ▸ (refl, refl)
     ▸ tt
 
 abbrev at_9 : TableState

@@ -86,6 +86,7 @@ begins_none op v (inr shared) none empty = false≢true (sym (ap (λ o. shared_o
 call_spent : (plan : TablePlan) (c : Call) (n : ℕ) (v : View) → May plan c v → v.worker.shared ≡ None → IsSpent v → IsSpent (after c n v)
 call_spent plan (call.Begin op) n v may none spent = absurd (begins_none op v may.1 none spent.ledger)
 call_spent plan call.Look n v may none spent = record { free = spent.free; ledger = spent.ledger; answers = spent.answers }
+call_spent plan call.Rest n v may none spent = record { free = refl; ledger = spent.ledger; answers = spent.answers }
 call_spent plan (call.Answer said) n v may none spent = absurd (some_not_none may.busy spent.free)
 call_spent plan call.Again n v may none spent = absurd (some_not_none may.busy spent.free)
 call_spent plan call.Leave n v may none spent = absurd (some_not_none may.busy spent.free)

@@ -98,6 +98,7 @@ calls_touch_their_words (call.Backtrack c gp) = (field.Update, refl)
 calls_touch_their_words call.Next = claim_word
 calls_touch_their_words (call.Claim c q) = claim_word
 calls_touch_their_words call.Look = root_word (child_field false)
+calls_touch_their_words call.Rest = root_word (key_field 0)
 calls_touch_their_words (call.Begin op) = root_word (key_field 0)
 calls_touch_their_words call.Again = root_word (key_field 0)
 calls_touch_their_words call.Leave = root_word (key_field 0)
@@ -309,6 +310,7 @@ module _ (plan : TablePlan) (m : Machine) (stage : Stages) (first : Invariant m 
       told_since call.Leave keeps may e h = absurd (true≢false keeps)
       told_since (call.Answer said) keeps may e h = absurd (true≢false keeps)
       told_since call.Look keeps may e h = absurd (true≢false keeps)
+      told_since call.Rest keeps may e h = absurd (true≢false keeps)
       told_since (call.Upd x) keeps may e h =
           passed_since x (record { inner = may.inner; met = met.node x may.stands }) (found_by s (call.Upd x)) refl e h
       told_since (call.Down x right) keeps may e h =
@@ -415,6 +417,7 @@ module _ (plan : TablePlan) (m : Machine) (stage : Stages) (first : Invariant m 
     told_anew call.Again anew e h = forgotten_since M from e h
     told_anew call.Leave anew e h = forgotten_since M from e h
     told_anew (call.Answer said) anew e h = forgotten_since M from e h
+    told_anew call.Rest anew e h = forgotten_since M from e h
     told_anew call.Look anew e h =
         met_since from.stages 1 (link_in (found_by s call.Look)).node forgotten
         (child_fine 0 false refl (root_born M.words r.stages r.invariant.words) (root_since M from)) (forgotten_since M from) e h

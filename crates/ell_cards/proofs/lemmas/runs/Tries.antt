@@ -103,6 +103,7 @@ GoesOn (call.Begin op) = ⊥
 GoesOn call.Again = ⊥
 GoesOn call.Leave = ⊥
 GoesOn (call.Answer said) = ⊥
+GoesOn call.Rest = ⊥
 GoesOn _ = Unit {0}
 
 -- a win of another kind is no claim
@@ -151,7 +152,7 @@ module _ (plan : TablePlan) where
     lost : AllUnclaimed v.won v.met
     counted : v.hindered ≤ v0.hindered + done_since s0 begun begins.view.won
 
-  -- the pass has laid its operation down, or answered it
+  -- the pass has laid its operation down, or answered it, or ended a look
   record Stopped (s0 : TableState) (v0 : View) (s : TableState) (v : View) : Type 0 where
     reached : IsReached plan s
     free : v.worker.operation ≡ None
@@ -510,6 +511,7 @@ module _ (plan : TablePlan) where
     call_rests call.Again goes made may at g = absurd goes
     call_rests call.Leave goes made may at g = absurd goes
     call_rests (call.Answer said) goes made may at g = absurd goes
+    call_rests call.Rest goes made may at g = absurd goes
     call_rests (call.Claim c q) goes made may at g = claim_rests (call.Claim c q) made at c q (found_by s (call.Claim c q) == c) refl may g
     call_rests (call.IFlag c p from) goes made may at g =
         let i = call.IFlag c p from in
@@ -527,7 +529,7 @@ module _ (plan : TablePlan) where
         let same = claims_same c (found_by s c) v (λ d q e. (cc)) in
         alike (view_after s v c) g refl refl refl same (lost_on (view_after s v c).won (λ e low. same e))
 
-    -- an operation that was laid down, or answered
+    -- an operation that was laid down, or answered, or a look that was ended
     stops : (w : View) → Grows s v s' w → w.worker.operation ≡ None → w.hindered ≤ v0.hindered + done_since s0 s' w.won → Stopped s0 v0 s' w
     stops w g free counted = record {
       reached = next_here;
@@ -596,6 +598,11 @@ module _ (plan : TablePlan) where
             let more = done_more s0 h.begun h.begins.view s' w (grows_on h.begun h.begins.view s v s' w h.since g) in
             let was = h.counted in
             inr (stops w g refl (omega arith))
+        by call.Rest keeps may made at g =
+            let w = view_after s v call.Rest in
+            let more = done_more s0 h.begun h.begins.view s' w (grows_on h.begun h.begins.view s v s' w h.since g) in
+            let was = h.counted in
+            inr (stops w g refl (omega arith))
         by c keeps may made at g = inl (rests (view_after s v c) at g (call_rests c tt made may at g))
 
   -- where the pass in a seat is in a run
@@ -611,6 +618,7 @@ module _ (plan : TablePlan) where
   call_stays call.Again n v keeps may free = absurd (some_not_none may.busy free)
   call_stays call.Leave n v keeps may free = absurd (some_not_none may.busy free)
   call_stays (call.Answer said) n v keeps may free = absurd (some_not_none may.busy free)
+  call_stays call.Rest n v keeps may free = (refl, refl)
   call_stays (call.Claim c q) n v keeps may free = absurd (some_not_none may.0.busy free)
   call_stays (call.IFlag c p from) n v keeps may free = absurd (some_not_none may.busy free)
   call_stays (call.DFlag c gp from) n v keeps may free = absurd (some_not_none may.busy free)

@@ -12,6 +12,7 @@ use Rattle.ell_layout.specs.declared.field.Field.{Field}
 use Rattle.ell_layout.specs.Layout.{listed}
 use Rattle.ell_layout.specs.Words.{Words, table_word, put}
 use Rattle.ell_core.specs.state.Machine.{Worker, Machine, Scene, scene, with_scene, worker_of, no_search}
+use Rattle.ell_core.specs.acts.Searching.{ended}
 use Rattle.ell_core.specs.acts.Events.{Happens, Steps}
 use Rattle.ell_core.specs.soundness.Sound.{WorkerOwns}
 use Rattle.ell_core.specs.history.Stages.{Stages, Born, waits}
@@ -93,6 +94,17 @@ module _ (plan : TablePlan) (s : TableState) (r : HasMachine plan s) (id : ℕ) 
   -- where no operation is in hand, the search stands nowhere
   pub rests_nowhere : IsFree v → v.worker.search ≡ no_search
   rests_nowhere free = ap (λ (u : Worker). u.search) (mine_sound.free free)
+
+  -- so its worker is the one with nothing in hand
+  pub rests_ended : IsFree v → ended v.worker ≡ v.worker
+  rests_ended free =
+      let idle = mine_sound.free free in
+      λ t. record (v.worker) {
+        operation = sym free t;
+        search = sym (rests_nowhere free) t;
+        card = sym (ap (λ (u : Worker). u.card) idle) t;
+        flagged = sym (ap (λ (u : Worker). u.flagged) idle) t;
+      }
 
   -- what the seat may rely on
   pub relies : Reliance machine r.stages id

@@ -14,16 +14,16 @@ use Rattle.ell_cards.specs.declared.glance.Stretch.{Stretch}
 use Rattle.ell_cards.specs.declared.view.View.{View}
 use Rattle.ell_cards.specs.Models.{IsFree}
 use Rattle.ell_cards.proofs.lemmas.views.Afters.{after_look, after_look_down}
-use Rattle.ell_cards.specs.Changes.{forgotten}
+use Rattle.ell_cards.specs.Changes.{forgotten, after_rest}
 use Rattle.ell_cards.specs.Guards.{MayLookDown}
-use Rattle.ell_cards.specs.Calls.{child_address}
+use Rattle.ell_cards.specs.Calls.{child_address, key_address}
 use Rattle.ell_cards.specs.States.{TableState}
 use Rattle.ell_cards.specs.Machines.{HasMachine}
 use Rattle.ell_cards.specs.Laws.{IsEvent}
 use Rattle.ell_cards.proofs.lemmas.seats.Entries.{below_holds}
 use Rattle.ell_cards.proofs.lemmas.seats.Frames.{kept_told, is_no_event}
-use Rattle.ell_cards.proofs.lemmas.lifetimes.Idle.{forgotten_holds}
-use Rattle.ell_cards.proofs.lemmas.seats.Seats.{rests_nowhere}
+use Rattle.ell_cards.proofs.lemmas.lifetimes.Idle.{forgotten_holds, rest_holds}
+use Rattle.ell_cards.proofs.lemmas.seats.Seats.{rests_nowhere, rests_ended}
 use Rattle.ell_cards.proofs.lemmas.stepping.Looks.{born_in_table, child_read}
 use Rattle.ell_cards.specs.Depths.{depth_told}
 use Rattle.ell_core.specs.tree.Rank.{rank}
@@ -77,3 +77,13 @@ module _ (plan : TablePlan) (s : TableState) (r : HasMachine plan s) (id : ℕ) 
         walk = h.walk;
       }) (child_address from.node right))
       refl refl ((let other = ranked_apart r.words 0 (link_in n).node (let deeper = child.1 in let root = rank_root r.words in omega arith) in omega arith), born_in_table plan s r id v here (link_in n).node child.0)
+
+  -- rest
+  pub keeps_rest : IsFree v → IsEvent plan s r id v call.Rest
+  keeps_rest may =
+      let h = r.views id v here in
+      let same = rests_ended plan s r id v here may in
+      is_no_event plan s r id v here call.Rest
+      (kept_told plan s r id v here (after_rest v) same
+      (rest_holds s.words r.words r.stages r.invariant.words (after_rest v) refl refl refl refl h.read h.least h.knew) (key_address 0))
+      same refl tt
