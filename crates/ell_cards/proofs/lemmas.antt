@@ -14,3 +14,5 @@ pub mod lifetimes
 pub mod own_words
 -- runs of step calls
 pub mod runs
+-- tables with their periods
+pub mod whole

@@ -24,8 +24,8 @@ use Rattle.ell_cards.specs.declared.call.Call.{Call}
 use Rattle.ell_cards.specs.declared.call.Call.TheVariants as call
 use Rattle.ell_cards.specs.declared.view.Told.TheVariants.{Met, Key, Value, Frozen}
 use Rattle.ell_cards.specs.declared.view.View.{View}
-use Rattle.ell_cards.specs.Models.{TablePlan, flat_from, IsTold, IsFree, Does, StandsAt, InTable, EndWasUnknown}
 use Rattle.ell_cards.specs.Changes.{counted, forgotten, with_fact, if_won, exchanged, after_begin, after_again, after_leave, after_rest, after_answer, after_upd, after_claim, after_flag, after_mark, is_this, told_info, depth_there, after_fill}
+use Rattle.ell_cards.specs.Models.{TablePlan, flat_from, last_claim, IsTold, IsFree, Does, StandsAt, InTable, EndWasUnknown}
 use Rattle.ell_cards.specs.Guards.{MayBegin, MayAnswer, MayRead, MayGoDown, MayAsk, KnowsPlace, MayLookDown, MayClaim, MayFill, MayIFlag, MayDFlag, MayIChild, MayMark, MayDChild}
 use Rattle.ell_cards.specs.Depths.{met_at, depth_told}
 use Rattle.ell_word.specs.declared.link.Link.{Link}
@@ -178,7 +178,7 @@ May plan (call.FrozenChild c p right) v = KnowsPlace v (fact.Marked c) c field.P
 May plan call.Look v = IsFree v
 May plan (call.LookDown from to right) v = MayLookDown (flat_from plan) v from to right
 May plan call.Rest v = IsFree v
-May plan (call.Claim c node_key) v = MayClaim (flat_from plan) v c node_key × (c ≤ plan.last_card)
+May plan (call.Claim c node_key) v = MayClaim (flat_from plan) v c node_key × (c ≤ last_claim plan)
 May plan (call.Fill c f value) v = MayFill v c
 May plan (call.IFlag c p from) v = MayIFlag v c p from
 May plan (call.IChild c p l q right) v = MayIChild v c p l q right

@@ -156,20 +156,21 @@ child_found expected (Err found) = linked found
 abbrev pub forgotten : List Told
 forgotten = Met 0 ∷ []
 
--- nothing is in hand, the ledger is this one, and all that was told is forgotten
+-- nothing is in hand, the ledger is this one, and all that was told is forgotten, and where a look has come to
 abbrev pub at_rest : List (ℕ × Entry) → View → View
 at_rest ledger v = record v {
   worker = record (ended v.worker) { ledger = ledger };
   told = forgotten;
+  glances = [];
   here = None;
   planned = [];
   stores = [];
   met = [];
 }
 
--- nothing is left of the last operation, answered or laid down, nor of the last look
+-- nothing is left of the last operation, answered or laid down
 abbrev pub afresh : List (ℕ × Entry) → View → View
-afresh ledger v = record (at_rest ledger v) { next = None; glances = []; answered = None; laid_down = None }
+afresh ledger v = record (at_rest ledger v) { next = None; answered = None; laid_down = None }
 
 -- begin: nothing is left of what was before, this operation is in hand, and the search stands at the root
 abbrev pub after_begin : Option Op → View → View

@@ -1,18 +1,30 @@
-use Rattle.std.specs.Prelude.{◌≡◌, ◌≢◌, ◌↔◌, ℕ, List, [], None, true}
+use Rattle.std.specs.Prelude.{◌≡◌, ◌≢◌, ◌↔◌, ℕ, ◌≤◌, List, [], None, true, is_some}
 use Rattle.std.specs.List.Sorted.{IsStrictlyIncreasing}
 use Rattle.atomic_table.specs.Seated.{TableId}
 use Rattle.atomic_table.specs.Table.{Me}
 use Rattle.ell_layout.specs.Layout.{table_size}
 use Rattle.ell_cards.specs.declared.pass.Pass.TheInside.{Inside}
+use Rattle.ell_word.specs.Node.{greatest_card}
+use Rattle.ell_cards.specs.declared.pass.Standing.{Standing}
 use Rattle.ell_cards.specs.declared.share.Share.{Share}
+use Rattle.ell_cards.specs.declared.view.Known.{Known}
+use Rattle.ell_cards.specs.declared.view.Period.{Period}
+use Rattle.ell_cards.specs.declared.view.Slots.{Slots}
 use Rattle.ell_cards.specs.declared.view.View.{View}
 use Rattle.ell_cards.specs.Changes.{ledger_keys}
 use Rattle.ell_cards.specs.Naming.{IsNamed}
+use Rattle.ell_cards.specs.Periods.{slots_size}
 
 -- the share of a pass as its code keeps it is that of its view, and it counts where some keys are shared
 pub record HasShare (share : Share) (v : View) : Type 0 where
   pub units : v.share ≡ share.units
   pub counts : (share.counts ≡ true) ↔ (v.worker.shared ≢ None)
+
+-- all that a pass names is of cards that have words in a table of so many
+pub record HasWords (words : ℕ) (v : View) : Type 0 where
+  pub last : ℕ
+  pub few : table_size last ≤ words
+  pub named : IsNamed last v
 
 -- the keys of a pass as its code keeps them are those of its ledger, ascending; so is its share; and what it names is
 -- in its table
@@ -21,13 +33,26 @@ pub record PassFits (keys : List ℕ) (kept : Share) (words : ℕ) (v : View) : 
   pub ascending : IsStrictlyIncreasing keys
   pub share : HasShare kept v
   pub named : (last : ℕ) → words ≡ table_size last → IsNamed last v
+  pub most : IsNamed greatest_card v
+  pub inside : HasWords words v
+
+-- the place of a pass as its code keeps it is the one that it knows, and it has one in a table with places, and no other one;
+-- and it announces there what its code says
+pub record PlaceFits (standing : Standing) (words : ℕ) (p : Period) : Type 0 where
+  pub place : p.place ≡ standing.place
+  pub other : p.other ≡ None
+  pub announces : standing.announces ≡ is_some p.announced
+  pub none : (last : ℕ) → words ≡ table_size last → standing.place ≡ None
+  pub some : (s : Slots) → words ≡ slots_size s → standing.place ≢ None
 
 abbrev pub IsPass : {A : Type 0} → Inside A → Type 0
-IsPass p = PassFits p.keys.items p.share p.seat.table_id.words p.seat.me.0 × (p.seat.me.1 ≡ [])
+IsPass p =
+    PassFits p.keys.items p.share p.seat.table_id.words p.seat.me.0.tree × (p.seat.me.1 ≡ [])
+    × PlaceFits p.standing p.seat.table_id.words p.seat.me.0.period
 
 -- a table as it is made, and its first seat
-pub record IsNewTable (last : ℕ) (table seat : TableId) (me : Me (Unit {0}) View) (v : View) : Type 0 where
-  pub words : table.words ≡ table_size last
+pub record IsNewTable (size : ℕ) (table seat : TableId) (me : Me (Unit {0}) Known) (k : Known) : Type 0 where
+  pub words : table.words ≡ size
   pub slots : table.slots ≡ 0
   pub own : seat ≡ table
-  pub knows : me ≡ (v, [])
+  pub knows : me ≡ (k, [])

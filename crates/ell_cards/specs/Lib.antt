@@ -17,6 +17,10 @@ pub mod Turns
 pub mod TurnEffects
 -- tables as they start, and where runs lead from there
 pub mod Starts
+-- the places of passes and the clock: where their words stand, and what passes know of grace periods
+pub mod Periods
+-- the rule of a table: its tree, and its periods
+pub mod Whole
 -- a small run, in which each step call is made
 pub mod SmallRun
 -- how a table ends

@@ -1,4 +1,4 @@
-use Rattle.std.specs.Prelude.{◌≡◌, ◌≢◌, ℕ, ◌⊎◌, ◌+◌, ◌<◌, ◌≤◌, ◌*◌, ◌==◌, ◌||◌, ◌/◌, nat_le, if◌then◌else◌, Bool, true, Some, None, List, [], ◌∷◌, length, min}
+use Rattle.std.specs.Prelude.{◌≡◌, ◌≢◌, ℕ, ◌⊎◌, ◌+◌, ◌<◌, ◌≤◌, ◌*◌, ◌==◌, ◌||◌, ◌/◌, nat_le, if◌then◌else◌, Bool, true, Option, Some, None, List, [], ◌∷◌, length, min}
 use Rattle.atomic_table.specs.Seated.{TableId}
 use Rattle.ell_ops.specs.declared.op.Op.{Op}
 use Rattle.ell_word.specs.Node.{most_cards}
@@ -18,15 +18,25 @@ use Rattle.ell_cards.specs.declared.fault.SplitFault.TheVariants as split_fault
 use Rattle.ell_cards.specs.declared.glance.Glance.{Glance}
 use Rattle.ell_cards.specs.declared.view.Told.{Told}
 use Rattle.ell_cards.specs.declared.view.View.{View}
+use Rattle.ell_cards.specs.declared.view.Slots.{Slots}
 
 -- what a table opens with: the keys that may have owners, the start pairs, the last card, if all other keys are shared,
--- and if the tree is flat
+-- and if the tree is flat; and, if passes have places in it, how many cards have words and how many places there are
 pub record TablePlan : Type 0 where
   pub keys : List ℕ
   pub start : List (ℕ × ℕ)
   pub last_card : ℕ
   pub shared : Bool
   pub flat : Bool
+  pub slots : Option Slots
+
+-- the last card that may be claimed: the last one, or the last one that has words
+abbrev pub last_claim_of : Option Slots → ℕ → ℕ
+last_claim_of None last = last
+last_claim_of (Some s) last = min s.last last
+
+abbrev pub last_claim : TablePlan → ℕ
+last_claim plan = last_claim_of plan.slots plan.last_card
 
 -- the first card that is not of the opening tree, if the tree of a table is flat, else 0
 abbrev pub flat_from : TablePlan → ℕ
@@ -156,10 +166,11 @@ abbrev pub stored_at : List (Field × ℕ) → Field → ℕ
 stored_at [] f = 0
 stored_at (e ∷ es) f = if place e.0 == place f then e.1 else stored_at es f
 
--- when a pass is not parted: for its share exactly where that may not be
-abbrev pub SplitRefuses : View → SplitFault → Type 0
-SplitRefuses v TooManyPasses = ¬ MayPart v
-SplitRefuses v split_fault.NoMemory = MayPart v
+-- when a pass is not parted: for its share exactly where that may not be; or, where there are places, for want of one
+abbrev pub SplitRefuses : Option Slots → View → SplitFault → Type 0
+SplitRefuses None v TooManyPasses = ¬ MayPart v
+SplitRefuses (Some s) v TooManyPasses = Unit {0}
+SplitRefuses _ v split_fault.NoMemory = MayPart v
 
 -- this many cards may be asked for
 abbrev pub IsCardCount : ℕ → Type 0

@@ -1,4 +1,4 @@
-use Rattle.std.specs.Prelude.{◌≡◌, ◌++◌, true, false, List, [], ◌∷◌}
+use Rattle.std.specs.Prelude.{◌≡◌, ◌++◌, true, false, None, List, [], ◌∷◌}
 use mathlib.Core.Option.{some}
 use lib.ListN.{get_elem?}
 use Rattle.ell_ops.specs.declared.op.Op.TheVariants.{Find, Insert, Delete}
@@ -24,7 +24,7 @@ use Rattle.ell_word.specs.Link.{linked}
 -- a small table: keys 5 and 7, of which key 5 is there at its start, and three cards to give out beside those of the
 -- start
 abbrev pub small_plan : TablePlan
-small_plan = record { keys = 5 ∷ 7 ∷ []; start = (5, 50) ∷ []; last_card = 4; shared = false; flat = false }
+small_plan = record { keys = 5 ∷ 7 ∷ []; start = (5, 50) ∷ []; last_card = 4; shared = false; flat = false; slots = None }
 
 -- the first pass is split: seat 0 has key 5 then, and seat 1 key 7
 abbrev pub parting : List Turn

@@ -1,4 +1,4 @@
-use Rattle.std.specs.Prelude.{◌≡◌, ◌↔◌, ℕ, ◌≤◌, ◌⊎◌, true, false, Some, List, [], length, Contains, ◌<◌}
+use Rattle.std.specs.Prelude.{◌≡◌, ◌↔◌, ℕ, ◌≤◌, ◌⊎◌, true, false, Option, Some, None, List, [], length, Contains, ◌<◌}
 use Rattle.std.specs.List.{All}
 use Rattle.std.specs.List.Sorted.{IsStrictlyIncreasing}
 use Rattle.std.specs.Map.{keys_of}
@@ -14,6 +14,7 @@ use Rattle.ell_core.specs.tree.Tree.{IsTreePair}
 use Rattle.ell_core.specs.soundness.Sound.{IsSound}
 use Rattle.ell_core.specs.acts.Wins.{InOrder}
 use Rattle.ell_cards.specs.declared.call.Call.TheVariants as call
+use Rattle.ell_cards.specs.declared.view.Slots.{Slots}
 use Rattle.ell_cards.specs.Models.{TablePlan, TableModel, PassModel}
 use Rattle.ell_cards.specs.Changes.{first_of}
 use Rattle.ell_cards.specs.States.{TableState}
@@ -27,6 +28,17 @@ pub record IsSharedIn (plan : TablePlan) (key : ℕ) : Type 0 where
   pub real : key ≤ greatest_key
   pub other : set_of plan.keys key ≡ false
 
+-- the most places of a table
+abbrev pub most_places : ℕ
+most_places = 1000000
+
+-- a table with places has at least one, numbers for all cards, and words for those of the start keys
+abbrev pub SlotsFit : TablePlan → Option Slots → Type 0
+SlotsFit plan None = Unit {0}
+SlotsFit plan (Some s) =
+    (1 ≤ s.places) × (s.places ≤ most_places) × (plan.last_card ≡ greatest_card) × (length plan.start ≤ s.last)
+    × (s.last ≤ greatest_card)
+
 -- what a table may open with: real keys, ascending; start keys, ascending, each of them or shared; and cards for these,
 -- not more than there are numbers for
 pub record MayStart (plan : TablePlan) : Type 0 where
@@ -37,6 +49,7 @@ pub record MayStart (plan : TablePlan) : Type 0 where
   pub room : length plan.start ≤ plan.last_card
   pub few : length plan.start < greatest_card
   pub limit : plan.last_card ≤ greatest_card
+  pub slots : SlotsFit plan plan.slots
 
 -- the words of a table are at its start those of the opening tree over the start keys, flat or not
 pub record StartWords (plan : TablePlan) (words : List ℕ) : Type 0 where

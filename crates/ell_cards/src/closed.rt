@@ -6,10 +6,11 @@ ghost use Rattle.ell_word.specs.Node.{card, greatest_card, IsNode};
 ghost use Rattle.ell_layout.specs.Layout.{table_size};
 ghost use Rattle.ell_layout.specs.Words.{word, words_of};
 ghost use Rattle.ell_core.specs.state.Machine.{ledger_of};
-ghost use Rattle.ell_cards.specs.Models.{IsFree, whole_share};
+ghost use Rattle.ell_cards.specs.Models.{IsFree, last_claim, whole_share};
 ghost use Rattle.ell_cards.specs.Closed.{ClosedModel, TableEnds};
 
 use crate::pass::Pass;
+use crate::period::last_claim;
 use crate::table::CardTable;
 use ell_core::TreeWords;
 use ell_layout::{Field, child_field, key_field, value_field};
@@ -31,7 +32,7 @@ impl<A: Allocator + Copy> Model for Closed<A> {
     ghost invariant = { λ c. IsFull c.closed.words
         × (slots_len c.closed.words ≡ length (slots_items c.closed.words))
         × (slots_len c.closed.slots ≡ 0)
-        × (length (slots_items c.closed.words) ≡ table_size c.last_card)
+        × (table_size c.last_card ≤ length (slots_items c.closed.words))
         × (c.last_card ≤ greatest_card) };
 }
 
@@ -45,9 +46,9 @@ impl<A: Allocator + Copy> CardTable<A> {
         requires all { All (λ k. ledger_of pass.view.worker.ledger k ≢ None) self.plan.keys }
         // A run from the table's start led to the words. Of the keys that have owners, their tree has those that the
         // pass has present, with their values; its other keys are shared.
-        ensures ends { TableEnds self.plan pass.view result }
-        // The number of the last card stays the same.
-        ensures cards { result.last_card ≡ self.plan.last_card }
+        ensures ends { self.plan.slots ≡ None → TableEnds self.plan pass.view result }
+        // The number of the last card stays the same; in a table with places it is the last one that has words.
+        ensures cards { result.last_card ≡ last_claim self.plan }
     {
         let CardTable {
             table,
@@ -55,17 +56,19 @@ impl<A: Allocator + Copy> CardTable<A> {
             last_card,
             shared: _,
             first_block: _,
+            slots,
         } = self;
         let Pass {
             keys: _,
             label: _,
             steps: _,
             share: _,
+            standing: _,
             seat,
         } = pass;
         Closed {
             closed: table.close_with(seat),
-            last_card,
+            last_card: last_claim(slots, last_card),
         }
     }
 }

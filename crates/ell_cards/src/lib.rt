@@ -11,6 +11,7 @@ mod lifetime;
 mod outcomes;
 mod own_card;
 mod pass;
+mod period;
 mod places;
 mod rule;
 mod share;

@@ -1,5 +1,5 @@
 //! How a table begins, and how its passes part and come together.
-ghost use Rattle.std.specs.Prelude.{◌≡◌, ◌≢◌, ◌⊎◌, ◌≤◌, ◌<◌, ◌+◌, ◌*◌, ◌↔◌, if◌then◌else◌, IsTrue, [], filter, not, max, true, false, length, None, IfOk, IfErr, OnOk, replicate, vec_len};
+ghost use Rattle.std.specs.Prelude.{◌≡◌, ◌≢◌, ◌⊎◌, ◌≤◌, ◌<◌, ◌+◌, ◌*◌, ◌↔◌, if◌then◌else◌, IsTrue, [], filter, not, max, true, false, length, None, IfOk, IfErr, OnOk, IfSome, replicate, vec_len};
 ghost use Rattle.std.specs.List.{All};
 ghost use Rattle.std.specs.List.Sorted.{IsStrictlyIncreasing};
 ghost use Rattle.std.specs.Map.{keys_of};
@@ -8,23 +8,29 @@ ghost use Rattle.ell_ops.specs.KeySet.{set_of};
 ghost use Rattle.ell_word.specs.Node.{greatest_card, most_start};
 ghost use Rattle.ell_core.specs.state.Opening.{last_card};
 ghost use Rattle.ell_core.specs.state.Machine.{ledger_of};
-ghost use Rattle.ell_layout.specs.Words.{has_block};
+ghost use Rattle.ell_layout.specs.Layout.{table_size};
+ghost use Rattle.ell_layout.specs.Start.{words_at_start};
+ghost use Rattle.ell_layout.specs.Words.{has_block, words_of};
 ghost use Rattle.ell_cards.specs.Models.{flat_from, Steps, IsFree, IsCardCount, MayPart, RefusesCards, SplitRefuses, one_more};
 ghost use Rattle.ell_cards.specs.Changes.{first_of, left_view, right_view, joined_view};
 ghost use Rattle.ell_cards.specs.Inside.{IsNewTable};
 ghost use Rattle.ell_cards.specs.Stepping.{MaySplit, MayHave, PartsShare};
-ghost use Rattle.ell_cards.specs.Starts.{MayStart, OpensBy};
+ghost use Rattle.ell_cards.specs.Periods.{IsAtRest, last_for, slots_of, whole_size, whole_words};
+ghost use Rattle.ell_cards.specs.Starts.{MayStart, OpensBy, most_places};
+ghost use Rattle.ell_cards.specs.Whole.{IsWhole, first_known};
+ghost use Rattle.atomic_table.specs.Table.{opening};
 
 use crate::fault::{CardFault, SplitFault};
-use crate::pass::Pass;
+use crate::pass::{Pass, Standing};
+use crate::period::last_claim;
 use crate::rule::{CardRule, Joined, PartedBy, SplitInto};
 use crate::share::{Share, WHOLE_SHARE};
 use crate::table::CardTable;
-use crate::view::{Plan, TableKind, View};
+use crate::view::{Known, Plan, Slots, TableKind};
 use atomic_table::{Seat, Table};
 use ell_layout::{table_size, write_opening};
 use ell_ops::{NoMemory, united_keys};
-use ell_word::{CARDS_MAX, card_of};
+use ell_word::{CARD_MAX, CARDS_MAX, card_of};
 use std::alloc::{AllocError, Allocator};
 use std::marker::Brand;
 
@@ -47,6 +53,7 @@ impl<A: Allocator + Copy> CardTable<A> {
         requires start_ascending { IsStrictlyIncreasing (keys_of start.now) }
         requires given { All (λ k. (set_of keys.now k ≡ true) ⊎ ((kind.shared ≡ true) × (k ≤ greatest_key))) (keys_of start.now) }
         requires few { length start.now ≤ most_start }
+        requires places { kind.places ≤ most_places }
         // It succeeds only with 1 to 1,000,000 cards.
         ensures cards { OnOk result (IsCardCount cards) }
         // The table has this plan, and the pass knows what a first pass does: it owns the keys, of which the start keys
@@ -54,9 +61,10 @@ impl<A: Allocator + Copy> CardTable<A> {
         ensures opened { IfOk result (OpensBy (record {
           keys = keys.now;
           start = start.now;
-          last_card = last_card start.now cards;
+          last_card = last_for (last_card start.now cards) kind.places;
           shared = kind.shared;
           flat = kind.flat;
+          slots = slots_of (last_card start.now cards) kind.places;
         })) }
         // `BadCards` is returned exactly if the number of cards is not 1 to 1,000,000; the only other error is
         // `NoMemory`.
@@ -65,12 +73,15 @@ impl<A: Allocator + Copy> CardTable<A> {
         if !is_card_count(cards) {
             return Err(CardFault::BadCards);
         }
+        let last = cards + start.len() as u64;
+        let slots = slots_for(last, kind.places);
         let plan = Plan {
-            last_card: cards + start.len() as u64,
+            last_card: last_for(last, kind.places),
             keys: copied(alloc, keys)?,
             start: copied(alloc, start)?,
             shared: kind.shared,
             flat: kind.flat,
+            slots,
         };
         Ok(CardTable::open(alloc, plan)?)
     }
@@ -90,6 +101,7 @@ impl<A: Allocator + Copy> CardTable<A> {
             last_card,
             shared,
             flat: _,
+            slots,
         } = plan;
         let pass = Pass {
             keys,
@@ -99,6 +111,7 @@ impl<A: Allocator + Copy> CardTable<A> {
                 units: WHOLE_SHARE,
                 counts: shared,
             },
+            standing: Standing::first(slots),
             seat,
         };
         let table = CardTable {
@@ -107,6 +120,7 @@ impl<A: Allocator + Copy> CardTable<A> {
             last_card,
             shared,
             first_block,
+            slots,
         };
         Ok((table, pass))
     }
@@ -155,8 +169,9 @@ impl<A: Allocator + Copy> CardTable<A> {
     }
 
     /// Parts a pass with nothing in hand: the left part gets these keys of its own, ascending, and the right part gets
-    /// the rest and a part of the share. `TooManyPasses` is returned exactly if the pass may not be parted, and
-    /// `NoMemory` if an allocation fails; either way the pass is as it was.
+    /// the rest, a part of the share and, if the table has places, one of them. `TooManyPasses` is returned exactly if the
+    /// pass may not be parted, or each place has a pass, and `NoMemory` if an allocation fails; either way the pass is as
+    /// it was.
     pub fn split(
         &self,
         pass: Pass<A>,
@@ -170,11 +185,11 @@ impl<A: Allocator + Copy> CardTable<A> {
         ensures left { IfOk result (λ parts. Steps pass parts.0 (left_view left_keys.now pass.view)) }
         // The right part gets the other keys, and a piece of the share.
         ensures right { IfOk result (λ parts. Steps pass parts.1 (right_view left_keys.now pass.view)) }
-        // `TooManyPasses` is returned exactly if the tree shares keys and the share is the least one; the only other
-        // error is `NoMemory`. The pass is then returned as it was.
+        // `TooManyPasses` is returned exactly if the tree shares keys and the share is the least one, or no place is left;
+        // the only other error is `NoMemory`. The pass is then returned as it was.
         ensures may { OnOk result (MayPart pass.view) }
         ensures refused { IfErr result (λ refused. refused.0 ≡ pass) }
-        ensures why { IfErr result (λ refused. SplitRefuses pass.view refused.1) }
+        ensures why { IfErr result (λ refused. SplitRefuses self.now.plan.slots pass.view refused.1) }
     {
         if !pass.may_part() {
             return Err((pass, SplitFault::TooManyPasses));
@@ -182,31 +197,49 @@ impl<A: Allocator + Copy> CardTable<A> {
         let Ok((left, right)) = parted(self.alloc, pass.keys.as_slice(), left_keys) else {
             return Err((pass, SplitFault::NoMemory));
         };
-        Ok(self.split_as::<Brand>(pass, left, right))
+        match self.split_as::<Brand>(pass, left, right) {
+            Ok(parts) => Ok(parts),
+            Err(pass) => Err((pass, SplitFault::TooManyPasses)),
+        }
     }
 
-    // Parts a pass: one part has these keys, and the other those.
+    // Parts a pass: one part has these keys, and the other those, and a place, if the table has places. If no place is left,
+    // the pass is as it was.
     fn split_as<J: SplitInto>(
         &self,
         pass: Pass<A>,
         left: Vec<u64, A>,
         right: Vec<u64, A>,
-    ) -> (Pass<A>, Pass<A>)
+    ) -> Result<(Pass<A>, Pass<A>), Pass<A>>
         requires own { pass.table ≡ self.now.id }
         requires rule { MaySplit self.now.plan pass.view J.left J.right }
-        requires left { MayHave self.now.plan.last_card pass.view left.items J.left }
-        requires right { MayHave self.now.plan.last_card pass.view right.items J.right }
+        requires rests { IsAtRest J.left × IsAtRest J.right }
+        requires left { MayHave pass.view left.items J.left }
+        requires right { MayHave pass.view right.items J.right }
         requires shares { PartsShare pass.view J.left J.right }
-        ensures left { Steps pass result.0 J.left }
-        ensures right { Steps pass result.1 J.right }
+        ensures left { IfOk result (λ parts. Steps pass parts.0 J.left) }
+        ensures right { IfOk result (λ parts. Steps pass parts.1 J.right) }
+        ensures refused { IfErr result (λ p. (p ≡ pass) × (self.now.plan.slots ≢ None)) }
     {
         let Pass {
-            keys: _,
+            keys,
             label,
             steps,
             share,
+            standing,
             mut seat,
         } = pass;
+        let place = self.find_place(&mut seat);
+        if self.slots.is_some() && place.is_none() {
+            return Err(Pass {
+                keys,
+                label,
+                steps,
+                share,
+                standing,
+                seat,
+            });
+        }
         let other = self.table.shared.split_seat::<PartedBy<J>>(&mut seat);
         let steps = steps.saturating_add(1);
         let (kept, given) = share.parted();
@@ -215,6 +248,7 @@ impl<A: Allocator + Copy> CardTable<A> {
             label,
             steps,
             share: kept,
+            standing,
             seat,
         };
         let right = Pass {
@@ -222,9 +256,13 @@ impl<A: Allocator + Copy> CardTable<A> {
             label,
             steps,
             share: given,
+            standing: Standing {
+                place,
+                announces: false,
+            },
             seat: other,
         };
-        (left, right)
+        Ok((left, right))
     }
 
     /// Joins two passes with nothing in hand into one, which gets the keys of both, and the left one's label. If an
@@ -257,6 +295,7 @@ impl<A: Allocator + Copy> CardTable<A> {
             label,
             steps,
             share,
+            standing,
             mut seat,
         } = left;
         let Pass {
@@ -264,15 +303,18 @@ impl<A: Allocator + Copy> CardTable<A> {
             label: _,
             steps: others,
             share: added,
+            standing: gone,
             seat: other,
         } = right;
         self.table.shared.join_seat::<Joined>(&mut seat, other);
+        self.give_back(&mut seat, gone.place);
         let steps = steps.max(others).saturating_add(1);
         Ok(Pass {
             keys,
             label,
             steps,
             share: share.joined(added),
+            standing,
             seat,
         })
     }
@@ -297,25 +339,81 @@ fn first_block<A: Allocator + Copy>(plan: &Plan<A>) -> u64
     }
 }
 
+// The cards and the places of a table with places, of cards up to this one; none for no places.
+fn slots_for(last: u64, places: u64) -> Option<Slots>
+    ensures { result ≡ slots_of last places }
+{
+    if places == 0 {
+        None
+    } else {
+        Some(Slots { last, places })
+    }
+}
+
+// The number of the last card of a table of cards up to this one, if there are no places.
+fn last_for(last: u64, places: u64) -> u64
+    ensures { result ≡ last_for last places }
+{
+    if places == 0 { last } else { CARD_MAX }
+}
+
 // The opening table. It copies the words, and their first list goes at once.
 fn opened<A: Allocator + Copy>(
     alloc: A,
     plan: &Plan<A>,
-) -> Result<(Table<(), View, Plan<A>, CardRule, A>, Seat<(), View>), AllocError>
-    requires cards { plan.now.last_card ≤ greatest_card }
-    requires few { length plan.now.start < greatest_card }
+) -> Result<(Table<(), Known, Plan<A>, CardRule, A>, Seat<(), Known>), AllocError>
     requires may { MayStart plan.now }
-    ensures { IfOk result (λ made. IsNewTable plan.now.last_card made.0.shared.table_id made.1.table_id made.1.me
-        (first_of plan.now) × (made.0.shared.key ≡ plan.now)) }
+    ensures { IfOk result (λ made. IsNewTable (whole_size plan.now) made.0.shared.table_id made.1.table_id made.1.me
+        (first_known plan.now) × (made.0.shared.key ≡ plan.now)) }
 {
-    let mut words = zero_words(alloc, table_size(plan.last_card))?;
-    write_opening(
-        words.as_mut_slice(),
-        plan.start.as_slice(),
-        plan.last_card,
-        plan.flat,
-    );
+    let words = first_words(alloc, plan)?;
     Table::of_words(alloc, words.as_slice(), plan)
+}
+
+// All words of an opening table.
+fn first_words<A: Allocator + Copy>(alloc: A, plan: &Plan<A>) -> Result<Vec<u64, A>, AllocError>
+    requires may { MayStart plan.now }
+    ensures whole { IfOk result (λ words. IsWhole plan.now (opening words.items [] (first_known plan.now))) }
+    ensures size { IfOk result (λ words. length words.items ≡ whole_size plan.now) }
+{
+    let last = last_claim(plan.slots, plan.last_card);
+    let cards = card_words(alloc, plan, last)?;
+    let words = with_places(cards, plan.slots)?;
+    Ok(words)
+}
+
+// The words of the cards of an opening table, up to this card.
+fn card_words<A: Allocator + Copy>(
+    alloc: A,
+    plan: &Plan<A>,
+    last: u64,
+) -> Result<Vec<u64, A>, AllocError>
+    requires room { length plan.now.start ≤ last }
+    requires most { last ≤ greatest_card }
+    requires few { length plan.now.start < greatest_card }
+    ensures size { IfOk result (λ words. length words.items ≡ table_size last) }
+    ensures are { IfOk result (λ words. words_of words.items ≡ words_at_start plan.now.flat plan.now.start) }
+{
+    let mut words = zero_words(alloc, table_size(last))?;
+    write_opening(words.as_mut_slice(), plan.start.as_slice(), last, plan.flat);
+    Ok(words)
+}
+
+// These words, and behind them those of the periods, if there are places: nobody has one but the first pass.
+fn with_places<A: Allocator + Copy>(
+    words: Vec<u64, A>,
+    slots: Option<Slots>,
+) -> Result<Vec<u64, A>, AllocError>
+    requires fit { IfSome slots (λ s. (s.last ≤ greatest_card) × (s.places ≤ greatest_card) × (length words.items ≡ table_size s.last)) }
+    ensures { IfOk result (λ all. all.items ≡ whole_words slots words.items) }
+{
+    let Some(slots) = slots else {
+        return Ok(words);
+    };
+    let mut words = words;
+    words.resize(slots.size(), 0)?;
+    words[slots.place_word(0)] = 1;
+    Ok(words)
 }
 
 // This many words, all of them zero.

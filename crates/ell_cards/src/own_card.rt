@@ -3,7 +3,7 @@ ghost use Rattle.std.specs.Prelude.{◌≡◌, ◌≢◌, ◌≤◌, is_ok, IfEr
 ghost use Rattle.ell_core.specs.declared.fact.Fact.TheVariants.{IFlagged, DFlagged};
 ghost use Rattle.ell_word.specs.Word.{packed};
 ghost use Rattle.ell_core.specs.declared.exchange.Exchange.TheVariants as exchange;
-ghost use Rattle.ell_cards.specs.Models.{Steps, flat_from};
+ghost use Rattle.ell_cards.specs.Models.{Steps, flat_from, last_claim};
 ghost use Rattle.ell_cards.specs.Changes.{after_claim, after_fill, after_flag, if_won, exchanged, found_update, found_word};
 ghost use Rattle.ell_cards.specs.Guards.{MayClaim, MayFill, MayIFlag, MayDFlag};
 
@@ -23,7 +23,7 @@ impl<A: Allocator + Copy> CardTable<A> {
     pub fn claim(&self, pass: &mut Pass<A>, card: u64, node_key: u64) -> bool
         requires own { pass.old.table ≡ self.now.id }
         requires may { MayClaim (flat_from self.now.plan) pass.old.view card node_key }
-        requires room { card ≤ self.now.plan.last_card }
+        requires room { card ≤ last_claim self.now.plan }
         // It makes one step and counts it. The pass then knows exactly what this call tells.
         ensures step { Steps pass.old pass.new (after_claim result card node_key pass.old.view) }
     {

@@ -1,13 +1,14 @@
 //! What a thread steps with.
-ghost use Rattle.std.specs.Prelude.{◌≡◌, ◌↔◌, ℕ, IsTrue, []};
+ghost use Rattle.std.specs.Prelude.{◌≡◌, ◌↔◌, ℕ, IsTrue, [], false};
 ghost use Rattle.std.specs.List.Sorted.{IsStrictlyIncreasing};
 ghost use Rattle.ell_layout.specs.Layout.{table_size};
 ghost use Rattle.ell_cards.specs.Models.{Counts, MayPart, Owns, PassModel, one_more, whole_share};
 ghost use Rattle.ell_cards.specs.Changes.{ledger_keys};
 ghost use Rattle.ell_cards.specs.Naming.{IsNamed};
+ghost use Rattle.ell_cards.specs.Periods.{period_by};
 
 use crate::share::{Share, WHOLE_SHARE};
-use crate::view::View;
+use crate::view::{Known, Slots};
 use atomic_table::Seat;
 use std::alloc::Allocator;
 use std::marker::Model;
@@ -20,7 +21,27 @@ pub struct Pass<A: Allocator + Copy> {
     pub(crate) label: u32,
     pub(crate) steps: u64,
     pub(crate) share: Share,
-    pub(crate) seat: Seat<(), View>,
+    pub(crate) standing: Standing,
+    pub(crate) seat: Seat<(), Known>,
+}
+
+/// The place that a pass has in a table with places, and whether it announces there that it is in a period.
+#[derive(Clone, Copy)]
+pub(crate) struct Standing {
+    pub place: Option<u64>,
+    pub announces: bool,
+}
+
+impl Standing {
+    /// Returns where the first pass of a table stands: at the first place, if there is one.
+    pub(crate) fn first(slots: Option<Slots>) -> Standing
+        ensures { result ≡ record { place = (period_by slots).place; announces = false } }
+    {
+        Standing {
+            place: slots.map(|_| 0),
+            announces: false,
+        }
+    }
 }
 
 /// Returns the count of steps after one more. Once it is the greatest number, it stays there.
@@ -37,7 +58,7 @@ impl<A: Allocator + Copy> Model for Pass<A> {
 
     ghost Value = { PassModel };
 
-    ghost view = { λ p. record { table = p.seat.table_id; view = p.seat.me.0; steps = p.steps; label = p.label } };
+    ghost view = { λ p. record { table = p.seat.table_id; view = p.seat.me.0.tree; steps = p.steps; label = p.label } };
 
     ghost invariant = { IsPass };
 }

@@ -1,5 +1,5 @@
 //! The rule of the table for `atomic_table`, and what its steps tell their callers.
-use crate::view::{Plan, View};
+use crate::view::{Known, Plan};
 use atomic_table::{Join, Play, Split, TableRule};
 use std::alloc::Allocator;
 use std::marker::{Brand, PhantomData};
@@ -7,16 +7,16 @@ use std::marker::{Brand, PhantomData};
 /// The rule of a card table.
 pub(crate) struct CardRule;
 
-impl<A: Allocator + Copy> TableRule<(), View, Plan<A>> for CardRule {
-    ghost use Rattle.ell_cards.specs.Starts.{IsReached};
-    ghost use Rattle.ell_cards.specs.Changes.{first_of};
+impl<A: Allocator + Copy> TableRule<(), Known, Plan<A>> for CardRule {
+    ghost use Rattle.ell_cards.specs.Whole.{IsWhole, first_known};
 
-    ghost holds = { IsReached };
+    ghost holds = { IsWhole };
 
-    ghost first = { first_of };
+    ghost first = { first_known };
 }
 
-/// What a step tells of the word that it found and of what the pass knows after it. The caller of the step picks it.
+/// What a step tells of the word that it found and of what the pass knows of the tree after it. The caller of the step picks
+/// it.
 pub(crate) trait Telling {
     ghost use Rattle.std.specs.Prelude.{ℕ};
     ghost use Rattle.ell_cards.specs.declared.view.View.{View};
@@ -30,18 +30,44 @@ impl Telling for Brand {
     ghost then = { λ found v. ⊤ };
 }
 
-/// A step that tells what its caller picked, and takes no slot.
+/// A step that tells what its caller picked, leaves what the pass knows of periods, and takes no slot.
 pub(crate) struct By<J> {
     told: PhantomData<J>,
 }
 
-impl<J: Telling> Play<(), View> for By<J> {
+impl<J: Telling> Play<(), Known> for By<J> {
     ghost use Rattle.std.specs.Prelude.{◌≡◌};
 
-    ghost then = { λ step old found new. J.then found new.0 × (new.1 ≡ old.1) };
+    ghost then = { λ step old found new. J.then found new.0.tree × (new.0.period ≡ old.0.period) × (new.1 ≡ old.1) };
 }
 
-/// What two passes know after a split. The caller picks it.
+/// What a step tells of the word that it found and of what the pass knows of periods after it. The caller of the step picks
+/// it.
+pub(crate) trait PeriodTelling {
+    ghost use Rattle.std.specs.Prelude.{ℕ};
+    ghost use Rattle.ell_cards.specs.declared.view.Period.{Period};
+
+    ghost then: { ℕ → Period → Type 0 };
+}
+
+impl PeriodTelling for Brand {
+    ghost use Rattle.std.specs.Prelude.{⊤};
+
+    ghost then = { λ found p. ⊤ };
+}
+
+/// A step that tells what its caller picked, leaves what the pass knows of the tree, and takes no slot.
+pub(crate) struct InPeriod<J> {
+    told: PhantomData<J>,
+}
+
+impl<J: PeriodTelling> Play<(), Known> for InPeriod<J> {
+    ghost use Rattle.std.specs.Prelude.{◌≡◌};
+
+    ghost then = { λ step old found new. J.then found new.0.period × (new.0.tree ≡ old.0.tree) × (new.1 ≡ old.1) };
+}
+
+/// What two passes know of the tree after a split. The caller picks it.
 pub(crate) trait SplitInto {
     ghost use Rattle.ell_cards.specs.declared.view.View.{View};
 
@@ -58,24 +84,26 @@ impl SplitInto for Brand {
     ghost right = { spent_view };
 }
 
-/// A split into what its caller picked.
+/// A split into what its caller picked. The right part gets the other place of the pass.
 pub(crate) struct PartedBy<J> {
     parts: PhantomData<J>,
 }
 
-impl<J: SplitInto> Split<View> for PartedBy<J> {
-    ghost left = { λ _. J.left };
+impl<J: SplitInto> Split<Known> for PartedBy<J> {
+    ghost use Rattle.ell_cards.specs.Periods.{after_give, given_period};
 
-    ghost right = { λ _. J.right };
+    ghost left = { λ k. record { tree = J.left; period = after_give k.period } };
+
+    ghost right = { λ k. record { tree = J.right; period = given_period k.period } };
 }
 
 /// A join: one pass has what two had, and the other nothing.
 pub(crate) struct Joined;
 
-impl Join<View> for Joined {
-    ghost use Rattle.ell_cards.specs.Changes.{joined_view, spent_view};
+impl Join<Known> for Joined {
+    ghost use Rattle.ell_cards.specs.Whole.{joined_known, spent_known};
 
-    ghost both = { joined_view };
+    ghost both = { joined_known };
 
-    ghost spent = { spent_view };
+    ghost spent = { spent_known };
 }

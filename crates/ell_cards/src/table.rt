@@ -13,12 +13,14 @@ ghost use Rattle.ell_cards.specs.Guards.{MayFill};
 ghost use Rattle.ell_cards.specs.Depths.{IsShallow, deepest};
 ghost use Rattle.ell_cards.specs.Calls.{word_of, atomic_of, Load, Exchange, after, May, Tells};
 ghost use Rattle.ell_cards.specs.Looking.{KeysAreFixed, ValuesAreFixed, ReadsItsOwn, MissesItsOwn};
-ghost use Rattle.ell_cards.specs.Stepping.{MayLoad, MayStore, MayExchange, KeepsPass, SeesBy, StepsBy};
+ghost use Rattle.ell_cards.specs.Periods.{whole_size};
+ghost use Rattle.ell_cards.specs.Starts.{SlotsFit};
+ghost use Rattle.ell_cards.specs.Stepping.{IsQuiet, MayLoad, MayStore, MayExchange, KeepsPass, LeavesRest, SeesBy, StepsBy};
 
 use crate::call::Call;
 use crate::pass::{Pass, one_more};
 use crate::rule::{By, CardRule, Telling};
-use crate::view::{Plan, View};
+use crate::view::{Known, Plan, Slots};
 use atomic_table::Table;
 use ell_layout::Field;
 use std::alloc::Allocator;
@@ -27,11 +29,12 @@ use std::marker::{Brand, Model};
 /// A table of cards, whose words many passes share.
 #[derive(Drop)]
 pub struct CardTable<A: Allocator + Copy> {
-    pub(crate) table: Table<(), View, Plan<A>, CardRule, A>,
+    pub(crate) table: Table<(), Known, Plan<A>, CardRule, A>,
     pub(crate) alloc: A,
     pub(crate) last_card: u64,
     pub(crate) shared: bool,
     pub(crate) first_block: u64,
+    pub(crate) slots: Option<Slots>,
 }
 
 impl<A: Allocator + Copy> Model for CardTable<A> {
@@ -39,13 +42,15 @@ impl<A: Allocator + Copy> Model for CardTable<A> {
 
     ghost view = { λ t. record { id = t.table.shared.table_id; plan = t.table.shared.key } };
 
-    ghost invariant = { λ t. (t.table.shared.table_id.words ≡ table_size t.table.shared.key.last_card)
+    ghost invariant = { λ t. (t.table.shared.table_id.words ≡ whole_size t.table.shared.key)
         × (t.table.shared.table_id.slots ≡ 0)
         × (t.table.shared.key.last_card ≤ greatest_card)
         × (t.last_card ≡ t.table.shared.key.last_card)
         × (t.shared ≡ t.table.shared.key.shared)
         × (t.first_block ≡ flat_from t.table.shared.key)
-        × (deepest t.table.shared.key ≤ greatest_card + 64) };
+        × (deepest t.table.shared.key ≤ greatest_card + 64)
+        × (t.slots ≡ t.table.shared.key.slots)
+        × SlotsFit t.table.shared.key t.table.shared.key.slots };
 }
 
 impl<A: Allocator + Copy> CardTable<A> {
@@ -89,9 +94,10 @@ impl<A: Allocator + Copy> CardTable<A> {
     #[inline(always)]
     pub(crate) fn load_as<J: Telling>(&self, pass: &mut Pass<A>, call: Call, word: usize) -> u64
         requires own { pass.old.table ≡ self.now.id }
-        requires word { IsNamed self.now.plan.last_card pass.old.view → word < table_size self.now.plan.last_card }
+        requires word { (last : ℕ) → IsNamed last pass.old.view → word < table_size last }
         requires rule { MayLoad self.now.plan pass.old.view word J.then }
-        requires keeps { KeepsPass self.now.plan.last_card pass.old.view J.then }
+        requires keeps { KeepsPass self.now.plan pass.old.view J.then }
+        requires rests { LeavesRest self.now.plan pass.old.view J.then }
         ensures told { J.then result pass.new.view }
         ensures step { SeesBy pass.old pass.new }
     {
@@ -104,6 +110,7 @@ impl<A: Allocator + Copy> CardTable<A> {
     pub(crate) fn see(&self, pass: &mut Pass<A>, call: Call, word: usize) -> u64
         requires own { pass.old.table ≡ self.now.id }
         requires may { May self.now.plan call pass.old.view }
+        requires quiet { IsQuiet call }
         requires word { word ≡ word_of call }
         requires atomic { atomic_of call ≡ Load }
         ensures step { Sees pass.old pass.new (after call result pass.old.view) }
@@ -123,6 +130,7 @@ impl<A: Allocator + Copy> CardTable<A> {
     pub(crate) fn load(&self, pass: &mut Pass<A>, call: Call, word: usize) -> u64
         requires own { pass.old.table ≡ self.now.id }
         requires may { May self.now.plan call pass.old.view }
+        requires quiet { IsQuiet call }
         requires word { word ≡ word_of call }
         requires atomic { atomic_of call ≡ Load }
         ensures step { Steps pass.old pass.new (after call result pass.old.view) }
@@ -136,13 +144,44 @@ impl<A: Allocator + Copy> CardTable<A> {
         found
     }
 
+    // Loads a word, a step that is not counted, after the pass has begun a period if there are places and it is in none.
+    #[inline(always)]
+    fn load_entered_as<J: Telling>(&self, pass: &mut Pass<A>, call: Call, word: usize) -> u64
+        requires own { pass.old.table ≡ self.now.id }
+        requires word { (last : ℕ) → IsNamed last pass.old.view → word < table_size last }
+        requires rule { MayLoad self.now.plan pass.old.view word J.then }
+        requires keeps { KeepsPass self.now.plan pass.old.view J.then }
+        ensures told { J.then result pass.new.view }
+        ensures step { SeesBy pass.old pass.new }
+    {
+        let _ = call;
+        self.enter(&mut pass.standing, &mut pass.seat);
+        self.table.shared.load::<By<J>>(&mut pass.seat, word)
+    }
+
+    /// A step call that loads its word, as `see`, in a period: where there are places, and the pass is in no period, it begins
+    /// one first, by a load of the clock and a store to its place, which are not counted.
+    #[inline(always)]
+    pub(crate) fn see_entered(&self, pass: &mut Pass<A>, call: Call, word: usize) -> u64
+        requires own { pass.old.table ≡ self.now.id }
+        requires may { May self.now.plan call pass.old.view }
+        requires word { word ≡ word_of call }
+        requires atomic { atomic_of call ≡ Load }
+        ensures step { Sees pass.old pass.new (after call result pass.old.view) }
+        ensures tells { Tells self.now.plan call pass.old.view result }
+        ensures shallow { (x : ℕ) → IsShallow (deepest self.now.plan) pass.new.view x }
+    {
+        self.load_entered_as::<Brand>(pass, call, word)
+    }
+
     // Stores a word.
     #[inline(always)]
     fn store_as<J: Telling>(&self, pass: &mut Pass<A>, call: Call, word: usize, value: u64)
         requires own { pass.old.table ≡ self.now.id }
-        requires word { IsNamed self.now.plan.last_card pass.old.view → word < table_size self.now.plan.last_card }
+        requires word { (last : ℕ) → IsNamed last pass.old.view → word < table_size last }
         requires rule { MayStore self.now.plan pass.old.view word value J.then }
-        requires keeps { KeepsPass self.now.plan.last_card pass.old.view J.then }
+        requires keeps { KeepsPass self.now.plan pass.old.view J.then }
+        requires rests { LeavesRest self.now.plan pass.old.view J.then }
         ensures told { J.then value pass.new.view }
         ensures step { StepsBy pass.old pass.new }
     {
@@ -175,9 +214,10 @@ impl<A: Allocator + Copy> CardTable<A> {
         value: u64,
     ) -> u64
         requires own { pass.old.table ≡ self.now.id }
-        requires word { IsNamed self.now.plan.last_card pass.old.view → word < table_size self.now.plan.last_card }
+        requires word { (last : ℕ) → IsNamed last pass.old.view → word < table_size last }
         requires rule { MayExchange self.now.plan pass.old.view word expected value J.then }
-        requires keeps { KeepsPass self.now.plan.last_card pass.old.view J.then }
+        requires keeps { KeepsPass self.now.plan pass.old.view J.then }
+        requires rests { LeavesRest self.now.plan pass.old.view J.then }
         ensures told { J.then result pass.new.view }
         ensures step { StepsBy pass.old pass.new }
     {

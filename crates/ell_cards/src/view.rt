@@ -110,6 +110,42 @@ pub struct View {
     pub made: u64,
 }
 
+/// What a pass knows of grace periods. No value of this type is made.
+#[derive(Clone, Copy)]
+pub struct Period {
+    /// Its place, unless it has none.
+    pub place: Option<u64>,
+    /// Another place that it has, to give it to another pass or to give it back, and what is announced there.
+    pub other: Option<u64>,
+    pub other_says: Option<u64>,
+    /// The reading of the clock that it announces, while it is in a period.
+    pub announced: Option<u64>,
+    /// Its last reading of the clock.
+    pub reading: Option<u64>,
+    /// The least of that reading and of what it saw announced since.
+    pub least: u64,
+    /// How many places it has looked at since.
+    pub looked: u64,
+    /// Every pass that is in a period began it when the clock was this at least.
+    pub safe: u64,
+}
+
+/// What a pass knows: of the tree, and of grace periods. No value of this type is made.
+#[derive(Drop)]
+pub struct Known {
+    pub tree: View,
+    pub period: Period,
+}
+
+/// The words of a table for cards and for passes.
+#[derive(Clone, Copy)]
+pub struct Slots {
+    /// The number of the last card that has words.
+    pub last: u64,
+    /// How many places for passes stand behind the cards: at most one pass has each.
+    pub places: u64,
+}
+
 /// What a table is like, beside its keys and its cards.
 #[derive(Clone, Copy)]
 pub struct TableKind {
@@ -118,6 +154,9 @@ pub struct TableKind {
     /// Whether the tree is flat: each node that a card adds has the branch of its two sides as its key, so that no internal
     /// node is more than 64 deeper than the tree of the start keys, in whatever order keys come.
     pub flat: bool,
+    /// How many passes there may be at once, if each is to have a place, at which it tells when it is in an operation; 0 if there
+    /// are no places.
+    pub places: u64,
 }
 
 /// What a table is opened with. A table keeps the number of its last card; the keys go to its first pass, and the start keys into
@@ -134,6 +173,8 @@ pub struct Plan<A: Allocator + Copy> {
     pub shared: bool,
     /// Whether the tree is flat.
     pub flat: bool,
+    /// How many cards have words, and how many places for passes there are, if there are places.
+    pub slots: Option<Slots>,
 }
 
 impl<A: Allocator + Copy> Model for Plan<A> {
@@ -141,5 +182,5 @@ impl<A: Allocator + Copy> Model for Plan<A> {
 
     ghost Value = { TablePlan };
 
-    ghost view = { λ p. record { keys = p.keys.items; start = p.start.items; last_card = p.last_card; shared = p.shared; flat = p.flat } };
+    ghost view = { λ p. record { keys = p.keys.items; start = p.start.items; last_card = p.last_card; shared = p.shared; flat = p.flat; slots = p.slots } };
 }

@@ -33,7 +33,8 @@ impl<A: Allocator + Copy> CardTable<A> {
         // It makes one step and counts it. The pass then knows exactly what this call tells.
         ensures step { Steps pass.old pass.new (after_begin (Some op) pass.old.view) }
     {
-        self.load(pass, Call::Begin(op), root_key());
+        self.see_entered(pass, Call::Begin(op), root_key());
+        pass.count(1);
     }
 
     /// Gives a try up and starts the search anew: what its search has read in the way of the operation was a hindrance. Condition: the
@@ -59,6 +60,7 @@ impl<A: Allocator + Copy> CardTable<A> {
         ensures least { pass.old.view.next_at_least ≤ self.now.plan.last_card + 1 }
     {
         self.load(pass, Call::Leave, root_key());
+        self.withdraw(pass);
     }
 
     /// Answers the operation in hand. What is said is the map's answer on the pass's ledger, which becomes the map after it.
@@ -77,6 +79,7 @@ impl<A: Allocator + Copy> CardTable<A> {
         ensures values { ValuesAreFixed pass.old.view }
     {
         self.load(pass, Call::Answer(said), root_key());
+        self.withdraw(pass);
     }
 
     /// Reads the update word of the internal node where the pass stands.
@@ -140,7 +143,7 @@ impl<A: Allocator + Copy> CardTable<A> {
         ensures there { InTable self.now.plan.last_card result.node }
     {
         self.names(pass);
-        Link::of(self.see(pass, Call::Look, child_address(0, false)))
+        Link::of(self.see_entered(pass, Call::Look, child_address(0, false)))
     }
 
     /// Goes down in a look from an internal node to which it has come, now or earlier, to the child on a side, by keys

@@ -41,6 +41,7 @@ pub(crate) fn compute<A: Allocator + Copy, G: StepGate, F: Fn(Option<u64>) -> Op
     tries: u32,
     gate: &G,
 ) -> Result<Computed, NotDone>
+    requires plain { table.now.plan.slots ≡ None }
     requires may { MayDo table.now key pass.old }
     requires tries { 1 ≤ tries }
     requires make { F.IsAlwaysCallable make }
@@ -86,6 +87,7 @@ fn replace<A: Allocator + Copy, G: StepGate>(
     value: u64,
     gate: &G,
 ) -> Result<Replaced, NotDone>
+    requires plain { table.now.plan.slots ≡ None }
     requires may { MayDo table.now key pass.old }
     ensures replaces { Replaces table.now key was value pass.old pass.new result }
     ensures others { result ≡ Err Busy → IsOthersDoing table.now 1 pass.old pass.new }
@@ -112,6 +114,7 @@ fn add<A: Allocator + Copy, G: StepGate>(
     value: u64,
     gate: &G,
 ) -> Result<Replaced, NotDone>
+    requires plain { table.now.plan.slots ≡ None }
     requires may { MayDo table.now key pass.old }
     ensures replaces { Replaces table.now key None value pass.old pass.new result }
     ensures others { result ≡ Err Busy → IsOthersDoing table.now 1 pass.old pass.new }

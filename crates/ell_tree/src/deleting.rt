@@ -1,5 +1,5 @@
 //! Deletes (paper of 2010, figure 9: Delete).
-ghost use Rattle.std.specs.Prelude.{◌≡◌, ◌≤◌, ◌+◌, ℕ, Some};
+ghost use Rattle.std.specs.Prelude.{◌≡◌, ◌≤◌, ◌+◌, ℕ, Some, None};
 ghost use Rattle.std.specs.Bool.{OnTrue, OnFalse};
 ghost use Rattle.ell_ops.specs.declared.op.Op.TheVariants.{Delete};
 ghost use Rattle.ell_word.specs.Link.{IsLink};
@@ -38,6 +38,7 @@ pub(crate) fn try_delete<A: Allocator + Copy, G: StepGate>(
     key: u64,
     gate: &G,
 ) -> Tried
+    requires plain { table.now.plan.slots ≡ None }
     requires own { pass.old.table ≡ table.now.id }
     requires root { AtRoot (Delete key) pass.old.view }
     ensures steps { pass.new.steps + 1 ≤ pass.old.steps + try_steps (deepest table.now.plan) }
@@ -64,6 +65,7 @@ pub(crate) fn delete_at<A: Allocator + Copy, G: StepGate>(
     place: Place,
     gate: &G,
 ) -> Tried
+    requires plain { table.now.plan.slots ≡ None }
     requires own { pass.old.table ≡ table.now.id }
     requires searched { HasSearched table.now.plan (Delete key) place pass.old.view }
     requires key { place.key ≡ key }

@@ -1,5 +1,5 @@
 //! How a tree begins.
-ghost use Rattle.std.specs.Prelude.{◌≡◌, ◌≤◌, [], true, false, length, IfOk, IfErr, OnOk};
+ghost use Rattle.std.specs.Prelude.{◌≡◌, ◌≤◌, [], true, false, length, None, IfOk, IfErr, OnOk};
 ghost use Rattle.std.specs.List.{All};
 ghost use Rattle.std.specs.List.Sorted.{IsStrictlyIncreasing};
 ghost use Rattle.std.specs.Map.{keys_of};
@@ -26,7 +26,7 @@ impl<A: Allocator + Copy> Tree<A> {
         ensures cards { OnOk result (IsCardCount cards) }
         // The tree is empty and shares no key, and its last card has the number `cards`.
         ensures tree { IfOk result (λ made.
-            made.0.plan ≡ record { keys = keys.now; start = []; last_card = cards; shared = false; flat = false }) }
+            made.0.plan ≡ record { keys = keys.now; start = []; last_card = cards; shared = false; flat = false; slots = None }) }
         // The pass owns these keys, of which the start keys are present, has the whole share, and has made no step.
         ensures pass { IfOk result (λ made. IsFirst made.0 made.1) }
         // It was answered nothing.
@@ -64,6 +64,7 @@ impl<A: Allocator + Copy> Tree<A> {
           last_card = last_card start.now cards;
           shared = false;
           flat = false;
+          slots = None;
         }) }
         // The pass owns these keys, of which the start keys are present, has the whole share, and has made no step.
         ensures pass { IfOk result (λ made. IsFirst made.0 made.1) }
@@ -75,6 +76,7 @@ impl<A: Allocator + Copy> Tree<A> {
         let owned = TableKind {
             shared: false,
             flat: false,
+            places: 0,
         };
         let (table, pass) = CardTable::reserve(alloc, start, keys, cards, owned)?;
         Ok((Tree { table, alloc }, pass))
@@ -107,6 +109,7 @@ impl<A: Allocator + Copy> Tree<A> {
           last_card = last_card start.now cards;
           shared = true;
           flat = false;
+          slots = None;
         }) }
         // The pass owns these keys, of which the start keys are present, has the whole share, and has made no step.
         ensures pass { IfOk result (λ made. IsFirst made.0 made.1) }
@@ -118,6 +121,7 @@ impl<A: Allocator + Copy> Tree<A> {
         let shared = TableKind {
             shared: true,
             flat: false,
+            places: 0,
         };
         let (table, pass) = CardTable::reserve(alloc, start, keys, cards, shared)?;
         Ok((Tree { table, alloc }, pass))
@@ -150,6 +154,7 @@ impl<A: Allocator + Copy> Tree<A> {
           last_card = last_card start.now cards;
           shared = true;
           flat = true;
+          slots = None;
         }) }
         // The pass owns these keys, of which the start keys are present, has the whole share, and has made no step.
         ensures pass { IfOk result (λ made. IsFirst made.0 made.1) }
@@ -161,6 +166,7 @@ impl<A: Allocator + Copy> Tree<A> {
         let flat = TableKind {
             shared: true,
             flat: true,
+            places: 0,
         };
         let (table, pass) = CardTable::reserve(alloc, start, keys, cards, flat)?;
         Ok((Tree { table, alloc }, pass))

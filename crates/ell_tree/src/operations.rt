@@ -1,5 +1,5 @@
 //! The operations: find, insert, delete and swap.
-ghost use Rattle.std.specs.Prelude.{◌≡◌, ◌≢◌, ◌<◌, ◌≤◌, ◌+◌, ◌*◌, true, Err, IfOk};
+ghost use Rattle.std.specs.Prelude.{◌≡◌, ◌≢◌, ◌<◌, ◌≤◌, ◌+◌, ◌*◌, true, Err, IfOk, None};
 ghost use Rattle.ell_ops.specs.declared.op.Op.{Op};
 ghost use Rattle.ell_ops.specs.declared.op.Op.TheVariants.{Find};
 ghost use Rattle.ell_ops.specs.Meaning.{key_of, found};
@@ -74,6 +74,7 @@ pub(crate) fn change<A: Allocator + Copy, G: StepGate>(
     tries: u32,
     gate: &G,
 ) -> Result<Option<u64>, NotDone>
+    requires plain { table.now.plan.slots ≡ None }
     requires may { MayDo table.now (key_of op) pass.old }
     requires change { IsChange op }
     requires tries { 1 ≤ tries }
@@ -132,6 +133,7 @@ fn try_once<A: Allocator + Copy, G: StepGate>(
     op: Op,
     gate: &G,
 ) -> Tried
+    requires plain { table.now.plan.slots ≡ None }
     requires own { pass.old.table ≡ table.now.id }
     requires change { IsChange op }
     requires root { AtRoot op pass.old.view }

@@ -1,5 +1,5 @@
 //! A call that removes a key if it has a certain value, in one atomic step.
-ghost use Rattle.std.specs.Prelude.{◌≡◌, ◌≢◌, ◌<◌, ◌≤◌, ◌*◌, Err, IfOk, IfErr};
+ghost use Rattle.std.specs.Prelude.{◌≡◌, ◌≢◌, ◌<◌, ◌≤◌, ◌*◌, Err, IfOk, IfErr, None};
 ghost use Rattle.ell_tree.specs.Computing.{AreTriedOrRead, IsNotDone, RemovesIf, RemovesOnce, RemovesOrReads, round_steps, update_steps, whether_done};
 ghost use Rattle.ell_tree.specs.Counts.{Took};
 ghost use Rattle.ell_tree.specs.Ends.{CountsTries, change_steps, is_value, whether_swapped};
@@ -30,6 +30,7 @@ pub(crate) fn remove_if<A: Allocator + Copy, G: StepGate>(
     tries: u32,
     gate: &G,
 ) -> Result<Option<u64>, NotDone>
+    requires plain { table.now.plan.slots ≡ None }
     requires may { MayDo table.now key pass.old }
     requires tries { 1 ≤ tries }
     ensures removes { IfOk result (RemovesIf table.now key was pass.old pass.new) }
@@ -78,6 +79,7 @@ fn remove_or_read<A: Allocator + Copy, G: StepGate>(
     was: u64,
     gate: &G,
 ) -> Result<Replaced, NotDone>
+    requires plain { table.now.plan.slots ≡ None }
     requires may { MayDo table.now key pass.old }
     ensures removes { RemovesOrReads table.now key was pass.old pass.new result }
     ensures others { result ≡ Err Busy → IsOthersDoing table.now 1 pass.old pass.new }
@@ -101,6 +103,7 @@ fn remove_once<A: Allocator + Copy, G: StepGate>(
     was: u64,
     gate: &G,
 ) -> Result<bool, NotDone>
+    requires plain { table.now.plan.slots ≡ None }
     requires may { MayDo table.now key pass.old }
     ensures removes { RemovesOnce table.now key was pass.old pass.new result }
     ensures others { result ≡ Err Busy → IsOthersDoing table.now 1 pass.old pass.new }

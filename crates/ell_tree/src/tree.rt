@@ -1,5 +1,5 @@
 //! The tree.
-ghost use Rattle.std.specs.Prelude.{◌≡◌, ◌≢◌, ◌<◌, ◌≤◌, ◌+◌, ◌*◌, ◌++◌, [], true, false, length, Err, Ok, IfOk, IfErr, IfSome, OnOk, drop};
+ghost use Rattle.std.specs.Prelude.{◌≡◌, ◌≢◌, ◌<◌, ◌≤◌, ◌+◌, ◌*◌, ◌++◌, [], true, false, length, None, Err, Ok, IfOk, IfErr, IfSome, OnOk, drop};
 ghost use Rattle.std.specs.List.{All};
 ghost use Rattle.std.specs.List.Sorted.{IsStrictlyIncreasing};
 ghost use Rattle.std.specs.Map.{keys_of};
@@ -55,6 +55,8 @@ impl<A: Allocator + Copy> Model for Tree<A> {
     ghost Value = { TreeModel };
 
     ghost view = { λ t. t.table };
+
+    ghost invariant = { λ t. t.table.plan.slots ≡ None };
 }
 
 impl<A: Allocator + Copy> Tree<A> {
@@ -81,7 +83,7 @@ impl<A: Allocator + Copy> Tree<A> {
         // only `NoMemory`. After either error the pass comes back as it was.
         ensures may { OnOk result (MayPart pass.view) }
         ensures refused { IfErr result (λ refused. refused.0 ≡ pass) }
-        ensures why { IfErr result (λ refused. SplitRefuses pass.view refused.1) }
+        ensures why { IfErr result (λ refused. SplitRefuses None pass.view refused.1) }
     {
         self.table.split(pass, left_keys)
     }

@@ -49,6 +49,7 @@ pub(crate) fn take_card<A: Allocator + Copy, G: StepGate>(
     node_key: u64,
     gate: &G,
 ) -> Claimed
+    requires plain { table.now.plan.slots ≡ None }
     requires own { pass.old.table ≡ table.now.id }
     requires busy { Does pass.old.view op }
     requires no_card { pass.old.view.worker.card ≡ None }

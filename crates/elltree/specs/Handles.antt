@@ -35,7 +35,7 @@ as_pairs pairs = map (λ pair. (pair.key, pair.value)) pairs
 -- besides; it has the whole share of the tree
 pub record IsOpened (start : List (ℕ × ℕ)) (cards : ℕ) (h : Handle) : Type 0 where
   pub plan : (tree_of h).plan
-      ≡ record { keys = []; start = start; last_card = last_card start cards; shared = true; flat = true }
+      ≡ record { keys = []; start = start; last_card = last_card start cards; shared = true; flat = true; slots = None }
   pub first : IsFirst (tree_of h) h.pass
 
 -- a tree may begin with these start keys

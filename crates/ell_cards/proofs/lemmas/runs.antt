@@ -34,6 +34,8 @@ pub mod Sharing
 pub mod Shares
 -- how a table ends
 pub mod Ending
+-- the cards that a run claims may be claimed
+pub mod Rooms
 -- where turns lead a table, and what they make its steps, splits and joins owe
 pub mod Reaching
 -- laws of each table that turns have led to

@@ -15,7 +15,7 @@ use Rattle.ell_cards.specs.Naming.{EntryIsNamed, IsNamed}
 use Rattle.ell_cards.specs.Machines.{EntryHolds, ViewHolds}
 
 -- a pass that has forgotten what it was told has met the root alone
-root_alone : (P : Told → Type 0) → P (Met 0) → (e : Told) → Has forgotten e → P e
+pub root_alone : (P : Told → Type 0) → P (Met 0) → (e : Told) → Has forgotten e → P e
 root_alone P root e (latest _ _) = root
 root_alone P root e (earlier _ _ _ h) = elim h [ ]
 

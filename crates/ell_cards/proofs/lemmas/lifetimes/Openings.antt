@@ -4,7 +4,10 @@ use Rattle.std.specs.List.Sorted.{IsStrictlyIncreasing}
 use mathlib.Core.Option.{some, some-injective, some-ne-none}
 use lib.ListN.{get_elem?}
 use Rattle.atomic_table.specs.Table.{opening}
+use Rattle.ell_layout.specs.Layout.{table_size}
 use Rattle.ell_layout.specs.Words.{Words, table_word}
+use Rattle.ell_word.specs.Node.{greatest_card}
+use Rattle.ell_cards.specs.Naming.{IsNamed}
 use Rattle.ell_core.specs.state.Opening.{last_card}
 use Rattle.ell_layout.specs.Start.{words_at_start}
 use Rattle.ell_core.specs.state.Machine.{idle, worker_of, ledger_of, shared_of}
@@ -136,15 +139,20 @@ opening_is_kept plan words may at =
     }
 
 -- the first pass has its keys
-pub first_fits : (plan : TablePlan) (words : ℕ) → IsStrictlyIncreasing plan.keys
+pub first_fits : (plan : TablePlan) (words : ℕ) → table_size 0 ≤ words → IsStrictlyIncreasing plan.keys
     → PassFits plan.keys (record { units = whole_share; counts = plan.shared }) words (first_of plan)
-first_fits plan words rising = record {
+first_fits plan words room rising = record {
   owned = sym (keys_start plan.keys plan.start);
   ascending = rising;
   share = record { units = refl; counts = mode plan.shared };
-  named = λ cards size. rest_named cards (first_of plan) refl (λ f k. absurd (false≢true k)) refl refl (omega arith);
+  named = λ cards size. first_named cards;
+  most = first_named greatest_card;
+  inside = record { last = 0; few = room; named = first_named 0 };
 }
   where
+    first_named : (cards : ℕ) → IsNamed cards (first_of plan)
+    first_named cards = rest_named cards (first_of plan) refl (λ f k. absurd (false≢true k)) refl refl (omega arith)
+
     mode : (shared : Bool) → (shared ≡ true) ↔ (ownable_if shared plan.keys ≢ None)
     mode true = (λ is none. some_not_none refl none, λ some. refl)
     mode false = (λ is. absurd (false≢true is), λ some. absurd (some refl))

@@ -138,21 +138,21 @@ pub owned_all : (l : List (ℕ × Entry)) (keys chosen : List ℕ) → keys ≡ 
 owned_all l keys chosen are all i d low =
     subst (λ (ks : List ℕ). set_of ks (get_or chosen i d) ≡ true) (sym are) (owned_among l (get_or chosen i d) (all i d low))
 
-module _ (cards : ℕ) (v : View) (keys chosen : List ℕ) (are : keys ≡ ledger_keys v.worker.ledger) (rising : IsStrictlyIncreasing keys)
+module _ (v : View) (keys chosen : List ℕ) (are : keys ≡ ledger_keys v.worker.ledger) (rising : IsStrictlyIncreasing keys)
     (rise : IsStrictlyIncreasing chosen) (all : All (λ k. ledger_of v.worker.ledger k ≢ None) chosen) where
   -- the left part has the keys that were chosen
-  pub left_has : MayHave cards v chosen (left_view chosen v)
+  pub left_has : MayHave v chosen (left_view chosen v)
   left_has = record {
     owned = sym (keys_on chosen v.worker.ledger ∙ (ap (filter (set_of chosen)) (sym are)
         ∙ (ascending_parts keys chosen rising rise (owned_all v.worker.ledger keys chosen are all)).taken));
     ascending = rise;
-    named = λ named. rest_named cards (left_view chosen v) refl named.facts refl refl named.next;
+    named = λ cards named. rest_named cards (left_view chosen v) refl named.facts refl refl named.next;
   }
 
   -- the right part has the rest
-  pub right_has : (rest : List ℕ) → rest ≡ filter (λ k. not (set_of chosen k)) keys → MayHave cards v rest (right_view chosen v)
+  pub right_has : (rest : List ℕ) → rest ≡ filter (λ k. not (set_of chosen k)) keys → MayHave v rest (right_view chosen v)
   right_has rest is = record {
     owned = is ∙ (ap (filter (λ k. not (set_of chosen k))) are ∙ sym (keys_off chosen v.worker.ledger));
     ascending = subst IsStrictlyIncreasing (sym is) (IsStrictlyIncreasing-filter (λ k. not (set_of chosen k)) keys rising);
-    named = λ named. rest_named cards (right_view chosen v) refl named.facts refl refl named.next;
+    named = λ cards named. rest_named cards (right_view chosen v) refl named.facts refl refl named.next;
   }

@@ -1,4 +1,4 @@
-use Rattle.std.proofs.Common.{◌≡◌, ◌==◌, ℕ, if◌then◌else◌, Bool, true, false, List, [], ◌∷◌, ◌++◌, get_or, set, length, refl, sym, ap, ◌∙◌, subst}
+use Rattle.std.proofs.Common.{◌≡◌, ◌==◌, ℕ, if◌then◌else◌, Bool, true, false, List, [], ◌∷◌, ◌++◌, ◌+◌, ◌≤◌, get_or, set, length, refl, sym, ap, ◌∙◌, subst, arith}
 use prog.Atomic.{either}
 use lib.ListN.{get_elem?}
 use mathlib.Core.Option.{some}
@@ -13,7 +13,7 @@ use Rattle.ell_cards.specs.declared.call.Call.{Call}
 use Rattle.ell_cards.specs.declared.call.Call.TheVariants as call
 use Rattle.ell_cards.specs.declared.view.Told.TheVariants.{Key, Value, Info}
 use Rattle.ell_cards.specs.declared.view.View.{View}
-use Rattle.ell_cards.specs.Models.{TablePlan, IsFree, MayPart}
+use Rattle.ell_cards.specs.Models.{TablePlan, last_claim, IsFree, MayPart}
 use Rattle.ell_cards.specs.Changes.{first_of, left_view, right_view, joined_view, spent_view}
 use Rattle.ell_cards.specs.Calls.{Load, Exchange, word_of, atomic_of, left_by, after, May}
 use Rattle.ell_cards.specs.States.{TableState}
@@ -23,12 +23,13 @@ use Rattle.ell_cards.specs.Starts.{MayStart, Starts, IsReached, RunFromStart}
 use Rattle.ell_cards.specs.Looking.{KeysAreFixed, ValuesAreFixed}
 use Rattle.ell_cards.specs.Stepping.{MayLoad, MayStore, MayExchange, MaySplit, MayJoin, IsTaken}
 use Rattle.ell_cards.proofs.lemmas.seats.Seats.{set_there}
-use Rattle.ell_cards.proofs.lemmas.seats.Named.{kept_named, kept_shallow}
+use Rattle.ell_cards.proofs.lemmas.seats.Named.{kept_named, named_to, kept_shallow}
 use Rattle.ell_cards.proofs.lemmas.seats.Taken.{keys_stay, same_share}
 use Rattle.ell_cards.proofs.lemmas.stepping.AllCalls.{steps_are_events}
 use Rattle.ell_cards.proofs.lemmas.runs.Starting.{starts_are_kept, runs_from_starts}
 use Rattle.ell_cards.proofs.lemmas.runs.TurnsOfRuns.{one_more_turn, runs_are_lawful}
 use Rattle.ell_cards.proofs.lemmas.runs.OwnLooks.{looks_read_their_own}
+use Rattle.ell_cards.proofs.lemmas.runs.Rooms.{claims_within}
 
 -- a new table is where no turn has led
 pub reached_first : (plan : TablePlan) (words : List ℕ) → MayStart plan → length words ≡ table_size plan.last_card
@@ -81,6 +82,10 @@ module _ (plan : TablePlan) where
         value = λ leaf value other told told'. sym (entries (Value leaf value) told).1 ∙ (entries (Value leaf other) told').1;
       }
 
+  -- the claim word of the machine is no more than one past the last card that may be claimed
+  pub claims_to : (s : TableState) (h : IsReached plan s) → (reached_kept s h).words.next ≤ last_claim plan + 1
+  claims_to s h = let word = claims_within plan s h in let next = (reached_kept s h).next in omega arith
+
   -- a step call is a turn, wherever turns have led the table, and leaves of its pass what the call says
   taken : (c : Call) (v : View) (f : ℕ → ℕ) → ((n : ℕ) → f n ≡ left_by (atomic_of c) n) → May plan c v
       → (id : ℕ) → Allows (IsReached plan) 0 id (v, []) (word_of c) f (λ n me. IsTaken plan c v n me.0 × (me.1 ≡ []))
@@ -109,6 +114,7 @@ module _ (plan : TablePlan) where
             keys = keys_stay c n v;
             share = same_share c n v;
             named = kept_named plan s' (reached_kept s' on) id w (set_there s.views id w v here);
+            inside = named_to plan s' (reached_kept s' on) id w (set_there s.views id w v here) (last_claim plan) (claims_to s' on);
             shallow = kept_shallow plan s' (reached_kept s' on) id w (set_there s.views id w v here);
           },
           refl,
@@ -129,7 +135,7 @@ module _ (plan : TablePlan) where
       (λ id s h homes here small.
       let x = taken (call.Fill c f value) v (λ n. value) (λ n. refl) may id s h homes here small in
       let t = x.4.0 in
-      (x.0, x.1, x.2, x.3, (record { view = t.view; tells = tt; own = t.own; missed = t.missed; fixed = t.fixed; values = t.values; keys = t.keys; share = t.share; named = t.named; shallow = t.shallow }, x.4.1)))
+      (x.0, x.1, x.2, x.3, (record { view = t.view; tells = tt; own = t.own; missed = t.missed; fixed = t.fixed; values = t.values; keys = t.keys; share = t.share; named = t.named; inside = t.inside; shallow = t.shallow }, x.4.1)))
 
   either_is : (b : Bool) (x y : ℕ) → either b x y ≡ (if b then x else y)
   either_is true x y = refl

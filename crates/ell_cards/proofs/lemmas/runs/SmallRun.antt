@@ -170,7 +170,7 @@ start_is_given zero d low = inl refl
 start_is_given (suc k) d low = absurd (omega (arith, low))
 
 may_there : MayStart small_plan
-may_there = record { ascending = keys_rise; real = keys_are_real; start_ascending = start_rises; given = start_is_given; room = omega arith; few = omega arith; limit = omega arith }
+may_there = record { ascending = keys_rise; real = keys_are_real; start_ascending = start_rises; given = start_is_given; room = omega arith; few = omega arith; limit = omega arith; slots = tt }
 
 starts_there : Starts small_plan at_0
 starts_there = record {

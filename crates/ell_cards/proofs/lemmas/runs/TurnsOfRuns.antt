@@ -30,7 +30,7 @@ one_more_turn plan s (u ∷ us) s' t s'' run turn = (run.0, run.1, one_more_turn
 -- the word that a step call touches is in the table
 pub steps_stay_inside : InsideByMachine
 steps_stay_inside plan s r id v c here may =
-    subst (λ n. word_of c < n) (sym r.size) (word_fits plan c v (kept_named plan s r id v here) may)
+    subst (λ n. word_of c < n) (sym r.size) (word_fits plan c v may plan.last_card (kept_named plan s r id v here))
 
 module _ (plan : TablePlan) where
   -- one turn

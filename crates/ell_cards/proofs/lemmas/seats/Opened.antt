@@ -1,24 +1,33 @@
-use Rattle.std.proofs.Common.{◌≡◌, ℕ, ◌<◌, List, [], ap, sym, ◌∙◌, subst, arith}
+use Rattle.std.proofs.Common.{◌≡◌, ◌≢◌, ℕ, ◌<◌, ◌≤◌, Option, Some, None, List, [], ap, sym, ◌∙◌, subst, arith}
 use Rattle.atomic_table.specs.Table.{Me, Allows}
+use Rattle.ell_word.specs.Node.{greatest_card}
 use Rattle.ell_layout.specs.Layout.{table_size}
 use Rattle.ell_cards.specs.declared.share.Share.{Share}
+use Rattle.ell_cards.specs.declared.view.Known.{Known}
+use Rattle.ell_cards.specs.declared.view.Period.{Period}
+use Rattle.ell_cards.specs.declared.view.Slots.{Slots}
 use Rattle.ell_cards.specs.declared.view.View.{View}
-use Rattle.ell_cards.specs.Models.{TablePlan, TableModel, PassModel}
+use Rattle.ell_cards.specs.Models.{TablePlan, TableModel, PassModel, last_claim, last_claim_of}
 use Rattle.ell_cards.specs.Changes.{ledger_keys}
 use Rattle.ell_cards.specs.Naming.{IsNamed}
 use Rattle.ell_cards.specs.Inside.{HasShare, PassFits}
-use Rattle.ell_cards.specs.Starts.{IsReached}
-use Rattle.ell_cards.specs.Stepping.{MayHave, KeepsPass, SameShare}
+use Rattle.ell_cards.specs.Periods.{IsAtRest, size_by, whole_size}
+use Rattle.ell_cards.specs.Starts.{IsReached, SlotsFit}
+use Rattle.ell_cards.specs.Stepping.{IsInside, MayHave, KeepsPass, SameShare}
+use Rattle.ell_cards.specs.Whole.{IsWhole}
+use Rattle.ell_cards.proofs.lemmas.seats.Named.{named_more}
+use Rattle.ell_cards.proofs.lemmas.whole.Places.{no_places}
+use Rattle.ell_cards.proofs.lemmas.whole.Trees.{tree_step}
 
--- what a step owes, for a seat that holds no slot of a table that has none
-pub allowed : (plan : TablePlan) (slots id : ℕ) (me : Me (Unit {0}) View) (word : ℕ) (f : ℕ → ℕ) (told : ℕ → View → Type 0) → slots ≡ 0 → me.1 ≡ []
-    → ((seat : ℕ) → Allows (IsReached plan) 0 seat (me.0, []) word f (λ n x. told n x.0 × (x.1 ≡ [])))
-    → Allows (IsReached plan) slots id me word f (λ n x. told n x.0 × (x.1 ≡ me.1))
+-- what the rule of a table allows a seat that holds no slot, of a table that has none
+pub allowed : (plan : TablePlan) (slots id : ℕ) (me : Me (Unit {0}) Known) (word : ℕ) (f : ℕ → ℕ) (told : ℕ → Me (Unit {0}) Known → List (ℕ × Unit {0}) → Type 0)
+    → slots ≡ 0 → me.1 ≡ [] → ((seat : ℕ) → Allows (IsWhole plan) 0 seat (me.0, []) word f (λ n x. told n x []))
+    → Allows (IsWhole plan) slots id me word f (λ n x. told n x me.1)
 allowed plan slots id me word f told none empty may =
-    subst (λ (l : List (ℕ × Unit {0})). Allows (IsReached plan) slots id (me.0, l) word f (λ n x. told n x.0 × (x.1 ≡ l))) (sym empty)
-    (subst (λ (z : ℕ). Allows (IsReached plan) z id (me.0, []) word f (λ n x. told n x.0 × (x.1 ≡ []))) (sym none) (may id))
+    subst (λ (l : List (ℕ × Unit {0})). Allows (IsWhole plan) slots id (me.0, l) word f (λ n x. told n x l)) (sym empty)
+    (subst (λ (z : ℕ). Allows (IsWhole plan) z id (me.0, []) word f (λ n x. told n x [])) (sym none) (may id))
 
--- a table's size tells its cards
+-- the size of a table without places tells its cards
 same_cards : (words a b : ℕ) → words ≡ table_size a → words ≡ table_size b → a ≡ b
 same_cards words a b x y = omega arith
 
@@ -29,69 +38,100 @@ same_share share v w has same = record {
   counts = (λ counts none. has.counts.0 counts (sym same.ownable ∙ none), λ some. has.counts.1 (λ none. some (same.ownable ∙ none)));
 }
 
--- a pass after a step is one again
-pub still_fits : (cards words : ℕ) (keys : List ℕ) (share : Share) (v w : View) → PassFits keys share words v → words ≡ table_size cards
-    → (ledger_keys w.worker.ledger ≡ ledger_keys v.worker.ledger) × SameShare v w × IsNamed cards w → PassFits keys share words w
-still_fits cards words keys share v w fits size keeps = record {
-  owned = fits.owned ∙ sym keeps.0;
-  ascending = fits.ascending;
-  share = same_share share v w fits.share keeps.1;
-  named = λ other e. subst (λ n. IsNamed n w) (same_cards words cards other size e) keeps.2;
-}
+module _ (plan : TablePlan) (words : ℕ) (size : words ≡ whole_size plan) (fit : SlotsFit plan plan.slots) where
+  -- what is named in a table is named by the number of its words
+  named_by : (o : Option Slots) → words ≡ size_by o plan.last_card → (v : View) → IsNamed plan.last_card v → (last : ℕ) → words ≡ table_size last → IsNamed last v
+  named_by None is v named last e = subst (λ n. IsNamed n v) (same_cards words plan.last_card last is e) named
+  named_by (Some s) is v named last e = absurd (no_places words last s is e)
+
+  -- the cards that may be claimed have words
+  claims_fit : (o : Option Slots) → words ≡ size_by o plan.last_card → table_size (last_claim_of o plan.last_card) ≤ words
+  claims_fit None is = omega arith
+  claims_fit (Some s) is = omega arith
+
+  -- a pass names what is in its table
+  named_of : (o : Option Slots) → words ≡ size_by o plan.last_card → SlotsFit plan o → (v : View) → ((last : ℕ) → words ≡ table_size last → IsNamed last v) → IsNamed greatest_card v → IsNamed plan.last_card v
+  named_of None is fit v named most = named plan.last_card is
+  named_of (Some s) is fit v named most = subst (λ n. IsNamed n v) (sym fit.2) most
+
+  pub named_in : (keys : List ℕ) (share : Share) (v : View) → PassFits keys share words v → IsNamed plan.last_card v
+  named_in keys share v fits = named_of plan.slots size fit v fits.named fits.most
+
+  -- a pass after a step is one again
+  pub still_fits : (keys : List ℕ) (share : Share) (v w : View) → PassFits keys share words v → plan.last_card ≤ greatest_card
+      → (ledger_keys w.worker.ledger ≡ ledger_keys v.worker.ledger) × SameShare v w × IsInside plan w → PassFits keys share words w
+  still_fits keys share v w fits room keeps = record {
+    owned = fits.owned ∙ sym keeps.0;
+    ascending = fits.ascending;
+    share = same_share share v w fits.share keeps.1;
+    named = named_by plan.slots size w keeps.2.0;
+    most = named_more plan.last_card greatest_card room w keeps.2.0;
+    inside = record { last = last_claim plan; few = claims_fit plan.slots size; named = keeps.2.1 };
+  }
 
 -- a pass that has new keys and a new share, and knows what goes with them
-pub has_keys : (cards words : ℕ) (was keys : List ℕ) (had share : Share) (v w : View) → PassFits was had words v → words ≡ table_size cards
-    → HasShare share w → MayHave cards v keys w → PassFits keys share words w
-has_keys cards words was keys had share v w fits size has may = record {
+pub has_keys : (words : ℕ) (was keys : List ℕ) (had share : Share) (v w : View) → PassFits was had words v
+    → HasShare share w → MayHave v keys w → PassFits keys share words w
+has_keys words was keys had share v w fits has may = record {
   owned = may.owned;
   ascending = may.ascending;
   share = has;
-  named = λ other e. subst (λ n. IsNamed n w) (same_cards words cards other size e) (may.named (fits.named cards size));
+  named = λ last e. may.named last (fits.named last e);
+  most = may.named greatest_card fits.most;
+  inside = record { last = fits.inside.last; few = fits.inside.few; named = may.named fits.inside.last fits.inside.named };
 }
 
 -- a table as its code keeps it and as callers see it, and a pass of it so
-module _ (t u : TableModel) (p q : PassModel) (same_table : t ≡ u) (same_pass : p ≡ q) (own : q.table ≡ u.id) (size : t.id.words ≡ table_size t.plan.last_card) where
+module _ (t u : TableModel) (p q : PassModel) (same_table : t ≡ u) (same_pass : p ≡ q) (own : q.table ≡ u.id) (size : t.id.words ≡ whole_size t.plan) (fit : SlotsFit t.plan t.plan.slots) where
   pub of_table : p.table ≡ t.id
   of_table = ap (λ (m : PassModel). m.table) same_pass ∙ (own ∙ sym (ap (λ (m : TableModel). m.id) same_table))
 
-  pub own_size : p.table.words ≡ table_size t.plan.last_card
+  pub own_size : p.table.words ≡ whole_size t.plan
   own_size = ap (λ i. i.words) of_table ∙ size
 
   -- what the pass names, as callers see the two
   pub named_there : (keys : List ℕ) (share : Share) → PassFits keys share p.table.words p.view → IsNamed u.plan.last_card q.view
   named_there keys share fits =
       subst (λ (m : TableModel). IsNamed m.plan.last_card q.view) same_table
-      (subst (λ (m : PassModel). IsNamed t.plan.last_card m.view) same_pass (fits.named t.plan.last_card own_size))
+      (subst (λ (m : PassModel). IsNamed t.plan.last_card m.view) same_pass (named_in t.plan p.table.words own_size fit keys share p.view fits))
+
+  -- the word of a step is one of the table
+  pub inside_there : (keys : List ℕ) (share : Share) (word : ℕ) → PassFits keys share p.table.words p.view → ((last : ℕ) → IsNamed last q.view → word < table_size last) → word < t.id.words
+  inside_there keys share word fits there =
+      let has = fits.inside in
+      let few = has.few in
+      let below = there has.last (subst (λ (m : PassModel). IsNamed has.last m.view) same_pass has.named) in
+      let same = ap (λ i. i.words) of_table in
+      omega arith
 
   -- what a step owes, by what its caller says of the table and the pass
-  pub owed : (seat : ℕ) (held : List (ℕ × Unit {0})) (keys : List ℕ) (share : Share) (word : ℕ) (f : ℕ → ℕ) (told : ℕ → View → Type 0) → t.id.slots ≡ 0 → held ≡ []
-      → PassFits keys share p.table.words p.view → (IsNamed u.plan.last_card q.view → word < table_size u.plan.last_card)
+  pub owed : (seat : ℕ) (period : Period) (held : List (ℕ × Unit {0})) (keys : List ℕ) (share : Share) (word : ℕ) (f : ℕ → ℕ) (told : ℕ → View → Type 0) → t.id.slots ≡ 0 → held ≡ []
+      → PassFits keys share p.table.words p.view → ((last : ℕ) → IsNamed last q.view → word < table_size last)
+      → (u.plan.slots ≢ None → period.announced ≡ None → IsAtRest q.view → (n : ℕ) (w : View) → told n w → IsAtRest w)
       → ((id : ℕ) → Allows (IsReached u.plan) 0 id (q.view, []) word f (λ n x. told n x.0 × (x.1 ≡ [])))
-      → (p.table ≡ t.id) × (word < t.id.words) × Allows (IsReached t.plan) t.id.slots seat (p.view, held) word f (λ n x. told n x.0 × (x.1 ≡ held))
-  owed seat held keys share word f told none empty fits there rule =
-      let below = subst (λ (m : TableModel). IsNamed m.plan.last_card p.view → word < table_size m.plan.last_card) (sym same_table)
-      (subst (λ (m : PassModel). IsNamed u.plan.last_card m.view → word < table_size u.plan.last_card) (sym same_pass) there) (fits.named t.plan.last_card own_size) in (
+      → (p.table ≡ t.id) × (word < t.id.words)
+      × Allows (IsWhole t.plan) t.id.slots seat (record { tree = p.view; period = period }, held) word f (λ n x. told n x.0.tree × (x.0.period ≡ period) × (x.1 ≡ held))
+  owed seat period held keys share word f told none empty fits there rests rule =
+      let step = tree_step u.plan (record { tree = q.view; period = period }) word f told there rests rule in
+      let rule : (id : ℕ) → Allows (IsWhole t.plan) 0 id (record { tree = p.view; period = period }, []) word f (λ n x. told n x.0.tree × (x.0.period ≡ period) × (x.1 ≡ [])) =
+      subst (λ (m : TableModel). (id : ℕ) → Allows (IsWhole m.plan) 0 id (record { tree = p.view; period = period }, []) word f (λ n x. told n x.0.tree × (x.0.period ≡ period) × (x.1 ≡ []))) (sym same_table)
+      (subst (λ (m : PassModel). (id : ℕ) → Allows (IsWhole u.plan) 0 id (record { tree = m.view; period = period }, []) word f (λ n x. told n x.0.tree × (x.0.period ≡ period) × (x.1 ≡ []))) (sym same_pass) step) in (
         of_table,
-        subst (λ n. word < n) (sym size) below,
-        allowed t.plan t.id.slots seat (p.view, held) word f told none empty
-            (subst (λ (m : TableModel). (id : ℕ) → Allows (IsReached m.plan) 0 id (p.view, []) word f (λ n x. told n x.0 × (x.1 ≡ []))) (sym same_table)
-            (subst (λ (m : PassModel). (id : ℕ) → Allows (IsReached u.plan) 0 id (m.view, []) word f (λ n x. told n x.0 × (x.1 ≡ []))) (sym same_pass) rule)),
+        inside_there keys share word fits there,
+        allowed t.plan t.id.slots seat (record { tree = p.view; period = period }, held) word f (λ n x l. told n x.0.tree × (x.0.period ≡ period) × (x.1 ≡ l)) none empty rule,
       )
 
   -- the pass after a step that told this
-  pub stepped : (keys : List ℕ) (share : Share) (words n : ℕ) (w : View) (told : ℕ → View → Type 0) → PassFits keys share p.table.words p.view → words ≡ p.table.words
-      → KeepsPass u.plan.last_card q.view told → told n w → PassFits keys share words w
-  stepped keys share words n w told fits same keeps says =
-      still_fits t.plan.last_card words keys share p.view w (subst (λ i. PassFits keys share i p.view) (sym same) fits) (same ∙ own_size)
-      (subst (λ (m : TableModel). KeepsPass m.plan.last_card p.view told) (sym same_table)
-      (subst (λ (m : PassModel). KeepsPass u.plan.last_card m.view told) (sym same_pass) keeps) n w says)
+  pub stepped : (keys : List ℕ) (share : Share) (words n : ℕ) (w : View) (told : ℕ → View → Type 0) → t.plan.last_card ≤ greatest_card → PassFits keys share p.table.words p.view → words ≡ p.table.words
+      → KeepsPass u.plan q.view told → told n w → PassFits keys share words w
+  stepped keys share words n w told room fits same keeps says =
+      still_fits t.plan words (same ∙ own_size) fit keys share p.view w (subst (λ i. PassFits keys share i p.view) (sym same) fits) room
+      (subst (λ (m : TableModel). KeepsPass m.plan p.view told) (sym same_table)
+      (subst (λ (m : PassModel). KeepsPass u.plan m.view told) (sym same_pass) keeps) n w says)
 
   -- a part of the pass, with keys that go with what it is to know
-  pub part_fits : (was keys : List ℕ) (had share : Share) (words : ℕ) (w : View) (held : List (ℕ × Unit {0})) (me : Me (Unit {0}) View)
-      → PassFits was had p.table.words p.view → words ≡ p.table.words → HasShare share w → MayHave u.plan.last_card q.view keys w → me ≡ (w, held)
-      → PassFits keys share words me.0
-  part_fits was keys had share words w held me fits same has may is =
-      subst (λ (x : Me (Unit {0}) View). PassFits keys share words x.0) (sym is)
-      (has_keys t.plan.last_card words was keys had share p.view w (subst (λ i. PassFits was had i p.view) (sym same) fits) (same ∙ own_size) has
-      (subst (λ (m : TableModel). MayHave m.plan.last_card p.view keys w) (sym same_table)
-      (subst (λ (m : PassModel). MayHave u.plan.last_card m.view keys w) (sym same_pass) may)))
+  pub part_fits : (was keys : List ℕ) (had share : Share) (words : ℕ) (w : View) → PassFits was had p.table.words p.view → words ≡ p.table.words
+      → HasShare share w → MayHave q.view keys w → PassFits keys share words w
+  part_fits was keys had share words w fits same has may =
+      has_keys words was keys had share p.view w (subst (λ i. PassFits was had i p.view) (sym same) fits) has
+      (subst (λ (m : PassModel). MayHave m.view keys w) (sym same_pass) may)

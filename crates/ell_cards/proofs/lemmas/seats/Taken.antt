@@ -87,8 +87,8 @@ pub same_share : (c : Call) (n : ℕ) (v : View) → SameShare v (after c n v)
 same_share c n v = record { share = share_stays c n v; ownable = owned_stays c n v }
 
 -- what is taken leaves the pass as it has to be
-pub taken_keeps : (plan : TablePlan) (c : Call) (v : View) → KeepsPass plan.last_card v (IsTaken plan c v)
-taken_keeps plan c v n w t = (t.keys, t.share, t.named)
+pub taken_keeps : (plan : TablePlan) (c : Call) (v : View) → KeepsPass plan v (IsTaken plan c v)
+taken_keeps plan c v n w t = (t.keys, t.share, (t.named, t.inside))
 
 -- a field of a card of the table has its address there
 address_fits : (cards c : ℕ) (f : Field) → c ≤ cards → address c f < table_size cards
@@ -101,29 +101,29 @@ known_fits cards v c named (inr (inl k)) = named.facts (DFlagged c) k
 known_fits cards v c named (inr (inr k)) = named.facts (Marked c) k
 
 -- the word that a call touches is in the table
-pub word_fits : (plan : TablePlan) (c : Call) (v : View) → IsNamed plan.last_card v → May plan c v → word_of c < table_size plan.last_card
-word_fits plan (call.Upd x) v named may = address_fits plan.last_card (card x) field.Update (named.node x may.stands)
-word_fits plan (call.Down x right) v named may = address_fits plan.last_card (card x) (child_field right) (named.node x may.stands)
-word_fits plan (call.KeyOf x) v named may = address_fits plan.last_card (card x) (key_field (x % 4)) (named.entries (Met x) may)
-word_fits plan (call.ValueOf x) v named may = address_fits plan.last_card (card x) (value_field (x % 4)) (named.entries (Met x) may.0)
-word_fits plan (call.Info c f) v named may = address_fits plan.last_card c f (known_fits plan.last_card v c named may.knows)
-word_fits plan (call.FrozenChild c p right) v named may = address_fits plan.last_card (card p) (child_field right) (named.entries (Info c field.P p) may.place).1
-word_fits plan call.Look v named may = address_fits plan.last_card 0 (child_field false) (omega arith)
-word_fits plan (call.LookDown from key right) v named may = address_fits plan.last_card (card from.node) (child_field right) (named.entries (Met from.node) may.met)
-word_fits plan (call.Fill c f value) v named may = address_fits plan.last_card c f (named.hand c may.holds)
-word_fits plan (call.IFlag c p from) v named may = address_fits plan.last_card (card p) field.Update
-    (subst (λ y. card y ≤ plan.last_card) may.node (named.parent may.leaf _ may.stands may.behind).node)
-word_fits plan (call.IChild c p l q right) v named may = address_fits plan.last_card (card p) (child_field right) (named.entries (Info c field.P p) may.parent).1
-word_fits plan (call.IUnflag c p) v named may = address_fits plan.last_card (card p) field.Update (named.entries (Info c field.P p) may.place).1
-word_fits plan (call.DFlag c gp from) v named may =
-    address_fits plan.last_card (card gp) field.Update
-    (subst (λ y. card y ≤ plan.last_card) may.node (named.grandparent may.leaf may.parent _ may.stands may.behind may.above).node)
-word_fits plan (call.Mark c p was) v named may = address_fits plan.last_card (card p) field.Update (named.entries (Info c field.P p) may.0.place).1
-word_fits plan (call.DChild c gp p sibling right) v named may =
-    address_fits plan.last_card (card gp) (child_field right) (named.entries (Info c field.Gp gp) may.grandparent).1
-word_fits plan (call.DUnflag c gp) v named may = address_fits plan.last_card (card gp) field.Update (named.entries (Info c field.Gp gp) may.place).1
-word_fits plan (call.Backtrack c gp) v named may = address_fits plan.last_card (card gp) field.Update (named.entries (Info c field.Gp gp) may.place).1
-word_fits plan _ v named may = omega arith
+pub word_fits : (plan : TablePlan) (c : Call) (v : View) → May plan c v → (last : ℕ) → IsNamed last v → word_of c < table_size last
+word_fits plan (call.Upd x) v may last named = address_fits last (card x) field.Update (named.node x may.stands)
+word_fits plan (call.Down x right) v may last named = address_fits last (card x) (child_field right) (named.node x may.stands)
+word_fits plan (call.KeyOf x) v may last named = address_fits last (card x) (key_field (x % 4)) (named.entries (Met x) may)
+word_fits plan (call.ValueOf x) v may last named = address_fits last (card x) (value_field (x % 4)) (named.entries (Met x) may.0)
+word_fits plan (call.Info c f) v may last named = address_fits last c f (known_fits last v c named may.knows)
+word_fits plan (call.FrozenChild c p right) v may last named = address_fits last (card p) (child_field right) (named.entries (Info c field.P p) may.place).1
+word_fits plan call.Look v may last named = address_fits last 0 (child_field false) (omega arith)
+word_fits plan (call.LookDown from key right) v may last named = address_fits last (card from.node) (child_field right) (named.entries (Met from.node) may.met)
+word_fits plan (call.Fill c f value) v may last named = address_fits last c f (named.hand c may.holds)
+word_fits plan (call.IFlag c p from) v may last named = address_fits last (card p) field.Update
+    (subst (λ y. card y ≤ last) may.node (named.parent may.leaf _ may.stands may.behind).node)
+word_fits plan (call.IChild c p l q right) v may last named = address_fits last (card p) (child_field right) (named.entries (Info c field.P p) may.parent).1
+word_fits plan (call.IUnflag c p) v may last named = address_fits last (card p) field.Update (named.entries (Info c field.P p) may.place).1
+word_fits plan (call.DFlag c gp from) v may last named =
+    address_fits last (card gp) field.Update
+    (subst (λ y. card y ≤ last) may.node (named.grandparent may.leaf may.parent _ may.stands may.behind may.above).node)
+word_fits plan (call.Mark c p was) v may last named = address_fits last (card p) field.Update (named.entries (Info c field.P p) may.0.place).1
+word_fits plan (call.DChild c gp p sibling right) v may last named =
+    address_fits last (card gp) (child_field right) (named.entries (Info c field.Gp gp) may.grandparent).1
+word_fits plan (call.DUnflag c gp) v may last named = address_fits last (card gp) field.Update (named.entries (Info c field.Gp gp) may.place).1
+word_fits plan (call.Backtrack c gp) v may last named = address_fits last (card gp) field.Update (named.entries (Info c field.Gp gp) may.place).1
+word_fits plan _ v may last named = omega arith
 
 -- a pass after one step that took this call, before it counts the step
 pub sees_by : (old new : PassModel) (v : View) → SeesBy old new → new.view ≡ v → Sees old new v

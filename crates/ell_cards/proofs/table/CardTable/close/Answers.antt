@@ -1,26 +1,34 @@
-use Rattle.std.proofs.Common.{◌≢◌, ℕ, List, None, sym, subst, ◌≡◌, true}
+use Rattle.std.proofs.Common.{◌≢◌, ℕ, List, None, ap, ◌∙◌, sym, subst, ◌≡◌, true}
 use Rattle.std.specs.List.{All}
 use Rattle.std.specs.Slots.{slots_items}
 use Rattle.ell_core.specs.state.Machine.{ledger_of}
-use Rattle.ell_cards.specs.Models.{TableModel, PassModel, IsFree, whole_share}
+use Rattle.ell_cards.specs.Models.{TableModel, PassModel, IsFree, last_claim_of, whole_share}
+use Rattle.ell_cards.specs.Whole.{WordsAre}
+use Rattle.ell_cards.proofs.lemmas.whole.Trees.{tree_here}
 use Rattle.ell_cards.specs.Closed.{ClosedModel, TableEnds}
 use Rattle.ell_cards.proofs.lemmas.runs.Ending.{ends}
 use Rattle.ell_cards.proofs.table.CardTable.close.Goals as goal
 
 pub returns-clause-ends : goal.returns-clause-ends
-returns-clause-ends g c =
+returns-clause-ends g c none =
     let plan = c.self.inside.table.shared.key in
-    let v = c.pass.inside.seat.me.0 in
+    let v = c.pass.inside.seat.me.0.tree in
     let words = slots_items c.close_with.result.words in
     let last = c.close_with.ensures.values.2 in
+    let whole_state = last.1.0 in
+    let none : plan.slots ≡ None = ap (λ (m : TableModel). m.plan.slots) c.self.view_is ∙ none in
     let all = subst (λ (p : PassModel). All (λ k. ledger_of p.view.worker.ledger k ≢ None) plan.keys) (sym c.pass.view_is)
     (subst (λ (m : TableModel). All (λ k. ledger_of c.args.pass.view.worker.ledger k ≢ None) m.plan.keys) (sym c.self.view_is) c.requires.all) in
     let whole = subst (λ (p : PassModel). plan.shared ≡ true → p.view.share ≡ whole_share) (sym c.pass.view_is)
     (subst (λ (m : TableModel). m.plan.shared ≡ true → c.args.pass.view.share ≡ whole_share) (sym c.self.view_is) c.requires.whole) in
     let free = subst (λ (p : PassModel). IsFree p.view) (sym c.pass.view_is) c.requires.free in
-    let there = ends plan last.0 last.1.0 c.pass.inside.seat.id v last.1.1 free whole all in
-    let ended : ClosedModel = record { words = words; last_card = c.self.inside.last_card } in
+    let seen = tree_here plan last.0 whole_state c.pass.inside.seat.id c.pass.inside.seat.me.0 last.1.1 in
+    let there = ends plan whole_state.tree whole_state.reached c.pass.inside.seat.id v seen free whole all in
+    let same : whole_state.tree.words ≡ words = sym (subst (λ o. WordsAre plan o last.0.words whole_state.tree.words) none whole_state.words) ∙ last.2 in
+    let number : plan.last_card ≡ c.last_claim.result =
+    sym (ap (λ o. last_claim_of o plan.last_card) none) ∙ (sym (ap (λ o. last_claim_of o plan.last_card) c.self.invariant.7) ∙ (sym (ap (last_claim_of c.self.inside.slots) c.self.invariant.3) ∙ sym c.last_claim.ensures)) in
+    let ended : ClosedModel = record { words = words; last_card = c.last_claim.result } in
     subst (λ (m : TableModel). TableEnds m.plan c.args.pass.view ended) c.self.view_is
     (subst (λ (p : PassModel). TableEnds plan p.view ended) c.pass.view_is
-    (subst (λ (n : ℕ). TableEnds plan v (record { words = words; last_card = n })) (sym c.self.invariant.3)
-    (subst (λ (l : List ℕ). TableEnds plan v (record { words = l; last_card = plan.last_card })) last.2 there)))
+    (subst (λ (n : ℕ). TableEnds plan v (record { words = words; last_card = n })) number
+    (subst (λ (l : List ℕ). TableEnds plan v (record { words = l; last_card = plan.last_card })) same there)))

@@ -1,10 +1,11 @@
-use Rattle.std.proofs.Common.{ℕ, List, filter, not, ap, ◌∙◌, sym, subst}
+use Rattle.std.proofs.Common.{ℕ, List, filter, not, refl, ap, ◌∙◌, sym, subst}
 use Rattle.ell_cards.specs.Models.{PassModel}
 use Rattle.ell_ops.specs.KeySet.{set_of}
 use Rattle.ell_cards.specs.Changes.{ledger_keys, left_view, right_view}
 use Rattle.ell_cards.specs.Stepping.{MayHave}
 use Rattle.ell_cards.proofs.lemmas.lifetimes.Splits.{parts_share, owned_all, left_has, right_has}
 use Rattle.ell_cards.proofs.lemmas.runs.Reaching.{splits}
+use Rattle.ell_cards.proofs.lemmas.whole.Rests.{is_at_rest}
 use Rattle.ell_cards.proofs.table.CardTable.split.Goals as goal
 
 pub parted-requires-clause-among : goal.parted-requires-clause-among
@@ -15,20 +16,23 @@ parted-requires-clause-among g c =
 pub split_as-requires-clause-rule : goal.split_as-requires-clause-rule
 split_as-requires-clause-rule g c = splits c.args.self.now.plan c.args.pass.view c.in-Ok.left.items c.requires.free (c.may_part.ensures.0 c.if-not-may_part.false)
 
+pub split_as-requires-clause-rests : goal.split_as-requires-clause-rests
+split_as-requires-clause-rests g c = (is_at_rest (left_view c.in-Ok.left.items c.args.pass.view) refl refl refl refl, is_at_rest (right_view c.in-Ok.left.items c.args.pass.view) refl refl refl refl)
+
 pub split_as-requires-clause-shares : goal.split_as-requires-clause-shares
 split_as-requires-clause-shares g c = parts_share c.args.pass.view c.in-Ok.left.items
 
 pub split_as-requires-clause-left : goal.split_as-requires-clause-left
 split_as-requires-clause-left g c =
-    subst (λ (l : List ℕ). MayHave c.args.self.now.plan.last_card c.args.pass.view l (left_view l c.args.pass.view)) (sym c.in-Ok.ensures.some)
-    (left_has c.args.self.now.plan.last_card c.args.pass.view c.pass.inside.keys.items c.args.left_keys.now
+    subst (λ (l : List ℕ). MayHave c.args.pass.view l (left_view l c.args.pass.view)) (sym c.in-Ok.ensures.some)
+    (left_has c.args.pass.view c.pass.inside.keys.items c.args.left_keys.now
     (c.pass.invariant.0.owned ∙ ap (λ (m : PassModel). ledger_keys m.view.worker.ledger) c.pass.view_is)
     c.pass.invariant.0.ascending c.requires.ascending c.requires.owned)
 
 pub split_as-requires-clause-right : goal.split_as-requires-clause-right
 split_as-requires-clause-right g c =
-    subst (λ (l : List ℕ). MayHave c.args.self.now.plan.last_card c.args.pass.view c.in-Ok.right.items (right_view l c.args.pass.view)) (sym c.in-Ok.ensures.some)
-    (right_has c.args.self.now.plan.last_card c.args.pass.view c.pass.inside.keys.items c.args.left_keys.now
+    subst (λ (l : List ℕ). MayHave c.args.pass.view c.in-Ok.right.items (right_view l c.args.pass.view)) (sym c.in-Ok.ensures.some)
+    (right_has c.args.pass.view c.pass.inside.keys.items c.args.left_keys.now
     (c.pass.invariant.0.owned ∙ ap (λ (m : PassModel). ledger_keys m.view.worker.ledger) c.pass.view_is)
     c.pass.invariant.0.ascending c.requires.ascending c.requires.owned c.in-Ok.right.items
     (c.in-Ok.ensures.rest ∙ ap (filter (λ k. not (set_of c.args.left_keys.now k))) c.as_slice.ensures.value))

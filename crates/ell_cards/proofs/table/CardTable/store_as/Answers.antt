@@ -1,16 +1,18 @@
 use Rattle.std.proofs.Common.{◌∙◌, ap}
 use Rattle.ell_cards.proofs.lemmas.seats.Opened.{owed, stepped}
+use Rattle.ell_cards.proofs.lemmas.whole.Places.{same_place}
 use Rattle.ell_cards.proofs.table.CardTable.store_as.Goals as goal
 
 pub store-requires : goal.store-requires
 store-requires g c =
-    owed _ _ _ _ c.self.view_is c.pass.view_is c.requires.own c.self.invariant.0 c.pass.inside.seat.id c.pass.inside.seat.me.1 c.pass.inside.keys.items c.pass.inside.share c.args.word
-    (λ _. c.args.value) (λ _. g.J.Telling.then c.args.value) c.self.invariant.1 c.pass.invariant.1 c.pass.invariant.0 c.requires.word c.requires.rule
+    owed _ _ _ _ c.self.view_is c.pass.view_is c.requires.own c.self.invariant.0 c.self.invariant.8 c.pass.inside.seat.id c.pass.inside.seat.me.0.period c.pass.inside.seat.me.1 c.pass.inside.keys.items c.pass.inside.share c.args.word
+    (λ _. c.args.value) (λ _. g.J.Telling.then c.args.value) c.self.invariant.1 c.pass.invariant.1 c.pass.invariant.0 c.requires.word (λ placed none rest n w told. c.requires.rests placed rest c.args.value w told) c.requires.rule
 
 pub invariant_of-pass : goal.invariant_of-pass
 invariant_of-pass g c =
     let now = c.store.ensures in (
-      stepped _ _ _ _ c.self.view_is c.pass.view_is c.requires.own c.self.invariant.0 c.pass.inside.keys.items c.pass.inside.share _ _ _ g.J.Telling.then
-          c.pass.invariant.0 (ap (λ i. i.words) now.0) c.requires.keeps now.2.0,
-      now.2.1 ∙ c.pass.invariant.1,
+      stepped _ _ _ _ c.self.view_is c.pass.view_is c.requires.own c.self.invariant.0 c.self.invariant.8 c.pass.inside.keys.items c.pass.inside.share _ _ _ g.J.Telling.then
+          c.self.invariant.2 c.pass.invariant.0 (ap (λ i. i.words) now.0) c.requires.keeps now.2.0,
+      now.2.2 ∙ c.pass.invariant.1,
+      same_place _ _ _ _ _ (ap (λ i. i.words) now.0) now.2.1 c.pass.invariant.2,
     )

@@ -1,0 +1,198 @@
+use Rattle.std.proofs.Common.{◌≡◌, ◌≢◌, ℕ, zero, suc, ◌-◌, ◌<◌, ◌≤◌, ◌==◌, nat_lt, if◌then◌else◌, Bool, true, false, Option, Some, None, List, [], ◌∷◌, ◌++◌, length, replicate, get_or, inl, inr, refl, sym, ap, ◌∙◌, subst, arith, length-set, get_or-set_same, get_or-set_other, eq-eqb, true≢false}
+use Rattle.std.proofs.lemmas.Bool.{cases_eq, cases_lt}
+use Rattle.std.proofs.lemmas.List.{length-append, length-replicate, get_or_past, get_or-replicate, get_or_append_left, get_or-append_right}
+use Rattle.std.proofs.lemmas.Option.{same_Some}
+use mathlib.Core.Option.{some, some-injective, some-ne-none}
+use lib.ListN.{get_elem?}
+use Rattle.atomic_table.specs.Table.{opening}
+use Rattle.ell_core.proofs.lemmas.outcomes.Decide.{some_not_none}
+use Rattle.ell_grace.proofs.lemmas.Grace.{grace_starts}
+use Rattle.ell_word.specs.Node.{greatest_card}
+use Rattle.ell_layout.specs.Layout.{address, table_size}
+use Rattle.ell_layout.specs.Start.{words_at_start}
+use Rattle.ell_layout.specs.Words.{words_of, table_words}
+use Rattle.ell_cards.specs.declared.view.Known.{Known}
+use Rattle.ell_cards.specs.declared.view.Period.{Period}
+use Rattle.ell_cards.specs.declared.view.Slots.{Slots}
+use Rattle.ell_cards.specs.declared.view.View.{View}
+use Rattle.ell_cards.specs.Models.{TablePlan, last_claim, last_claim_of}
+use Rattle.ell_cards.specs.Changes.{first_of}
+use Rattle.ell_cards.specs.Periods.{slots_of, last_for, clock_word, place_word, slots_size, opening_words, whole_words, size_by, whole_size, period_by, announced_by, period_in, card_words, card_words_by, IsAtRest, PeriodHolds, HasPeriods, grace_of}
+use Rattle.ell_cards.specs.Starts.{MayStart, SlotsFit, most_places}
+use Rattle.ell_cards.specs.Whole.{first_known, WordsAre, PeriodsAre, IsWhole}
+use Rattle.ell_cards.proofs.lemmas.runs.Reaching.{reached_first}
+use Rattle.ell_cards.proofs.lemmas.whole.Rests.{is_at_rest}
+
+-- so many zeros are as many
+zeros_many : (n : ℕ) → length (replicate {A = ℕ} n 0) ≡ n
+zeros_many n = length-replicate n 0
+
+-- zeros are zeros, and so is what is behind them
+zeros : (n i : ℕ) → get_or {A = ℕ} (replicate n 0) i 0 ≡ 0
+zeros n i = elim (cases_lt i n) [
+  | inl low ↦ get_or-replicate n i 0 0 low
+  | inr past ↦ get_or_past (replicate n 0) i 0 (let many = zeros_many n in omega arith)
+]
+
+-- a list with zeros behind it has the same words
+with_zeros : (l : List ℕ) (n i : ℕ) → get_or (l ++ replicate n 0) i 0 ≡ get_or l i 0
+with_zeros l n i = elim (cases_lt i (length l)) [
+  | inl low ↦ get_or_append_left l (replicate n 0) 0 i low
+  | inr past ↦ get_or-append_right l (replicate n 0) (length l) i 0 refl (omega arith) ∙ (zeros n (i - length l) ∙ sym (get_or_past l i 0 (omega arith)))
+]
+
+-- lists that have the same words are the same words by their names
+words_same : (l m : List ℕ) → ((i : ℕ) → get_or l i 0 ≡ get_or m i 0) → words_of l ≡ words_of m
+unfolding words_of
+words_same l m same = λ t. record (table_words (same 0 t) (λ c f. same (address c f) t)) { flat_from = same 1 t }
+
+-- the words of a table with places, at its start
+module _ (s : Slots) (cards : List ℕ) (size : length cards ≡ table_size s.last) where
+  abbrev all : List ℕ
+  all = opening_words s cards
+
+  behind : List ℕ
+  behind = cards ++ replicate (slots_size s - length cards) 0
+
+  all_size : length all ≡ slots_size s
+  all_size =
+      length-set (cards ++ replicate (slots_size s - length cards) 0) (place_word s 0) 1
+      ∙ (length-append cards (replicate (slots_size s - length cards) 0) ∙ (let many = zeros_many (slots_size s - length cards) in omega arith))
+
+  -- the first place is taken
+  first_place : get_or all (place_word s 0) 0 ≡ 1
+  first_place = get_or-set_same (cards ++ replicate (slots_size s - length cards) 0) (place_word s 0) 1 0
+      (let both = length-append cards (replicate (slots_size s - length cards) 0) in let many = zeros_many (slots_size s - length cards) in omega arith)
+
+  -- all other words are those of the cards
+  other_word : (i : ℕ) → i ≢ place_word s 0 → get_or all i 0 ≡ get_or cards i 0
+  other_word i apart = get_or-set_other (cards ++ replicate (slots_size s - length cards) 0) (place_word s 0) i 1 0 apart ∙ with_zeros cards (slots_size s - length cards) i
+
+  behind_cards : (i : ℕ) → table_size s.last ≤ i → i ≢ place_word s 0 → get_or all i 0 ≡ 0
+  behind_cards i past apart = other_word i apart ∙ get_or_past cards i 0 (omega arith)
+
+  -- no place announces anything
+  quiet : (q : ℕ) → announced_by (get_or all (place_word s q) 0) ≡ None
+  quiet q = elim (cases_eq (place_word s q) (place_word s 0)) [
+    | inl e ↦ ap (λ i. announced_by (get_or all i 0)) e ∙ ap announced_by first_place
+    | inr n ↦ ap announced_by (behind_cards (place_word s q) (omega arith) n)
+  ]
+
+  module _ (v : View) (rest : IsAtRest v) (one : 1 ≤ s.places) where
+    abbrev first : Known
+    first = record { tree = v; period = period_by (Some s) }
+
+    first_holds : PeriodHolds s all first
+    first_holds = record {
+      place = λ q is. (let same = same_Some 0 q is in (omega arith, ap (λ x. get_or all (place_word s x) 0) (sym same) ∙ first_place));
+      other = λ q is. absurd (some_not_none is refl);
+      two = λ q is other. some_not_none other refl;
+      none = λ is. refl;
+      reading = λ n is. absurd (some_not_none is refl);
+      rests = λ is. rest;
+    }
+
+    alone : (P : ℕ → Known → Type 0) → P 0 first → (j : ℕ) (u : Known) → get_elem? (first ∷ []) j ≡ some u → P j u
+    alone P h zero u at = subst (P 0) (some-injective first u at) h
+    alone P h (suc j) u at = absurd (some-ne-none u (sym at))
+
+    nothing : {A : Type 0} (part : Period → A) (x : A) → part (period_by (Some s)) ≡ x → part (period_by None) ≡ x → (i : ℕ) → part (period_in (first ∷ []) i) ≡ x
+    nothing part x here there zero = here
+    nothing part x here there (suc i) = there
+
+    pub first_periods : HasPeriods s (opening all [] first)
+    first_periods = record {
+      gone = λ c. false;
+      began = λ q. 0;
+      was_gone = λ q c. false;
+      sound = grace_starts s.places (grace_of s (opening all [] first) (λ c. false) (λ q. 0) (λ q c. false)) (record {
+        word = λ q. unsaid (nat_lt q s.places) q;
+        pending = λ i. refl;
+        least = nothing (λ p. p.least) 0 refl refl;
+        seen = λ i q. nothing (λ p. nat_lt q p.looked) false (none q) (none q) i;
+        safe = nothing (λ p. p.safe) 0 refl refl;
+        free = λ c. refl;
+      });
+      low = let clock = behind_cards (clock_word s) (omega arith) (λ e. omega arith) in omega arith;
+      each = alone (λ j u. PeriodHolds s all u) first_holds;
+      apart = λ i j q k l at at' has has'. alone (λ i u. i ≡ 0) refl i k at ∙ sym (alone (λ j u. j ≡ 0) refl j l at');
+    }
+      where
+        none : (q : ℕ) → nat_lt q 0 ≡ false
+        none q = grind (arith)
+
+        unsaid : (b : Bool) (q : ℕ) → (if b then announced_by (get_or all (place_word s q) 0) else None) ≡ None
+        unsaid true q = quiet q
+        unsaid false q = refl
+
+-- a table starts so
+pub whole_first : (plan : TablePlan) (may : MayStart plan) (cards words : List ℕ) → length cards ≡ table_size (last_claim plan) → words_of cards ≡ words_at_start plan.flat plan.start
+    → words ≡ whole_words plan.slots cards → IsWhole plan (opening words [] (first_known plan))
+whole_first plan may cards words size are is = by plan.slots refl may.slots
+  where
+    by : (o : Option Slots) → plan.slots ≡ o → SlotsFit plan o → IsWhole plan (opening words [] (first_known plan))
+    by None none fit =
+        let same : words ≡ cards = is ∙ ap (λ o. whole_words o cards) none in
+        let all : length cards ≡ table_size plan.last_card = size ∙ ap (λ o. table_size (last_claim_of o plan.last_card)) none in
+        record {
+          tree = opening cards [] (first_of plan);
+          reached = reached_first plan cards may all are;
+          views = refl;
+          homes = refl;
+          words = subst (λ o. WordsAre plan o words cards) (sym none) same;
+          periods = subst (λ o. PeriodsAre o (opening words [] (first_known plan))) (sym none) tt;
+        }
+    by (Some s) placed fit =
+        let same : words ≡ opening_words s cards = is ∙ ap (λ o. whole_words o cards) placed in
+        let last = fit.2 in
+        let most = fit.4 in
+        let all : length cards ≡ table_size s.last = size ∙ (ap (λ o. table_size (last_claim_of o plan.last_card)) placed ∙ ap table_size (omega arith)) in
+        let long = table_size plan.last_card - length cards in
+        let tree = cards ++ replicate long 0 in
+        let long_size : length tree ≡ table_size plan.last_card = length-append cards (replicate long 0) ∙ (let many = zeros_many long in omega arith) in
+        let rest : IsAtRest (first_of plan) = is_at_rest (first_of plan) refl refl refl refl in
+        record {
+          tree = opening tree [] (first_of plan);
+          reached = reached_first plan tree may long_size (words_same tree cards (with_zeros cards long) ∙ are);
+          views = refl;
+          homes = refl;
+          words = subst (λ o. WordsAre plan o words tree) (sym placed)
+              (subst (λ l. (length l ≡ slots_size s) × ((i : ℕ) → i < card_words plan → get_or l i 0 ≡ get_or tree i 0)) (sym same) (
+                all_size s cards all,
+                λ i low. (
+                    let low : i < card_words_by (Some s) plan.last_card = subst (λ o. i < card_words_by o plan.last_card) placed low in
+                    other_word s cards all i (λ e. omega arith) ∙ sym (with_zeros cards long i)),
+              ));
+          periods = subst (λ o. PeriodsAre o (opening words [] (first_known plan))) (sym placed)
+              (subst (λ l. HasPeriods s (opening l [] (first_known plan))) (sym same)
+              (subst (λ o. HasPeriods s (opening (opening_words s cards) [] (record { tree = first_of plan; period = period_by o }))) (sym placed)
+              (first_periods s cards all (first_of plan) rest fit.0)));
+        }
+
+-- and has as many words as it is to have
+pub whole_length : (plan : TablePlan) → MayStart plan → (cards : List ℕ) → length cards ≡ table_size (last_claim plan) → length (whole_words plan.slots cards) ≡ whole_size plan
+whole_length plan may cards size = by plan.slots may.slots size
+  where
+    by : (o : Option Slots) → SlotsFit plan o → length cards ≡ table_size (last_claim_of o plan.last_card) → length (whole_words o cards) ≡ size_by o plan.last_card
+    by None fit size = size
+    by (Some s) fit size = all_size s cards (let last = fit.2 in let most = fit.4 in size ∙ ap table_size (omega arith))
+
+-- the cards and places of a table fit its plan
+pub slots_fit : (plan : TablePlan) (last places : ℕ) → plan.slots ≡ slots_of last places → plan.last_card ≡ last_for last places → places ≤ most_places → length plan.start ≤ last → last ≤ greatest_card
+    → SlotsFit plan plan.slots
+slots_fit plan last places slots number few room most = subst (SlotsFit plan) (sym slots) (by (places == 0) refl)
+  where
+    by : (b : Bool) → (places == 0) ≡ b → SlotsFit plan (if b then None else Some (record { last = last; places = places }))
+    by true none = tt
+    by false other =
+        let some_place : places ≢ 0 = λ e. true≢false (sym (eq-eqb places 0 e) ∙ other) in
+        let is : plan.last_card ≡ greatest_card = number ∙ ap (λ b. if b then last else greatest_card) other in
+        (omega arith, few, is, room, most)
+
+-- and its cards are as many as there are numbers for, and enough for the start keys
+pub last_fits : (last places start : ℕ) → start ≤ last → last ≤ greatest_card → (start ≤ last_for last places) × (last_for last places ≤ greatest_card)
+last_fits last places start room most = by (places == 0)
+  where
+    by : (b : Bool) → (start ≤ (if b then last else greatest_card)) × ((if b then last else greatest_card) ≤ greatest_card)
+    by true = (room, most)
+    by false = (omega arith, omega arith)

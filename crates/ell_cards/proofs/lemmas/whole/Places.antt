@@ -1,0 +1,117 @@
+use Rattle.std.proofs.Common.{◌≡◌, ◌≢◌, ℕ, ◌≤◌, if◌then◌else◌, false, Option, Some, None, is_some, IfSome, refl, sym, ap, ◌∙◌, subst, arith, true≢false}
+use Rattle.ell_layout.specs.Layout.{table_size}
+use Rattle.ell_cards.specs.declared.pass.Standing.{Standing}
+use Rattle.ell_cards.specs.declared.view.Period.{Period}
+use Rattle.ell_cards.specs.Inside.{PlaceFits}
+use Rattle.ell_cards.specs.declared.view.Slots.{Slots}
+use Rattle.ell_cards.specs.Models.{TablePlan}
+use Rattle.ell_cards.specs.Periods.{after_give, after_take, given_period, joined_period, period_by, size_by, slots_size, whole_size}
+use Rattle.ell_core.proofs.lemmas.outcomes.Decide.{some_not_none}
+
+-- the code of a pass keeps its place where nothing changes
+pub same_place : (standing : Standing) (words words' : ℕ) (p p' : Period) → words' ≡ words → p' ≡ p → PlaceFits standing words p → PlaceFits standing words' p'
+same_place standing words words' p p' same is fits = subst (λ n. PlaceFits standing n p') (sym same) (subst (PlaceFits standing words) (sym is) fits)
+
+-- no table with places has the size of one without
+pub no_places : (words last : ℕ) (s : Slots) → words ≡ slots_size s → words ≡ table_size last → ⊥
+no_places words last s x y = omega arith
+
+-- each table has the words of a card
+pub size_some : (plan : TablePlan) → table_size 0 ≤ whole_size plan
+size_some plan = by plan.slots
+  where
+    by : (o : Option Slots) → table_size 0 ≤ size_by o plan.last_card
+    by None = omega arith
+    by (Some s) = omega arith
+
+-- the first pass of a table has the first place, if there is one
+pub first_place_fits : (o : Option Slots) (last words : ℕ) → words ≡ size_by o last → PlaceFits (record { place = (period_by o).place; announces = false }) words (period_by o)
+first_place_fits None last words is = record {
+  place = refl;
+  other = refl;
+  announces = refl;
+  none = λ other e. refl;
+  some = λ s e none. no_places words last s e is;
+}
+first_place_fits (Some s) last words is = record {
+  place = refl;
+  other = refl;
+  announces = refl;
+  none = λ other e. absurd (no_places words other s is e);
+  some = λ t e none. some_not_none refl none;
+}
+
+-- what a pass knows of periods after it looked for a place, and found this one, or none
+pub record Found (o : Option Slots) (result : Option ℕ) (old new : Period) : Type 0 where
+  pub other : new.other ≡ result
+  pub quiet : (q : ℕ) → new.other ≡ Some q → new.other_says ≡ None
+  pub place : new.place ≡ old.place
+  pub announced : new.announced ≡ old.announced
+  pub placed : (q : ℕ) → result ≡ Some q → o ≢ None
+
+pub found_is : (o : Option Slots) (result : Option ℕ) (old new : Period) → old.other ≡ None → IfSome result (λ q. (new ≡ after_take q 0 old) × (o ≢ None)) → (result ≡ None → new ≡ old)
+    → Found o result old new
+found_is o (Some r) old new none took lost = record {
+  other = ap (λ (p : Period). p.other) took.0;
+  quiet = λ q is. ap (λ (p : Period). p.other_says) took.0;
+  place = ap (λ (p : Period). p.place) took.0;
+  announced = ap (λ (p : Period). p.announced) took.0;
+  placed = λ q is. took.1;
+}
+found_is o None old new none took lost =
+    let same = lost refl in record {
+      other = ap (λ (p : Period). p.other) same ∙ none;
+      quiet = λ q is. absurd (some_not_none is (ap (λ (p : Period). p.other) same ∙ none));
+      place = ap (λ (p : Period). p.place) same;
+      announced = ap (λ (p : Period). p.announced) same;
+      placed = λ q is. absurd (some_not_none is refl);
+    }
+
+-- the places of two parts: the left one has the pass's own, and the right one what was found, if there are places
+pub left_place_fits : (standing : Standing) (words words' : ℕ) (o : Option Slots) (result : Option ℕ) (old new : Period) → words' ≡ words → Found o result old new
+    → PlaceFits standing words old → PlaceFits standing words' (after_give new)
+left_place_fits standing words words' o result old new same found fits = record {
+  place = found.place ∙ fits.place;
+  other = refl;
+  announces = fits.announces ∙ ap is_some (sym found.announced);
+  none = λ last e. fits.none last (sym same ∙ e);
+  some = λ s e. fits.some s (sym same ∙ e);
+}
+
+pub right_place_fits : (o : Option Slots) (last words : ℕ) (result : Option ℕ) (old new : Period) → words ≡ size_by o last → Found o result old new → (o ≢ None → result ≢ None)
+    → PlaceFits (record { place = result; announces = false }) words (given_period new)
+right_place_fits o last words result old new size found each = record {
+  place = found.other;
+  other = refl;
+  announces = refl;
+  none = by o result size found.placed;
+  some = λ s e. each (λ is. no_places words last s e (size ∙ ap (λ x. size_by x last) is));
+}
+  where
+    by : (o : Option Slots) (result : Option ℕ) → words ≡ size_by o last → ((q : ℕ) → result ≡ Some q → o ≢ None) → (other : ℕ) → words ≡ table_size other → result ≡ None
+    by o None size placed other e = refl
+    by None (Some q) size placed other e = absurd (placed q refl refl)
+    by (Some s) (Some q) size placed other e = absurd (no_places words other s size e)
+
+-- the place of a pass to which another was joined, once it has given that one's back
+pub joined_place_fits : (standing : Standing) (words words' : ℕ) (gone : Option ℕ) (p other new : Period) → words' ≡ words → other.place ≡ gone
+    → new ≡ (if is_some gone then after_give (joined_period p other) else joined_period p other) → PlaceFits standing words p → PlaceFits standing words' new
+joined_place_fits standing words words' (Some q) p other new same is now fits = subst (PlaceFits standing words') (sym now) (record {
+  place = fits.place;
+  other = refl;
+  announces = fits.announces;
+  none = λ last e. fits.none last (sym same ∙ e);
+  some = λ s e. fits.some s (sym same ∙ e);
+})
+joined_place_fits standing words words' None p other new same is now fits = subst (PlaceFits standing words') (sym now) (record {
+  place = fits.place;
+  other = is;
+  announces = fits.announces;
+  none = λ last e. fits.none last (sym same ∙ e);
+  some = λ s e. fits.some s (sym same ∙ e);
+})
+
+-- what is not there is nothing
+pub none_is : {A : Type 0} (o : Option A) → is_some o ≡ false → o ≡ None
+none_is None is = refl
+none_is (Some x) is = absurd (true≢false is)

@@ -1,0 +1,78 @@
+use Rattle.std.proofs.Common.{◌≡◌, ◌≢◌, ℕ, ◌<◌, ◌≤◌, None, List, get_or, set, inl, inr, sym, ap, ◌∙◌, arith}
+use Rattle.std.proofs.lemmas.Bool.{cases_eq}
+use mathlib.Core.Option.{some}
+use lib.ListN.{get_elem?}
+use Rattle.atomic_table.proofs.Lists.{set_else}
+use Rattle.ell_layout.specs.Layout.{table_size}
+use Rattle.ell_layout.specs.Words.{put}
+use Rattle.ell_layout.proofs.lemmas.Writes.{put_same, put_other}
+use Rattle.ell_cards.specs.declared.view.Known.{Known}
+use Rattle.ell_cards.specs.declared.view.Period.{Period}
+use Rattle.ell_cards.specs.declared.view.Slots.{Slots}
+use Rattle.ell_cards.specs.Periods.{clock_word, place_word, period_of, period_in, PeriodHolds, HasPlace, own, spare, IsAtRest, place_says}
+use Rattle.ell_cards.proofs.lemmas.seats.Seats.{set_there}
+
+-- the words of the cards stand before the clock, and the places behind it
+pub before_clock : (s : Slots) (i : ℕ) → i < table_size s.last → i < clock_word s
+before_clock s i low = omega arith
+
+-- two places have two words
+pub places_apart : (s : Slots) (q r : ℕ) → q < s.places → r < s.places → q ≢ r → place_word s q ≢ place_word s r
+places_apart s q r low low' apart same = apart (omega arith)
+
+-- what the passes know of periods, where one knows something else
+module _ (views : List Known) (id : ℕ) (k : Known) (here : get_elem? views id ≡ some k) (after : Known) where
+  pub period_now : period_in (set views id after) id ≡ after.period
+  period_now = ap period_of (set_there views id after k here)
+
+  pub period_else : (i : ℕ) → i ≢ id → period_in (set views id after) i ≡ period_in views i
+  period_else i apart = ap period_of (set_else views id i after apart)
+
+  pub period_was : period_in views id ≡ k.period
+  period_was = ap period_of here
+
+  -- something of it goes on so
+  pub part_put : {A : Type 0} (part : Period → A) (i : ℕ)
+      → part (period_in (set views id after) i) ≡ put (λ j. part (period_in views j)) id (part after.period) i
+  part_put part i = elim (cases_eq i id) [
+    | inl e ↦ ap (λ j. part (period_in (set views id after) j)) e ∙ (ap part period_now
+        ∙ sym (ap (put (λ j. part (period_in views j)) id (part after.period)) e ∙ put_same (λ j. part (period_in views j)) id (part after.period)))
+    | inr n ↦ ap part (period_else i n) ∙ sym (put_other (λ j. part (period_in views j)) id (part after.period) i n)
+  ]
+
+  -- or as it was
+  pub part_same : {A : Type 0} (part : Period → A) → part after.period ≡ part k.period → (i : ℕ)
+      → part (period_in (set views id after) i) ≡ part (period_in views i)
+  part_same part same i = elim (cases_eq i id) [
+    | inl e ↦ ap (λ j. part (period_in (set views id after) j)) e ∙ (ap part period_now ∙ (same
+        ∙ sym (ap (λ j. part (period_in views j)) e ∙ ap part period_was)))
+    | inr n ↦ ap part (period_else i n)
+  ]
+
+-- what a pass knows of periods stays so where its places say the same, and the clock is no less
+pub holds_on : (s : Slots) (words words' : List ℕ) (u : Known)
+    → ((q : ℕ) → HasPlace u.period q → get_or words' (place_word s q) 0 ≡ get_or words (place_word s q) 0)
+    → get_or words (clock_word s) 0 ≤ get_or words' (clock_word s) 0
+    → PeriodHolds s words u → PeriodHolds s words' u
+holds_on s words words' u same later h = record {
+  place = λ q is. (let at = h.place q is in (at.0, same q (own is) ∙ at.1));
+  other = λ q is. (let at = h.other q is in (at.0, same q (spare is) ∙ at.1));
+  two = h.two;
+  none = h.none;
+  reading = λ n is. (let low = h.reading n is in omega arith);
+  rests = h.rests;
+}
+
+-- a pass that knows the same of periods, and is at rest if it announces nothing, knows what is so
+pub holds_of : (s : Slots) (words : List ℕ) (k l : Known) → l.period ≡ k.period
+    → (k.period.announced ≡ None → IsAtRest l.tree) → PeriodHolds s words k → PeriodHolds s words l
+holds_of s words k l same rests h = record {
+  place = λ q is. (let at = h.place q (sym (ap (λ (p : Period). p.place) same) ∙ is) in
+      (at.0, at.1 ∙ ap (λ (p : Period). place_says p.announced) (sym same)));
+  other = λ q is. (let at = h.other q (sym (ap (λ (p : Period). p.other) same) ∙ is) in
+      (at.0, at.1 ∙ ap (λ (p : Period). place_says p.other_says) (sym same)));
+  two = λ q is other. h.two q (sym (ap (λ (p : Period). p.place) same) ∙ is) (sym (ap (λ (p : Period). p.other) same) ∙ other);
+  none = λ is. ap (λ (p : Period). p.announced) same ∙ h.none (sym (ap (λ (p : Period). p.place) same) ∙ is);
+  reading = λ n is. h.reading n (sym (ap (λ (p : Period). p.reading) same) ∙ is);
+  rests = λ is. rests (sym (ap (λ (p : Period). p.announced) same) ∙ is);
+}

@@ -1,0 +1,443 @@
+use Rattle.std.proofs.Common.{◌≡◌, ◌≢◌, ℕ, zero, suc, ◌+◌, ◌<◌, ◌≤◌, ◌==◌, nat_lt, if◌then◌else◌, min, Bool, true, false, Option, Some, None, List, length, get_or, set, inl, inr, ◌⊎◌, refl, sym, ap, ◌∙◌, subst, ⊎_elim, arith, ne_eqb, length-set, get_or-set_same, get_or-set_other}
+use Rattle.std.proofs.lemmas.Bool.{cases_eq}
+use Rattle.std.proofs.lemmas.Bool.Decides.{nat_tests}
+use Rattle.std.proofs.lemmas.List.{map-set}
+use Rattle.std.proofs.lemmas.Option.{same_Some}
+use mathlib.Core.Option.{some}
+use lib.ListN.{get_elem?}
+use prog.Atomic.{either}
+use Rattle.atomic_table.specs.Table.{keeps}
+use Rattle.atomic_table.proofs.Lists.{at_set, set_again}
+use Rattle.ell_core.proofs.lemmas.outcomes.Decide.{some_not_none}
+use Rattle.ell_layout.specs.Layout.{table_size}
+use Rattle.ell_layout.specs.Words.{put}
+use Rattle.ell_layout.proofs.lemmas.Writes.{put_same, put_other}
+use Rattle.ell_grace.specs.Grace.{Grace, begins, ends, scans}
+use Rattle.ell_grace.specs.Periods.{GraceIsSound}
+use Rattle.ell_grace.proofs.lemmas.Grace.{grace_goes_on}
+use Rattle.ell_cards.specs.declared.view.Known.{Known}
+use Rattle.ell_cards.specs.declared.view.Period.{Period}
+use Rattle.ell_cards.specs.declared.view.Slots.{Slots}
+use Rattle.ell_cards.specs.Models.{TablePlan}
+use Rattle.ell_cards.specs.Periods.{WholeState, clock_word, place_word, slots_size, period_in, word_at_place, announced_by, place_says, last_reading, card_words, card_words_by, after_clock, after_announce, after_take, after_give, HasPlace, own, spare, IsAtRest, PeriodHolds, HasPeriods, grace_of}
+use Rattle.ell_cards.specs.Stepping.{MayGoOn}
+use Rattle.ell_cards.specs.Whole.{trees_of, WordsAre, PeriodsAre}
+use Rattle.ell_cards.proofs.lemmas.whole.Seats.{before_clock, places_apart, part_put, part_same, holds_on}
+use Rattle.ell_cards.proofs.lemmas.whole.Trees.{tree_at, grace_same}
+
+-- the word of a place that a pass has is not 0
+says_something : (o : Option ℕ) → 1 ≤ place_says o
+says_something None = omega arith
+says_something (Some a) = omega arith
+
+-- a word of a place says which reading is announced there
+pub announced_again : (reading : ℕ) → announced_by (reading + 2) ≡ Some reading
+announced_again reading = let two : reading + 2 ≡ suc (suc reading) = omega arith in ap announced_by two
+
+-- a place that was found free is taken
+pub found_free : (q n : ℕ) (p p' : Period) → p' ≡ after_take q n p → (n == 0) ≡ true → p' ≡ after_take q 0 p
+found_free q n p p' is free = let none : n ≡ 0 = grind (arith, nat_tests) in is ∙ ap (λ m. after_take q m p) none
+
+-- and one that was not is not
+pub found_taken : (q n : ℕ) (p p' : Period) → p' ≡ after_take q n p → (n == 0) ≡ false → p' ≡ p
+found_taken q zero p p' is taken = absurd (cc)
+found_taken q (suc n) p p' is taken = is
+
+-- a word that is stored again leaves all words as they were
+word_again : (words : List ℕ) (i : ℕ) → i < length words → (j : ℕ) → get_or (set words i (get_or words i 0)) j 0 ≡ get_or words j 0
+word_again words i inside j = elim (cases_eq j i) [
+  | inl e ↦ ap (λ x. get_or (set words i (get_or words i 0)) x 0) e ∙ (get_or-set_same words i (get_or words i 0) 0 inside ∙ sym (ap (λ x. get_or words x 0) e))
+  | inr n ↦ get_or-set_other words i j (get_or words i 0) 0 n
+]
+
+-- two choices are the same where what is chosen is the same
+chosen : {A : Type 0} (b : Bool) (x y z : A) → (b ≡ true → x ≡ y) → (if b then x else z) ≡ (if b then y else z)
+chosen true x y z h = h refl
+chosen false x y z h = refl
+
+-- no pass has a place
+abbrev IsNobodys : WholeState → ℕ → Type 0
+IsNobodys t q = (j : ℕ) (u : Known) → get_elem? t.views j ≡ some u → HasPlace u.period q → ⊥
+
+-- The periods of a table where a pass knows something else of them and the words became other ones, if the places of other
+-- passes say the same and so does the clock, and each place of the pass was its own or nobody's.
+module _ (s : Slots) (t : WholeState) (id : ℕ) (k : Known) (here : get_elem? t.views id ≡ some k) (h : HasPeriods s t)
+    (words : List ℕ) (p : Period) where
+  abbrev now : Known
+  now = record { tree = k.tree; period = p }
+
+  abbrev after : WholeState
+  after = record { words = words; homes = t.homes; views = set t.views id now }
+
+  module _ (clock : get_or words (clock_word s) 0 ≡ get_or t.words (clock_word s) 0)
+      (others : (j : ℕ) (u : Known) → j ≢ id → get_elem? t.views j ≡ some u → (q : ℕ) → HasPlace u.period q → get_or words (place_word s q) 0 ≡ get_or t.words (place_word s q) 0)
+      (gains : (q : ℕ) → HasPlace p q → HasPlace k.period q ⊎ IsNobodys t q) where
+    -- the pass and another one have no place in common
+    not_mine : (j q : ℕ) (u : Known) → j ≢ id → get_elem? t.views j ≡ some u → HasPlace u.period q → HasPlace p q → ⊥
+    not_mine j q u other at has mine = elim (gains q mine) [
+      | inl was ↦ other (h.apart j id q u k at here has was)
+      | inr none ↦ none j u at has
+    ]
+
+    -- so no two passes have one place
+    apart_in : (i j q : ℕ) (x y : Known) → ((i ≡ id) × (now ≡ x)) ⊎ ((i ≢ id) × (get_elem? t.views i ≡ some x)) → ((j ≡ id) × (now ≡ y)) ⊎ ((j ≢ id) × (get_elem? t.views j ≡ some y))
+        → HasPlace x.period q → HasPlace y.period q → i ≡ j
+    apart_in i j q x y (inl a) (inl b) has has' = a.0 ∙ sym b.0
+    apart_in i j q x y (inl a) (inr b) has has' = absurd (not_mine j q y b.0 b.1 has' (subst (λ (l : Known). HasPlace l.period q) (sym a.1) has))
+    apart_in i j q x y (inr a) (inl b) has has' = absurd (not_mine i q x a.0 a.1 has (subst (λ (l : Known). HasPlace l.period q) (sym b.1) has'))
+    apart_in i j q x y (inr a) (inr b) has has' = h.apart i j q x y a.1 b.1 has has'
+
+    -- the periods are sound again, if the grace periods are and what the pass knows is so
+    pub periods_after : (gone : ℕ → Bool) (began : ℕ → ℕ) (was_gone : ℕ → ℕ → Bool) → GraceIsSound s.places (grace_of s after gone began was_gone)
+        → PeriodHolds s words now → HasPeriods s after
+    periods_after gone began was_gone sound holds = record {
+      gone = gone;
+      began = began;
+      was_gone = was_gone;
+      sound = sound;
+      low = let was = h.low in omega arith;
+      each = λ j u at. ⊎_elim
+          (λ (a : (j ≡ id) × (now ≡ u)). subst (PeriodHolds s words) a.1 holds)
+          (λ (a : (j ≢ id) × (get_elem? t.views j ≡ some u)). holds_on s t.words words u (others j u a.0 a.1) (omega arith) (h.each j u a.1))
+          (at_set t.views id j now u at);
+      apart = λ i j q x y at at' has has'. apart_in i j q x y (at_set t.views id i now x at) (at_set t.views id j now y at') has has';
+    }
+
+-- the periods of a table after a step of a pass on their words
+module _ (s : Slots) (t : WholeState) (id : ℕ) (k : Known) (here : get_elem? t.views id ≡ some k) (h : HasPeriods s t) (size : length t.words ≡ slots_size s) where
+  -- a word is stored again, so nothing changes
+  module _ (i : ℕ) (inside : i < slots_size s) where
+    abbrev again : List ℕ
+    again = set t.words i (get_or t.words i 0)
+
+    same_at : (j : ℕ) → get_or again j 0 ≡ get_or t.words j 0
+    same_at = word_again t.words i (omega arith)
+
+    same_word : (q : ℕ) → word_at_place s again q ≡ word_at_place s t.words q
+    same_word q = ap (λ x. if nat_lt q s.places then announced_by x else None) (same_at (place_word s q))
+
+    same_holds : PeriodHolds s again k
+    same_holds = holds_on s t.words again k (λ q has. same_at (place_word s q)) (let clock = same_at (clock_word s) in omega arith) (h.each id k here)
+
+    pub periods_stay : HasPeriods s (record { words = again; homes = t.homes; views = set t.views id (record { tree = k.tree; period = k.period }) })
+    periods_stay =
+        periods_after s t id k here h again k.period (same_at (clock_word s)) (λ j u other at q has. same_at (place_word s q)) (λ q has. inl has) h.gone h.began h.was_gone
+        (grace_same s.places (grace_of s t h.gone h.began h.was_gone)
+        (grace_of s (record { words = again; homes = t.homes; views = set t.views id (record { tree = k.tree; period = k.period }) }) h.gone h.began h.was_gone)
+        (same_at (clock_word s)) (λ c. refl) same_word (λ q. refl) (λ q c. refl) (λ j. refl)
+        (part_same t.views id k here k (λ p. p.least) refl)
+        (λ j q. part_same t.views id k here k (λ p. nat_lt q p.looked) refl j)
+        (part_same t.views id k here k (λ p. p.safe) refl)
+        (λ c. refl) h.sound)
+        same_holds
+
+  -- the pass reads the clock
+  abbrev reading_now : ℕ
+  reading_now = get_or t.words (clock_word s) 0
+
+  abbrev reads : Known
+  reads = record { tree = k.tree; period = after_clock reading_now k.period }
+
+  -- the grace periods as they are, and after a scan has begun
+  abbrev was : Grace
+  was = grace_of s t h.gone h.began h.was_gone
+
+  abbrev scanned : Grace
+  scanned = record was { least = put was.least id was.clock; seen = put was.seen id (λ q. false) }
+
+  -- nothing is below 0
+  none_below : (q : ℕ) → nat_lt q 0 ≡ false
+  none_below q = grind (arith, nat_tests)
+
+  reads_holds : PeriodHolds s (again (clock_word s) (omega arith)) reads
+  reads_holds = let now = same_holds (clock_word s) (omega arith) in record {
+    place = now.place;
+    other = now.other;
+    two = now.two;
+    none = now.none;
+    reading = λ n is. (let same = same_Some reading_now n is in let clock = same_at (clock_word s) (omega arith) (clock_word s) in omega arith);
+    rests = now.rests;
+  }
+
+  pub periods_read : HasPeriods s (record { words = set t.words (clock_word s) (get_or t.words (clock_word s) 0); homes = t.homes; views = set t.views id reads })
+  periods_read =
+      periods_after s t id k here h (again (clock_word s) (omega arith)) reads.period (same_at (clock_word s) (omega arith) (clock_word s))
+      (λ j u other at q has. same_at (clock_word s) (omega arith) (place_word s q)) gains h.gone h.began h.was_gone
+      (grace_same s.places scanned
+      (grace_of s (record { words = again (clock_word s) (omega arith); homes = t.homes; views = set t.views id reads }) h.gone h.began h.was_gone)
+      (same_at (clock_word s) (omega arith) (clock_word s)) (λ c. refl) (same_word (clock_word s) (omega arith)) (λ q. refl) (λ q c. refl) (λ j. refl)
+      (part_put t.views id k here reads (λ p. p.least))
+      seen
+      (part_same t.views id k here reads (λ p. p.safe) refl)
+      (λ c. refl) (grace_goes_on s.places was scanned h.sound (scans id refl)))
+      reads_holds
+    where
+      gains : (q : ℕ) → HasPlace reads.period q → HasPlace k.period q ⊎ IsNobodys t q
+      gains q (own is) = inl (own is)
+      gains q (spare is) = inl (spare is)
+
+      seen : (i q : ℕ) → nat_lt q (period_in (set t.views id reads) i).looked ≡ put was.seen id (λ r. false) i q
+      seen i q = ap {A = ℕ → Bool} (λ g. g q) (part_put t.views id k here reads (λ p r. nat_lt r p.looked) i)
+          ∙ ap {A = ℕ → Bool} (λ g. put was.seen id g i q) (λ x r. none_below r x)
+
+  -- the word of a place becomes another one
+  module _ (q v : ℕ) (below : q < s.places) where
+    abbrev turned : List ℕ
+    turned = set t.words (place_word s q) v
+
+    turned_here : get_or turned (place_word s q) 0 ≡ v
+    turned_here = get_or-set_same t.words (place_word s q) v 0 (omega arith)
+
+    turned_else : (r : ℕ) → r < s.places → r ≢ q → get_or turned (place_word s r) 0 ≡ get_or t.words (place_word s r) 0
+    turned_else r low other = get_or-set_other t.words (place_word s q) (place_word s r) v 0 (places_apart s r q low below other)
+
+    turned_clock : get_or turned (clock_word s) 0 ≡ get_or t.words (clock_word s) 0
+    turned_clock = get_or-set_other t.words (place_word s q) (clock_word s) v 0 (λ e. omega arith)
+
+    turned_word : (o : Option ℕ) → announced_by v ≡ o → (r : ℕ) → word_at_place s turned r ≡ put (word_at_place s t.words) q o r
+    turned_word o says r = elim (cases_eq r q) [
+      | inl e ↦ ap (word_at_place s turned) e ∙ (chosen_here ∙ sym (ap (put (word_at_place s t.words) q o) e ∙ put_same (word_at_place s t.words) q o))
+      | inr n ↦ chosen (nat_lt r s.places) _ _ None (λ low. ap announced_by (turned_else r (grind (arith, nat_tests)) n)) ∙ sym (put_other (word_at_place s t.words) q o r n)
+    ]
+      where
+        chosen_here : word_at_place s turned q ≡ o
+        chosen_here =
+            let there : nat_lt q s.places ≡ true = grind (arith, nat_tests) in
+            ap (λ b. if b then announced_by (get_or turned (place_word s q) 0) else None) there ∙ (ap announced_by turned_here ∙ says)
+
+    -- who has another place finds its word as it was
+    place_else : (j r : ℕ) (u : Known) → get_elem? t.views j ≡ some u → HasPlace u.period r → r ≢ q → get_or turned (place_word s r) 0 ≡ get_or t.words (place_word s r) 0
+    place_else j r u at (own is) other = turned_else r ((h.each j u at).place r is).0 other
+    place_else j r u at (spare is) other = turned_else r ((h.each j u at).other r is).0 other
+
+    -- no other pass has that place, if this one has it
+    others_have_none : HasPlace k.period q → (j : ℕ) (u : Known) → j ≢ id → get_elem? t.views j ≡ some u → (r : ℕ) → HasPlace u.period r
+        → get_or turned (place_word s r) 0 ≡ get_or t.words (place_word s r) 0
+    others_have_none mine j u other at r has =
+        place_else j r u at has (λ e. other (h.apart j id q u k at here (subst (HasPlace u.period) e has) mine))
+
+    -- nor has any, if its word is 0
+    nobody_has : get_or t.words (place_word s q) 0 ≡ 0 → IsNobodys t q
+    nobody_has empty j u at (own is) = let says = ((h.each j u at).place q is).1 in let more = says_something u.period.announced in absurd (omega arith)
+    nobody_has empty j u at (spare is) = let says = ((h.each j u at).other q is).1 in let more = says_something u.period.other_says in absurd (omega arith)
+
+    -- the grace periods after an announcement
+    module _ (p : Period) (least : p.least ≡ k.period.least) (looked : p.looked ≡ k.period.looked) (safe : p.safe ≡ k.period.safe) where
+      abbrev knows : Known
+      knows = record { tree = k.tree; period = p }
+
+      abbrev turns : WholeState
+      turns = record { words = turned; homes = t.homes; views = set t.views id knows }
+
+      abbrev begun_now : ℕ → Grace
+      begun_now reading = record was { word = put was.word q (Some reading); began = put was.began q was.clock; was_gone = put was.was_gone q was.gone }
+
+      abbrev ended_now : Grace
+      ended_now = record was { word = put was.word q None }
+
+      begun : (reading : ℕ) → announced_by v ≡ Some reading → reading ≤ get_or t.words (clock_word s) 0
+          → GraceIsSound s.places (grace_of s turns h.gone (put h.began q (get_or t.words (clock_word s) 0)) (put h.was_gone q h.gone))
+      begun reading says low =
+          grace_same s.places (begun_now reading) (grace_of s turns h.gone (put h.began q (get_or t.words (clock_word s) 0)) (put h.was_gone q h.gone))
+          turned_clock (λ c. refl) (turned_word (Some reading) says) (λ r. refl) (λ r c. refl) (λ j. refl)
+          (part_same t.views id k here knows (λ x. x.least) least)
+          (λ j r. part_same t.views id k here knows (λ x. nat_lt r x.looked) (ap (nat_lt r) looked) j)
+          (part_same t.views id k here knows (λ x. x.safe) safe)
+          (λ c. refl) (grace_goes_on s.places was (begun_now reading) h.sound (begins q reading below low refl))
+
+      ended : announced_by v ≡ None → GraceIsSound s.places (grace_of s turns h.gone h.began h.was_gone)
+      ended says =
+          grace_same s.places ended_now (grace_of s turns h.gone h.began h.was_gone)
+          turned_clock (λ c. refl) (turned_word None says) (λ r. refl) (λ r c. refl) (λ j. refl)
+          (part_same t.views id k here knows (λ x. x.least) least)
+          (λ j r. part_same t.views id k here knows (λ x. nat_lt r x.looked) (ap (nat_lt r) looked) j)
+          (part_same t.views id k here knows (λ x. x.safe) safe)
+          (λ c. refl) (grace_goes_on s.places was ended_now h.sound (ends q refl))
+
+  -- what the pass knows is so
+  abbrev mine : PeriodHolds s t.words k
+  mine = h.each id k here
+
+  -- a reading of the clock is announced at the place of the pass
+  pub periods_announced : (q reading : ℕ) → k.period.place ≡ Some q → k.period.reading ≡ Some reading
+      → HasPeriods s (record { words = set t.words (place_word s q) (reading + 2); homes = t.homes; views = set t.views id (record { tree = k.tree; period = after_announce (Some reading) k.period }) })
+  periods_announced q reading placed was =
+      periods_after s t id k here h (turned q (reading + 2) below) (after_announce (Some reading) k.period) (turned_clock q (reading + 2) below) (others_have_none q (reading + 2) below (own placed)) gains
+      h.gone (put h.began q (get_or t.words (clock_word s) 0)) (put h.was_gone q h.gone)
+      (begun q (reading + 2) below (after_announce (Some reading) k.period) refl refl refl reading (announced_again reading) (mine.reading reading was))
+      record {
+        place = λ r is. (let e : r ≡ q = same_Some r q (sym is ∙ placed) in let low = below in (omega arith, ap (λ x. get_or (turned q (reading + 2) below) (place_word s x) 0) e ∙ turned_here q (reading + 2) below));
+        other = λ r is. (let at = mine.other r is in
+            (at.0, turned_else q (reading + 2) below r at.0 (λ e. mine.two q placed (is ∙ ap (λ x. Some x) e)) ∙ at.1));
+        two = mine.two;
+        none = λ is. absurd (some_not_none placed is);
+        reading = λ n is. (let same = turned_clock q (reading + 2) below in let low = mine.reading n is in omega arith);
+        rests = λ is. absurd (some_not_none refl is);
+      }
+    where
+      below : q < s.places
+      below = (mine.place q placed).0
+
+      gains : (r : ℕ) → HasPlace (after_announce (Some reading) k.period) r → HasPlace k.period r ⊎ IsNobodys t r
+      gains r (own is) = inl (own is)
+      gains r (spare is) = inl (spare is)
+
+  -- the announcement of a pass at rest is taken away
+  pub periods_retracted : (q : ℕ) → k.period.place ≡ Some q → IsAtRest k.tree
+      → HasPeriods s (record { words = set t.words (place_word s q) 1; homes = t.homes; views = set t.views id (record { tree = k.tree; period = after_announce None k.period }) })
+  periods_retracted q placed rest =
+      periods_after s t id k here h (turned q 1 below) (after_announce None k.period) (turned_clock q 1 below) (others_have_none q 1 below (own placed)) gains
+      h.gone h.began h.was_gone (ended q 1 below (after_announce None k.period) refl refl refl refl)
+      record {
+        place = λ r is. (let e : r ≡ q = same_Some r q (sym is ∙ placed) in let low = below in (omega arith, ap (λ x. get_or (turned q 1 below) (place_word s x) 0) e ∙ turned_here q 1 below));
+        other = λ r is. (let at = mine.other r is in
+            (at.0, turned_else q 1 below r at.0 (λ e. mine.two q placed (is ∙ ap (λ x. Some x) e)) ∙ at.1));
+        two = mine.two;
+        none = λ is. refl;
+        reading = λ n is. (let same = turned_clock q 1 below in let low = mine.reading n is in omega arith);
+        rests = λ is. rest;
+      }
+    where
+      below : q < s.places
+      below = (mine.place q placed).0
+
+      gains : (r : ℕ) → HasPlace (after_announce None k.period) r → HasPlace k.period r ⊎ IsNobodys t r
+      gains r (own is) = inl (own is)
+      gains r (spare is) = inl (spare is)
+
+  -- a place that no pass has is taken
+  pub periods_taken : (q : ℕ) → q < s.places → get_or t.words (place_word s q) 0 ≡ 0
+      → HasPeriods s (record { words = set t.words (place_word s q) 1; homes = t.homes; views = set t.views id (record { tree = k.tree; period = after_take q 0 k.period }) })
+  periods_taken q below empty =
+      periods_after s t id k here h (turned q 1 below) (after_take q 0 k.period) (turned_clock q 1 below)
+      (λ j u other at r has. place_else q 1 below j r u at has (λ e. nobody j u at (subst (HasPlace u.period) e has))) gains
+      h.gone h.began h.was_gone (ended q 1 below (after_take q 0 k.period) refl refl refl refl)
+      record {
+        place = λ r is. (let at = mine.place r is in (at.0, place_else q 1 below id r k here (own is) (λ e. nobody id k here (subst (HasPlace k.period) e (own is))) ∙ at.1));
+        other = λ r is. (let e : r ≡ q = sym (same_Some q r is) in (omega arith, ap (λ x. get_or (turned q 1 below) (place_word s x) 0) e ∙ turned_here q 1 below));
+        two = λ r is other. nobody id k here (subst (HasPlace k.period) (sym (same_Some q r other)) (own is));
+        none = mine.none;
+        reading = λ n is. (let same = turned_clock q 1 below in let low = mine.reading n is in omega arith);
+        rests = mine.rests;
+      }
+    where
+      nobody : IsNobodys t q
+      nobody = nobody_has q 1 below empty
+
+      gains : (r : ℕ) → HasPlace (after_take q 0 k.period) r → HasPlace k.period r ⊎ IsNobodys t r
+      gains r (own is) = inl (own is)
+      gains r (spare is) = inr (λ j u at has. nobody j u at (subst (HasPlace u.period) (sym (same_Some q r is)) has))
+
+  -- the other place of the pass is given back
+  pub periods_given : (q : ℕ) → k.period.other ≡ Some q
+      → HasPeriods s (record { words = set t.words (place_word s q) 0; homes = t.homes; views = set t.views id (record { tree = k.tree; period = after_give k.period }) })
+  periods_given q has =
+      periods_after s t id k here h (turned q 0 below) (after_give k.period) (turned_clock q 0 below) (others_have_none q 0 below (spare has)) gains
+      h.gone h.began h.was_gone (ended q 0 below (after_give k.period) refl refl refl refl)
+      record {
+        place = λ r is. (let at = mine.place r is in
+            (at.0, turned_else q 0 below r at.0 (λ e. mine.two r is (has ∙ ap (λ x. Some x) (sym e))) ∙ at.1));
+        other = λ r is. absurd (some_not_none is refl);
+        two = λ r is other. some_not_none other refl;
+        none = mine.none;
+        reading = λ n is. (let same = turned_clock q 0 below in let low = mine.reading n is in omega arith);
+        rests = mine.rests;
+      }
+    where
+      below : q < s.places
+      below = (mine.other q has).0
+
+      gains : (r : ℕ) → HasPlace (after_give k.period) r → HasPlace k.period r ⊎ IsNobodys t r
+      gains r (own is) = inl (own is)
+      gains r (spare is) = absurd (some_not_none is refl)
+
+-- a step on the words of the periods is one of the table
+module _ (plan : TablePlan) (s : Slots) (placed : plan.slots ≡ Some s) where
+  goes_on : (k : Known) (i : ℕ) (f : ℕ → ℕ) (told : ℕ → Period → Type 0) (p : ℕ → Period) → clock_word s ≤ i
+      → ((t : WholeState) (id : ℕ) → get_elem? t.views id ≡ some k → HasPeriods s t → length t.words ≡ slots_size s
+      → HasPeriods s (record { words = set t.words i (f (get_or t.words i 0)); homes = t.homes; views = set t.views id (record { tree = k.tree; period = p (get_or t.words i 0) }) })
+      × told (get_or t.words i 0) (p (get_or t.words i 0)))
+      → MayGoOn plan k i f told
+  goes_on k i f told p behind step id t h homes here small =
+      let has = subst (λ o. WordsAre plan o t.words h.tree.words) placed h.words in
+      let n = get_or t.words i 0 in
+      let now : Known = record { tree = k.tree; period = p n } in
+      let x = step t id here (subst (λ o. PeriodsAre o t) placed h.periods) has.0 in (
+        now,
+        keeps,
+        tt,
+        record {
+          tree = h.tree;
+          reached = h.reached;
+          views = map-set (λ (l : Known). l.tree) t.views id now ∙ (set_again (trees_of t.views) id k.tree (tree_at t.views id k here) ∙ h.views);
+          homes = h.homes;
+          words = subst (λ o. WordsAre plan o (set t.words i (f n)) h.tree.words) (sym placed)
+              (length-set t.words i (f n) ∙ has.0, λ j low. get_or-set_other t.words i j (f n) 0 (apart j low) ∙ has.1 j low);
+          periods = subst (λ o. PeriodsAre o (record { words = set t.words i (f n); homes = t.homes; views = set t.views id now })) (sym placed) x.0;
+        },
+        (x.1, refl, refl),
+      )
+    where
+      apart : (j : ℕ) → j < card_words plan → j ≢ i
+      apart j low e =
+          let all : card_words plan ≡ min (table_size s.last) (table_size plan.last_card) = ap (λ o. card_words_by o plan.last_card) placed in
+          let before = before_clock s j (omega arith) in omega arith
+
+  -- a pass reads the clock
+  pub read_clock_goes_on : (k : Known) → MayGoOn plan k (clock_word s) (λ n. n) (λ n p. (p ≡ after_clock n k.period) × (n ≤ last_reading))
+  read_clock_goes_on k =
+      goes_on k (clock_word s) (λ n. n) (λ n p. (p ≡ after_clock n k.period) × (n ≤ last_reading)) (λ n. after_clock n k.period) (omega arith)
+      (λ t id here h size. (periods_read s t id k here h size, (refl, h.low)))
+
+  -- it announces a reading of the clock
+  pub announces : (k : Known) (q reading : ℕ) → k.period.place ≡ Some q → k.period.reading ≡ Some reading
+      → MayGoOn plan k (place_word s q) (λ n. reading + 2) (λ n p. p ≡ after_announce (Some reading) k.period)
+  announces k q reading has was =
+      goes_on k (place_word s q) (λ n. reading + 2) (λ n p. p ≡ after_announce (Some reading) k.period) (λ n. after_announce (Some reading) k.period) (omega arith)
+      (λ t id here h size. (periods_announced s t id k here h size q reading has was, refl))
+
+  -- it takes its announcement away
+  pub retracts : (k : Known) (q : ℕ) → k.period.place ≡ Some q → IsAtRest k.tree
+      → MayGoOn plan k (place_word s q) (λ n. 1) (λ n p. p ≡ after_announce None k.period)
+  retracts k q has rest =
+      goes_on k (place_word s q) (λ n. 1) (λ n p. p ≡ after_announce None k.period) (λ n. after_announce None k.period) (omega arith)
+      (λ t id here h size. (periods_retracted s t id k here h size q has rest, refl))
+
+  -- it takes a place, if no pass has it
+  pub takes : (k : Known) (q : ℕ) → q < s.places → MayGoOn plan k (place_word s q) (λ n. either (n == 0) 1 n) (λ n p. p ≡ after_take q n k.period)
+  takes k q below =
+      goes_on k (place_word s q) (λ n. either (n == 0) 1 n) (λ n p. p ≡ after_take q n k.period) (λ n. after_take q n k.period) (omega arith)
+      (λ t id here h size. (by t id here h size (get_or t.words (place_word s q) 0) refl, refl))
+    where
+      taken : (n : ℕ) → either (suc n == 0) 1 (suc n) ≡ suc n
+      taken n = ap (λ b. either b 1 (suc n)) (ne_eqb (suc n) 0 (λ z. omega arith))
+
+      by : (t : WholeState) (id : ℕ) → get_elem? t.views id ≡ some k → HasPeriods s t → length t.words ≡ slots_size s → (n : ℕ) → get_or t.words (place_word s q) 0 ≡ n
+          → HasPeriods s (record { words = set t.words (place_word s q) (either (n == 0) 1 n); homes = t.homes; views = set t.views id (record { tree = k.tree; period = after_take q n k.period }) })
+      by t id here h size zero e = periods_taken s t id k here h size q below e
+      by t id here h size (suc n) e =
+          subst (λ m. HasPeriods s (record { words = set t.words (place_word s q) m; homes = t.homes; views = set t.views id (record { tree = k.tree; period = k.period }) })) (e ∙ sym (taken n))
+          (periods_stay s t id k here h size (place_word s q) (omega arith))
+
+  -- whatever place of the table a word is of
+  pub takes_any : (k : Known) (q word : ℕ) → q < s.places → word ≡ place_word s q
+      → MayGoOn plan k word (λ n. either (n == 0) 1 n)
+      (λ n p. (o : Slots) (r : ℕ) → plan.slots ≡ Some o → r < o.places → word ≡ place_word o r → p ≡ after_take r n k.period)
+  takes_any k q word below is id t h homes here small =
+      let may = subst (λ i. MayGoOn plan k i (λ n. either (n == 0) 1 n) (λ n p. p ≡ after_take q n k.period)) (sym is) (takes k q below) in
+      let x = may id t h homes here small in
+      (x.0, x.1, x.2, x.3, (λ o r slots low at. x.4.0 ∙ ap (λ y. after_take y (get_or t.words word 0) k.period) (one o r slots low at), x.4.1, x.4.2))
+    where
+      one : (o : Slots) (r : ℕ) → plan.slots ≡ Some o → r < o.places → word ≡ place_word o r → q ≡ r
+      one o r slots low at =
+          let same : o ≡ s = same_Some o s (sym slots ∙ placed) in
+          let last : o.last ≡ s.last = ap (λ (x : Slots). x.last) same in
+          let places : o.places ≡ s.places = ap (λ (x : Slots). x.places) same in
+          let clock : clock_word o ≡ clock_word s = ap clock_word same in
+          omega arith
+
+  -- it gives its other place back
+  pub gives_back : (k : Known) (q : ℕ) → k.period.other ≡ Some q → MayGoOn plan k (place_word s q) (λ n. 0) (λ n p. p ≡ after_give k.period)
+  gives_back k q has =
+      goes_on k (place_word s q) (λ n. 0) (λ n p. p ≡ after_give k.period) (λ n. after_give k.period) (omega arith)
+      (λ t id here h size. (periods_given s t id k here h size q has, refl))

@@ -1,0 +1,36 @@
+use Rattle.std.proofs.Common.{◌≡◌, ℕ, ◌<◌, ◌≤◌, Option, Some, sym, ap, ◌∙◌, subst, arith}
+use Rattle.ell_word.specs.Node.{greatest_card}
+use Rattle.ell_cards.specs.declared.view.Slots.{Slots}
+use Rattle.ell_cards.specs.Models.{TableModel}
+use Rattle.ell_cards.specs.Periods.{clock_word, place_word, size_by, slots_size, whole_size}
+use Rattle.ell_cards.specs.Starts.{SlotsFit}
+
+-- The words of the periods in a table with places, as its code keeps it and as callers see it.
+module _ (t u : TableModel) (same : t ≡ u) (size : t.id.words ≡ whole_size t.plan) (fit : SlotsFit t.plan t.plan.slots) (s : Slots) where
+  -- what the code keeps of its places is what the plan says
+  pub kept_is : (o : Option Slots) → o ≡ t.plan.slots → o ≡ Some s → u.plan.slots ≡ Some s
+  kept_is o kept is = ap (λ (m : TableModel). m.plan.slots) (sym same) ∙ (sym kept ∙ is)
+
+  module _ (placed : u.plan.slots ≡ Some s) where
+    planned : t.plan.slots ≡ Some s
+    planned = ap (λ (m : TableModel). m.plan.slots) same ∙ placed
+
+    fits : SlotsFit t.plan (Some s)
+    fits = subst (SlotsFit t.plan) planned fit
+
+    -- there are as many cards and places as there may be
+    pub last_fits : s.last ≤ greatest_card
+    last_fits = fits.4
+
+    pub places_fit : s.places ≤ greatest_card
+    places_fit = let few = fits.1 in omega arith
+
+    -- the table has so many words
+    pub words_are : u.id.words ≡ slots_size s
+    words_are = ap (λ (m : TableModel). m.id.words) (sym same) ∙ (size ∙ ap (λ o. size_by o t.plan.last_card) planned)
+
+    pub clock_inside : (word : ℕ) → word ≡ clock_word s → word < u.id.words
+    clock_inside word is = let all = words_are in omega arith
+
+    pub place_inside : (word q : ℕ) → word ≡ place_word s q → word < u.id.words
+    place_inside word q is = let all = words_are in omega arith

@@ -1,0 +1,201 @@
+use Rattle.std.specs.Prelude.{◌≡◌, ◌≢◌, ℕ, zero, suc, ◌+◌, ◌-◌, ◌*◌, ◌/◌, ◌<◌, ◌≤◌, ◌^◌, ◌==◌, ◌++◌, nat_lt, if◌then◌else◌, Bool, Option, Some, None, List, [], length, replicate, slice_index, slice_set, min}
+use mathlib.Core.Option.{some, none}
+use mathlib.Core.Option.{Option as Maybe}
+use lib.ListN.{get_elem?}
+use Rattle.atomic_table.specs.Table.{State}
+use Rattle.ell_layout.specs.Layout.{table_size}
+use Rattle.ell_word.specs.Node.{greatest_card}
+use Rattle.ell_grace.specs.Grace.{Grace}
+use Rattle.ell_grace.specs.Periods.{GraceIsSound}
+use Rattle.ell_cards.specs.declared.view.Known.{Known}
+use Rattle.ell_cards.specs.declared.view.Period.{Period}
+use Rattle.ell_cards.specs.declared.view.Slots.{Slots}
+use Rattle.ell_cards.specs.declared.view.Told.{Told}
+use Rattle.ell_cards.specs.declared.view.Told.TheVariants.{Met, Key}
+use Rattle.ell_cards.specs.declared.view.View.{View}
+use Rattle.ell_cards.specs.Models.{TablePlan, IsFree, IsTold}
+
+-- the state of a table, with all that its passes know
+abbrev pub WholeState : Type 0
+WholeState = State (Unit {0}) Known
+
+-- The clock of a table with places is the first word of the group behind the last card's, and the places follow it, the first
+-- one at the end. Each has eight words, of which it uses one, so that no two of them are in one line of the cache.
+abbrev pub clock_word : Slots → ℕ
+clock_word s = 774 + 768 * (s.last / 64)
+
+abbrev pub place_word : Slots → ℕ → ℕ
+place_word s q = clock_word s + 1 + 8 * (s.places - q)
+
+-- how many words such a table has. A table without places never has so many.
+abbrev pub slots_size : Slots → ℕ
+slots_size s = clock_word s + 9 + 8 * s.places
+
+-- the words of cards, and behind them those of the periods at the start: nobody has a place but the first pass
+abbrev pub opening_words : Slots → List ℕ → List ℕ
+opening_words s words = slice_set (words ++ replicate (slots_size s - length words) 0) (place_word s 0) 1
+
+abbrev pub whole_words : Option Slots → List ℕ → List ℕ
+whole_words None words = words
+whole_words (Some s) words = opening_words s words
+
+-- the cards and the places of a table of cards up to a last one, none for no places, and the number of the last card to which
+-- its claims may come, if each card could have words
+abbrev pub slots_of : ℕ → ℕ → Option Slots
+slots_of last places = if places == 0 then None else Some (record { last = last; places = places })
+
+abbrev pub last_for : ℕ → ℕ → ℕ
+last_for last places = if places == 0 then last else greatest_card
+
+-- how many words a table has, with places or without them
+abbrev pub size_by : Option Slots → ℕ → ℕ
+size_by None last = table_size last
+size_by (Some s) last = slots_size s
+
+abbrev pub whole_size : TablePlan → ℕ
+whole_size plan = size_by plan.slots plan.last_card
+
+-- and how many of them are words of cards
+abbrev pub card_words_by : Option Slots → ℕ → ℕ
+card_words_by None last = table_size last
+card_words_by (Some s) last = min (table_size s.last) (table_size last)
+
+abbrev pub card_words : TablePlan → ℕ
+card_words plan = card_words_by plan.slots plan.last_card
+
+-- The word of a place is 0 if no pass has it, 1 if its pass is in no period, and else the reading of the clock that its pass
+-- announces, and 2.
+abbrev pub place_says : Option ℕ → ℕ
+place_says None = 1
+place_says (Some reading) = reading + 2
+
+abbrev pub announced_by : ℕ → Option ℕ
+announced_by zero = None
+announced_by (suc zero) = None
+announced_by (suc (suc reading)) = Some reading
+
+-- the clock stops here, so that a place has a word for each reading
+abbrev pub last_reading : ℕ
+last_reading = 2 ^ 62
+
+-- what a pass without a place knows of periods: nothing
+abbrev pub no_period : Period
+no_period = record { place = None; other = None; other_says = None; announced = None; reading = None; least = 0; looked = 0; safe = 0 }
+
+-- the first pass of a table has the first place, if there is one
+abbrev pub period_by : Option Slots → Period
+period_by None = no_period
+period_by (Some s) = record no_period { place = Some 0 }
+
+abbrev pub first_period : TablePlan → Period
+first_period plan = period_by plan.slots
+
+-- the clock was read, so a look at the places begins
+abbrev pub after_clock : ℕ → Period → Period
+after_clock n p = record p { reading = Some n; least = n; looked = 0 }
+
+-- a period was begun, or ended
+abbrev pub after_announce : Option ℕ → Period → Period
+after_announce reading p = record p { announced = reading }
+
+-- the least of a number and an announcement
+abbrev pub least_of : ℕ → Option ℕ → ℕ
+least_of n None = n
+least_of n (Some a) = min n a
+
+-- once all places were looked at, the least number that was seen is the safe one
+abbrev pub settled_at : ℕ → ℕ → ℕ → ℕ → ℕ
+settled_at places looked least safe = if nat_lt looked places then safe else least
+
+-- the next place was looked at, and its word is this
+abbrev pub after_look_at : ℕ → ℕ → Period → Period
+after_look_at places n p = record p {
+  least = least_of p.least (announced_by n);
+  looked = p.looked + 1;
+  safe = settled_at places (p.looked + 1) (least_of p.least (announced_by n)) p.safe;
+}
+
+-- a place was taken that no pass had, if its word was 0
+abbrev pub after_take : ℕ → ℕ → Period → Period
+after_take q zero p = record p { other = Some q; other_says = None }
+after_take q (suc n) p = p
+
+-- the other place was given back, or given away
+abbrev pub after_give : Period → Period
+after_give p = record p { other = None; other_says = None }
+
+-- the pass that gets it
+abbrev pub given_period : Period → Period
+given_period p = record no_period { place = p.other }
+
+-- the pass to which another was joined has that one's place, with what is announced there
+abbrev pub joined_period : Period → Period → Period
+joined_period p other = record p { other = other.place; other_says = other.announced }
+
+-- a pass has a place
+pub data HasPlace (p : Period) (q : ℕ) : Type 0 where
+  own : p.place ≡ Some q → HasPlace p q
+  spare : p.other ≡ Some q → HasPlace p q
+
+-- what was told names no node but the root
+abbrev pub IsOfRoot : Told → Type 0
+IsOfRoot (Met x) = x ≡ 0
+IsOfRoot (Key x key) = x ≡ 0
+IsOfRoot _ = ⊥
+
+-- a pass has nothing in hand and stands nowhere, and has forgotten what it was told
+pub record IsAtRest (v : View) : Type 0 where
+  pub free : IsFree v
+  pub nowhere : v.worker.search.node ≡ None
+  pub forgot : (e : Told) → IsTold v e → IsOfRoot e
+  pub nothing : v.glances ≡ []
+
+-- What a pass knows of periods is so: its places are among those of the table, two if it has another one, and their words say
+-- what it knows to be announced there; the clock has been as it was read; and a pass that announces nothing is at rest.
+pub record PeriodHolds (s : Slots) (words : List ℕ) (k : Known) : Type 0 where
+  pub place : (q : ℕ) → k.period.place ≡ Some q → (q < s.places) × (slice_index words (place_word s q) ≡ place_says k.period.announced)
+  pub other : (q : ℕ) → k.period.other ≡ Some q → (q < s.places) × (slice_index words (place_word s q) ≡ place_says k.period.other_says)
+  pub two : (q : ℕ) → k.period.place ≡ Some q → k.period.other ≢ Some q
+  pub none : k.period.place ≡ None → k.period.announced ≡ None
+  pub reading : (n : ℕ) → k.period.reading ≡ Some n → n ≤ slice_index words (clock_word s)
+  pub rests : k.period.announced ≡ None → IsAtRest k.tree
+
+-- what the pass in a seat knows of periods: nothing, if there is none
+abbrev pub period_of : Maybe Known → Period
+period_of none = no_period
+period_of (some k) = k.period
+
+abbrev pub period_in : List Known → ℕ → Period
+period_in views i = period_of (get_elem? views i)
+
+-- what a place says, if it is one of the table
+abbrev pub word_at_place : Slots → List ℕ → ℕ → Option ℕ
+word_at_place s words q = if nat_lt q s.places then announced_by (slice_index words (place_word s q)) else None
+
+-- The grace periods of a table: the clock and what is announced are its words, and what each pass has seen is what it knows.
+-- What the clock was when a pass began its period, and which cards were gone then, nobody reads.
+abbrev pub grace_of : Slots → WholeState → (ℕ → Bool) → (ℕ → ℕ) → (ℕ → ℕ → Bool) → Grace
+grace_of s t gone began was_gone = record {
+  clock = slice_index t.words (clock_word s);
+  gone = gone;
+  word = word_at_place s t.words;
+  began = began;
+  was_gone = was_gone;
+  pending = λ i. None;
+  least = λ i. (period_in t.views i).least;
+  seen = λ i q. nat_lt q (period_in t.views i).looked;
+  safe = λ i. (period_in t.views i).safe;
+  free = λ c. None;
+}
+
+-- the periods of a table are sound: they are such grace periods, what each pass knows of them is so, and no two passes have
+-- one place
+pub record HasPeriods (s : Slots) (t : WholeState) : Type 0 where
+  pub gone : ℕ → Bool
+  pub began : ℕ → ℕ
+  pub was_gone : ℕ → ℕ → Bool
+  pub sound : GraceIsSound s.places (grace_of s t gone began was_gone)
+  pub low : slice_index t.words (clock_word s) ≤ last_reading
+  pub each : (i : ℕ) (k : Known) → get_elem? t.views i ≡ some k → PeriodHolds s t.words k
+  pub apart : (i j q : ℕ) (k l : Known) → get_elem? t.views i ≡ some k → get_elem? t.views j ≡ some l
+      → HasPlace k.period q → HasPlace l.period q → i ≡ j

@@ -1,0 +1,45 @@
+use Rattle.std.specs.Prelude.{◌≡◌, ℕ, ◌<◌, Option, Some, None, List, length, map, slice_index}
+use Rattle.ell_cards.specs.declared.view.Known.{Known}
+use Rattle.ell_cards.specs.declared.view.Slots.{Slots}
+use Rattle.ell_cards.specs.declared.view.View.{View}
+use Rattle.ell_cards.specs.Models.{TablePlan}
+use Rattle.ell_cards.specs.Changes.{first_of, joined_view, spent_view}
+use Rattle.ell_cards.specs.Periods.{WholeState, slots_size, card_words, no_period, first_period, joined_period, HasPeriods}
+use Rattle.ell_cards.specs.Starts.{IsReached}
+use Rattle.ell_cards.specs.States.{TableState}
+
+-- what the passes of a table know of its tree
+abbrev pub trees_of : List Known → List View
+trees_of views = map (λ k. k.tree) views
+
+-- the first pass of a table
+abbrev pub first_known : TablePlan → Known
+first_known plan = record { tree = first_of plan; period = first_period plan }
+
+-- two passes as one, and what is left of the other
+abbrev pub joined_known : Known → Known → Known
+joined_known k l = record { tree = joined_view k.tree l.tree; period = joined_period k.period l.period }
+
+abbrev pub spent_known : Known
+spent_known = record { tree = spent_view; period = no_period }
+
+-- The words of a table are those of a state that turns have led to: all of them, or, in a table with places, those of the cards
+-- that have words.
+abbrev pub WordsAre : (plan : TablePlan) → Option Slots → List ℕ → List ℕ → Type 0
+WordsAre plan None words tree = words ≡ tree
+WordsAre plan (Some s) words tree =
+    (length words ≡ slots_size s) × ((i : ℕ) → i < card_words plan → slice_index words i ≡ slice_index tree i)
+
+-- its periods are sound, if there are places
+abbrev pub PeriodsAre : Option Slots → WholeState → Type 0
+PeriodsAre None t = Unit {0}
+PeriodsAre (Some s) t = HasPeriods s t
+
+-- The rule of a table: turns of its passes have led its tree where it is, and its grace periods are sound.
+pub record IsWhole (plan : TablePlan) (t : WholeState) : Type 0 where
+  pub tree : TableState
+  pub reached : IsReached plan tree
+  pub views : trees_of t.views ≡ tree.views
+  pub homes : tree.homes ≡ t.homes
+  pub words : WordsAre plan plan.slots t.words tree.words
+  pub periods : PeriodsAre plan.slots t

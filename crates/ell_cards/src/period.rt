@@ -1,0 +1,250 @@
+//! Grace periods: where a table has places, a pass tells at its own when it is in an operation or a look, and a number is
+//! safe if every pass that is in one began it when the clock was that at least. Their steps are on words of their own, and are
+//! not counted.
+ghost use Rattle.std.specs.Prelude.{◌≡◌, ◌≢◌, ◌⊎◌, ◌≤◌, ◌<◌, ◌==◌, if◌then◌else◌, is_some, None, Some, [], true, false, IfSome};
+ghost use prog.Atomic.{either};
+ghost use Rattle.ell_word.specs.Node.{greatest_card};
+ghost use Rattle.ell_cards.specs.Models.{last_claim_of};
+ghost use Rattle.ell_cards.specs.Inside.{PlaceFits};
+ghost use Rattle.ell_cards.specs.Periods.{IsAtRest, after_announce, after_clock, after_give, after_take, clock_word, last_reading, place_word, slots_size};
+ghost use Rattle.ell_cards.specs.Stepping.{MayGoOn};
+
+use crate::pass::{Pass, Standing};
+use crate::rule::{InPeriod, PeriodTelling};
+use crate::table::CardTable;
+use crate::view::{Known, Slots};
+use atomic_table::Seat;
+use std::alloc::Allocator;
+use std::marker::Brand;
+
+/// The clock stops here, so that a place has a word for each reading.
+const LAST_READING: u64 = 4611686018427387904;
+
+impl Slots {
+    /// Returns the address of the clock: behind the group of the last card.
+    #[inline(always)]
+    pub(crate) fn clock_word(self) -> usize
+        requires { self.last ≤ greatest_card }
+        ensures { result ≡ clock_word self }
+    {
+        (774 + 768 * (self.last / 64)) as usize
+    }
+
+    /// Returns the address of a place. The first place stands at the end.
+    #[inline(always)]
+    pub(crate) fn place_word(self, place: u64) -> usize
+        requires last { self.last ≤ greatest_card }
+        requires few { self.places ≤ greatest_card }
+        ensures { result ≡ place_word self place }
+    {
+        self.clock_word() + 1 + 8 * self.places.saturating_sub(place) as usize
+    }
+
+    /// Returns how many words a table with places has.
+    pub(crate) fn size(self) -> usize
+        requires last { self.last ≤ greatest_card }
+        requires few { self.places ≤ greatest_card }
+        ensures { result ≡ slots_size self }
+    {
+        self.clock_word() + 9 + 8 * self.places as usize
+    }
+}
+
+/// Returns the number of the last card that may be claimed: the last one, or the last one that has words.
+pub(crate) fn last_claim(slots: Option<Slots>, last_card: u64) -> u64
+    ensures { result ≡ last_claim_of slots last_card }
+{
+    match slots {
+        None => last_card,
+        Some(slots) => slots.last.min(last_card),
+    }
+}
+
+impl<A: Allocator + Copy> CardTable<A> {
+    // Loads a word of the periods.
+    #[inline(always)]
+    fn period_load<J: PeriodTelling>(&self, seat: &mut Seat<(), Known>, word: usize) -> u64
+        requires own { seat.old.table_id ≡ self.now.id }
+        requires empty { seat.old.me.1 ≡ [] }
+        requires word { word < self.now.id.words }
+        requires rule { MayGoOn self.now.plan seat.old.me.0 word (λ n. n) J.then }
+        ensures told { J.then result seat.new.me.0.period }
+        ensures tree { seat.new.me.0.tree ≡ seat.old.me.0.tree }
+        ensures seat { (seat.new.table_id ≡ seat.old.table_id) × (seat.new.me.1 ≡ []) }
+    {
+        self.table.shared.load::<InPeriod<J>>(seat, word)
+    }
+
+    // Stores a word of the periods.
+    #[inline(always)]
+    fn period_store<J: PeriodTelling>(&self, seat: &mut Seat<(), Known>, word: usize, value: u64)
+        requires own { seat.old.table_id ≡ self.now.id }
+        requires empty { seat.old.me.1 ≡ [] }
+        requires word { word < self.now.id.words }
+        requires rule { MayGoOn self.now.plan seat.old.me.0 word (λ n. value) (λ n. J.then value) }
+        ensures told { J.then value seat.new.me.0.period }
+        ensures tree { seat.new.me.0.tree ≡ seat.old.me.0.tree }
+        ensures seat { (seat.new.table_id ≡ seat.old.table_id) × (seat.new.me.1 ≡ []) }
+    {
+        self.table.shared.store::<InPeriod<J>>(seat, word, value)
+    }
+
+    // Exchanges a word of the periods.
+    #[inline(always)]
+    fn period_exchange<J: PeriodTelling>(
+        &self,
+        seat: &mut Seat<(), Known>,
+        word: usize,
+        expected: u64,
+        value: u64,
+    ) -> u64
+        requires own { seat.old.table_id ≡ self.now.id }
+        requires empty { seat.old.me.1 ≡ [] }
+        requires word { word < self.now.id.words }
+        requires rule { MayGoOn self.now.plan seat.old.me.0 word (λ n. either (n == expected) value n) J.then }
+        ensures told { J.then result seat.new.me.0.period }
+        ensures tree { seat.new.me.0.tree ≡ seat.old.me.0.tree }
+        ensures seat { (seat.new.table_id ≡ seat.old.table_id) × (seat.new.me.1 ≡ []) }
+    {
+        self.table
+            .shared
+            .compare_exchange::<InPeriod<J>>(seat, word, expected, value)
+    }
+
+    // Reads the clock.
+    fn read_clock(&self, seat: &mut Seat<(), Known>, slots: Slots) -> u64
+        requires own { seat.old.table_id ≡ self.now.id }
+        requires empty { seat.old.me.1 ≡ [] }
+        requires slots { self.now.plan.slots ≡ Some slots }
+        ensures clock { seat.new.me.0.period ≡ after_clock result seat.old.me.0.period }
+        ensures low { result ≤ last_reading }
+        ensures tree { seat.new.me.0.tree ≡ seat.old.me.0.tree }
+        ensures seat { (seat.new.table_id ≡ seat.old.table_id) × (seat.new.me.1 ≡ []) }
+    {
+        let _ = &self.table;
+        self.period_load::<Brand>(seat, slots.clock_word())
+    }
+
+    // Announces a reading of the clock at the place of a pass that announces nothing.
+    fn announce(&self, seat: &mut Seat<(), Known>, slots: Slots, place: u64, reading: u64)
+        requires own { seat.old.table_id ≡ self.now.id }
+        requires empty { seat.old.me.1 ≡ [] }
+        requires slots { self.now.plan.slots ≡ Some slots }
+        requires place { seat.old.me.0.period.place ≡ Some place }
+        requires reading { seat.old.me.0.period.reading ≡ Some reading }
+        requires low { reading ≤ last_reading }
+        requires quiet { seat.old.me.0.period.announced ≡ None }
+        ensures announced { seat.new.me.0.period ≡ after_announce (Some reading) seat.old.me.0.period }
+        ensures tree { seat.new.me.0.tree ≡ seat.old.me.0.tree }
+        ensures seat { (seat.new.table_id ≡ seat.old.table_id) × (seat.new.me.1 ≡ []) }
+    {
+        let _ = &self.table;
+        self.period_store::<Brand>(seat, slots.place_word(place), reading + 2)
+    }
+
+    // Takes the announcement of a pass at rest away from its place.
+    fn retract(&self, seat: &mut Seat<(), Known>, slots: Slots, place: u64)
+        requires own { seat.old.table_id ≡ self.now.id }
+        requires empty { seat.old.me.1 ≡ [] }
+        requires slots { self.now.plan.slots ≡ Some slots }
+        requires place { seat.old.me.0.period.place ≡ Some place }
+        requires rest { IsAtRest seat.old.me.0.tree }
+        ensures announced { seat.new.me.0.period ≡ after_announce None seat.old.me.0.period }
+        ensures tree { seat.new.me.0.tree ≡ seat.old.me.0.tree }
+        ensures seat { (seat.new.table_id ≡ seat.old.table_id) × (seat.new.me.1 ≡ []) }
+    {
+        let _ = &self.table;
+        self.period_store::<Brand>(seat, slots.place_word(place), 1)
+    }
+
+    // Begins a period, if there are places and the pass is in none: it reads the clock, and announces that.
+    #[inline(always)]
+    pub(crate) fn enter(&self, standing: &mut Standing, seat: &mut Seat<(), Known>)
+        requires own { seat.old.table_id ≡ self.now.id }
+        requires empty { seat.old.me.1 ≡ [] }
+        requires fits { PlaceFits standing.old seat.old.table_id.words seat.old.me.0.period }
+        ensures open { (self.now.plan.slots ≡ None) ⊎ (seat.new.me.0.period.announced ≢ None) }
+        ensures fits { PlaceFits standing.new seat.new.table_id.words seat.new.me.0.period }
+        ensures tree { seat.new.me.0.tree ≡ seat.old.me.0.tree }
+        ensures seat { (seat.new.table_id ≡ seat.old.table_id) × (seat.new.me.1 ≡ []) }
+    {
+        if standing.announces {
+            return;
+        }
+        let (Some(slots), Some(place)) = (self.slots, standing.place) else {
+            return;
+        };
+        let reading = self.read_clock(seat, slots);
+        self.announce(seat, slots, place, reading);
+        standing.announces = true;
+    }
+
+    /// Ends the period of a pass at rest, if it is in one.
+    #[inline(always)]
+    pub(crate) fn withdraw(&self, pass: &mut Pass<A>)
+        requires own { pass.old.table ≡ self.now.id }
+        requires rest { IsAtRest pass.old.view }
+        // What the pass knows of the tree is as it was, and it has made no step that is counted.
+        ensures { pass.new ≡ pass.old }
+    {
+        if !pass.standing.announces {
+            return;
+        }
+        let (Some(slots), Some(place)) = (self.slots, pass.standing.place) else {
+            return;
+        };
+        self.retract(&mut pass.seat, slots, place);
+        pass.standing.announces = false;
+    }
+
+    // Takes a place that no pass has, if it is free. Returns `true` if it was.
+    fn take_place(&self, seat: &mut Seat<(), Known>, slots: Slots, place: u64) -> bool
+        requires own { seat.old.table_id ≡ self.now.id }
+        requires empty { seat.old.me.1 ≡ [] }
+        requires slots { self.now.plan.slots ≡ Some slots }
+        requires there { place < slots.places }
+        requires none { seat.old.me.0.period.other ≡ None }
+        ensures taken { result ≡ true → seat.new.me.0.period ≡ after_take place 0 seat.old.me.0.period }
+        ensures lost { result ≡ false → seat.new.me.0.period ≡ seat.old.me.0.period }
+        ensures tree { seat.new.me.0.tree ≡ seat.old.me.0.tree }
+        ensures seat { (seat.new.table_id ≡ seat.old.table_id) × (seat.new.me.1 ≡ []) }
+    {
+        let _ = &self.table;
+        self.period_exchange::<Brand>(seat, slots.place_word(place), 0, 1) == 0
+    }
+
+    // Takes the first place that no pass has, if there are places and one is free.
+    pub(crate) fn find_place(&self, seat: &mut Seat<(), Known>) -> Option<u64>
+        requires own { seat.old.table_id ≡ self.now.id }
+        requires empty { seat.old.me.1 ≡ [] }
+        requires none { seat.old.me.0.period.other ≡ None }
+        ensures taken { IfSome result (λ q. (seat.new.me.0.period ≡ after_take q 0 seat.old.me.0.period) × (self.now.plan.slots ≢ None)) }
+        ensures lost { result ≡ None → seat.new.me.0.period ≡ seat.old.me.0.period }
+        ensures tree { seat.new.me.0.tree ≡ seat.old.me.0.tree }
+        ensures seat { (seat.new.table_id ≡ seat.old.table_id) × (seat.new.me.1 ≡ []) }
+    {
+        let slots = self.slots?;
+        for place in 0..slots.places {
+            if self.take_place(seat, slots, place) {
+                return Some(place);
+            }
+        }
+        None
+    }
+
+    // Gives the other place of a pass back, if it has one.
+    pub(crate) fn give_back(&self, seat: &mut Seat<(), Known>, place: Option<u64>)
+        requires own { seat.old.table_id ≡ self.now.id }
+        requires empty { seat.old.me.1 ≡ [] }
+        requires other { seat.old.me.0.period.other ≡ place }
+        requires none { self.now.plan.slots ≡ None → place ≡ None }
+        ensures given { seat.new.me.0.period ≡ (if is_some place then after_give seat.old.me.0.period else seat.old.me.0.period) }
+        ensures tree { seat.new.me.0.tree ≡ seat.old.me.0.tree }
+        ensures seat { (seat.new.table_id ≡ seat.old.table_id) × (seat.new.me.1 ≡ []) }
+    {
+        let (Some(slots), Some(place)) = (self.slots, place) else {
+            return;
+        };
+        self.period_store::<Brand>(seat, slots.place_word(place), 0)
+    }
+}
