@@ -143,10 +143,11 @@ IsOfRoot (Met x) = x ≡ 0
 IsOfRoot (Key x key) = x ≡ 0
 IsOfRoot _ = ⊥
 
--- a pass has nothing in hand and stands nowhere, and has forgotten what it was told
+-- a pass has nothing in hand and stands nowhere, and has forgotten what it was told, and where a look had come to
 pub record IsAtRest (v : View) : Type 0 where
   pub free : IsFree v
   pub nowhere : v.worker.search.node ≡ None
+  pub empty : v.worker.card ≡ None
   pub forgot : (e : Told) → IsTold v e → IsOfRoot e
   pub nothing : v.glances ≡ []
 

@@ -18,6 +18,7 @@ use Rattle.ell_cards.specs.Models.{TablePlan, IsTold, Knows}
 use Rattle.ell_cards.specs.Calls.{May, word_of}
 use Rattle.ell_cards.specs.States.{TableState}
 use Rattle.ell_cards.specs.Machines.{HasMachine}
+use Rattle.ell_cards.specs.Periods.{IsAtRest}
 use Rattle.ell_cards.specs.Laws.{machine_of_table}
 use Rattle.ell_cards.specs.Starts.{IsReached}
 use Rattle.ell_cards.specs.Turns.{Turn, CallIsMade, TableRun}
@@ -100,3 +101,13 @@ abbrev pub KnownTakenOutIsGone : Type 0
 KnownTakenOutIsGone = (plan : TablePlan) (s : TableState) (seat : ℕ) (v : View)
     → get_elem? s.views seat ≡ some v → (c x : ℕ) → KnowsTakenOut v c x
     → (r : HasMachine plan s) (has : HasOuts (machine_of_table plan s r)) → IsGone r.words has.stages x
+
+-- it is the root's, or the claim word
+abbrev pub IsTheRoots : Touched → Type 0
+IsTheRoots (AtNode x) = x ≡ 0
+IsTheRoots (OfCard c) = ⊥
+IsTheRoots AtRoot = Unit {0}
+
+-- a pass at rest, which has nothing in hand and has forgotten what it was told, may touch no other
+abbrev pub RestTouchesTheRoot : Type 0
+RestTouchesTheRoot = (plan : TablePlan) (v : View) → IsAtRest v → (c : Call) → May plan c v → IsTheRoots (touched_by c)

@@ -22,7 +22,7 @@ ghost use Rattle.ell_cards.specs.Placing.{LooksHavePlaces};
 ghost use Rattle.ell_cards.specs.LayingDown.{LaidDownCallsChangeNothing, LaidDownLastChangesNothing};
 ghost use Rattle.ell_cards.specs.Answering.{AnswersHaveTheirPoints};
 ghost use Rattle.ell_cards.specs.Taking.{DeletesTakeWhatTheyTell};
-ghost use Rattle.ell_cards.specs.Touching.{CallsTouchTheirWords, TablesHaveOuts, CallsTouchNothingGone, KnownTakenOutIsGone};
+ghost use Rattle.ell_cards.specs.Touching.{CallsTouchTheirWords, TablesHaveOuts, CallsTouchNothingGone, KnownTakenOutIsGone, RestTouchesTheRoot};
 ghost use Rattle.ell_cards.specs.Sharing.{SharesAddUp};
 ghost use Rattle.ell_cards.specs.Tellings.{NoGreaterNext, NoGreaterUpdate, NoOtherOutcome, NoUntriedClaimLost};
 ghost use Rattle.ell_cards.specs.Laws.{StepsAreEvents, SplitsAreHandovers, JoinsAreHandovers, MachineIsSound, MachineHasOwnWords};
@@ -327,4 +327,6 @@ pub fn calls_touch_nothing_gone()
     ensures premise { LookBeginsWhenGone }
     // A node is gone if a pass knows that a card is over that took the node out.
     ensures gone { KnownTakenOutIsGone }
+    // A pass at rest touches nothing but the root's words and the claim word.
+    ensures rest { RestTouchesTheRoot }
 {}

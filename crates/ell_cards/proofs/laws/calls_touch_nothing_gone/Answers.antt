@@ -1,7 +1,8 @@
 -- Call by call: what a pass is told since was there then.
 use Rattle.ell_cards.proofs.lemmas.runs.Touching.{calls_touch_their_words, tables_have_outs, calls_touch_nothing_gone, known_taken_out_is_gone}
 use Rattle.ell_cards.proofs.lemmas.runs.SmallRun.{look_begins_when_gone}
+use Rattle.ell_cards.proofs.lemmas.whole.Rests.{rest_touches_the_root}
 use Rattle.ell_cards.proofs.laws.calls_touch_nothing_gone.Goals as goal
 
 pub returns : goal.returns
-returns c = record { words = calls_touch_their_words; outs = tables_have_outs; touches = calls_touch_nothing_gone; premise = look_begins_when_gone; gone = known_taken_out_is_gone }
+returns c = record { words = calls_touch_their_words; outs = tables_have_outs; touches = calls_touch_nothing_gone; premise = look_begins_when_gone; gone = known_taken_out_is_gone; rest = rest_touches_the_root }

@@ -209,7 +209,7 @@ module _ (sl : Slots) (t : WholeState) (id other : ℕ) (k l : Known) (here : ge
         two = λ q is has. aside (sym (h.apart id other q k l here there (own is) (own has)));
         none = mine.none;
         reading = mine.reading;
-        rests = λ is. is_at_rest (joined_view k.tree l.tree) refl refl refl refl;
+        rests = λ is. is_at_rest (joined_view k.tree l.tree) refl refl refl refl refl;
       }
 
   spent_holds : PeriodHolds sl t.words spent_known
@@ -219,7 +219,7 @@ module _ (sl : Slots) (t : WholeState) (id other : ℕ) (k l : Known) (here : ge
     two = λ q is has. some_not_none has refl;
     none = λ is. refl;
     reading = λ n is. absurd (some_not_none is refl);
-    rests = λ is. is_at_rest spent_view refl refl refl refl;
+    rests = λ is. is_at_rest spent_view refl refl refl refl refl;
   }
 
   pub data Before (j : ℕ) (u : Known) : Type 0 where

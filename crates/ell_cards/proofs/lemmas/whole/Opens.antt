@@ -150,7 +150,7 @@ whole_first plan may cards words size are is = by plan.slots refl may.slots
         let long = table_size plan.last_card - length cards in
         let tree = cards ++ replicate long 0 in
         let long_size : length tree ≡ table_size plan.last_card = length-append cards (replicate long 0) ∙ (let many = zeros_many long in omega arith) in
-        let rest : IsAtRest (first_of plan) = is_at_rest (first_of plan) refl refl refl refl in
+        let rest : IsAtRest (first_of plan) = is_at_rest (first_of plan) refl refl refl refl refl in
         record {
           tree = opening tree [] (first_of plan);
           reached = reached_first plan tree may long_size (words_same tree cards (with_zeros cards long) ∙ are);

@@ -10,14 +10,16 @@ use Rattle.ell_cards.specs.Models.{TablePlan, Has, latest, earlier}
 use Rattle.ell_cards.specs.Changes.{forgotten}
 use Rattle.ell_cards.specs.Calls.{Exchange, atomic_of, after, May}
 use Rattle.ell_cards.specs.Periods.{IsOfRoot, IsAtRest}
+use Rattle.ell_cards.specs.Touching.{RestTouchesTheRoot}
 use Rattle.ell_cards.specs.Stepping.{IsQuiet, IsTaken, LeavesRest}
 use Rattle.ell_cards.proofs.lemmas.lifetimes.Idle.{root_alone}
 
 -- a pass that has forgotten what it was told, has nothing in hand, and stands nowhere
-pub is_at_rest : (v : View) → v.worker.operation ≡ None → v.worker.search.node ≡ None → v.told ≡ forgotten → v.glances ≡ [] → IsAtRest v
-is_at_rest v free nowhere told nothing = record {
+pub is_at_rest : (v : View) → v.worker.operation ≡ None → v.worker.search.node ≡ None → v.worker.card ≡ None → v.told ≡ forgotten → v.glances ≡ [] → IsAtRest v
+is_at_rest v free nowhere empty told nothing = record {
   free = free;
   nowhere = nowhere;
+  empty = empty;
   forgot = λ e has. root_alone IsOfRoot refl e (subst (λ es. Has es e) told has);
   nothing = nothing;
 }
@@ -29,10 +31,11 @@ has_none e h = elim h [ ]
 module _ (v : View) (rest : IsAtRest v) where
   -- who was told something of the root more is at rest too
   told_more : (w : View) (new : Told) → IsOfRoot new → w.told ≡ new ∷ v.told → w.worker.operation ≡ None
-      → w.worker.search.node ≡ None → w.glances ≡ [] → IsAtRest w
-  told_more w new root told free nowhere nothing = record {
+      → w.worker.search.node ≡ None → w.worker.card ≡ None → w.glances ≡ [] → IsAtRest w
+  told_more w new root told free nowhere empty nothing = record {
     free = free;
     nowhere = nowhere;
+    empty = empty;
     forgot = λ e has. each e (subst (λ es. Has es e) told has);
     nothing = nothing;
   }
@@ -42,10 +45,11 @@ module _ (v : View) (rest : IsAtRest v) where
       each e (earlier _ _ _ h) = rest.forgot e h
 
   -- and who was told nothing new
-  told_same : (w : View) → w.told ≡ v.told → w.worker.operation ≡ None → w.worker.search.node ≡ None → w.glances ≡ [] → IsAtRest w
-  told_same w told free nowhere nothing = record {
+  told_same : (w : View) → w.told ≡ v.told → w.worker.operation ≡ None → w.worker.search.node ≡ None → w.worker.card ≡ None → w.glances ≡ [] → IsAtRest w
+  told_same w told free nowhere empty nothing = record {
     free = free;
     nowhere = nowhere;
+    empty = empty;
     forgot = λ e has. rest.forgot e (subst (λ es. Has es e) told has);
     nothing = nothing;
   }
@@ -55,12 +59,12 @@ module _ (v : View) (rest : IsAtRest v) where
   stays_at_rest plan (call.Begin op) n quiet may = absurd quiet
   stays_at_rest plan call.Look n quiet may = absurd quiet
   stays_at_rest plan call.Again n quiet may = absurd (some_not_none may.busy rest.free)
-  stays_at_rest plan call.Leave n quiet may = is_at_rest _ refl refl refl refl
-  stays_at_rest plan (call.Answer said) n quiet may = is_at_rest _ refl refl refl refl
+  stays_at_rest plan call.Leave n quiet may = is_at_rest _ refl refl refl refl refl
+  stays_at_rest plan (call.Answer said) n quiet may = is_at_rest _ refl refl refl refl refl
   stays_at_rest plan (call.Upd x) n quiet may = absurd (some_not_none may.stands rest.nowhere)
   stays_at_rest plan (call.Down x right) n quiet may = absurd (some_not_none may.busy rest.free)
-  stays_at_rest plan call.Next n quiet may = told_same _ refl rest.free rest.nowhere rest.nothing
-  stays_at_rest plan (call.KeyOf x) n quiet may = told_more _ (Key x n) (rest.forgot (Met x) may) refl rest.free rest.nowhere rest.nothing
+  stays_at_rest plan call.Next n quiet may = told_same _ refl rest.free rest.nowhere rest.empty rest.nothing
+  stays_at_rest plan (call.KeyOf x) n quiet may = told_more _ (Key x n) (rest.forgot (Met x) may) refl rest.free rest.nowhere rest.empty rest.nothing
   stays_at_rest plan (call.ValueOf x) n quiet may = absurd (may.1 (let root = rest.forgot (Met x) may.0 in omega arith))
   stays_at_rest plan (call.Info c f) n quiet may = elim may.place.1 [
     | inl at ↦ absurd (rest.forgot (Info c field.P may.place.0) at)
@@ -68,9 +72,9 @@ module _ (v : View) (rest : IsAtRest v) where
   ]
   stays_at_rest plan (call.FrozenChild c p right) n quiet may = absurd (rest.forgot (Info c field.P p) may.place)
   stays_at_rest plan (call.LookDown from to right) n quiet may = absurd (has_none may.come.glance (subst (λ es. Has es may.come.glance) rest.nothing may.come.among))
-  stays_at_rest plan call.Rest n quiet may = is_at_rest _ refl refl refl refl
+  stays_at_rest plan call.Rest n quiet may = is_at_rest _ refl refl refl refl refl
   stays_at_rest plan (call.Claim c node_key) n quiet may = absurd (some_not_none may.0.busy rest.free)
-  stays_at_rest plan (call.Fill c f value) n quiet may = told_same _ refl rest.free rest.nowhere rest.nothing
+  stays_at_rest plan (call.Fill c f value) n quiet may = told_same _ refl rest.free rest.nowhere rest.empty rest.nothing
   stays_at_rest plan (call.IFlag c p from) n quiet may = absurd (some_not_none may.busy rest.free)
   stays_at_rest plan (call.IChild c p l q right) n quiet may = absurd (rest.forgot (Info c field.P p) may.parent)
   stays_at_rest plan (call.IUnflag c p) n quiet may = absurd (rest.forgot (Info c field.P p) may.place)
@@ -89,3 +93,27 @@ pub exchange_is_quiet : (c : Call) (expected value : ℕ) → atomic_of c ≡ Ex
 exchange_is_quiet (call.Begin op) expected value is = cc
 exchange_is_quiet call.Look expected value is = cc
 exchange_is_quiet _ expected value is = tt
+
+-- a pass at rest may touch nothing but the root and the claim word
+pub rest_touches_the_root : RestTouchesTheRoot
+rest_touches_the_root plan v rest (call.Upd x) may = absurd (some_not_none may.stands rest.nowhere)
+rest_touches_the_root plan v rest (call.Down x right) may = absurd (some_not_none may.busy rest.free)
+rest_touches_the_root plan v rest (call.KeyOf x) may = rest.forgot (Met x) may
+rest_touches_the_root plan v rest (call.ValueOf x) may = rest.forgot (Met x) may.0
+rest_touches_the_root plan v rest (call.Info c f) may = elim may.place.1 [
+  | inl at ↦ rest.forgot (Info c field.P may.place.0) at
+  | inr at ↦ rest.forgot (Info c field.Gp may.place.0) at
+]
+rest_touches_the_root plan v rest (call.FrozenChild c p right) may = absurd (rest.forgot (Info c field.P p) may.place)
+rest_touches_the_root plan v rest (call.LookDown from to right) may =
+    absurd (has_none may.come.glance (subst (λ es. Has es may.come.glance) rest.nothing may.come.among))
+rest_touches_the_root plan v rest (call.Fill c f value) may = some_not_none may.holds rest.empty
+rest_touches_the_root plan v rest (call.IFlag c p from) may = absurd (some_not_none may.busy rest.free)
+rest_touches_the_root plan v rest (call.IChild c p l q right) may = absurd (rest.forgot (Info c field.P p) may.parent)
+rest_touches_the_root plan v rest (call.IUnflag c p) may = absurd (rest.forgot (Info c field.P p) may.place)
+rest_touches_the_root plan v rest (call.DFlag c gp from) may = absurd (some_not_none may.busy rest.free)
+rest_touches_the_root plan v rest (call.Mark c p was) may = absurd (rest.forgot (Info c field.P p) may.0.place)
+rest_touches_the_root plan v rest (call.DChild c gp p s right) may = absurd (rest.forgot (Info c field.Gp gp) may.grandparent)
+rest_touches_the_root plan v rest (call.DUnflag c gp) may = absurd (rest.forgot (Info c field.Gp gp) may.place)
+rest_touches_the_root plan v rest (call.Backtrack c gp) may = absurd (rest.forgot (Info c field.Gp gp) may.place)
+rest_touches_the_root plan v rest _ may = tt

@@ -17,7 +17,7 @@ pub split_as-requires-clause-rule : goal.split_as-requires-clause-rule
 split_as-requires-clause-rule g c = splits c.args.self.now.plan c.args.pass.view c.in-Ok.left.items c.requires.free (c.may_part.ensures.0 c.if-not-may_part.false)
 
 pub split_as-requires-clause-rests : goal.split_as-requires-clause-rests
-split_as-requires-clause-rests g c = (is_at_rest (left_view c.in-Ok.left.items c.args.pass.view) refl refl refl refl, is_at_rest (right_view c.in-Ok.left.items c.args.pass.view) refl refl refl refl)
+split_as-requires-clause-rests g c = (is_at_rest (left_view c.in-Ok.left.items c.args.pass.view) refl refl refl refl refl, is_at_rest (right_view c.in-Ok.left.items c.args.pass.view) refl refl refl refl refl)
 
 pub split_as-requires-clause-shares : goal.split_as-requires-clause-shares
 split_as-requires-clause-shares g c = parts_share c.args.pass.view c.in-Ok.left.items
