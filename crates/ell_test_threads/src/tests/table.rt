@@ -58,6 +58,7 @@ fn a_table_begins_parts_and_ends(rt: HostRuntime) {
     let kind = TableKind {
         shared: false,
         flat: false,
+        places: 0,
     };
     let made = CardTable::reserve(rt.alloc(), &START, &KEYS, 1, kind);
     let (table, mut pass) = made.expect(&rt, "table");
@@ -72,6 +73,56 @@ fn a_table_begins_parts_and_ends(rt: HostRuntime) {
     for (card, words) in (0..5).zip(&OPENING) {
         assert!(rt; has_words(&closed, card, words), "card {card}");
     }
+}
+
+// Two parts of a pass, which has nothing in hand and owns no key.
+fn parted(
+    rt: &impl Abort,
+    table: &CardTable<Global>,
+    pass: Pass<Global>,
+) -> (Pass<Global>, Pass<Global>)
+    requires { (pass.table ≡ table.now.id) × IsFree pass.view }
+    ensures left { (result.0.table ≡ table.now.id) × IsFree result.0.view }
+    ensures right { (result.1.table ≡ table.now.id) × IsFree result.1.view }
+{
+    table.split(pass, &[]).ok().expect(rt, "a place")
+}
+
+// The pass that a table gives back as it may not be parted, because each place has a pass.
+fn refused(rt: &impl Abort, table: &CardTable<Global>, pass: Pass<Global>) -> Pass<Global>
+    requires { (pass.table ≡ table.now.id) × IsFree pass.view }
+    ensures { (result.table ≡ table.now.id) × IsFree result.view }
+{
+    let (pass, fault) = table.split(pass, &[]).err().expect(rt, "no place");
+    assert!(rt; matches!(fault, SplitFault::TooManyPasses));
+    pass
+}
+
+#[test]
+fn each_pass_has_a_place_where_there_are_places(rt: HostRuntime) {
+    let kind = TableKind {
+        shared: true,
+        flat: true,
+        places: 3,
+    };
+    let made = CardTable::reserve(rt.alloc(), &START, &[], 1, kind);
+    let (table, pass) = made.expect(&rt, "table");
+    let (one, two) = parted(&rt, &table, pass);
+    let (one, three) = parted(&rt, &table, one);
+    let two = refused(&rt, &table, two);
+    let mut both = joined(&rt, &table, one, three);
+    let first = table.look(&mut both);
+    assert!(rt; first.node == 4);
+    let (both, four) = parted(&rt, &table, both);
+    let mut four = refused(&rt, &table, four);
+    let again = table.look(&mut four);
+    assert!(rt; again.node == 4);
+    table.end_look(&mut four);
+    let all = joined(&rt, &table, joined(&rt, &table, both, two), four);
+    assert!(rt; all.has_whole_share());
+    let (table, pass) = (table, all);
+    let (one, _) = parted(&rt, &table, pass);
+    assert!(rt; !one.has_whole_share());
 }
 
 // Each value has its text.
