@@ -21,6 +21,8 @@ pub mod Starts
 pub mod Periods
 -- the rule of a table: its tree, and its periods
 pub mod Whole
+-- what the safe numbers of passes tell
+pub mod PeriodLaws
 -- a small run, in which each step call is made
 pub mod SmallRun
 -- how a table ends

@@ -115,6 +115,13 @@ after_look_at places n p = record p {
   safe = settled_at places (p.looked + 1) (least_of p.least (announced_by n)) p.safe;
 }
 
+-- the places of a pass, and what is announced there, are as they were
+pub record StandsAs (old new : Period) : Type 0 where
+  pub place : new.place ≡ old.place
+  pub other : new.other ≡ old.other
+  pub other_says : new.other_says ≡ old.other_says
+  pub announced : new.announced ≡ old.announced
+
 -- a place was taken that no pass had, if its word was 0
 abbrev pub after_take : ℕ → ℕ → Period → Period
 after_take q zero p = record p { other = Some q; other_says = None }

@@ -28,6 +28,7 @@ ghost use Rattle.ell_cards.specs.Tellings.{NoGreaterNext, NoGreaterUpdate, NoOth
 ghost use Rattle.ell_cards.specs.Laws.{StepsAreEvents, SplitsAreHandovers, JoinsAreHandovers, MachineIsSound, MachineHasOwnWords};
 ghost use Rattle.ell_cards.specs.Runs.{RunsAreLawful, RunsAreSchedules};
 ghost use Rattle.ell_cards.specs.RunLaws.{TableWinsAreInOrder, StartsAreKept, ReachedHasMachine};
+ghost use Rattle.ell_cards.specs.PeriodLaws.{SafeNumbersAreSafe};
 
 /// Each step call of a pass that may make it is one atomic step on one word of the table. A table that had a machine
 /// before it has one after it, to which the call's event leads, with the answer that the word found gives; or the same
@@ -329,4 +330,13 @@ pub fn calls_touch_nothing_gone()
     ensures gone { KnownTakenOutIsGone }
     // A pass at rest touches nothing but the root's words and the claim word.
     ensures rest { RestTouchesTheRoot }
+{}
+
+/// Where a table has places for passes, and wherever the steps of passes have led it, there is a number for each place, which
+/// stands for what the clock was when the period there began. While a pass is in a period at the place, no safe number of any
+/// pass is past it, nor is the reading that the pass announces; and it is not past the clock.
+pub fn safe_numbers_are_safe()
+    // For each place where a pass is in a period there is a number, not past the clock, that no safe number is past, nor the
+    // reading that is announced there.
+    ensures { SafeNumbersAreSafe }
 {}

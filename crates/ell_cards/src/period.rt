@@ -6,7 +6,7 @@ ghost use prog.Atomic.{either};
 ghost use Rattle.ell_word.specs.Node.{greatest_card};
 ghost use Rattle.ell_cards.specs.Models.{last_claim_of};
 ghost use Rattle.ell_cards.specs.Inside.{PlaceFits};
-ghost use Rattle.ell_cards.specs.Periods.{IsAtRest, after_announce, after_clock, after_give, after_take, clock_word, last_reading, place_word, slots_size};
+ghost use Rattle.ell_cards.specs.Periods.{IsAtRest, StandsAs, after_announce, after_clock, after_give, after_look_at, after_take, announced_by, clock_word, last_reading, least_of, place_word, slots_size};
 ghost use Rattle.ell_cards.specs.Stepping.{MayGoOn};
 
 use crate::pass::{Pass, Standing};
@@ -58,6 +58,13 @@ pub(crate) fn last_claim(slots: Option<Slots>, last_card: u64) -> u64
         None => last_card,
         Some(slots) => slots.last.min(last_card),
     }
+}
+
+// Returns the least of a number and of what the word of a place announces, if it announces something.
+fn least_with(least: u64, word: u64) -> u64
+    ensures { result ≡ least_of least (announced_by word) }
+{
+    if word < 2 { least } else { least.min(word - 2) }
 }
 
 impl<A: Allocator + Copy> CardTable<A> {
@@ -246,5 +253,85 @@ impl<A: Allocator + Copy> CardTable<A> {
             return;
         };
         self.period_store::<Brand>(seat, slots.place_word(place), 0)
+    }
+
+    // Lets the clock go on by one from a reading of it, unless it has gone on since.
+    fn tick(&self, seat: &mut Seat<(), Known>, slots: Slots, reading: u64)
+        requires own { seat.old.table_id ≡ self.now.id }
+        requires empty { seat.old.me.1 ≡ [] }
+        requires slots { self.now.plan.slots ≡ Some slots }
+        requires low { reading < last_reading }
+        ensures period { seat.new.me.0.period ≡ seat.old.me.0.period }
+        ensures tree { seat.new.me.0.tree ≡ seat.old.me.0.tree }
+        ensures seat { (seat.new.table_id ≡ seat.old.table_id) × (seat.new.me.1 ≡ []) }
+    {
+        let _ = &self.table;
+        self.period_exchange::<Brand>(seat, slots.clock_word(), reading, reading + 1);
+    }
+
+    // Reads the clock, and lets it go on, unless it stops there.
+    fn advance(&self, seat: &mut Seat<(), Known>, slots: Slots)
+        requires own { seat.old.table_id ≡ self.now.id }
+        requires empty { seat.old.me.1 ≡ [] }
+        requires slots { self.now.plan.slots ≡ Some slots }
+        ensures stands { StandsAs seat.old.me.0.period seat.new.me.0.period }
+        ensures tree { seat.new.me.0.tree ≡ seat.old.me.0.tree }
+        ensures seat { (seat.new.table_id ≡ seat.old.table_id) × (seat.new.me.1 ≡ []) }
+    {
+        let reading = self.read_clock(seat, slots);
+        if reading < LAST_READING {
+            self.tick(seat, slots, reading);
+        }
+    }
+
+    // Looks at the next place, and returns its word.
+    fn look_at(&self, seat: &mut Seat<(), Known>, slots: Slots, place: u64) -> u64
+        requires own { seat.old.table_id ≡ self.now.id }
+        requires empty { seat.old.me.1 ≡ [] }
+        requires slots { self.now.plan.slots ≡ Some slots }
+        requires next { place ≡ seat.old.me.0.period.looked }
+        requires there { place < slots.places }
+        ensures looked { seat.new.me.0.period ≡ after_look_at slots.places result seat.old.me.0.period }
+        ensures tree { seat.new.me.0.tree ≡ seat.old.me.0.tree }
+        ensures seat { (seat.new.table_id ≡ seat.old.table_id) × (seat.new.me.1 ≡ []) }
+    {
+        let _ = &self.table;
+        self.period_load::<Brand>(seat, slots.place_word(place))
+    }
+
+    // Reads the clock, and looks at all places. Returns the least number that it saw, which is the pass's safe number from now
+    // on.
+    fn scan(&self, seat: &mut Seat<(), Known>, slots: Slots) -> u64
+        requires own { seat.old.table_id ≡ self.now.id }
+        requires empty { seat.old.me.1 ≡ [] }
+        requires slots { self.now.plan.slots ≡ Some slots }
+        ensures safe { result ≡ seat.new.me.0.period.safe }
+        ensures stands { StandsAs seat.old.me.0.period seat.new.me.0.period }
+        ensures tree { seat.new.me.0.tree ≡ seat.old.me.0.tree }
+        ensures seat { (seat.new.table_id ≡ seat.old.table_id) × (seat.new.me.1 ≡ []) }
+    {
+        let _ = &self.table;
+        let mut least = self.read_clock(seat, slots);
+        for place in 0..slots.places {
+            let word = self.look_at(seat, slots, place);
+            least = least_with(least, word);
+        }
+        least
+    }
+
+    /// Lets the clock go on, and looks at all places. Returns the pass's safe number: each pass that is in a period began it when
+    /// the clock was this at least. Returns 0 if the table has no places. Its steps are not counted.
+    pub fn safe_number(&self, pass: &mut Pass<A>) -> u64
+        requires own { pass.old.table ≡ self.now.id }
+        // What the pass knows of the tree is as it was, and it has made no step that is counted.
+        ensures same { pass.new ≡ pass.old }
+        // A table without places has no safe number but 0.
+        ensures none { self.now.plan.slots ≡ None → result ≡ 0 }
+    {
+        let Some(slots) = self.slots else {
+            return 0;
+        };
+        self.advance(&mut pass.seat, slots);
+        self.scan(&mut pass.seat, slots)
     }
 }

@@ -1,4 +1,4 @@
-use Rattle.std.proofs.Common.{◌≡◌, ◌≢◌, ℕ, zero, suc, ◌+◌, ◌<◌, ◌≤◌, ◌==◌, nat_lt, if◌then◌else◌, min, Bool, true, false, Option, Some, None, List, length, get_or, set, inl, inr, ◌⊎◌, refl, sym, ap, ◌∙◌, subst, ⊎_elim, arith, ne_eqb, length-set, get_or-set_same, get_or-set_other}
+use Rattle.std.proofs.Common.{◌≡◌, ◌≢◌, ℕ, zero, suc, ◌+◌, ◌<◌, ◌≤◌, ◌==◌, nat_lt, if◌then◌else◌, min, Bool, true, false, Option, Some, None, List, length, get_or, set, inl, inr, ◌⊎◌, refl, sym, ap, ◌∙◌, subst, ⊎_elim, arith, eq-eqb, ne_eqb, length-set, get_or-set_same, get_or-set_other}
 use Rattle.std.proofs.lemmas.Bool.{cases_eq}
 use Rattle.std.proofs.lemmas.Bool.Decides.{nat_tests}
 use Rattle.std.proofs.lemmas.List.{map-set}
@@ -12,17 +12,17 @@ use Rattle.ell_core.proofs.lemmas.outcomes.Decide.{some_not_none}
 use Rattle.ell_layout.specs.Layout.{table_size}
 use Rattle.ell_layout.specs.Words.{put}
 use Rattle.ell_layout.proofs.lemmas.Writes.{put_same, put_other}
-use Rattle.ell_grace.specs.Grace.{Grace, begins, ends, scans}
+use Rattle.ell_grace.specs.Grace.{Grace, least_with, ticks, begins, ends, scans, looks, settles}
 use Rattle.ell_grace.specs.Periods.{GraceIsSound}
 use Rattle.ell_grace.proofs.lemmas.Grace.{grace_goes_on}
 use Rattle.ell_cards.specs.declared.view.Known.{Known}
 use Rattle.ell_cards.specs.declared.view.Period.{Period}
 use Rattle.ell_cards.specs.declared.view.Slots.{Slots}
 use Rattle.ell_cards.specs.Models.{TablePlan}
-use Rattle.ell_cards.specs.Periods.{WholeState, clock_word, place_word, slots_size, period_in, word_at_place, announced_by, place_says, last_reading, card_words, card_words_by, after_clock, after_announce, after_take, after_give, HasPlace, own, spare, IsAtRest, PeriodHolds, HasPeriods, grace_of}
+use Rattle.ell_cards.specs.Periods.{WholeState, clock_word, place_word, slots_size, period_in, word_at_place, announced_by, place_says, last_reading, card_words, card_words_by, after_clock, after_announce, after_look_at, after_take, after_give, least_of, settled_at, HasPlace, own, spare, IsAtRest, PeriodHolds, HasPeriods, grace_of}
 use Rattle.ell_cards.specs.Stepping.{MayGoOn}
 use Rattle.ell_cards.specs.Whole.{trees_of, WordsAre, PeriodsAre}
-use Rattle.ell_cards.proofs.lemmas.whole.Seats.{before_clock, places_apart, part_put, part_same, holds_on}
+use Rattle.ell_cards.proofs.lemmas.whole.Seats.{before_clock, places_apart, period_was, part_put, part_same, holds_on}
 use Rattle.ell_cards.proofs.lemmas.whole.Trees.{tree_at, grace_same}
 
 -- the word of a place that a pass has is not 0
@@ -42,6 +42,15 @@ found_free q n p p' is free = let none : n ≡ 0 = grind (arith, nat_tests) in i
 pub found_taken : (q n : ℕ) (p p' : Period) → p' ≡ after_take q n p → (n == 0) ≡ false → p' ≡ p
 found_taken q zero p p' is taken = absurd (cc)
 found_taken q (suc n) p p' is taken = is
+
+-- the least of a number and an announcement is that of grace periods
+same_least : (n : ℕ) (o : Option ℕ) → least_of n o ≡ least_with n o
+same_least n None = refl
+same_least n (Some a) = refl
+
+-- one more place was looked at
+one_place_more : (looked q r : ℕ) → q ≡ looked → nat_lt r (looked + 1) ≡ (if r == q then true else nat_lt r looked)
+one_place_more looked q r next = grind (arith, nat_tests)
 
 -- a word that is stored again leaves all words as they were
 word_again : (words : List ℕ) (i : ℕ) → i < length words → (j : ℕ) → get_or (set words i (get_or words i 0)) j 0 ≡ get_or words j 0
@@ -179,6 +188,134 @@ module _ (s : Slots) (t : WholeState) (id : ℕ) (k : Known) (here : get_elem? t
       seen : (i q : ℕ) → nat_lt q (period_in (set t.views id reads) i).looked ≡ put was.seen id (λ r. false) i q
       seen i q = ap {A = ℕ → Bool} (λ g. g q) (part_put t.views id k here reads (λ p r. nat_lt r p.looked) i)
           ∙ ap {A = ℕ → Bool} (λ g. put was.seen id g i q) (λ x r. none_below r x)
+
+  -- the clock goes on
+  module _ (low : reading_now < last_reading) where
+    abbrev later : List ℕ
+    later = set t.words (clock_word s) (reading_now + 1)
+
+    later_clock : get_or later (clock_word s) 0 ≡ reading_now + 1
+    later_clock = get_or-set_same t.words (clock_word s) (reading_now + 1) 0 (omega arith)
+
+    later_place : (q : ℕ) → get_or later (place_word s q) 0 ≡ get_or t.words (place_word s q) 0
+    later_place q = get_or-set_other t.words (clock_word s) (place_word s q) (reading_now + 1) 0 (λ e. omega arith)
+
+    abbrev gone_on : Grace
+    gone_on = record was { clock = was.clock + 1 }
+
+    periods_later : HasPeriods s (record { words = later; homes = t.homes; views = t.views })
+    periods_later = record {
+      gone = h.gone;
+      began = h.began;
+      was_gone = h.was_gone;
+      sound = grace_same s.places gone_on (grace_of s (record { words = later; homes = t.homes; views = t.views }) h.gone h.began h.was_gone)
+          later_clock (λ c. refl) (λ q. ap (λ x. if nat_lt q s.places then announced_by x else None) (later_place q))
+          (λ q. refl) (λ q c. refl) (λ j. refl) (λ j. refl) (λ j q. refl) (λ j. refl) (λ c. refl)
+          (grace_goes_on s.places was gone_on h.sound (ticks refl));
+      low = let now = later_clock in omega arith;
+      each = λ j u at. holds_on s t.words later u (λ q has. later_place q) (let now = later_clock in omega arith) (h.each j u at);
+      apart = h.apart;
+    }
+
+    pub periods_ticked : HasPeriods s (record { words = set t.words (clock_word s) (reading_now + 1); homes = t.homes; views = set t.views id (record { tree = k.tree; period = k.period }) })
+    periods_ticked = subst (λ l. HasPeriods s (record { words = later; homes = t.homes; views = l })) (sym (set_again t.views id k here)) periods_later
+
+  -- the pass looks at the word of the next place
+  module _ (q : ℕ) (next : q ≡ k.period.looked) (below : q < s.places) where
+    abbrev found : ℕ
+    found = get_or t.words (place_word s q) 0
+
+    abbrev sees : Known
+    sees = record { tree = k.tree; period = after_look_at s.places found k.period }
+
+    abbrev kept : List ℕ
+    kept = again (place_word s q) (omega arith)
+
+    abbrev after_it : WholeState
+    after_it = record { words = kept; homes = t.homes; views = set t.views id sees }
+
+    kept_at : (j : ℕ) → get_or kept j 0 ≡ get_or t.words j 0
+    kept_at = same_at (place_word s q) (omega arith)
+
+    -- the grace periods after the look, and once the safe number is settled
+    abbrev looked_now : Grace
+    looked_now = record was { least = put was.least id (least_with (was.least id) (was.word q)); seen = put was.seen id (put (was.seen id) q true) }
+
+    abbrev settled_now : Grace
+    settled_now = record looked_now { safe = put looked_now.safe id (looked_now.least id) }
+
+    looked_sound : GraceIsSound s.places looked_now
+    looked_sound = grace_goes_on s.places was looked_now h.sound (looks id q refl)
+
+    -- its least number is that of the grace periods, and so are the places at which it has looked
+    said_there : was.word q ≡ announced_by found
+    said_there = let there : nat_lt q s.places ≡ true = grind (arith, nat_tests) in ap (λ b. if b then announced_by found else None) there
+
+    least_now : least_of k.period.least (announced_by found) ≡ least_with (was.least id) (was.word q)
+    least_now =
+        same_least k.period.least (announced_by found)
+        ∙ sym (ap (λ n. least_with n (was.word q)) (ap (λ (p : Period). p.least) (period_was t.views id k here sees)) ∙ ap (least_with k.period.least) said_there)
+
+    least_after : (i : ℕ) → (period_in (set t.views id sees) i).least ≡ looked_now.least i
+    least_after i = part_put t.views id k here sees (λ p. p.least) i ∙ ap (λ n. put was.least id n i) least_now
+
+    seen_more : (r : ℕ) → nat_lt r (k.period.looked + 1) ≡ put (was.seen id) q true r
+    seen_more r =
+        one_place_more k.period.looked q r next
+        ∙ sym (ap (λ n. if r == q then true else nat_lt r n) (ap (λ (p : Period). p.looked) (period_was t.views id k here sees)))
+
+    seen_after : (i r : ℕ) → nat_lt r (period_in (set t.views id sees) i).looked ≡ looked_now.seen i r
+    seen_after i r =
+        ap {A = ℕ → Bool} (λ g. g r) (part_put t.views id k here sees (λ p x. nat_lt x p.looked) i)
+        ∙ ap {A = ℕ → Bool} (λ g. put was.seen id g i r) (λ x n. seen_more n x)
+
+    -- once all places were looked at, each was seen
+    all_seen : s.places ≤ k.period.looked + 1 → (r : ℕ) → r < s.places → looked_now.seen id r ≡ true
+    all_seen all r low =
+        let there : nat_lt r (k.period.looked + 1) ≡ true = grind (arith, nat_tests) in
+        ap {A = ℕ → Bool} (λ g. g r) (put_same was.seen id (put (was.seen id) q true)) ∙ (sym (seen_more r) ∙ there)
+
+    -- then the least number is the safe one, and before that the safe number is as it was
+    seen_sound : (b : Bool) → nat_lt (k.period.looked + 1) s.places ≡ b → GraceIsSound s.places (grace_of s after_it h.gone h.began h.was_gone)
+    seen_sound true is =
+        grace_same s.places looked_now (grace_of s after_it h.gone h.began h.was_gone)
+        (kept_at (clock_word s)) (λ c. refl) (same_word (place_word s q) (omega arith)) (λ r. refl) (λ r c. refl) (λ j. refl)
+        least_after seen_after
+        (part_same t.views id k here sees (λ p. p.safe)
+        (ap (λ b. if b then k.period.safe else least_of k.period.least (announced_by found)) is))
+        (λ c. refl) looked_sound
+    seen_sound false is =
+        let all : s.places ≤ k.period.looked + 1 = grind (arith, nat_tests) in
+        grace_same s.places settled_now (grace_of s after_it h.gone h.began h.was_gone)
+        (kept_at (clock_word s)) (λ c. refl) (same_word (place_word s q) (omega arith)) (λ r. refl) (λ r c. refl) (λ j. refl)
+        least_after seen_after
+        (λ i. part_put t.views id k here sees (λ p. p.safe) i ∙ ap (λ n. put was.safe id n i) (safe_now is))
+        (λ c. refl) (grace_goes_on s.places looked_now settled_now looked_sound (settles id (all_seen all) refl))
+      where
+        safe_now : nat_lt (k.period.looked + 1) s.places ≡ false → settled_at s.places (k.period.looked + 1) (least_of k.period.least (announced_by found)) k.period.safe ≡ looked_now.least id
+        safe_now e =
+            ap (λ b. if b then k.period.safe else least_of k.period.least (announced_by found)) e
+            ∙ (least_now ∙ sym (put_same was.least id (least_with (was.least id) (was.word q))))
+
+    sees_holds : PeriodHolds s kept sees
+    sees_holds = let now = same_holds (place_word s q) (omega arith) in record {
+      place = now.place;
+      other = now.other;
+      two = now.two;
+      none = now.none;
+      reading = now.reading;
+      rests = now.rests;
+    }
+
+    pub periods_seen : HasPeriods s (record { words = set t.words (place_word s q) (get_or t.words (place_word s q) 0); homes = t.homes; views = set t.views id sees })
+    periods_seen =
+        periods_after s t id k here h kept sees.period (kept_at (clock_word s)) (λ j u other at r has. kept_at (place_word s r)) gains h.gone h.began h.was_gone
+        (seen_sound (nat_lt (k.period.looked + 1) s.places) refl)
+        sees_holds
+      where
+        gains : (r : ℕ) → HasPlace sees.period r → HasPlace k.period r ⊎ IsNobodys t r
+        gains r (own is) = inl (own is)
+        gains r (spare is) = inl (spare is)
 
   -- the word of a place becomes another one
   module _ (q v : ℕ) (below : q < s.places) where
@@ -441,3 +578,35 @@ module _ (plan : TablePlan) (s : Slots) (placed : plan.slots ≡ Some s) where
   gives_back k q has =
       goes_on k (place_word s q) (λ n. 0) (λ n p. p ≡ after_give k.period) (λ n. after_give k.period) (omega arith)
       (λ t id here h size. (periods_given s t id k here h size q has, refl))
+
+  -- it lets the clock go on, if that is as it was read
+  pub tick_goes_on : (k : Known) (reading : ℕ) → reading < last_reading
+      → MayGoOn plan k (clock_word s) (λ n. either (n == reading) (reading + 1) n) (λ n p. p ≡ k.period)
+  tick_goes_on k reading low =
+      goes_on k (clock_word s) (λ n. either (n == reading) (reading + 1) n) (λ n p. p ≡ k.period) (λ n. k.period) (omega arith)
+      (λ t id here h size. (by t id here h size (cases_eq (get_or t.words (clock_word s) 0) reading), refl))
+    where
+      on : WholeState → ℕ → ℕ → Type 0
+      on t id n = HasPeriods s (record { words = set t.words (clock_word s) n; homes = t.homes; views = set t.views id (record { tree = k.tree; period = k.period }) })
+
+      by : (t : WholeState) (id : ℕ) → get_elem? t.views id ≡ some k → HasPeriods s t → length t.words ≡ slots_size s
+          → (get_or t.words (clock_word s) 0 ≡ reading) ⊎ (get_or t.words (clock_word s) 0 ≢ reading)
+          → on t id (either (get_or t.words (clock_word s) 0 == reading) (reading + 1) (get_or t.words (clock_word s) 0))
+      by t id here h size (inl is) =
+          subst (on t id)
+          (ap (λ n. n + 1) is ∙ sym (ap (λ n. either (n == reading) (reading + 1) n) is ∙ ap (λ b. either b (reading + 1) reading) (eq-eqb reading reading refl)))
+          (periods_ticked s t id k here h size (omega arith))
+      by t id here h size (inr other) =
+          subst (on t id)
+          (sym (ap (λ b. either b (reading + 1) (get_or t.words (clock_word s) 0)) (ne_eqb (get_or t.words (clock_word s) 0) reading other)))
+          (periods_stay s t id k here h size (clock_word s) (omega arith))
+
+  -- it looks at the next place
+  pub looks_at : (k : Known) (q : ℕ) → q ≡ k.period.looked → q < s.places
+      → MayGoOn plan k (place_word s q) (λ n. n) (λ n p. (o : Slots) → plan.slots ≡ Some o → p ≡ after_look_at o.places n k.period)
+  looks_at k q next below =
+      goes_on k (place_word s q) (λ n. n) (λ n p. (o : Slots) → plan.slots ≡ Some o → p ≡ after_look_at o.places n k.period) (λ n. after_look_at s.places n k.period) (omega arith)
+      (λ t id here h size. (
+        periods_seen s t id k here h size q next below,
+        λ o is. ap (λ (x : Slots). after_look_at x.places (get_or t.words (place_word s q) 0) k.period) (same_Some s o (sym placed ∙ is)),
+      ))

@@ -22,6 +22,9 @@ module _ (t u : TableModel) (same : t ≡ u) (size : t.id.words ≡ whole_size t
     pub last_fits : s.last ≤ greatest_card
     last_fits = fits.4
 
+    pub some_places : 1 ≤ s.places
+    some_places = fits.0
+
     pub places_fit : s.places ≤ greatest_card
     places_fit = let few = fits.1 in omega arith
 

@@ -1,0 +1,15 @@
+use Rattle.std.specs.Prelude.{◌≡◌, ◌≤◌, []}
+use Rattle.ell_cards.specs.Periods.{StandsAs}
+use Rattle.ell_cards.proofs.table.CardTable.scan.Given as goal
+
+-- So many places were looked at, and this is the least number that was seen. It is the safe one if there are no more places.
+abbrev pub invariant-loop-place : goal.invariant-loop-place
+invariant-loop-place g l = record {
+  seat : l.seat.table_id ≡ l.fn.seat.table_id;
+  empty : l.seat.me.1 ≡ [];
+  tree : l.seat.me.0.tree ≡ l.fn.seat.me.0.tree;
+  stands : StandsAs l.fn.seat.me.0.period l.seat.me.0.period;
+  looked : l.seat.me.0.period.looked ≡ l.place;
+  least : l.seat.me.0.period.least ≡ l.least;
+  safe : l.slots.places ≤ l.place → l.seat.me.0.period.safe ≡ l.least;
+}
