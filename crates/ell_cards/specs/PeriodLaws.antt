@@ -7,24 +7,22 @@ use Rattle.ell_cards.specs.Models.{TablePlan}
 use Rattle.ell_cards.specs.Periods.{WholeState, clock_word}
 use Rattle.ell_cards.specs.Whole.{IsWhole}
 
--- a pass in a seat of a table is in a period: it has this place, and announces this reading there
-pub record IsInPeriod (t : WholeState) (j q a : ℕ) : Type 0 where
-  pub pass : Known
-  pub there : get_elem? t.views j ≡ some pass
-  pub place : pass.period.place ≡ Some q
-  pub announced : pass.period.announced ≡ Some a
+-- a pass in a seat of a table is in a period: it has a place, and announces a reading there
+pub record IsInPeriod (t : WholeState) (seat : ℕ) (k : Known) : Type 0 where
+  pub there : get_elem? t.views seat ≡ some k
+  pub place : ℕ
+  pub has : k.period.place ≡ Some place
+  pub reading : ℕ
+  pub announces : k.period.announced ≡ Some reading
 
--- the safe numbers of a table are safe
-pub record SafeNumbers (s : Slots) (t : WholeState) : Type 0 where
-  -- for each place, what stands for the clock as it was when the period there began
-  pub began : ℕ → ℕ
-  -- no safe number of a pass is past that, where some pass is in a period
-  pub safe : (i j q a : ℕ) (k : Known) → get_elem? t.views i ≡ some k → IsInPeriod t j q a → k.period.safe ≤ began q
-  -- nor is the reading that the pass announces
-  pub announced : (j q a : ℕ) → IsInPeriod t j q a → a ≤ began q
-  -- and the clock is not below it
-  pub past : (j q a : ℕ) → IsInPeriod t j q a → began q ≤ slice_index t.words (clock_word s)
+-- It began that no sooner than any pass's safe number says, when the clock was the reading that it announces at least, and no
+-- more than it is now.
+pub record BeganSafely (s : Slots) (t : WholeState) (k : Known) (reading : ℕ) : Type 0 where
+  pub safe : (i : ℕ) (other : Known) → get_elem? t.views i ≡ some other → other.period.safe ≤ k.period.began
+  pub announced : reading ≤ k.period.began
+  pub past : k.period.began ≤ slice_index t.words (clock_word s)
 
 -- so it is wherever the steps of passes have led a table with places
 abbrev pub SafeNumbersAreSafe : Type 0
-SafeNumbersAreSafe = (plan : TablePlan) (s : Slots) (t : WholeState) → plan.slots ≡ Some s → IsWhole plan t → SafeNumbers s t
+SafeNumbersAreSafe = (plan : TablePlan) (s : Slots) (t : WholeState) → plan.slots ≡ Some s → IsWhole plan t
+    → (seat : ℕ) (k : Known) (in_period : IsInPeriod t seat k) → BeganSafely s t k in_period.reading

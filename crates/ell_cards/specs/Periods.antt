@@ -80,7 +80,7 @@ last_reading = 2 ^ 62
 
 -- what a pass without a place knows of periods: nothing
 abbrev pub no_period : Period
-no_period = record { place = None; other = None; other_says = None; announced = None; reading = None; least = 0; looked = 0; safe = 0 }
+no_period = record { place = None; other = None; other_says = None; announced = None; began = 0; reading = None; least = 0; looked = 0; safe = 0 }
 
 -- the first pass of a table has the first place, if there is one
 abbrev pub period_by : Option Slots → Period
@@ -94,9 +94,13 @@ first_period plan = period_by plan.slots
 abbrev pub after_clock : ℕ → Period → Period
 after_clock n p = record p { reading = Some n; least = n; looked = 0 }
 
--- a period was begun, or ended
-abbrev pub after_announce : Option ℕ → Period → Period
-after_announce reading p = record p { announced = reading }
+-- a period was begun by an announcement of this reading, when the clock was that
+abbrev pub after_announce : ℕ → ℕ → Period → Period
+after_announce reading clock p = record p { announced = Some reading; began = clock }
+
+-- and it was ended
+abbrev pub after_retract : Period → Period
+after_retract p = record p { announced = None }
 
 -- the least of a number and an announcement
 abbrev pub least_of : ℕ → Option ℕ → ℕ
@@ -196,8 +200,8 @@ grace_of s t gone began was_gone = record {
   free = λ c. None;
 }
 
--- the periods of a table are sound: they are such grace periods, what each pass knows of them is so, and no two passes have
--- one place
+-- The periods of a table are sound: they are such grace periods, what each pass knows of them is so, those of passes that are in
+-- one began when the passes know it, and no two passes have one place.
 pub record HasPeriods (s : Slots) (t : WholeState) : Type 0 where
   pub gone : ℕ → Bool
   pub began : ℕ → ℕ
@@ -205,5 +209,7 @@ pub record HasPeriods (s : Slots) (t : WholeState) : Type 0 where
   pub sound : GraceIsSound s.places (grace_of s t gone began was_gone)
   pub low : slice_index t.words (clock_word s) ≤ last_reading
   pub each : (i : ℕ) (k : Known) → get_elem? t.views i ≡ some k → PeriodHolds s t.words k
+  pub since : (i q a : ℕ) (k : Known) → get_elem? t.views i ≡ some k → k.period.place ≡ Some q → k.period.announced ≡ Some a
+      → began q ≡ k.period.began
   pub apart : (i j q : ℕ) (k l : Known) → get_elem? t.views i ≡ some k → get_elem? t.views j ≡ some l
       → HasPlace k.period q → HasPlace l.period q → i ≡ j

@@ -332,11 +332,9 @@ pub fn calls_touch_nothing_gone()
     ensures rest { RestTouchesTheRoot }
 {}
 
-/// Where a table has places for passes, and wherever the steps of passes have led it, there is a number for each place, which
-/// stands for what the clock was when the period there began. While a pass is in a period at the place, no safe number of any
-/// pass is past it, nor is the reading that the pass announces; and it is not past the clock.
+/// Where a table has places, and wherever the steps of its passes have led it: a pass that is in a period, which it announces at
+/// its place, began that when the clock was the safe number of each pass at least, and the reading that it announces.
 pub fn safe_numbers_are_safe()
-    // For each place where a pass is in a period there is a number, not past the clock, that no safe number is past, nor the
-    // reading that is announced there.
+    // A pass in a period began it when the clock was each safe number at least.
     ensures { SafeNumbersAreSafe }
 {}

@@ -1,12 +1,12 @@
 //! Grace periods: where a table has places, a pass tells at its own when it is in an operation or a look, and a number is
 //! safe if every pass that is in one began it when the clock was that at least. Their steps are on words of their own, and are
 //! not counted.
-ghost use Rattle.std.specs.Prelude.{◌≡◌, ◌≢◌, ◌⊎◌, ◌≤◌, ◌<◌, ◌==◌, if◌then◌else◌, is_some, None, Some, [], true, false, IfSome};
+ghost use Rattle.std.specs.Prelude.{◌≡◌, ℕ, ◌≢◌, ◌⊎◌, ◌≤◌, ◌<◌, ◌==◌, if◌then◌else◌, is_some, None, Some, [], true, false, IfSome};
 ghost use prog.Atomic.{either};
 ghost use Rattle.ell_word.specs.Node.{greatest_card};
 ghost use Rattle.ell_cards.specs.Models.{last_claim_of};
 ghost use Rattle.ell_cards.specs.Inside.{PlaceFits};
-ghost use Rattle.ell_cards.specs.Periods.{IsAtRest, StandsAs, after_announce, after_clock, after_give, after_look_at, after_take, announced_by, clock_word, last_reading, least_of, place_word, slots_size};
+ghost use Rattle.ell_cards.specs.Periods.{IsAtRest, StandsAs, after_announce, after_retract, after_clock, after_give, after_look_at, after_take, announced_by, clock_word, last_reading, least_of, place_word, slots_size};
 ghost use Rattle.ell_cards.specs.Stepping.{MayGoOn};
 
 use crate::pass::{Pass, Standing};
@@ -141,7 +141,7 @@ impl<A: Allocator + Copy> CardTable<A> {
         requires reading { seat.old.me.0.period.reading ≡ Some reading }
         requires low { reading ≤ last_reading }
         requires quiet { seat.old.me.0.period.announced ≡ None }
-        ensures announced { seat.new.me.0.period ≡ after_announce (Some reading) seat.old.me.0.period }
+        ensures announced { (clock : ℕ) × (reading ≤ clock) × (seat.new.me.0.period ≡ after_announce reading clock seat.old.me.0.period) }
         ensures tree { seat.new.me.0.tree ≡ seat.old.me.0.tree }
         ensures seat { (seat.new.table_id ≡ seat.old.table_id) × (seat.new.me.1 ≡ []) }
     {
@@ -156,7 +156,7 @@ impl<A: Allocator + Copy> CardTable<A> {
         requires slots { self.now.plan.slots ≡ Some slots }
         requires place { seat.old.me.0.period.place ≡ Some place }
         requires rest { IsAtRest seat.old.me.0.tree }
-        ensures announced { seat.new.me.0.period ≡ after_announce None seat.old.me.0.period }
+        ensures announced { seat.new.me.0.period ≡ after_retract seat.old.me.0.period }
         ensures tree { seat.new.me.0.tree ≡ seat.old.me.0.tree }
         ensures seat { (seat.new.table_id ≡ seat.old.table_id) × (seat.new.me.1 ≡ []) }
     {

@@ -120,6 +120,8 @@ pub struct Period {
     pub other_says: Option<u64>,
     /// The reading of the clock that it announces, while it is in a period.
     pub announced: Option<u64>,
+    /// What the clock was when it announced that: the reading at least. Nobody reads it.
+    pub began: u64,
     /// Its last reading of the clock.
     pub reading: Option<u64>,
     /// The least of that reading and of what it saw announced since.

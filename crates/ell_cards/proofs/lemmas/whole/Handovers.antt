@@ -128,6 +128,12 @@ module _ (sl : Slots) (t : WholeState) (id : ℕ) (k : Known) (here : get_elem? 
   each_holds j u (of_right at is) = subst (PeriodHolds sl t.words) is right_holds
   each_holds j u (of_other apart at) = h.each j u at
 
+  -- the left part is in the period of the pass, and the right part in none
+  since_origin : (j q a : ℕ) (u : Known) → Origin j u → u.period.place ≡ Some q → u.period.announced ≡ Some a → h.began q ≡ u.period.began
+  since_origin j q a u (of_left at is) = subst (λ (x : Known). x.period.place ≡ Some q → x.period.announced ≡ Some a → h.began q ≡ x.period.began) is (h.since id q a k here)
+  since_origin j q a u (of_right at is) = λ placed an. absurd (some_not_none (ap (λ (x : Known). x.period.announced) is ∙ an) refl)
+  since_origin j q a u (of_other apart at) = h.since j q a u at
+
   part_parted : {A : Type 0} (part : Period → A) → part (after_give k.period) ≡ part k.period → part (given_period k.period) ≡ part no_period → (i : ℕ)
       → part (period_in parted.views i) ≡ part (period_in t.views i)
   part_parted part same new i = part_more part (set t.views id left_known) right_known new i ∙ part_same t.views id k here left_known part same i
@@ -145,6 +151,7 @@ module _ (sl : Slots) (t : WholeState) (id : ℕ) (k : Known) (here : get_elem? 
         (λ c. refl) h.sound;
     low = h.low;
     each = λ j u at. each_holds j u (origin j u at);
+    since = λ j q a u at. since_origin j q a u (origin j u at);
     apart = λ a b q x y at at' has has'. one_has a b q x y (origin a x at) (origin b y at') has has';
   }
 
@@ -264,6 +271,12 @@ module _ (sl : Slots) (t : WholeState) (id other : ℕ) (k l : Known) (here : ge
       absurd (another_none a q x apart apart' at has (subst (λ (u : Known). HasPlace u.period q) (sym is') has'))
   one_joined a b q x y (of_another apart apart' at) (of_another apart'' apart''' at') has has' = h.apart a b q x y at at' has has'
 
+  -- the pass that has both is in the period in which it was
+  since_before : (j q a : ℕ) (u : Known) → Before j u → u.period.place ≡ Some q → u.period.announced ≡ Some a → h.began q ≡ u.period.began
+  since_before j q a u (of_both at is) = subst (λ (x : Known). x.period.place ≡ Some q → x.period.announced ≡ Some a → h.began q ≡ x.period.began) is (h.since id q a k here)
+  since_before j q a u (of_spent is) = λ placed an. absurd (some_not_none (ap (λ (x : Known). x.period.announced) is ∙ an) refl)
+  since_before j q a u (of_another apart apart' at) = h.since j q a u at
+
   part_joined : {A : Type 0} (part : Period → A) → part (joined_period k.period l.period) ≡ part k.period → (i : ℕ)
       → part (period_in joined.views i) ≡ put (λ j. part (period_in t.views j)) other (part no_period) i
   part_joined {A} part same i =
@@ -289,6 +302,7 @@ module _ (sl : Slots) (t : WholeState) (id other : ℕ) (k l : Known) (here : ge
         (λ c. refl) (reset sl.places (grace_of sl t h.gone h.began h.was_gone) other h.sound);
     low = h.low;
     each = λ j u at. each_joined j u (before j u at);
+    since = λ j q a u at. since_before j q a u (before j u at);
     apart = λ a b q x y at at' has has'. one_joined a b q x y (before a x at) (before b y at') has has';
   }
     where

@@ -115,6 +115,7 @@ module _ (s : Slots) (cards : List ℕ) (size : length cards ≡ table_size s.la
       });
       low = let clock = behind_cards (clock_word s) (omega arith) (λ e. omega arith) in omega arith;
       each = alone (λ j u. PeriodHolds s all u) first_holds;
+      since = λ i q a k at. alone (λ j u. u.period.place ≡ Some q → u.period.announced ≡ Some a → 0 ≡ u.period.began) (λ is an. refl) i k at;
       apart = λ i j q k l at at' has has'. alone (λ i u. i ≡ 0) refl i k at ∙ sym (alone (λ j u. j ≡ 0) refl j l at');
     }
       where

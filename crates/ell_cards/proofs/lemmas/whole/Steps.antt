@@ -19,7 +19,7 @@ use Rattle.ell_cards.specs.declared.view.Known.{Known}
 use Rattle.ell_cards.specs.declared.view.Period.{Period}
 use Rattle.ell_cards.specs.declared.view.Slots.{Slots}
 use Rattle.ell_cards.specs.Models.{TablePlan}
-use Rattle.ell_cards.specs.Periods.{WholeState, clock_word, place_word, slots_size, period_in, word_at_place, announced_by, place_says, last_reading, card_words, card_words_by, after_clock, after_announce, after_look_at, after_take, after_give, least_of, settled_at, HasPlace, own, spare, IsAtRest, PeriodHolds, HasPeriods, grace_of}
+use Rattle.ell_cards.specs.Periods.{WholeState, clock_word, place_word, slots_size, period_in, word_at_place, announced_by, place_says, last_reading, card_words, card_words_by, after_clock, after_announce, after_retract, after_look_at, after_take, after_give, least_of, settled_at, HasPlace, own, spare, IsAtRest, PeriodHolds, HasPeriods, grace_of}
 use Rattle.ell_cards.specs.Stepping.{MayGoOn}
 use Rattle.ell_cards.specs.Whole.{trees_of, WordsAre, PeriodsAre}
 use Rattle.ell_cards.proofs.lemmas.whole.Seats.{before_clock, places_apart, period_was, part_put, part_same, holds_on}
@@ -97,9 +97,12 @@ module _ (s : Slots) (t : WholeState) (id : ℕ) (k : Known) (here : get_elem? t
     apart_in i j q x y (inr a) (inr b) has has' = h.apart i j q x y a.1 b.1 has has'
 
     -- the periods are sound again, if the grace periods are and what the pass knows is so
-    pub periods_after : (gone : ℕ → Bool) (began : ℕ → ℕ) (was_gone : ℕ → ℕ → Bool) → GraceIsSound s.places (grace_of s after gone began was_gone)
+    pub periods_after : (gone : ℕ → Bool) (began : ℕ → ℕ) (was_gone : ℕ → ℕ → Bool)
+        → ((q a : ℕ) → p.place ≡ Some q → p.announced ≡ Some a → began q ≡ p.began)
+        → ((j q a : ℕ) (u : Known) → j ≢ id → get_elem? t.views j ≡ some u → u.period.place ≡ Some q → u.period.announced ≡ Some a → began q ≡ u.period.began)
+        → GraceIsSound s.places (grace_of s after gone began was_gone)
         → PeriodHolds s words now → HasPeriods s after
-    periods_after gone began was_gone sound holds = record {
+    periods_after gone began was_gone since since' sound holds = record {
       gone = gone;
       began = began;
       was_gone = was_gone;
@@ -108,6 +111,10 @@ module _ (s : Slots) (t : WholeState) (id : ℕ) (k : Known) (here : get_elem? t
       each = λ j u at. ⊎_elim
           (λ (a : (j ≡ id) × (now ≡ u)). subst (PeriodHolds s words) a.1 holds)
           (λ (a : (j ≢ id) × (get_elem? t.views j ≡ some u)). holds_on s t.words words u (others j u a.0 a.1) (omega arith) (h.each j u a.1))
+          (at_set t.views id j now u at);
+      since = λ j q a u at is an. ⊎_elim
+          (λ (e : (j ≡ id) × (now ≡ u)). subst (λ (x : Known). x.period.place ≡ Some q → x.period.announced ≡ Some a → began q ≡ x.period.began) e.1 (since q a) is an)
+          (λ (e : (j ≢ id) × (get_elem? t.views j ≡ some u)). since' j q a u e.0 e.1 is an)
           (at_set t.views id j now u at);
       apart = λ i j q x y at at' has has'. apart_in i j q x y (at_set t.views id i now x at) (at_set t.views id j now y at') has has';
     }
@@ -131,6 +138,7 @@ module _ (s : Slots) (t : WholeState) (id : ℕ) (k : Known) (here : get_elem? t
     pub periods_stay : HasPeriods s (record { words = again; homes = t.homes; views = set t.views id (record { tree = k.tree; period = k.period }) })
     periods_stay =
         periods_after s t id k here h again k.period (same_at (clock_word s)) (λ j u other at q has. same_at (place_word s q)) (λ q has. inl has) h.gone h.began h.was_gone
+          (λ r a at an. h.since id r a k here at an) (λ j r a u other there at an. h.since j r a u there at an)
         (grace_same s.places (grace_of s t h.gone h.began h.was_gone)
         (grace_of s (record { words = again; homes = t.homes; views = set t.views id (record { tree = k.tree; period = k.period }) }) h.gone h.began h.was_gone)
         (same_at (clock_word s)) (λ c. refl) same_word (λ q. refl) (λ q c. refl) (λ j. refl)
@@ -172,6 +180,7 @@ module _ (s : Slots) (t : WholeState) (id : ℕ) (k : Known) (here : get_elem? t
   periods_read =
       periods_after s t id k here h (again (clock_word s) (omega arith)) reads.period (same_at (clock_word s) (omega arith) (clock_word s))
       (λ j u other at q has. same_at (clock_word s) (omega arith) (place_word s q)) gains h.gone h.began h.was_gone
+          (λ r a at an. h.since id r a k here at an) (λ j r a u other there at an. h.since j r a u there at an)
       (grace_same s.places scanned
       (grace_of s (record { words = again (clock_word s) (omega arith); homes = t.homes; views = set t.views id reads }) h.gone h.began h.was_gone)
       (same_at (clock_word s) (omega arith) (clock_word s)) (λ c. refl) (same_word (clock_word s) (omega arith)) (λ q. refl) (λ q c. refl) (λ j. refl)
@@ -214,6 +223,7 @@ module _ (s : Slots) (t : WholeState) (id : ℕ) (k : Known) (here : get_elem? t
           (grace_goes_on s.places was gone_on h.sound (ticks refl));
       low = let now = later_clock in omega arith;
       each = λ j u at. holds_on s t.words later u (λ q has. later_place q) (let now = later_clock in omega arith) (h.each j u at);
+      since = h.since;
       apart = h.apart;
     }
 
@@ -310,6 +320,7 @@ module _ (s : Slots) (t : WholeState) (id : ℕ) (k : Known) (here : get_elem? t
     pub periods_seen : HasPeriods s (record { words = set t.words (place_word s q) (get_or t.words (place_word s q) 0); homes = t.homes; views = set t.views id sees })
     periods_seen =
         periods_after s t id k here h kept sees.period (kept_at (clock_word s)) (λ j u other at r has. kept_at (place_word s r)) gains h.gone h.began h.was_gone
+          (λ r a at an. h.since id r a k here at an) (λ j r a u other there at an. h.since j r a u there at an)
         (seen_sound (nat_lt (k.period.looked + 1) s.places) refl)
         sees_holds
       where
@@ -397,11 +408,15 @@ module _ (s : Slots) (t : WholeState) (id : ℕ) (k : Known) (here : get_elem? t
 
   -- a reading of the clock is announced at the place of the pass
   pub periods_announced : (q reading : ℕ) → k.period.place ≡ Some q → k.period.reading ≡ Some reading
-      → HasPeriods s (record { words = set t.words (place_word s q) (reading + 2); homes = t.homes; views = set t.views id (record { tree = k.tree; period = after_announce (Some reading) k.period }) })
+      → HasPeriods s (record { words = set t.words (place_word s q) (reading + 2); homes = t.homes; views = set t.views id (record { tree = k.tree; period = after_announce reading (get_or t.words (clock_word s) 0) k.period }) })
   periods_announced q reading placed was =
-      periods_after s t id k here h (turned q (reading + 2) below) (after_announce (Some reading) k.period) (turned_clock q (reading + 2) below) (others_have_none q (reading + 2) below (own placed)) gains
+      periods_after s t id k here h (turned q (reading + 2) below) (after_announce reading (get_or t.words (clock_word s) 0) k.period) (turned_clock q (reading + 2) below) (others_have_none q (reading + 2) below (own placed)) gains
       h.gone (put h.began q (get_or t.words (clock_word s) 0)) (put h.was_gone q h.gone)
-      (begun q (reading + 2) below (after_announce (Some reading) k.period) refl refl refl reading (announced_again reading) (mine.reading reading was))
+      (λ r a at an. (let e : r ≡ q = same_Some r q (sym at ∙ placed) in
+          ap (put h.began q (get_or t.words (clock_word s) 0)) e ∙ put_same h.began q (get_or t.words (clock_word s) 0)))
+      (λ j r a u other there at an. put_other h.began q (get_or t.words (clock_word s) 0) r
+          (λ e. other (h.apart j id q u k there here (own (at ∙ ap (λ x. Some x) e)) (own placed))) ∙ h.since j r a u there at an)
+      (begun q (reading + 2) below (after_announce reading (get_or t.words (clock_word s) 0) k.period) refl refl refl reading (announced_again reading) (mine.reading reading was))
       record {
         place = λ r is. (let e : r ≡ q = same_Some r q (sym is ∙ placed) in let low = below in (omega arith, ap (λ x. get_or (turned q (reading + 2) below) (place_word s x) 0) e ∙ turned_here q (reading + 2) below));
         other = λ r is. (let at = mine.other r is in
@@ -415,16 +430,18 @@ module _ (s : Slots) (t : WholeState) (id : ℕ) (k : Known) (here : get_elem? t
       below : q < s.places
       below = (mine.place q placed).0
 
-      gains : (r : ℕ) → HasPlace (after_announce (Some reading) k.period) r → HasPlace k.period r ⊎ IsNobodys t r
+      gains : (r : ℕ) → HasPlace (after_announce reading (get_or t.words (clock_word s) 0) k.period) r → HasPlace k.period r ⊎ IsNobodys t r
       gains r (own is) = inl (own is)
       gains r (spare is) = inl (spare is)
 
   -- the announcement of a pass at rest is taken away
   pub periods_retracted : (q : ℕ) → k.period.place ≡ Some q → IsAtRest k.tree
-      → HasPeriods s (record { words = set t.words (place_word s q) 1; homes = t.homes; views = set t.views id (record { tree = k.tree; period = after_announce None k.period }) })
+      → HasPeriods s (record { words = set t.words (place_word s q) 1; homes = t.homes; views = set t.views id (record { tree = k.tree; period = after_retract k.period }) })
   periods_retracted q placed rest =
-      periods_after s t id k here h (turned q 1 below) (after_announce None k.period) (turned_clock q 1 below) (others_have_none q 1 below (own placed)) gains
-      h.gone h.began h.was_gone (ended q 1 below (after_announce None k.period) refl refl refl refl)
+      periods_after s t id k here h (turned q 1 below) (after_retract k.period) (turned_clock q 1 below) (others_have_none q 1 below (own placed)) gains
+      h.gone h.began h.was_gone
+      (λ r a at an. absurd (some_not_none an refl)) (λ j r a u other there at an. h.since j r a u there at an)
+      (ended q 1 below (after_retract k.period) refl refl refl refl)
       record {
         place = λ r is. (let e : r ≡ q = same_Some r q (sym is ∙ placed) in let low = below in (omega arith, ap (λ x. get_or (turned q 1 below) (place_word s x) 0) e ∙ turned_here q 1 below));
         other = λ r is. (let at = mine.other r is in
@@ -438,7 +455,7 @@ module _ (s : Slots) (t : WholeState) (id : ℕ) (k : Known) (here : get_elem? t
       below : q < s.places
       below = (mine.place q placed).0
 
-      gains : (r : ℕ) → HasPlace (after_announce None k.period) r → HasPlace k.period r ⊎ IsNobodys t r
+      gains : (r : ℕ) → HasPlace (after_retract k.period) r → HasPlace k.period r ⊎ IsNobodys t r
       gains r (own is) = inl (own is)
       gains r (spare is) = inl (spare is)
 
@@ -448,7 +465,9 @@ module _ (s : Slots) (t : WholeState) (id : ℕ) (k : Known) (here : get_elem? t
   periods_taken q below empty =
       periods_after s t id k here h (turned q 1 below) (after_take q 0 k.period) (turned_clock q 1 below)
       (λ j u other at r has. place_else q 1 below j r u at has (λ e. nobody j u at (subst (HasPlace u.period) e has))) gains
-      h.gone h.began h.was_gone (ended q 1 below (after_take q 0 k.period) refl refl refl refl)
+      h.gone h.began h.was_gone
+      (λ r a at an. h.since id r a k here at an) (λ j r a u other there at an. h.since j r a u there at an)
+      (ended q 1 below (after_take q 0 k.period) refl refl refl refl)
       record {
         place = λ r is. (let at = mine.place r is in (at.0, place_else q 1 below id r k here (own is) (λ e. nobody id k here (subst (HasPlace k.period) e (own is))) ∙ at.1));
         other = λ r is. (let e : r ≡ q = sym (same_Some q r is) in (omega arith, ap (λ x. get_or (turned q 1 below) (place_word s x) 0) e ∙ turned_here q 1 below));
@@ -470,7 +489,9 @@ module _ (s : Slots) (t : WholeState) (id : ℕ) (k : Known) (here : get_elem? t
       → HasPeriods s (record { words = set t.words (place_word s q) 0; homes = t.homes; views = set t.views id (record { tree = k.tree; period = after_give k.period }) })
   periods_given q has =
       periods_after s t id k here h (turned q 0 below) (after_give k.period) (turned_clock q 0 below) (others_have_none q 0 below (spare has)) gains
-      h.gone h.began h.was_gone (ended q 0 below (after_give k.period) refl refl refl refl)
+      h.gone h.began h.was_gone
+      (λ r a at an. h.since id r a k here at an) (λ j r a u other there at an. h.since j r a u there at an)
+      (ended q 0 below (after_give k.period) refl refl refl refl)
       record {
         place = λ r is. (let at = mine.place r is in
             (at.0, turned_else q 0 below r at.0 (λ e. mine.two r is (has ∙ ap (λ x. Some x) (sym e))) ∙ at.1));
@@ -490,15 +511,15 @@ module _ (s : Slots) (t : WholeState) (id : ℕ) (k : Known) (here : get_elem? t
 
 -- a step on the words of the periods is one of the table
 module _ (plan : TablePlan) (s : Slots) (placed : plan.slots ≡ Some s) where
-  goes_on : (k : Known) (i : ℕ) (f : ℕ → ℕ) (told : ℕ → Period → Type 0) (p : ℕ → Period) → clock_word s ≤ i
+  goes_on : (k : Known) (i : ℕ) (f : ℕ → ℕ) (told : ℕ → Period → Type 0) (p : WholeState → Period) → clock_word s ≤ i
       → ((t : WholeState) (id : ℕ) → get_elem? t.views id ≡ some k → HasPeriods s t → length t.words ≡ slots_size s
-      → HasPeriods s (record { words = set t.words i (f (get_or t.words i 0)); homes = t.homes; views = set t.views id (record { tree = k.tree; period = p (get_or t.words i 0) }) })
-      × told (get_or t.words i 0) (p (get_or t.words i 0)))
+      → HasPeriods s (record { words = set t.words i (f (get_or t.words i 0)); homes = t.homes; views = set t.views id (record { tree = k.tree; period = p t }) })
+      × told (get_or t.words i 0) (p t))
       → MayGoOn plan k i f told
   goes_on k i f told p behind step id t h homes here small =
       let has = subst (λ o. WordsAre plan o t.words h.tree.words) placed h.words in
       let n = get_or t.words i 0 in
-      let now : Known = record { tree = k.tree; period = p n } in
+      let now : Known = record { tree = k.tree; period = p t } in
       let x = step t id here (subst (λ o. PeriodsAre o t) placed h.periods) has.0 in (
         now,
         keeps,
@@ -523,27 +544,28 @@ module _ (plan : TablePlan) (s : Slots) (placed : plan.slots ≡ Some s) where
   -- a pass reads the clock
   pub read_clock_goes_on : (k : Known) → MayGoOn plan k (clock_word s) (λ n. n) (λ n p. (p ≡ after_clock n k.period) × (n ≤ last_reading))
   read_clock_goes_on k =
-      goes_on k (clock_word s) (λ n. n) (λ n p. (p ≡ after_clock n k.period) × (n ≤ last_reading)) (λ n. after_clock n k.period) (omega arith)
+      goes_on k (clock_word s) (λ n. n) (λ n p. (p ≡ after_clock n k.period) × (n ≤ last_reading)) (λ t. after_clock (get_or t.words (clock_word s) 0) k.period) (omega arith)
       (λ t id here h size. (periods_read s t id k here h size, (refl, h.low)))
 
   -- it announces a reading of the clock
   pub announces : (k : Known) (q reading : ℕ) → k.period.place ≡ Some q → k.period.reading ≡ Some reading
-      → MayGoOn plan k (place_word s q) (λ n. reading + 2) (λ n p. p ≡ after_announce (Some reading) k.period)
+      → MayGoOn plan k (place_word s q) (λ n. reading + 2) (λ n p. (clock : ℕ) × (reading ≤ clock) × (p ≡ after_announce reading clock k.period))
   announces k q reading has was =
-      goes_on k (place_word s q) (λ n. reading + 2) (λ n p. p ≡ after_announce (Some reading) k.period) (λ n. after_announce (Some reading) k.period) (omega arith)
-      (λ t id here h size. (periods_announced s t id k here h size q reading has was, refl))
+      goes_on k (place_word s q) (λ n. reading + 2) (λ n p. (clock : ℕ) × (reading ≤ clock) × (p ≡ after_announce reading clock k.period))
+      (λ t. after_announce reading (get_or t.words (clock_word s) 0) k.period) (omega arith)
+      (λ t id here h size. (periods_announced s t id k here h size q reading has was, (get_or t.words (clock_word s) 0, (h.each id k here).reading reading was, refl)))
 
   -- it takes its announcement away
   pub retracts : (k : Known) (q : ℕ) → k.period.place ≡ Some q → IsAtRest k.tree
-      → MayGoOn plan k (place_word s q) (λ n. 1) (λ n p. p ≡ after_announce None k.period)
+      → MayGoOn plan k (place_word s q) (λ n. 1) (λ n p. p ≡ after_retract k.period)
   retracts k q has rest =
-      goes_on k (place_word s q) (λ n. 1) (λ n p. p ≡ after_announce None k.period) (λ n. after_announce None k.period) (omega arith)
+      goes_on k (place_word s q) (λ n. 1) (λ n p. p ≡ after_retract k.period) (λ t. after_retract k.period) (omega arith)
       (λ t id here h size. (periods_retracted s t id k here h size q has rest, refl))
 
   -- it takes a place, if no pass has it
   pub takes : (k : Known) (q : ℕ) → q < s.places → MayGoOn plan k (place_word s q) (λ n. either (n == 0) 1 n) (λ n p. p ≡ after_take q n k.period)
   takes k q below =
-      goes_on k (place_word s q) (λ n. either (n == 0) 1 n) (λ n p. p ≡ after_take q n k.period) (λ n. after_take q n k.period) (omega arith)
+      goes_on k (place_word s q) (λ n. either (n == 0) 1 n) (λ n p. p ≡ after_take q n k.period) (λ t. after_take q (get_or t.words (place_word s q) 0) k.period) (omega arith)
       (λ t id here h size. (by t id here h size (get_or t.words (place_word s q) 0) refl, refl))
     where
       taken : (n : ℕ) → either (suc n == 0) 1 (suc n) ≡ suc n
@@ -576,14 +598,14 @@ module _ (plan : TablePlan) (s : Slots) (placed : plan.slots ≡ Some s) where
   -- it gives its other place back
   pub gives_back : (k : Known) (q : ℕ) → k.period.other ≡ Some q → MayGoOn plan k (place_word s q) (λ n. 0) (λ n p. p ≡ after_give k.period)
   gives_back k q has =
-      goes_on k (place_word s q) (λ n. 0) (λ n p. p ≡ after_give k.period) (λ n. after_give k.period) (omega arith)
+      goes_on k (place_word s q) (λ n. 0) (λ n p. p ≡ after_give k.period) (λ t. after_give k.period) (omega arith)
       (λ t id here h size. (periods_given s t id k here h size q has, refl))
 
   -- it lets the clock go on, if that is as it was read
   pub tick_goes_on : (k : Known) (reading : ℕ) → reading < last_reading
       → MayGoOn plan k (clock_word s) (λ n. either (n == reading) (reading + 1) n) (λ n p. p ≡ k.period)
   tick_goes_on k reading low =
-      goes_on k (clock_word s) (λ n. either (n == reading) (reading + 1) n) (λ n p. p ≡ k.period) (λ n. k.period) (omega arith)
+      goes_on k (clock_word s) (λ n. either (n == reading) (reading + 1) n) (λ n p. p ≡ k.period) (λ t. k.period) (omega arith)
       (λ t id here h size. (by t id here h size (cases_eq (get_or t.words (clock_word s) 0) reading), refl))
     where
       on : WholeState → ℕ → ℕ → Type 0
@@ -605,7 +627,7 @@ module _ (plan : TablePlan) (s : Slots) (placed : plan.slots ≡ Some s) where
   pub looks_at : (k : Known) (q : ℕ) → q ≡ k.period.looked → q < s.places
       → MayGoOn plan k (place_word s q) (λ n. n) (λ n p. (o : Slots) → plan.slots ≡ Some o → p ≡ after_look_at o.places n k.period)
   looks_at k q next below =
-      goes_on k (place_word s q) (λ n. n) (λ n p. (o : Slots) → plan.slots ≡ Some o → p ≡ after_look_at o.places n k.period) (λ n. after_look_at s.places n k.period) (omega arith)
+      goes_on k (place_word s q) (λ n. n) (λ n p. (o : Slots) → plan.slots ≡ Some o → p ≡ after_look_at o.places n k.period) (λ t. after_look_at s.places (get_or t.words (place_word s q) 0) k.period) (omega arith)
       (λ t id here h size. (
         periods_seen s t id k here h size q next below,
         λ o is. ap (λ (x : Slots). after_look_at x.places (get_or t.words (place_word s q) 0) k.period) (same_Some s o (sym placed ∙ is)),

@@ -97,6 +97,10 @@ module _ (s : WholeState) (id : ℕ) (k : Known) (here : get_elem? s.views id �
         (λ (t : (j ≡ id) × (now ≡ u)). subst (PeriodHolds sl (set s.words i n)) t.1 (on now (holds_of sl s.words k now refl rests (h.each id k here))))
         (λ (t : (j ≢ id) × (get_elem? s.views j ≡ some u)). on u (h.each j u t.1))
         (at_set s.views id j now u at);
+    since = λ j q a u at is an. ⊎_elim
+        (λ (e : (j ≡ id) × (now ≡ u)). subst (λ (x : Known). x.period.place ≡ Some q → x.period.announced ≡ Some a → h.began q ≡ x.period.began) e.1 (h.since id q a k here) is an)
+        (λ (e : (j ≢ id) × (get_elem? s.views j ≡ some u)). h.since j q a u e.1 is an)
+        (at_set s.views id j now u at);
     apart = λ a b q x y at at' has has'. h.apart a b q (was a x at).0 (was b y at').0 (was a x at).1 (was b y at').1
         ((was a x at).2 q has) ((was b y at').2 q has');
   }

@@ -1,5 +1,5 @@
-use Rattle.std.proofs.Common.{◌≡◌, None, sym, subst}
-use Rattle.ell_cards.specs.Periods.{after_announce}
+use Rattle.std.proofs.Common.{◌≡◌, sym, subst}
+use Rattle.ell_cards.specs.Periods.{after_retract}
 use Rattle.ell_cards.specs.Stepping.{MayGoOn}
 use Rattle.ell_cards.proofs.lemmas.whole.Steps.{retracts}
 use Rattle.ell_cards.proofs.lemmas.whole.Words.{last_fits, places_fit, place_inside}
@@ -18,7 +18,7 @@ period_store-requires-clause-word g c =
 pub period_store-requires-clause-rule : goal.period_store-requires-clause-rule
 period_store-requires-clause-rule g c =
     let k = c.args.seat.now.me.0 in
-    subst (λ i. MayGoOn c.args.self.now.plan k i (λ _. 1) (λ _ p. p ≡ after_announce None k.period)) (sym c.place_word.ensures)
+    subst (λ i. MayGoOn c.args.self.now.plan k i (λ _. 1) (λ _ p. p ≡ after_retract k.period)) (sym c.place_word.ensures)
     (retracts c.args.self.now.plan c.args.slots c.requires.slots k c.args.place c.requires.place c.requires.rest)
 
 pub returns-clause-announced : goal.returns-clause-announced
