@@ -164,7 +164,7 @@ impl<A: Allocator + Copy> CardTable<A> {
         Link::of(self.see(pass, Call::LookDown(from, keys, right), word))
     }
 
-    /// Ends a look: the pass forgets what it told, and where it had come to.
+    /// Ends a look: the pass forgets what it told, and where it had come to. Where there are places, its period ends by that.
     #[inline(always)]
     pub fn end_look(&self, pass: &mut Pass<A>)
         requires own { pass.old.table ≡ self.now.id }
@@ -173,6 +173,7 @@ impl<A: Allocator + Copy> CardTable<A> {
         ensures step { Steps pass.old pass.new (after_rest pass.old.view) }
     {
         self.load(pass, Call::Rest, root_key());
+        self.withdraw(pass);
     }
 
     /// Reads the key of a node that the pass has met. For the leaf where the pass stands, it is the operation's key

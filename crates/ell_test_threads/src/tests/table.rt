@@ -98,31 +98,43 @@ fn refused(rt: &impl Abort, table: &CardTable<Global>, pass: Pass<Global>) -> Pa
     pass
 }
 
-#[test]
-fn each_pass_has_a_place_where_there_are_places(rt: HostRuntime) {
+// A table whose keys are shared, with places for three passes, and its first pass.
+fn with_places(rt: &(impl Abort + AllocGlobal)) -> (CardTable<Global>, Pass<Global>)
+    ensures { (result.1.table ≡ result.0.id) × IsFree result.1.view }
+{
     let kind = TableKind {
         shared: true,
         flat: true,
         places: 3,
     };
-    let made = CardTable::reserve(rt.alloc(), &START, &[], 1, kind);
-    let (table, pass) = made.expect(&rt, "table");
+    CardTable::reserve(rt.alloc(), &START, &[], 1, kind).expect(rt, "table")
+}
+
+#[test]
+fn each_pass_has_a_place_where_there_are_places(rt: HostRuntime) {
+    let (table, pass) = with_places(&rt);
     let (one, two) = parted(&rt, &table, pass);
     let (one, three) = parted(&rt, &table, one);
     let two = refused(&rt, &table, two);
-    let mut both = joined(&rt, &table, one, three);
-    let first = table.look(&mut both);
-    assert!(rt; first.node == 4);
+    let both = joined(&rt, &table, one, three);
     let (both, four) = parted(&rt, &table, both);
-    let mut four = refused(&rt, &table, four);
-    let again = table.look(&mut four);
-    assert!(rt; again.node == 4);
-    table.end_look(&mut four);
+    let four = refused(&rt, &table, four);
     let all = joined(&rt, &table, joined(&rt, &table, both, two), four);
     assert!(rt; all.has_whole_share());
-    let (table, pass) = (table, all);
-    let (one, _) = parted(&rt, &table, pass);
-    assert!(rt; !one.has_whole_share());
+}
+
+#[test]
+fn a_look_that_goes_on_holds_safe_numbers_down(rt: HostRuntime) {
+    let (table, pass) = with_places(&rt);
+    let (mut one, mut two) = parted(&rt, &table, pass);
+    assert!(rt; table.safe_number(&mut one) == 1);
+    assert!(rt; table.look(&mut two).node == 4);
+    assert!(rt; table.safe_number(&mut one) == 1 && table.safe_number(&mut two) == 1);
+    table.end_look(&mut two);
+    assert!(rt; table.safe_number(&mut one) == 4);
+    assert!(rt; table.look(&mut two).node == 4);
+    let mut both = joined(&rt, &table, one, two);
+    assert!(rt; table.safe_number(&mut both) == 5);
 }
 
 // Each value has its text.
