@@ -138,7 +138,7 @@ module _ (s : Slots) (t : WholeState) (id : ℕ) (k : Known) (here : get_elem? t
     pub periods_stay : HasPeriods s (record { words = again; homes = t.homes; views = set t.views id (record { tree = k.tree; period = k.period }) })
     periods_stay =
         periods_after s t id k here h again k.period (same_at (clock_word s)) (λ j u other at q has. same_at (place_word s q)) (λ q has. inl has) h.gone h.began h.was_gone
-          (λ r a at an. h.since id r a k here at an) (λ j r a u other there at an. h.since j r a u there at an)
+        (λ r a at an. h.since id r a k here at an) (λ j r a u other there at an. h.since j r a u there at an)
         (grace_same s.places (grace_of s t h.gone h.began h.was_gone)
         (grace_of s (record { words = again; homes = t.homes; views = set t.views id (record { tree = k.tree; period = k.period }) }) h.gone h.began h.was_gone)
         (same_at (clock_word s)) (λ c. refl) same_word (λ q. refl) (λ q c. refl) (λ j. refl)
@@ -180,7 +180,7 @@ module _ (s : Slots) (t : WholeState) (id : ℕ) (k : Known) (here : get_elem? t
   periods_read =
       periods_after s t id k here h (again (clock_word s) (omega arith)) reads.period (same_at (clock_word s) (omega arith) (clock_word s))
       (λ j u other at q has. same_at (clock_word s) (omega arith) (place_word s q)) gains h.gone h.began h.was_gone
-          (λ r a at an. h.since id r a k here at an) (λ j r a u other there at an. h.since j r a u there at an)
+      (λ r a at an. h.since id r a k here at an) (λ j r a u other there at an. h.since j r a u there at an)
       (grace_same s.places scanned
       (grace_of s (record { words = again (clock_word s) (omega arith); homes = t.homes; views = set t.views id reads }) h.gone h.began h.was_gone)
       (same_at (clock_word s) (omega arith) (clock_word s)) (λ c. refl) (same_word (clock_word s) (omega arith)) (λ q. refl) (λ q c. refl) (λ j. refl)
@@ -320,7 +320,7 @@ module _ (s : Slots) (t : WholeState) (id : ℕ) (k : Known) (here : get_elem? t
     pub periods_seen : HasPeriods s (record { words = set t.words (place_word s q) (get_or t.words (place_word s q) 0); homes = t.homes; views = set t.views id sees })
     periods_seen =
         periods_after s t id k here h kept sees.period (kept_at (clock_word s)) (λ j u other at r has. kept_at (place_word s r)) gains h.gone h.began h.was_gone
-          (λ r a at an. h.since id r a k here at an) (λ j r a u other there at an. h.since j r a u there at an)
+        (λ r a at an. h.since id r a k here at an) (λ j r a u other there at an. h.since j r a u there at an)
         (seen_sound (nat_lt (k.period.looked + 1) s.places) refl)
         sees_holds
       where
@@ -413,9 +413,9 @@ module _ (s : Slots) (t : WholeState) (id : ℕ) (k : Known) (here : get_elem? t
       periods_after s t id k here h (turned q (reading + 2) below) (after_announce reading (get_or t.words (clock_word s) 0) k.period) (turned_clock q (reading + 2) below) (others_have_none q (reading + 2) below (own placed)) gains
       h.gone (put h.began q (get_or t.words (clock_word s) 0)) (put h.was_gone q h.gone)
       (λ r a at an. (let e : r ≡ q = same_Some r q (sym at ∙ placed) in
-          ap (put h.began q (get_or t.words (clock_word s) 0)) e ∙ put_same h.began q (get_or t.words (clock_word s) 0)))
+      ap (put h.began q (get_or t.words (clock_word s) 0)) e ∙ put_same h.began q (get_or t.words (clock_word s) 0)))
       (λ j r a u other there at an. put_other h.began q (get_or t.words (clock_word s) 0) r
-          (λ e. other (h.apart j id q u k there here (own (at ∙ ap (λ x. Some x) e)) (own placed))) ∙ h.since j r a u there at an)
+      (λ e. other (h.apart j id q u k there here (own (at ∙ ap (λ x. Some x) e)) (own placed))) ∙ h.since j r a u there at an)
       (begun q (reading + 2) below (after_announce reading (get_or t.words (clock_word s) 0) k.period) refl refl refl reading (announced_again reading) (mine.reading reading was))
       record {
         place = λ r is. (let e : r ≡ q = same_Some r q (sym is ∙ placed) in let low = below in (omega arith, ap (λ x. get_or (turned q (reading + 2) below) (place_word s x) 0) e ∙ turned_here q (reading + 2) below));
