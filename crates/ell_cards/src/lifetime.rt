@@ -38,9 +38,10 @@ impl<A: Allocator + Copy> CardTable<A> {
     /// Creates a table of this kind, of a tree that has these start keys with their values, balanced, with this many cards
     /// to be claimed, 1 to `CARDS_MAX`, and one pass that owns these keys: those of them that are start keys are present,
     /// the others absent. The tree of the start keys has a card for each of them, so the number of the last card is the
-    /// number of cards asked for plus that of the start keys. `BadCards` is returned exactly if the number of cards asked
-    /// for is not 1 to `CARDS_MAX`, and `NoMemory` if an allocation fails. Conditions: the keys are strictly ascending, and
-    /// at most `KEY_MAX`; the start keys are strictly ascending, at most `START_MAX`, and each is among the keys or shared.
+    /// number of cards asked for plus that of the start keys. A table with places has numbers up to `CARD_MAX`, and words
+    /// for that many cards. `BadCards` is returned exactly if the number of cards asked for is not 1 to `CARDS_MAX`, and
+    /// `NoMemory` if an allocation fails. Conditions: the keys are strictly ascending, and at most `KEY_MAX`; the start keys
+    /// are strictly ascending, at most `START_MAX`, and each is among the keys or shared; there are at most 1,000,000 places.
     pub fn reserve(
         alloc: A,
         start: &[(u64, u64)],
@@ -170,8 +171,8 @@ impl<A: Allocator + Copy> CardTable<A> {
 
     /// Parts a pass with nothing in hand: the left part gets these keys of its own, ascending, and the right part gets
     /// the rest, a part of the share and, if the table has places, one of them. `TooManyPasses` is returned exactly if the
-    /// pass may not be parted, or each place has a pass, and `NoMemory` if an allocation fails; either way the pass is as
-    /// it was.
+    /// pass may not be parted, and in a table with places also if no place was found free; `NoMemory` is returned if an
+    /// allocation fails. Either way the pass is as it was.
     pub fn split(
         &self,
         pass: Pass<A>,
@@ -185,8 +186,8 @@ impl<A: Allocator + Copy> CardTable<A> {
         ensures left { IfOk result (λ parts. Steps pass parts.0 (left_view left_keys.now pass.view)) }
         // The right part gets the other keys, and a piece of the share.
         ensures right { IfOk result (λ parts. Steps pass parts.1 (right_view left_keys.now pass.view)) }
-        // `TooManyPasses` is returned exactly if the tree shares keys and the share is the least one, or no place is left;
-        // the only other error is `NoMemory`. The pass is then returned as it was.
+        // Without places, `TooManyPasses` is returned exactly if the tree shares keys and the share is the least one; the
+        // only other error is `NoMemory`. The pass is then returned as it was.
         ensures may { OnOk result (MayPart pass.view) }
         ensures refused { IfErr result (λ refused. refused.0 ≡ pass) }
         ensures why { IfErr result (λ refused. SplitRefuses self.now.plan.slots pass.view refused.1) }
