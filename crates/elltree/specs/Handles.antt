@@ -1,4 +1,4 @@
-use Rattle.std.specs.Prelude.{◌≡◌, ◌≤◌, true, ℕ, [], List, length, map}
+use Rattle.std.specs.Prelude.{◌≡◌, ◌≤◌, true, ℕ, [], List, length, map, None}
 use Rattle.std.specs.Arc.{arc_value}
 use Rattle.std.specs.List.{All}
 use Rattle.std.specs.List.Sorted.{IsStrictlyIncreasing}

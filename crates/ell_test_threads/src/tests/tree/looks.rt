@@ -52,13 +52,26 @@ fn look_all<G: StepGate>(
     pass
 }
 
+// A pass without keys, and one that owns all.
+fn reader_and_owner(
+    rt: &impl Abort,
+    tree: &Tree<Global>,
+    pass: Pass<Global>,
+) -> (Pass<Global>, Pass<Global>)
+    requires own { pass.table ≡ tree.now.id }
+    requires idle { IsIdle pass }
+    ensures reader { (result.0.table ≡ tree.now.id) × IsIdle result.0 }
+    ensures owner { (result.1.table ≡ tree.now.id) × IsIdle result.1 }
+{
+    tree.split(pass, &[]).ok().expect(rt, "memory")
+}
+
 #[test]
 fn a_look_tells_any_key(rt: HostRuntime) {
     let gate = Counting::new(rt.alloc(), 4, NoGate).expect(&rt, "memory");
     let made = Tree::reserve_from(rt.alloc(), &START, &KEYS, 4);
     let (tree, pass) = made.expect(&rt, "tree");
-    // A pass without keys, and one that owns all.
-    let (mut reader, owner) = tree.split(pass, &[]).ok().expect(&rt, "memory");
+    let (mut reader, owner) = reader_and_owner(&rt, &tree, pass);
     reader.relabel(3);
     let sights = [
         (5, Some(50)),
