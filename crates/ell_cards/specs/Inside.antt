@@ -36,8 +36,8 @@ pub record PassFits (keys : List ℕ) (kept : Share) (words : ℕ) (v : View) : 
   pub most : IsNamed greatest_card v
   pub inside : HasWords words v
 
--- the place of a pass as its code keeps it is the one that it knows, and it has one in a table with places, and no other one;
--- and it announces there what its code says
+-- the place of a pass as its code keeps it is the one that it knows, and it has one in a table with places, and no
+-- other one; and it announces there what its code says
 pub record PlaceFits (standing : Standing) (words : ℕ) (p : Period) : Type 0 where
   pub place : p.place ≡ standing.place
   pub other : p.other ≡ None

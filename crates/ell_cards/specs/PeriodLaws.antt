@@ -15,8 +15,8 @@ pub record IsInPeriod (t : WholeState) (seat : ℕ) (k : Known) : Type 0 where
   pub reading : ℕ
   pub announces : k.period.announced ≡ Some reading
 
--- It began that no sooner than any pass's safe number says, when the clock was the reading that it announces at least, and no
--- more than it is now.
+-- It began that no sooner than any pass's safe number says, when the clock was the reading that it announces at least,
+-- and no more than it is now.
 pub record BeganSafely (s : Slots) (t : WholeState) (k : Known) (reading : ℕ) : Type 0 where
   pub safe : (i : ℕ) (other : Known) → get_elem? t.views i ≡ some other → other.period.safe ≤ k.period.began
   pub announced : reading ≤ k.period.began

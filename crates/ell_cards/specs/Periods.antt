@@ -19,8 +19,9 @@ use Rattle.ell_cards.specs.Models.{TablePlan, IsFree, IsTold}
 abbrev pub WholeState : Type 0
 WholeState = State (Unit {0}) Known
 
--- The clock of a table with places is the first word of the group behind the last card's, and the places follow it, the first
--- one at the end. Each has eight words, of which it uses one, so that no two of them are in one line of the cache.
+-- The clock of a table with places is the first word of the group behind the last card's, and the places follow it, the
+-- first one at the end. Each has eight words, of which it uses one, so that no two of them are in one line of the
+-- cache.
 abbrev pub clock_word : Slots → ℕ
 clock_word s = 774 + 768 * (s.last / 64)
 
@@ -39,8 +40,8 @@ abbrev pub whole_words : Option Slots → List ℕ → List ℕ
 whole_words None words = words
 whole_words (Some s) words = opening_words s words
 
--- the cards and the places of a table of cards up to a last one, none for no places, and the number of the last card to which
--- its claims may come, if each card could have words
+-- the cards and the places of a table of cards up to a last one, none for no places, and the number of the last card to
+-- which its claims may come, if each card could have words
 abbrev pub slots_of : ℕ → ℕ → Option Slots
 slots_of last places = if places == 0 then None else Some (record { last = last; places = places })
 
@@ -63,8 +64,8 @@ card_words_by (Some s) last = min (table_size s.last) (table_size last)
 abbrev pub card_words : TablePlan → ℕ
 card_words plan = card_words_by plan.slots plan.last_card
 
--- The word of a place is 0 if no pass has it, 1 if its pass is in no period, and else the reading of the clock that its pass
--- announces, and 2.
+-- The word of a place is 0 if no pass has it, 1 if its pass is in no period, and else the reading of the clock that its
+-- pass announces, and 2.
 abbrev pub place_says : Option ℕ → ℕ
 place_says None = 1
 place_says (Some reading) = reading + 2
@@ -80,7 +81,17 @@ last_reading = 2 ^ 62
 
 -- what a pass without a place knows of periods: nothing
 abbrev pub no_period : Period
-no_period = record { place = None; other = None; other_says = None; announced = None; began = 0; reading = None; least = 0; looked = 0; safe = 0 }
+no_period = record {
+  place = None;
+  other = None;
+  other_says = None;
+  announced = None;
+  began = 0;
+  reading = None;
+  least = 0;
+  looked = 0;
+  safe = 0;
+}
 
 -- the first pass of a table has the first place, if there is one
 abbrev pub period_by : Option Slots → Period
@@ -162,11 +173,16 @@ pub record IsAtRest (v : View) : Type 0 where
   pub forgot : (e : Told) → IsTold v e → IsOfRoot e
   pub nothing : v.glances ≡ []
 
--- What a pass knows of periods is so: its places are among those of the table, two if it has another one, and their words say
--- what it knows to be announced there; the clock has been as it was read; and a pass that announces nothing is at rest.
+-- a place is one of the table, and its word says that this is announced there, or that nothing is
+abbrev pub PlaceHas : Slots → List ℕ → ℕ → Option ℕ → Type 0
+PlaceHas s words q announced = (q < s.places) × (slice_index words (place_word s q) ≡ place_says announced)
+
+-- What a pass knows of periods is so: its places are among those of the table, two if it has another one, and their
+-- words say what it knows to be announced there; the clock has been as it was read; and a pass that announces nothing
+-- is at rest.
 pub record PeriodHolds (s : Slots) (words : List ℕ) (k : Known) : Type 0 where
-  pub place : (q : ℕ) → k.period.place ≡ Some q → (q < s.places) × (slice_index words (place_word s q) ≡ place_says k.period.announced)
-  pub other : (q : ℕ) → k.period.other ≡ Some q → (q < s.places) × (slice_index words (place_word s q) ≡ place_says k.period.other_says)
+  pub place : (q : ℕ) → k.period.place ≡ Some q → PlaceHas s words q k.period.announced
+  pub other : (q : ℕ) → k.period.other ≡ Some q → PlaceHas s words q k.period.other_says
   pub two : (q : ℕ) → k.period.place ≡ Some q → k.period.other ≢ Some q
   pub none : k.period.place ≡ None → k.period.announced ≡ None
   pub reading : (n : ℕ) → k.period.reading ≡ Some n → n ≤ slice_index words (clock_word s)
@@ -184,8 +200,8 @@ period_in views i = period_of (get_elem? views i)
 abbrev pub word_at_place : Slots → List ℕ → ℕ → Option ℕ
 word_at_place s words q = if nat_lt q s.places then announced_by (slice_index words (place_word s q)) else None
 
--- The grace periods of a table: the clock and what is announced are its words, and what each pass has seen is what it knows.
--- What the clock was when a pass began its period, and which cards were gone then, nobody reads.
+-- The grace periods of a table: the clock and what is announced are its words, and what each pass has seen is what it
+-- knows. What the clock was when a pass began its period, and which cards were gone then, nobody reads.
 abbrev pub grace_of : Slots → WholeState → (ℕ → Bool) → (ℕ → ℕ) → (ℕ → ℕ → Bool) → Grace
 grace_of s t gone began was_gone = record {
   clock = slice_index t.words (clock_word s);
@@ -200,8 +216,8 @@ grace_of s t gone began was_gone = record {
   free = λ c. None;
 }
 
--- The periods of a table are sound: they are such grace periods, what each pass knows of them is so, those of passes that are in
--- one began when the passes know it, and no two passes have one place.
+-- The periods of a table are sound: they are such grace periods, what each pass knows of them is so, those of passes
+-- that are in one began when the passes know it, and no two passes have one place.
 pub record HasPeriods (s : Slots) (t : WholeState) : Type 0 where
   pub gone : ℕ → Bool
   pub began : ℕ → ℕ
@@ -209,7 +225,7 @@ pub record HasPeriods (s : Slots) (t : WholeState) : Type 0 where
   pub sound : GraceIsSound s.places (grace_of s t gone began was_gone)
   pub low : slice_index t.words (clock_word s) ≤ last_reading
   pub each : (i : ℕ) (k : Known) → get_elem? t.views i ≡ some k → PeriodHolds s t.words k
-  pub since : (i q a : ℕ) (k : Known) → get_elem? t.views i ≡ some k → k.period.place ≡ Some q → k.period.announced ≡ Some a
-      → began q ≡ k.period.began
+  pub since : (i q a : ℕ) (k : Known) → get_elem? t.views i ≡ some k → k.period.place ≡ Some q
+      → k.period.announced ≡ Some a → began q ≡ k.period.began
   pub apart : (i j q : ℕ) (k l : Known) → get_elem? t.views i ≡ some k → get_elem? t.views j ≡ some l
       → HasPlace k.period q → HasPlace l.period q → i ≡ j

@@ -42,8 +42,8 @@ IsQuiet (call.Begin op) = ⊥
 IsQuiet call.Look = ⊥
 IsQuiet _ = Unit {0}
 
--- whatever the table is when a word of its periods becomes another one, this holds of the word found and of what the pass knows
--- of periods after, and its tree is as it was
+-- whatever the table is when a word of its periods becomes another one, this holds of the word found and of what the
+-- pass knows of periods after, and its tree is as it was
 abbrev pub MayGoOn : TablePlan → Known → ℕ → (ℕ → ℕ) → (ℕ → Period → Type 0) → Type 0
 MayGoOn plan k i f then =
     (id : ℕ) → Allows (IsWhole plan) 0 id (k, []) i f (λ n me. then n me.0.period × (me.0.tree ≡ k.tree) × (me.1 ≡ []))
@@ -101,8 +101,8 @@ pub record StepsBy (old new : PassModel) : Type 0 where
 
 -- what a step call that found this word leaves of a pass: what it knows is as the call says, and what the call tells is
 -- so; what a look has found of its own keys is what its ledger has; it was told no two keys of one node, nor, before
--- the call, two values of one leaf; the pass owns the keys and has the share that it did, names what is in its table and what
--- may be claimed there, and was told no greater depth of a node than a node of the table may have
+-- the call, two values of one leaf; the pass owns the keys and has the share that it did, names what is in its table
+-- and what may be claimed there, and was told no greater depth of a node than a node of the table may have
 pub record IsTaken (plan : TablePlan) (c : Call) (v : View) (n : ℕ) (w : View) : Type 0 where
   pub view : w ≡ after c n v
   pub tells : Tells plan c v n

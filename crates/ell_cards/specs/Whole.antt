@@ -23,8 +23,8 @@ joined_known k l = record { tree = joined_view k.tree l.tree; period = joined_pe
 abbrev pub spent_known : Known
 spent_known = record { tree = spent_view; period = no_period }
 
--- The words of a table are those of a state that turns have led to: all of them, or, in a table with places, those of the cards
--- that have words.
+-- The words of a table are those of a state that turns have led to: all of them, or, in a table with places, those of
+-- the cards that have words.
 abbrev pub WordsAre : (plan : TablePlan) → Option Slots → List ℕ → List ℕ → Type 0
 WordsAre plan None words tree = words ≡ tree
 WordsAre plan (Some s) words tree =

@@ -38,7 +38,7 @@ impl<A: Allocator + Copy> Model for Closed<A> {
 
 impl<A: Allocator + Copy> CardTable<A> {
     /// Ends the table with a pass that has nothing in hand, owns each of the keys that may have owners, and, if the
-    /// other keys are shared, has the whole share.
+    /// other keys are shared, has the whole share. Nothing is said of what a table with places leaves.
     pub fn close(self, pass: Pass<A>) -> Closed<A>
         requires own { pass.table ≡ self.id }
         requires free { IsFree pass.view }

@@ -38,8 +38,8 @@ impl<A: Allocator + Copy> CardTable<A> {
     /// Creates a table of this kind, of a tree that has these start keys with their values, balanced, with this many cards
     /// to be claimed, 1 to `CARDS_MAX`, and one pass that owns these keys: those of them that are start keys are present,
     /// the others absent. The tree of the start keys has a card for each of them, so the number of the last card is the
-    /// number of cards asked for plus that of the start keys. A table with places has numbers up to `CARD_MAX`, and words
-    /// for that many cards. `BadCards` is returned exactly if the number of cards asked for is not 1 to `CARDS_MAX`, and
+    /// number of cards asked for plus that of the start keys. The last card of a table with places has the number
+    /// `CARD_MAX`, but only the cards asked for and those of the start keys have words and may be claimed. `BadCards` is returned exactly if the number of cards asked for is not 1 to `CARDS_MAX`, and
     /// `NoMemory` if an allocation fails. Conditions: the keys are strictly ascending, and at most `KEY_MAX`; the start keys
     /// are strictly ascending, at most `START_MAX`, and each is among the keys or shared; there are at most 1,000,000 places.
     pub fn reserve(
@@ -127,7 +127,7 @@ impl<A: Allocator + Copy> CardTable<A> {
     }
 
     /// Returns the number of the last card, at most `CARD_MAX`: how many cards there are besides card 0, including
-    /// those of the start keys.
+    /// those of the start keys. Of a table with places it is `CARD_MAX`.
     pub fn last_card(&self) -> u64
         // Returns the number of the last card.
         ensures cards { result ≡ self.now.plan.last_card }
