@@ -5,7 +5,7 @@ use lib.ListN.{get_elem?}
 use Rattle.atomic_table.specs.Table.{State}
 use Rattle.ell_layout.specs.Layout.{table_size}
 use Rattle.ell_word.specs.Node.{greatest_card}
-use Rattle.ell_grace.specs.Grace.{Grace}
+use Rattle.ell_grace.specs.Grace.{Grace, least_with}
 use Rattle.ell_grace.specs.Periods.{GraceIsSound}
 use Rattle.ell_cards.specs.declared.view.Known.{Known}
 use Rattle.ell_cards.specs.declared.view.Period.{Period}
@@ -113,11 +113,6 @@ after_announce reading clock p = record p { announced = Some reading; began = cl
 abbrev pub after_retract : Period → Period
 after_retract p = record p { announced = None }
 
--- the least of a number and an announcement
-abbrev pub least_of : ℕ → Option ℕ → ℕ
-least_of n None = n
-least_of n (Some a) = min n a
-
 -- once all places were looked at, the least number that was seen is the safe one
 abbrev pub settled_at : ℕ → ℕ → ℕ → ℕ → ℕ
 settled_at places looked least safe = if nat_lt looked places then safe else least
@@ -125,9 +120,9 @@ settled_at places looked least safe = if nat_lt looked places then safe else lea
 -- the next place was looked at, and its word is this
 abbrev pub after_look_at : ℕ → ℕ → Period → Period
 after_look_at places n p = record p {
-  least = least_of p.least (announced_by n);
+  least = least_with p.least (announced_by n);
   looked = p.looked + 1;
-  safe = settled_at places (p.looked + 1) (least_of p.least (announced_by n)) p.safe;
+  safe = settled_at places (p.looked + 1) (least_with p.least (announced_by n)) p.safe;
 }
 
 -- the places of a pass, and what is announced there, are as they were

@@ -4,9 +4,10 @@
 ghost use Rattle.std.specs.Prelude.{◌≡◌, ℕ, ◌≢◌, ◌⊎◌, ◌≤◌, ◌<◌, ◌==◌, if◌then◌else◌, is_some, None, Some, [], true, false, IfSome};
 ghost use prog.Atomic.{either};
 ghost use Rattle.ell_word.specs.Node.{greatest_card};
+ghost use Rattle.ell_grace.specs.Grace.{least_with};
 ghost use Rattle.ell_cards.specs.Models.{last_claim_of};
 ghost use Rattle.ell_cards.specs.Inside.{PlaceFits};
-ghost use Rattle.ell_cards.specs.Periods.{IsAtRest, StandsAs, after_announce, after_retract, after_clock, after_give, after_look_at, after_take, announced_by, clock_word, last_reading, least_of, place_word, slots_size};
+ghost use Rattle.ell_cards.specs.Periods.{IsAtRest, StandsAs, after_announce, after_retract, after_clock, after_give, after_look_at, after_take, announced_by, clock_word, last_reading, place_word, slots_size};
 ghost use Rattle.ell_cards.specs.Stepping.{MayGoOn};
 
 use crate::pass::{Pass, Standing};
@@ -62,7 +63,7 @@ pub(crate) fn last_claim(slots: Option<Slots>, last_card: u64) -> u64
 
 // Returns the least of a number and of what the word of a place announces, if it announces something.
 fn least_with(least: u64, word: u64) -> u64
-    ensures { result ≡ least_of least (announced_by word) }
+    ensures { result ≡ least_with least (announced_by word) }
 {
     if word < 2 { least } else { least.min(word - 2) }
 }

@@ -19,7 +19,7 @@ use Rattle.ell_cards.specs.declared.view.Known.{Known}
 use Rattle.ell_cards.specs.declared.view.Period.{Period}
 use Rattle.ell_cards.specs.declared.view.Slots.{Slots}
 use Rattle.ell_cards.specs.Models.{TablePlan}
-use Rattle.ell_cards.specs.Periods.{WholeState, clock_word, place_word, slots_size, period_in, word_at_place, announced_by, place_says, last_reading, card_words, card_words_by, after_clock, after_announce, after_retract, after_look_at, after_take, after_give, least_of, settled_at, HasPlace, own, spare, IsAtRest, PeriodHolds, HasPeriods, grace_of}
+use Rattle.ell_cards.specs.Periods.{WholeState, clock_word, place_word, slots_size, period_in, word_at_place, announced_by, place_says, last_reading, card_words, card_words_by, after_clock, after_announce, after_retract, after_look_at, after_take, after_give, settled_at, HasPlace, own, spare, IsAtRest, PeriodHolds, HasPeriods, grace_of}
 use Rattle.ell_cards.specs.Stepping.{MayGoOn}
 use Rattle.ell_cards.specs.Whole.{trees_of, WordsAre, PeriodsAre}
 use Rattle.ell_cards.proofs.lemmas.whole.Seats.{before_clock, places_apart, period_was, part_put, part_same, holds_on}
@@ -42,11 +42,6 @@ found_free q n p p' is free = let none : n ≡ 0 = grind (arith, nat_tests) in i
 pub found_taken : (q n : ℕ) (p p' : Period) → p' ≡ after_take q n p → (n == 0) ≡ false → p' ≡ p
 found_taken q zero p p' is taken = absurd (cc)
 found_taken q (suc n) p p' is taken = is
-
--- the least of a number and an announcement is that of grace periods
-same_least : (n : ℕ) (o : Option ℕ) → least_of n o ≡ least_with n o
-same_least n None = refl
-same_least n (Some a) = refl
 
 -- one more place was looked at
 one_place_more : (looked q r : ℕ) → q ≡ looked → nat_lt r (looked + 1) ≡ (if r == q then true else nat_lt r looked)
@@ -261,10 +256,9 @@ module _ (s : Slots) (t : WholeState) (id : ℕ) (k : Known) (here : get_elem? t
     said_there : was.word q ≡ announced_by found
     said_there = let there : nat_lt q s.places ≡ true = grind (arith, nat_tests) in ap (λ b. if b then announced_by found else None) there
 
-    least_now : least_of k.period.least (announced_by found) ≡ least_with (was.least id) (was.word q)
+    least_now : least_with k.period.least (announced_by found) ≡ least_with (was.least id) (was.word q)
     least_now =
-        same_least k.period.least (announced_by found)
-        ∙ sym (ap (λ n. least_with n (was.word q)) (ap (λ (p : Period). p.least) (period_was t.views id k here sees)) ∙ ap (least_with k.period.least) said_there)
+        sym (ap (λ n. least_with n (was.word q)) (ap (λ (p : Period). p.least) (period_was t.views id k here sees)) ∙ ap (least_with k.period.least) said_there)
 
     least_after : (i : ℕ) → (period_in (set t.views id sees) i).least ≡ looked_now.least i
     least_after i = part_put t.views id k here sees (λ p. p.least) i ∙ ap (λ n. put was.least id n i) least_now
@@ -292,7 +286,7 @@ module _ (s : Slots) (t : WholeState) (id : ℕ) (k : Known) (here : get_elem? t
         (kept_at (clock_word s)) (λ c. refl) (same_word (place_word s q) (omega arith)) (λ r. refl) (λ r c. refl) (λ j. refl)
         least_after seen_after
         (part_same t.views id k here sees (λ p. p.safe)
-        (ap (λ b. if b then k.period.safe else least_of k.period.least (announced_by found)) is))
+        (ap (λ b. if b then k.period.safe else least_with k.period.least (announced_by found)) is))
         (λ c. refl) looked_sound
     seen_sound false is =
         let all : s.places ≤ k.period.looked + 1 = grind (arith, nat_tests) in
@@ -302,9 +296,9 @@ module _ (s : Slots) (t : WholeState) (id : ℕ) (k : Known) (here : get_elem? t
         (λ i. part_put t.views id k here sees (λ p. p.safe) i ∙ ap (λ n. put was.safe id n i) (safe_now is))
         (λ c. refl) (grace_goes_on s.places looked_now settled_now looked_sound (settles id (all_seen all) refl))
       where
-        safe_now : nat_lt (k.period.looked + 1) s.places ≡ false → settled_at s.places (k.period.looked + 1) (least_of k.period.least (announced_by found)) k.period.safe ≡ looked_now.least id
+        safe_now : nat_lt (k.period.looked + 1) s.places ≡ false → settled_at s.places (k.period.looked + 1) (least_with k.period.least (announced_by found)) k.period.safe ≡ looked_now.least id
         safe_now e =
-            ap (λ b. if b then k.period.safe else least_of k.period.least (announced_by found)) e
+            ap (λ b. if b then k.period.safe else least_with k.period.least (announced_by found)) e
             ∙ (least_now ∙ sym (put_same was.least id (least_with (was.least id) (was.word q))))
 
     sees_holds : PeriodHolds s kept sees
