@@ -119,6 +119,28 @@ impl<A: Allocator + Copy> CardTable<A> {
             .compare_exchange::<InPeriod<J>>(seat, word, expected, value)
     }
 
+    // Returns the address of the clock, which is one of the table.
+    #[inline(always)]
+    fn clock_address(&self, slots: Slots) -> usize
+        requires slots { self.now.plan.slots ≡ Some slots }
+        ensures word { result ≡ clock_word slots }
+        ensures inside { result < self.now.id.words }
+    {
+        let _ = &self.table;
+        slots.clock_word()
+    }
+
+    // Returns the address of a place, which is one of the table.
+    #[inline(always)]
+    fn place_address(&self, slots: Slots, place: u64) -> usize
+        requires slots { self.now.plan.slots ≡ Some slots }
+        ensures word { result ≡ place_word slots place }
+        ensures inside { result < self.now.id.words }
+    {
+        let _ = &self.table;
+        slots.place_word(place)
+    }
+
     // Reads the clock.
     fn read_clock(&self, seat: &mut Seat<(), Known>, slots: Slots) -> u64
         requires own { seat.old.table_id ≡ self.now.id }
@@ -129,8 +151,7 @@ impl<A: Allocator + Copy> CardTable<A> {
         ensures tree { seat.new.me.0.tree ≡ seat.old.me.0.tree }
         ensures seat { (seat.new.table_id ≡ seat.old.table_id) × (seat.new.me.1 ≡ []) }
     {
-        let _ = &self.table;
-        self.period_load::<Brand>(seat, slots.clock_word())
+        self.period_load::<Brand>(seat, self.clock_address(slots))
     }
 
     // Announces a reading of the clock at the place of a pass that announces nothing.
@@ -146,8 +167,7 @@ impl<A: Allocator + Copy> CardTable<A> {
         ensures tree { seat.new.me.0.tree ≡ seat.old.me.0.tree }
         ensures seat { (seat.new.table_id ≡ seat.old.table_id) × (seat.new.me.1 ≡ []) }
     {
-        let _ = &self.table;
-        self.period_store::<Brand>(seat, slots.place_word(place), reading + 2)
+        self.period_store::<Brand>(seat, self.place_address(slots, place), reading + 2)
     }
 
     // Takes the announcement of a pass at rest away from its place.
@@ -161,8 +181,7 @@ impl<A: Allocator + Copy> CardTable<A> {
         ensures tree { seat.new.me.0.tree ≡ seat.old.me.0.tree }
         ensures seat { (seat.new.table_id ≡ seat.old.table_id) × (seat.new.me.1 ≡ []) }
     {
-        let _ = &self.table;
-        self.period_store::<Brand>(seat, slots.place_word(place), 1)
+        self.period_store::<Brand>(seat, self.place_address(slots, place), 1)
     }
 
     // Begins a period, if there are places and the pass is in none: it reads the clock, and announces that.
@@ -217,8 +236,7 @@ impl<A: Allocator + Copy> CardTable<A> {
         ensures tree { seat.new.me.0.tree ≡ seat.old.me.0.tree }
         ensures seat { (seat.new.table_id ≡ seat.old.table_id) × (seat.new.me.1 ≡ []) }
     {
-        let _ = &self.table;
-        self.period_exchange::<Brand>(seat, slots.place_word(place), 0, 1) == 0
+        self.period_exchange::<Brand>(seat, self.place_address(slots, place), 0, 1) == 0
     }
 
     // Takes the first place that no pass has, if there are places and one is free.
@@ -253,7 +271,7 @@ impl<A: Allocator + Copy> CardTable<A> {
         let (Some(slots), Some(place)) = (self.slots, place) else {
             return;
         };
-        self.period_store::<Brand>(seat, slots.place_word(place), 0)
+        self.period_store::<Brand>(seat, self.place_address(slots, place), 0)
     }
 
     // Lets the clock go on by one from a reading of it, unless it has gone on since.
@@ -266,8 +284,7 @@ impl<A: Allocator + Copy> CardTable<A> {
         ensures tree { seat.new.me.0.tree ≡ seat.old.me.0.tree }
         ensures seat { (seat.new.table_id ≡ seat.old.table_id) × (seat.new.me.1 ≡ []) }
     {
-        let _ = &self.table;
-        self.period_exchange::<Brand>(seat, slots.clock_word(), reading, reading + 1);
+        self.period_exchange::<Brand>(seat, self.clock_address(slots), reading, reading + 1);
     }
 
     // Reads the clock, and lets it go on, unless it stops there.
@@ -296,8 +313,7 @@ impl<A: Allocator + Copy> CardTable<A> {
         ensures tree { seat.new.me.0.tree ≡ seat.old.me.0.tree }
         ensures seat { (seat.new.table_id ≡ seat.old.table_id) × (seat.new.me.1 ≡ []) }
     {
-        let _ = &self.table;
-        self.period_load::<Brand>(seat, slots.place_word(place))
+        self.period_load::<Brand>(seat, self.place_address(slots, place))
     }
 
     // Reads the clock, and looks at all places. Returns the least number that it saw, which is the pass's safe number from now

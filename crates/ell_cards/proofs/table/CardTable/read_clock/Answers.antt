@@ -2,19 +2,12 @@ use Rattle.std.proofs.Common.{◌≡◌, ◌≤◌, sym, subst}
 use Rattle.ell_cards.specs.Periods.{after_clock, last_reading}
 use Rattle.ell_cards.specs.Stepping.{MayGoOn}
 use Rattle.ell_cards.proofs.lemmas.whole.Steps.{read_clock_goes_on}
-use Rattle.ell_cards.proofs.lemmas.whole.Words.{last_fits, clock_inside}
 use Rattle.ell_cards.proofs.table.CardTable.read_clock.Goals as goal
-
-pub clock_word-requires : goal.clock_word-requires
-clock_word-requires g c = last_fits _ _ c.self.view_is c.self.invariant.0 c.self.invariant.8 c.args.slots c.requires.slots
-
-pub period_load-requires-clause-word : goal.period_load-requires-clause-word
-period_load-requires-clause-word g c = clock_inside _ _ c.self.view_is c.self.invariant.0 c.self.invariant.8 c.args.slots c.requires.slots c.clock_word.result c.clock_word.ensures
 
 pub period_load-requires-clause-rule : goal.period_load-requires-clause-rule
 period_load-requires-clause-rule g c =
     subst (λ i. MayGoOn c.args.self.now.plan c.args.seat.now.me.0 i (λ n. n) (λ n p. (p ≡ after_clock n c.args.seat.now.me.0.period) × (n ≤ last_reading)))
-    (sym c.clock_word.ensures) (read_clock_goes_on c.args.self.now.plan c.args.slots c.requires.slots c.args.seat.now.me.0)
+    (sym c.clock_address.ensures.word) (read_clock_goes_on c.args.self.now.plan c.args.slots c.requires.slots c.args.seat.now.me.0)
 
 pub returns-clause-clock : goal.returns-clause-clock
 returns-clause-clock g c = c.period_load.ensures.told.0
