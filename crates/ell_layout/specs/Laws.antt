@@ -1,5 +1,5 @@
 use Rattle.std.specs.Prelude.{◌≡◌, ◌≢◌, ◌%◌, Bool, slice_index, ℕ, ◌<◌, ◌≤◌, List, length, slice_set}
-use Rattle.ell_word.specs.Node.{IsInternal, IsNode, card, greatest_card}
+use Rattle.ell_word.specs.Node.{IsInternal, IsNode, card, greatest_number}
 use Rattle.ell_word.specs.Link.{linked, tag_unit}
 use Rattle.ell_layout.specs.declared.field.Field.{Field}
 use Rattle.ell_layout.specs.declared.field.Field.TheVariants.{Update}
@@ -34,7 +34,7 @@ FilledListsAreFilled =
 
 -- a table whose next card is filled for an insert or a delete, with the tag at the leaf's node, has claimed the card
 pub record FillingsAreClaims (w : Words) (parent leaf tag : ℕ) : Type 0 where
-  pub insert : (key value leaf_key leaf_value : ℕ) → w.next ≤ greatest_card
+  pub insert : (key value leaf_key leaf_value : ℕ) → w.next ≤ greatest_number
       → table_claimed w (insert_filling w.next key value parent (linked (record { node = leaf; tag = tag })) leaf_key leaf_value)
       ≡ claimed w tag (insert_filling w.next key value parent leaf leaf_key leaf_value)
   pub delete : (grandparent was : ℕ)

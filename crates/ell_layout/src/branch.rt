@@ -1,6 +1,6 @@
 //! The balanced tree over keys that are there at the start: which card has which of its nodes.
 ghost use Rattle.std.specs.Prelude.{◌≡◌, ◌+◌, ◌<◌, ◌≤◌};
-ghost use Rattle.ell_word.specs.Node.{greatest_card};
+ghost use Rattle.ell_word.specs.Node.{greatest_number};
 ghost use Rattle.ell_layout.specs.Branches.{halved, branch_of, left_child, right_child};
 
 use ell_word::{internal_of, left_leaf_of, right_leaf_of};
@@ -20,7 +20,7 @@ impl Branch {
     /// Returns the left child: the card's own left leaf, if there is one leaf on that side, or else the node of the
     /// next card.
     pub fn left_child(self) -> u64
-        requires { self.card < greatest_card }
+        requires { self.card < greatest_number }
         // Returns the left child: the card's own left leaf if that side has one leaf, else the node of the next card.
         ensures { result ≡ left_child self }
     {
@@ -34,7 +34,7 @@ impl Branch {
     /// Returns the right child: the card's own right leaf, if there is one leaf on that side, or else the node of the
     /// card after those on the left.
     pub fn right_child(self) -> u64
-        requires { self.card + self.left ≤ greatest_card }
+        requires { self.card + self.left ≤ greatest_number }
         // Returns the right child: the card's own right leaf if that side has one leaf, else the node of the first card
         // that stands there.
         ensures { result ≡ right_child self }
@@ -50,10 +50,10 @@ impl Branch {
 /// Returns the branch of a card of the balanced tree whose root, card 0, has this many leaves on its left and one on
 /// its right. Each other branch has half of its leaves on its left, and one more on its right if their number is odd,
 /// and the cards go down the left before they go down the right. Conditions: the card is less than the number of
-/// leaves, and that number is at most `CARD_MAX`.
+/// leaves, and that number is at most `NUMBER_MAX`.
 pub fn branch_of(leaves: u64, card: u64) -> Branch
     requires card { card < leaves }
-    requires most { leaves ≤ greatest_card }
+    requires most { leaves ≤ greatest_number }
     // Returns the card's branch of the balanced tree.
     ensures { result ≡ branch_of leaves card }
 {

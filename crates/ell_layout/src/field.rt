@@ -1,7 +1,7 @@
 //! The twelve words of a card, and where they stand.
 ghost use Rattle.std.specs.Prelude.{◌≡◌, ◌≤◌, ◌%◌, ℕ};
 ghost use Rattle.ell_word.specs.Link.{linked};
-ghost use Rattle.ell_word.specs.Node.{greatest_card, card, IsInternal, IsNode};
+ghost use Rattle.ell_word.specs.Node.{greatest_number, greatest_card, card, IsInternal, IsNode};
 ghost use Rattle.ell_word.specs.Word.{packed};
 ghost use Rattle.ell_layout.specs.Cards.{says_by};
 ghost use Rattle.ell_layout.specs.Layout.{place, address, table_size};
@@ -161,9 +161,9 @@ pub fn child_field(right: bool) -> Field
     if right { Field::Right } else { Field::Left }
 }
 
-/// Returns the update word that a card sets, in a state. Condition: the card is at most `CARD_MAX`.
+/// Returns the update word that a card sets, in a state. Condition: the card is at most `NUMBER_MAX`.
 pub fn update_word(state: State, card: u64) -> u64
-    requires { card ≤ greatest_card }
+    requires { card ≤ greatest_number }
     // Returns the update word of the state and the card.
     ensures { result ≡ packed (record { state = state; card = card }) }
 {

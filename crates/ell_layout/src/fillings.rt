@@ -1,13 +1,13 @@
 //! What fills a card when it is claimed.
 ghost use Rattle.std.specs.Prelude.{◌≡◌, ◌≤◌, ◌==◌};
-ghost use Rattle.ell_word.specs.Node.{greatest_card};
+ghost use Rattle.ell_word.specs.Node.{greatest_number};
 ghost use Rattle.ell_layout.specs.Cards.{brought_by, insert_filling, delete_filling, left_of_card, right_of_card};
 
 use crate::field::{Field, update_word};
 use ell_word::{State, internal_of, is_internal, left_leaf_of, right_leaf_of};
 
 /// Returns the fields of an insert's card, for a key with its value at a leaf: an internal node with the greater key,
-/// over two new leaves, the lesser key on the left, each with its value. Condition: the card is at most `CARD_MAX`.
+/// over two new leaves, the lesser key on the left, each with its value. Condition: the card is at most `NUMBER_MAX`.
 pub fn insert_filling(
     card: u64,
     key: u64,
@@ -17,7 +17,7 @@ pub fn insert_filling(
     leaf_key: u64,
     leaf_value: u64,
 ) -> [(Field, u64); 10]
-    requires { card ≤ greatest_card }
+    requires { card ≤ greatest_number }
     // Returns what fills the card of an insert or a swap.
     ensures { result ≡ insert_filling card key value parent leaf leaf_key leaf_value }
 {
@@ -41,9 +41,9 @@ pub fn insert_filling(
 }
 
 /// Returns the children of the node of an insert's card for a key above a node of this key, left and right: its own
-/// leaves, or an internal node in place of the leaf with its key. Condition: the card is at most `CARD_MAX`.
+/// leaves, or an internal node in place of the leaf with its key. Condition: the card is at most `NUMBER_MAX`.
 pub fn card_children(card: u64, key: u64, below: u64, below_key: u64) -> (u64, u64)
-    requires { card ≤ greatest_card }
+    requires { card ≤ greatest_number }
     // Returns the left child and the right one.
     ensures left { result.0 ≡ left_of_card card key below below_key }
     ensures right { result.1 ≡ right_of_card card key below below_key }
@@ -60,9 +60,9 @@ pub fn card_children(card: u64, key: u64, below: u64, below_key: u64) -> (u64, u
 
 /// Returns the node that an insert's card brings to the parent, by the keys of its two leaves. If they are the same,
 /// the card replaces a leaf of that key by its right leaf; else it brings its internal node. Condition: the card is at
-/// most `CARD_MAX`.
+/// most `NUMBER_MAX`.
 pub fn brought_node(card: u64, left_leaf_key: u64, right_leaf_key: u64) -> u64
-    requires { card ≤ greatest_card }
+    requires { card ≤ greatest_number }
     // Returns the node that the card brings into the tree: its right leaf if both leaf keys are the same, as a swap's
     // are, else its internal node.
     ensures { result ≡ brought_by card (left_leaf_key == right_leaf_key) }

@@ -1,13 +1,13 @@
 use Rattle.std.specs.Prelude.{ℕ, ◌+◌, ◌*◌, ◌/◌, ◌%◌, ◌^◌, ◌-◌, ◌<◌, ◌≤◌}
 use Rattle.ell_word.specs.declared.link.Link.{Link}
 
--- a child word has the node in its low 26 bits, and the tag above
+-- a child word has the node in its low 43 bits, and the tag above
 abbrev pub tag_unit : ℕ
-tag_unit = 67108864
+tag_unit = 8796093022208
 
--- the greatest tag: it has 38 bits
+-- the greatest tag: it has 21 bits
 abbrev pub greatest_tag : ℕ
-greatest_tag = 2 ^ 38 - 1
+greatest_tag = 2 ^ 21 - 1
 
 -- a link that has a word
 pub record IsLink (link : Link) : Type 0 where
@@ -16,8 +16,8 @@ pub record IsLink (link : Link) : Type 0 where
 
 -- the word of a link
 abbrev pub linked : Link → ℕ
-linked link = 67108864 * link.tag + link.node
+linked link = 8796093022208 * link.tag + link.node
 
 -- the link that a word says
 abbrev pub link_in : ℕ → Link
-link_in word = record { node = word % 67108864; tag = word / 67108864 }
+link_in word = record { node = word % 8796093022208; tag = word / 8796093022208 }

@@ -1,6 +1,10 @@
 use Rattle.std.specs.Prelude.{◌≡◌, ◌≢◌, ℕ, ◌+◌, ◌-◌, ◌*◌, ◌/◌, ◌%◌, ◌^◌}
 
--- the greatest number of a card
+-- the greatest number that a card may have
+abbrev pub greatest_number : ℕ
+greatest_number = 2199023255551
+
+-- the number of the last card of a table without places, and of the last card that may have words, are at most this
 abbrev pub greatest_card : ℕ
 greatest_card = 2000000
 

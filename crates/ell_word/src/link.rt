@@ -4,7 +4,7 @@ ghost use Rattle.ell_word.specs.Link.{IsLink, tag_unit, linked, link_in};
 ghost use Rattle.ell_word.specs.declared.link.Link.{Link};
 
 // Node numbers are below this one, so that a mask gives the node, which is asked at each node of a search.
-const TAG_UNIT: u64 = 67_108_864;
+const TAG_UNIT: u64 = 8_796_093_022_208;
 
 /// What a child word says. The tag counts the changes of the word, so that no two of its values are the same, even if
 /// a node comes back.
@@ -15,7 +15,7 @@ pub struct Link {
 }
 
 impl Link {
-    /// Returns the word: 2^26 times the tag plus the node. Conditions: the node is below 2^26, and the tag below 2^38.
+    /// Returns the word: 2^43 times the tag plus the node. Conditions: the node is below 2^43, and the tag below 2^21.
     #[inline(always)]
     pub fn word(self) -> u64
         requires { IsLink self }
@@ -30,7 +30,7 @@ impl Link {
     pub fn of(word: u64) -> Link
         // Returns the node and the tag that the word says.
         ensures link { result ≡ link_in word }
-        // The node is below 2^26 and the tag below 2^38, and their word is this one.
+        // The node is below 2^43 and the tag below 2^21, and their word is this one.
         ensures small { IsLink result }
         ensures again { linked result ≡ word }
     {
@@ -41,7 +41,7 @@ impl Link {
     }
 }
 
-/// Linking and its reading undo each other for nodes below 2^26: each such node has with each tag a word of its own.
+/// Linking and its reading undo each other for nodes below 2^43: each such node has with each tag a word of its own.
 pub fn links()
     ensures back { (link : Link) → link.node < tag_unit → link_in (linked link) ≡ link }
 {}

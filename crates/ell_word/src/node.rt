@@ -1,12 +1,15 @@
 //! Node numbers: each card has an internal node and two leaves, and leaves one of its four numbers unused.
 ghost use Rattle.std.specs.Prelude.{◌≡◌, ◌≤◌, ◌↔◌, IsTrue};
-ghost use Rattle.ell_word.specs.Node.{greatest_card, most_cards, most_start, infinity1, infinity2, internal, left_leaf, right_leaf, IsInternal, card};
+ghost use Rattle.ell_word.specs.Node.{greatest_number, greatest_card, most_cards, most_start, infinity1, infinity2, internal, left_leaf, right_leaf, IsInternal, card};
 
 // How far apart the numbers of two cards' internal nodes are: a power of two, so that the card of a node is a shift away,
 // which is asked at each node of a search.
 const NUMBERS_PER_CARD: u64 = 4;
 
-/// The greatest card number.
+/// The greatest number that a card may have: four times it, and 3, is below 2^43.
+pub const NUMBER_MAX: u64 = 2_199_023_255_551;
+
+/// The greatest number of the last card of a table without places, and of a card that has words.
 pub const CARD_MAX: u64 = 2_000_000;
 
 /// The greatest number of cards that a table gives out.
@@ -21,10 +24,11 @@ pub const INF1: u64 = 18_446_744_073_709_551_614;
 /// The greater of the two: the root and its right leaf have it.
 pub const INF2: u64 = 18_446_744_073_709_551_615;
 
-/// The constants are the numbers that the definitions have: `CARD_MAX` is 2,000,000, `CARDS_MAX` and `START_MAX` are
-/// 1,000,000, `INF1` is 2^64 - 2, and `INF2` is 2^64 - 1.
+/// The constants are the numbers that the definitions have: `NUMBER_MAX` is 2^41 - 1, `CARD_MAX` is 2,000,000,
+/// `CARDS_MAX` and `START_MAX` are 1,000,000, `INF1` is 2^64 - 2, and `INF2` is 2^64 - 1.
 pub fn constants_are_as_defined()
-    // `CARD_MAX` is 2,000,000, `CARDS_MAX` and `START_MAX` are 1,000,000.
+    // `NUMBER_MAX` is 2^41 - 1, `CARD_MAX` is 2,000,000, `CARDS_MAX` and `START_MAX` are 1,000,000.
+    ensures number { NUMBER_MAX ≡ greatest_number }
     ensures card { CARD_MAX ≡ greatest_card }
     ensures cards { CARDS_MAX ≡ most_cards }
     ensures start { START_MAX ≡ most_start }
@@ -35,7 +39,7 @@ pub fn constants_are_as_defined()
 
 /// Returns the internal node of a card.
 pub fn internal_of(card: u64) -> u64
-    requires { card ≤ greatest_card }
+    requires { card ≤ greatest_number }
     // Returns the number of the card's internal node.
     ensures { result ≡ internal card }
 {
@@ -44,7 +48,7 @@ pub fn internal_of(card: u64) -> u64
 
 /// Returns the left leaf of a card.
 pub fn left_leaf_of(card: u64) -> u64
-    requires { card ≤ greatest_card }
+    requires { card ≤ greatest_number }
     // Returns the number of the card's left leaf.
     ensures { result ≡ left_leaf card }
 {
@@ -53,7 +57,7 @@ pub fn left_leaf_of(card: u64) -> u64
 
 /// Returns the right leaf of a card.
 pub fn right_leaf_of(card: u64) -> u64
-    requires { card ≤ greatest_card }
+    requires { card ≤ greatest_number }
     // Returns the number of the card's right leaf.
     ensures { result ≡ right_leaf card }
 {

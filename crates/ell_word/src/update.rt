@@ -1,6 +1,6 @@
 //! The update word of an internal node: a state and the card of the operation that set it.
 ghost use Rattle.std.specs.Prelude.{◌≡◌, ◌≤◌, ℕ};
-ghost use Rattle.ell_word.specs.Node.{greatest_card};
+ghost use Rattle.ell_word.specs.Node.{greatest_number};
 ghost use Rattle.ell_word.specs.Word.{packed, unpacked};
 ghost use Rattle.ell_word.specs.declared.update.Update.{Update};
 
@@ -26,9 +26,9 @@ pub struct Update {
 }
 
 /// Returns the word of an update: four times the card plus the state's number. Condition: the card is at most
-/// `CARD_MAX`.
+/// `NUMBER_MAX`.
 pub fn pack(update: Update) -> u64
-    requires { update.card ≤ greatest_card }
+    requires { update.card ≤ greatest_number }
     // Returns the word of the card and the state.
     ensures { result ≡ packed update }
 {

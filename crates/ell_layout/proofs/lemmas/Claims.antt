@@ -21,11 +21,11 @@ ArePlain [] = Unit {0}
 ArePlain (e ∷ es) = IsPlain e × ArePlain es
 
 -- A small word says itself as the node.
-small_node : (v : ℕ) → v < tag_unit → v % 67108864 ≡ v
+small_node : (v : ℕ) → v < tag_unit → v % 8796093022208 ≡ v
 small_node v small = omega (arith, small)
 
 -- A small word says no tag.
-small_tag : (v : ℕ) → v < tag_unit → v / 67108864 ≡ 0
+small_tag : (v : ℕ) → v < tag_unit → v / 8796093022208 ≡ 0
 small_tag v small = omega (arith, small)
 
 -- Such a field is the same written as a word of a table.
@@ -72,8 +72,8 @@ table_filled_leaf w c leaf tag es small plain =
 pub tables_claim : TablesClaim
 tables_claim w parent leaf tag small = record {
   insert = λ key value leaf_key leaf_value low.
-      let left : left_leaf w.next < 67108864 = omega (arith, low) in
-      let right : right_leaf w.next < 67108864 = omega (arith, low) in
+      let left : left_leaf w.next < 8796093022208 = omega (arith, low) in
+      let right : right_leaf w.next < 8796093022208 = omega (arith, low) in
       let tail = drop 2 (insert_filling w.next key value parent leaf leaf_key leaf_value) in
       ap {B = Words} (λ k. record k { next = w.next + 1 })
       (table_filled_leaf (written w w.next P parent) w.next leaf tag tail small (tt, (left, (right, (tt, (tt, (tt, (tt, (tt, tt)))))))));

@@ -229,8 +229,8 @@ linked_again v = omega arith
 -- A word says the node and the tag that were linked.
 pub link_back : (node tag : ℕ) → node < tag_unit → link_in (linked (record { node = node; tag = tag })) ≡ record { node = node; tag = tag }
 link_back node tag small =
-    let same_node : (67108864 * tag + node) % 67108864 ≡ node = omega (arith, small) in
-    let same_tag : (67108864 * tag + node) / 67108864 ≡ tag = omega (arith, small) in
+    let same_node : (8796093022208 * tag + node) % 8796093022208 ≡ node = omega (arith, small) in
+    let same_tag : (8796093022208 * tag + node) / 8796093022208 ≡ tag = omega (arith, small) in
     λ t. record { node = same_node t; tag = same_tag t }
 
 -- Links of the same word have the same node and tag.
@@ -240,9 +240,9 @@ same_links node tag other another small less e = (omega (arith, small, less, e),
 
 -- What a field says when a table has this word there.
 abbrev pub node_in : Field → ℕ → ℕ
-node_in L v = v % 67108864
-node_in Left v = v % 67108864
-node_in Right v = v % 67108864
+node_in L v = v % 8796093022208
+node_in Left v = v % 8796093022208
+node_in Right v = v % 8796093022208
 node_in _ v = v
 
 -- A write of a table's word writes what the word says, and a tag.
@@ -267,30 +267,30 @@ table_written_word w d other v c field =
 -- The word of a table that was written is the one that is read there.
 pub table_written_here : (w : Words) (c : ℕ) (field : Field) (v : ℕ) → table_word (table_written w c field v) c field ≡ v
 table_written_here w c L v =
-    ap₂ (λ n t. 67108864 * t + n) (put_same w.l c (v % 67108864)) (put_same w.expects c (v / 67108864)) ∙ linked_again v
+    ap₂ (λ n t. 8796093022208 * t + n) (put_same w.l c (v % 8796093022208)) (put_same w.expects c (v / 8796093022208)) ∙ linked_again v
 table_written_here w c Left v =
-    ap₂ (λ n t. 67108864 * t + n) (side_here w.child (internal c) false (v % 67108864)) (side_here w.tag (internal c) false (v / 67108864)) ∙ linked_again v
+    ap₂ (λ n t. 8796093022208 * t + n) (side_here w.child (internal c) false (v % 8796093022208)) (side_here w.tag (internal c) false (v / 8796093022208)) ∙ linked_again v
 table_written_here w c Right v =
-    ap₂ (λ n t. 67108864 * t + n) (side_here w.child (internal c) true (v % 67108864)) (side_here w.tag (internal c) true (v / 67108864)) ∙ linked_again v
+    ap₂ (λ n t. 8796093022208 * t + n) (side_here w.child (internal c) true (v % 8796093022208)) (side_here w.tag (internal c) true (v / 8796093022208)) ∙ linked_again v
 table_written_here w c field v = written_here w c field v
 
 -- A write of a table's word leaves the words at the other addresses.
 pub table_written_elsewhere : (w : Words) (c : ℕ) (field : Field) (d : ℕ) (other : Field) (v : ℕ)
     → address c field ≢ address d other → table_word (table_written w d other v) c field ≡ table_word w c field
 table_written_elsewhere w c L d L v h =
-    ap₂ (λ n t. 67108864 * t + n) (put_other w.l d (v % 67108864) c (omega arith)) (put_other w.expects d (v / 67108864) c (omega arith))
+    ap₂ (λ n t. 8796093022208 * t + n) (put_other w.l d (v % 8796093022208) c (omega arith)) (put_other w.expects d (v / 8796093022208) c (omega arith))
 table_written_elsewhere w c L d _ v h = refl
 table_written_elsewhere w c Left d Left v h =
-    ap₂ (λ n t. 67108864 * t + n) (side_elsewhere w.child (internal d) false (v % 67108864) (internal c) false (omega arith))
-    (side_elsewhere w.tag (internal d) false (v / 67108864) (internal c) false (omega arith))
+    ap₂ (λ n t. 8796093022208 * t + n) (side_elsewhere w.child (internal d) false (v % 8796093022208) (internal c) false (omega arith))
+    (side_elsewhere w.tag (internal d) false (v / 8796093022208) (internal c) false (omega arith))
 table_written_elsewhere w c Left d Right v h =
-    ap₂ (λ n t. 67108864 * t + n) (side_left w.child (internal d) (internal c) (v % 67108864)) (side_left w.tag (internal d) (internal c) (v / 67108864))
+    ap₂ (λ n t. 8796093022208 * t + n) (side_left w.child (internal d) (internal c) (v % 8796093022208)) (side_left w.tag (internal d) (internal c) (v / 8796093022208))
 table_written_elsewhere w c Left d _ v h = refl
 table_written_elsewhere w c Right d Right v h =
-    ap₂ (λ n t. 67108864 * t + n) (side_elsewhere w.child (internal d) true (v % 67108864) (internal c) true (omega arith))
-    (side_elsewhere w.tag (internal d) true (v / 67108864) (internal c) true (omega arith))
+    ap₂ (λ n t. 8796093022208 * t + n) (side_elsewhere w.child (internal d) true (v % 8796093022208) (internal c) true (omega arith))
+    (side_elsewhere w.tag (internal d) true (v / 8796093022208) (internal c) true (omega arith))
 table_written_elsewhere w c Right d Left v h =
-    ap₂ (λ n t. 67108864 * t + n) (side_right w.child (internal d) (internal c) (v % 67108864)) (side_right w.tag (internal d) (internal c) (v / 67108864))
+    ap₂ (λ n t. 8796093022208 * t + n) (side_right w.child (internal d) (internal c) (v % 8796093022208)) (side_right w.tag (internal d) (internal c) (v / 8796093022208))
 table_written_elsewhere w c Right d _ v h = refl
 table_written_elsewhere w c field d other v h =
     table_written_word w d other v c field ∙ written_elsewhere w c field d other (node_in other v) h
@@ -326,8 +326,8 @@ table_written_leaf_child w c field v x right h =
 -- A write of a table's word leaves the tags that the leaves have.
 pub table_written_leaf_tag : (w : Words) (c : ℕ) (field : Field) (v x : ℕ) (right : Bool) → x % 4 ≢ 0
     → (table_written w c field v).tag x right ≡ w.tag x right
-table_written_leaf_tag w c Left v x right h = side_elsewhere w.tag (internal c) false (v / 67108864) x right (omega arith)
-table_written_leaf_tag w c Right v x right h = side_elsewhere w.tag (internal c) true (v / 67108864) x right (omega arith)
+table_written_leaf_tag w c Left v x right h = side_elsewhere w.tag (internal c) false (v / 8796093022208) x right (omega arith)
+table_written_leaf_tag w c Right v x right h = side_elsewhere w.tag (internal c) true (v / 8796093022208) x right (omega arith)
 table_written_leaf_tag w c _ v x right h = refl
 
 -- A write of a table's word leaves the update words that the leaves have.
@@ -354,22 +354,22 @@ pub record SmallNodes (w : Words) : Type 0 where
   pub child : (x : ℕ) (right : Bool) → w.child x right < tag_unit
 
 -- The node that a word says fits beside a tag.
-node_is_small : (v : ℕ) → v % 67108864 < 67108864
+node_is_small : (v : ℕ) → v % 8796093022208 < 8796093022208
 node_is_small v = omega arith
 
 -- Nodes fit beside tags after a write of a table's word, if they did before.
 pub table_written_small : (w : Words) (c : ℕ) (field : Field) (v : ℕ) → SmallNodes w → SmallNodes (table_written w c field v)
 table_written_small w c L v h = record {
-  l = λ d. put_cases (λ n. n < 67108864) w.l c (v % 67108864) d (λ e. node_is_small v) (λ n. h.l d);
+  l = λ d. put_cases (λ n. n < 8796093022208) w.l c (v % 8796093022208) d (λ e. node_is_small v) (λ n. h.l d);
   child = h.child;
 }
 table_written_small w c Left v h = record {
   l = h.l;
-  child = λ x right. side_cases (λ n. n < 67108864) w.child (internal c) false (v % 67108864) x right (node_is_small v) h.child;
+  child = λ x right. side_cases (λ n. n < 8796093022208) w.child (internal c) false (v % 8796093022208) x right (node_is_small v) h.child;
 }
 table_written_small w c Right v h = record {
   l = h.l;
-  child = λ x right. side_cases (λ n. n < 67108864) w.child (internal c) true (v % 67108864) x right (node_is_small v) h.child;
+  child = λ x right. side_cases (λ n. n < 8796093022208) w.child (internal c) true (v % 8796093022208) x right (node_is_small v) h.child;
 }
 table_written_small w c _ v h = record { l = h.l; child = h.child }
 
@@ -561,18 +561,18 @@ made_leaf_update next at x h = at_leaf x _ h
 pub made_table_word : (next : ℕ) (at : ℕ → Field → ℕ) (c : ℕ) (field : Field) → table_word (table_words next at) c field ≡ at c field
 made_table_word next at c L = linked_again (at c L)
 made_table_word next at c Left =
-    ap₂ (λ n t. 67108864 * t + n) (at_internal (internal c) _ (is_internal_of c)) (at_internal (internal c) _ (is_internal_of c))
+    ap₂ (λ n t. 8796093022208 * t + n) (at_internal (internal c) _ (is_internal_of c)) (at_internal (internal c) _ (is_internal_of c))
     ∙ (linked_again _ ∙ ap (λ d. at d Left) (card_of_internal c))
 made_table_word next at c Right =
-    ap₂ (λ n t. 67108864 * t + n) (at_internal (internal c) _ (is_internal_of c)) (at_internal (internal c) _ (is_internal_of c))
+    ap₂ (λ n t. 8796093022208 * t + n) (at_internal (internal c) _ (is_internal_of c)) (at_internal (internal c) _ (is_internal_of c))
     ∙ (linked_again _ ∙ ap (λ d. at d Right) (card_of_internal c))
 made_table_word next at c field = made_word next at c field
 
 -- What only internal nodes have is small if it is small there.
-small_at : (x v : ℕ) → v < 67108864 → (if x % 4 == 0 then v else 0) < 67108864
+small_at : (x v : ℕ) → v < 8796093022208 → (if x % 4 == 0 then v else 0) < 8796093022208
 small_at x v h = elim (cases_eq (x % 4) 0) [
-  | inl e ↦ subst (λ n. n < 67108864) (sym (at_internal x v e)) h
-  | inr n ↦ subst (λ n. n < 67108864) (sym (at_leaf x v n)) (omega arith)
+  | inl e ↦ subst (λ n. n < 8796093022208) (sym (at_internal x v e)) h
+  | inr n ↦ subst (λ n. n < 8796093022208) (sym (at_leaf x v n)) (omega arith)
 ]
 
 -- The nodes of the words of a table fit beside tags.

@@ -1,15 +1,16 @@
 //! Words that were packed by hand, the nodes of a card, and where its words are.
 use ell_layout::{Field, table_size};
 use ell_word::{
-    CARD_MAX, INF1, INF2, State, Update, card_of, internal_of, is_internal, left_leaf_of, pack,
-    right_leaf_of, unpack,
+    INF1, INF2, Link, NUMBER_MAX, State, Update, card_of, internal_of, is_internal, left_leaf_of,
+    pack, right_leaf_of, unpack,
 };
 
-const WORDS: [(u64, State, u64); 4] = [
+const WORDS: [(u64, State, u64); 5] = [
     (3, State::Clean, 0),
     (4, State::IFlag, 1),
     (10, State::Mark, 2),
     (13, State::DFlag, 3),
+    (8_796_093_022_207, State::Clean, 2_199_023_255_551),
 ];
 
 #[test]
@@ -19,9 +20,20 @@ fn words_are_packed(rt: HostRuntime) {
             state: *state,
             card: *card,
         };
-        let is_so = *card <= CARD_MAX && pack(update) == *word;
+        let is_so = *card <= NUMBER_MAX && pack(update) == *word;
         assert!(rt; is_so && unpack(*word) == update, "word {word}");
     }
+}
+
+#[test]
+fn child_words_are_linked(rt: HostRuntime) {
+    let least = Link { node: 0, tag: 1 };
+    let greatest = Link {
+        node: 8_796_093_022_207,
+        tag: 2_097_151,
+    };
+    assert!(rt; least.word() == 8_796_093_022_208 && Link::of(8_796_093_022_208) == least);
+    assert!(rt; greatest.word() == u64::MAX && Link::of(u64::MAX) == greatest);
 }
 
 #[test]
