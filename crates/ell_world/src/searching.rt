@@ -4,8 +4,9 @@ ghost use Rattle.ell_ops.specs.declared.op.Op.TheVariants.{Delete};
 ghost use Rattle.ell_ops.specs.Meaning.{key_of};
 ghost use Rattle.ell_core.specs.declared.event.Act.TheVariants as act;
 ghost use Rattle.ell_core.specs.declared.view.Seen.{Seen};
-ghost use Rattle.ell_core.specs.acts.Searching.{begun, ended, MayStop, put_of, AtCleanLeaf, IsClean, value_at, leaf_answer, card_answer, HasAnswer, ledger_after};
+ghost use Rattle.ell_core.specs.acts.Searching.{begun, ended, MayStop, put_of, IsClean, value_at, leaf_answer, card_answer, HasAnswer, ledger_after};
 ghost use Rattle.ell_layout.specs.Words.{IsLeaf};
+ghost use Rattle.ell_world.specs.Claims.{ClaimsAt};
 ghost use Rattle.ell_world.specs.Fits.{IsTableNode};
 ghost use Rattle.ell_core.specs.statements.Effects.{reply_of_change};
 ghost use Rattle.ell_world.specs.Inside.{words_in, worker_in, scene_in, IsReady, IsSized, TakesTurn};
@@ -115,7 +116,7 @@ pub(crate) fn down<A: Allocator + Copy>(
     Ok(Stepped::Moved)
 }
 
-// Where a worker stands that may claim a card: a leaf, and the parent, whose update word it read clean.
+// Where a worker without a card stands that may claim one: a leaf, and the parent, whose update word it read clean.
 #[derive(Clone, Copy)]
 struct CleanLeaf {
     leaf: u64,
@@ -130,8 +131,8 @@ fn is_clean(update: u64) -> bool
 }
 
 fn clean_leaf<A: Allocator + Copy>(worker: &Worker<A>) -> Option<CleanLeaf>
-    ensures some { IfSome result (λ at. AtCleanLeaf (worker_in worker.now) at.leaf at.parent) }
-    ensures none { IfNone result ((leaf : ℕ) (parent : Seen) → ¬ AtCleanLeaf (worker_in worker.now) leaf parent) }
+    ensures some { IfSome result (λ at. ClaimsAt (worker_in worker.now) at.leaf at.parent) }
+    ensures none { IfNone result ((leaf : ℕ) (parent : Seen) → ¬ ClaimsAt (worker_in worker.now) leaf parent) }
 {
     let (Some(leaf), Some(parent)) = (worker.search.node, worker.search.parent) else {
         return None;
@@ -174,7 +175,7 @@ fn claim_for_put<A: Allocator + Copy>(
     requires ready { IsReady memory.old worker.old }
     requires busy { (worker_in worker.old).operation ≡ Some op }
     requires puts { put_of op ≡ Some what }
-    requires at { AtCleanLeaf (worker_in worker.old) at.leaf at.parent }
+    requires at { ClaimsAt (worker_in worker.old) at.leaf at.parent }
     ensures { TakesTurn act.Claim memory.old worker.old memory.new worker.new result }
 {
     let leaf_key = memory.key(at.leaf);
@@ -212,7 +213,7 @@ fn claim_for_delete<A: Allocator + Copy>(
 ) -> Result<Stepped, CoreFault>
     requires ready { IsReady memory.old worker.old }
     requires deletes { (worker_in worker.old).operation ≡ Some (Delete key) }
-    requires at { AtCleanLeaf (worker_in worker.old) at.leaf at.parent }
+    requires at { ClaimsAt (worker_in worker.old) at.leaf at.parent }
     ensures { TakesTurn act.Claim memory.old worker.old memory.new worker.new result }
 {
     let Some(grandparent) = worker.search.grandparent else {

@@ -1,4 +1,4 @@
-use Rattle.std.specs.Prelude.{◌≡◌, ◌≢◌, ℕ, ◌==◌, if◌then◌else◌, ◌⊎◌, true, false, Option, Some, None, List}
+use Rattle.std.specs.Prelude.{◌≡◌, ◌≢◌, ℕ, ◌<◌, ◌==◌, if◌then◌else◌, ◌⊎◌, true, false, Option, Some, None, List}
 use Rattle.ell_ops.specs.declared.op.Op.{Op}
 use Rattle.ell_ops.specs.declared.op.Op.TheVariants.{Find, Insert, Delete, Swap}
 use Rattle.ell_ops.specs.Meaning.{key_of, found}
@@ -85,20 +85,23 @@ pub record Down (s : Scene) (said : Stepped) (after : Scene) : Type 0 where
     };
   }
 
--- a worker at a leaf, without a card, whose parent's update word it read clean
+-- a worker at a leaf whose parent's update word it read clean
 pub record AtCleanLeaf (v : Worker) (leaf : ℕ) (parent : Seen) : Type 0 where
   pub stands : v.search.node ≡ Some leaf
   pub outer : IsLeaf leaf
   pub behind : v.search.parent ≡ Some parent
   pub calm : IsClean parent.word
-  pub no_card : v.card ≡ None
 
--- a worker at a node, without a card, whose parent's update word it read clean
+-- a worker at a node whose parent's update word it read clean
 pub record AtCleanNode (v : Worker) (node : ℕ) (parent : Seen) : Type 0 where
   pub stands : v.search.node ≡ Some node
   pub behind : v.search.parent ≡ Some parent
   pub calm : IsClean parent.word
-  pub no_card : v.card ≡ None
+
+-- a worker may take a card, in a tree that is flat from this card on, or not flat if it is 0: it has none in hand, or,
+-- if the tree is flat, one that has not won its flag, which it lays aside
+abbrev pub MayTake : {L S K : Type 0} → ℕ → WorkerOf L S K → Type 0
+MayTake from v = (v.card ≡ None) ⊎ ((0 < from) × (v.flagged ≡ false))
 
 -- a card is in hand, not flagged
 abbrev pub with_card : {L S K : Type 0} → ℕ → WorkerOf L S K → WorkerOf L S K
@@ -133,8 +136,9 @@ pub record GivesPlace (w : Words) (what : Put) (x : ℕ) : Type 0 where
   pub leaf : IsLeaf x → TakesPut what (w.key x) (w.value x)
   pub edge : IsInternal x → (what.was ≡ None) × (¬ IsInBlock w x what.key)
 
--- claim for an insert or a swap: at such a node, where there is place for what it puts. In a flat tree an insert's key is in
--- the parent's block, and the card's node gets a branch as its key. The card expects the parent's child word.
+-- claim for an insert or a swap: at such a node, where there is place for what it puts, the worker has no card in hand,
+-- or, in a flat tree, one that has not won its flag, which it lays aside. In a flat tree an insert's key is in the
+-- parent's block, and the card's node gets a branch as its key. The card expects the parent's child word.
 pub record ClaimPut (s : Scene) (said : Stepped) (after : Scene) : Type 0 where
   pub op : Op
   pub what : Put
@@ -143,6 +147,7 @@ pub record ClaimPut (s : Scene) (said : Stepped) (after : Scene) : Type 0 where
   pub node_key : ℕ
   pub busy : s.worker.operation ≡ Some op
   pub puts : put_of op ≡ Some what
+  pub ready : MayTake s.words.flat_from s.worker
   pub at : AtCleanNode s.worker below parent
   pub takes : GivesPlace s.words what below
   pub fits : what.was ≡ None → IsInBlock s.words parent.node what.key
@@ -152,13 +157,15 @@ pub record ClaimPut (s : Scene) (said : Stepped) (after : Scene) : Type 0 where
       (put_filling s.words.next what.key what.value node_key parent.node below (s.words.key below) (value_below s.words below))
 
 -- claim for a delete: at such a leaf of its key, with a grandparent whose update word it read clean, and whose child
--- word the card expects
+-- word the card expects, the worker has no card in hand, or, in a flat tree, one that has not won its flag, which it
+-- lays aside
 pub record ClaimDelete (s : Scene) (said : Stepped) (after : Scene) : Type 0 where
   pub key : ℕ
   pub leaf : ℕ
   pub parent : Seen
   pub grandparent : Seen
   pub deletes : s.worker.operation ≡ Some (Delete key)
+  pub ready : MayTake s.words.flat_from s.worker
   pub at : AtCleanLeaf s.worker leaf parent
   pub present : s.words.key leaf ≡ key
   pub above : s.worker.search.grandparent ≡ Some grandparent

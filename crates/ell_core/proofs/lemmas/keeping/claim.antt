@@ -9,6 +9,8 @@ pub mod Filling
 pub mod Frames
 -- The card that a claim for an insert fills is sound, and the claimer has it in hand: what its search saw gives each clause.
 pub mod InsertCard
+-- Who may take a card, and the card that is laid aside then.
+pub mod Taking
 -- The words after a claim are sound, if the claimed card is.
 pub mod Words
 -- The workers stay sound after a claim.

@@ -1,5 +1,5 @@
-use Rattle.std.proofs.Common.{◌≡◌, ℕ, ◌%◌, true, Option, Some, None, refl, sym, ap, ◌∙◌, subst, inl, inr, ◌⊎◌}
-use Rattle.std.proofs.lemmas.Bool.{cases_eq, cases_Bool, false≢true}
+use Rattle.std.proofs.Common.{◌≡◌, ℕ, ◌<◌, ◌%◌, Bool, true, false, Option, Some, None, refl, sym, ap, ◌∙◌, subst, inl, inr, arith, ◌⊎◌}
+use Rattle.std.proofs.lemmas.Bool.{cases_eq, cases_lt, cases_Bool, false≢true}
 use Rattle.ell_ops.specs.declared.op.Op.{Op}
 use Rattle.ell_ops.specs.declared.op.Op.TheVariants.{Delete}
 use Rattle.ell_ops.specs.Meaning.{key_of}
@@ -11,7 +11,7 @@ use Rattle.ell_core.specs.declared.view.Seen.{Seen}
 use Rattle.ell_layout.specs.Cards.{child_for, put_filling, value_below, delete_filling, tag_for}
 use Rattle.ell_core.specs.state.Facts.{learned_any, told_by}
 use Rattle.ell_core.specs.state.Machine.{Worker, Scene}
-use Rattle.ell_core.specs.acts.Searching.{put_of, GivesPlace, IsClean, Begin, Upd, Down, AtCleanLeaf, AtCleanNode, ClaimPut, ClaimDelete, MayStop, Again, Leave, value_at, leaf_answer, card_answer, AnswersAtLeaf, AnswersByCard, HasAnswer, Answer, begun, ended, with_read, gone_down, claims, ledger_after}
+use Rattle.ell_core.specs.acts.Searching.{put_of, GivesPlace, IsClean, Begin, Upd, Down, AtCleanLeaf, AtCleanNode, MayTake, ClaimPut, ClaimDelete, MayStop, Again, Leave, value_at, leaf_answer, card_answer, AnswersAtLeaf, AnswersByCard, HasAnswer, Answer, begun, ended, with_read, gone_down, claims, ledger_after}
 use Rattle.ell_layout.specs.Words.{Words, IsLeaf}
 use Rattle.ell_core.specs.tree.Flat.{IsInBlock, IsNodeKey}
 use Rattle.ell_core.proofs.lemmas.outcomes.Decide.{Decided, HasOne, Settled, ap2, subst2, settles_either, cases_option, cases_put, decides_takes, cases_delete, decides_clean, decides_internal, same_value, some_not_none, same_seen}
@@ -104,6 +104,27 @@ settles_down s = elim (cases_option s.worker.operation) [
   ]
 ]
 
+-- a worker with this card and this flag may take a card or not
+may_take_with : (from : ℕ) (v : Worker) (c : ℕ) → v.card ≡ Some c → (flagged : Bool) → v.flagged ≡ flagged → Decided (MayTake from v)
+may_take_with from v c holds true is = inr (λ may. elim may [
+  | inl none ↦ some_not_none holds none
+  | inr aside ↦ false≢true (sym aside.1 ∙ is)
+])
+may_take_with from v c holds false is = elim (cases_lt 0 from) [
+  | inl flat ↦ inl (inr (flat, is))
+  | inr plain ↦ inr (λ may. elim may [
+    | inl none ↦ some_not_none holds none
+    | inr aside ↦ (let flat = aside.0 in omega arith)
+  ])
+]
+
+-- a worker may take a card or not
+decides_ready : (from : ℕ) (v : Worker) → Decided (MayTake from v)
+decides_ready from v = elim (cases_option v.card) [
+  | inr none ↦ inl (inl none)
+  | inl c ↦ may_take_with from v c.0 c.1 v.flagged refl
+]
+
 -- a worker at a clean node is there in one way
 record CleanNode (v : Worker) : Type 0 where
   node : ℕ
@@ -111,15 +132,15 @@ record CleanNode (v : Worker) : Type 0 where
   at : AtCleanNode v node parent
   only : (x : ℕ) (y : Seen) → AtCleanNode v x y → (x ≡ node) × (y ≡ parent)
 
--- a worker without a card, at a node that came from another, is at a clean node or not
-clean_node_at : (v : Worker) (node : ℕ) (parent : Seen) → v.search.node ≡ Some node → v.search.parent ≡ Some parent → v.card ≡ None
+-- a worker at a node that came from another is at a clean node or not
+clean_node_at : (v : Worker) (node : ℕ) (parent : Seen) → v.search.node ≡ Some node → v.search.parent ≡ Some parent
     → CleanNode v ⊎ ((x : ℕ) (y : Seen) → ¬ AtCleanNode v x y)
-clean_node_at v node parent stands behind no_card = elim (decides_clean parent.word) [
+clean_node_at v node parent stands behind = elim (decides_clean parent.word) [
   | inr n ↦ inr (λ x y a. n (subst (λ (z : Seen). IsClean z.word) (same_value a.behind behind) a.calm))
   | inl calm ↦ inl (record {
     node = node;
     parent = parent;
-    at = record { stands = stands; behind = behind; calm = calm; no_card = no_card };
+    at = record { stands = stands; behind = behind; calm = calm };
     only = λ x y a. (same_value a.stands stands, same_value a.behind behind);
   })
 ]
@@ -130,16 +151,13 @@ clean_node v = elim (cases_option v.search.node) [
   | inr e ↦ inr (λ x y a. some_not_none a.stands e)
   | inl n ↦ elim (cases_option v.search.parent) [
     | inr e ↦ inr (λ x y a. some_not_none a.behind e)
-    | inl p ↦ elim (cases_option v.card) [
-      | inl c ↦ inr (λ x y a. some_not_none c.1 a.no_card)
-      | inr e ↦ clean_node_at v n.0 p.0 n.1 p.1 e
-    ]
+    | inl p ↦ clean_node_at v n.0 p.0 n.1 p.1
   ]
 ]
 
 -- a worker at a clean leaf is at a clean node
 at_node : (v : Worker) (leaf : ℕ) (parent : Seen) → AtCleanLeaf v leaf parent → AtCleanNode v leaf parent
-at_node v leaf parent a = record { stands = a.stands; behind = a.behind; calm = a.calm; no_card = a.no_card }
+at_node v leaf parent a = record { stands = a.stands; behind = a.behind; calm = a.calm }
 
 -- a worker at a clean leaf is there in one way
 record CleanLeaf (v : Worker) : Type 0 where
@@ -157,7 +175,7 @@ clean_leaf v = elim (clean_node v) [
     | inr outer ↦ inl (record {
       leaf = c.node;
       parent = c.parent;
-      at = record { stands = c.at.stands; outer = outer; behind = c.at.behind; calm = c.at.calm; no_card = c.at.no_card };
+      at = record { stands = c.at.stands; outer = outer; behind = c.at.behind; calm = c.at.calm };
       only = λ x y a. c.only x y (at_node v x y a);
     })
   ]
@@ -221,12 +239,12 @@ named_at w {node_key = node_key} e f = subst2 (λ k x. IsNodeKey w.flat_from k (
 
 -- a claim of an operation that puts something, at a node that gives place below one that it fits, has one outcome
 settles_put_at : (s : Scene) (op : Op) (what : Put) (a : CleanNode s.worker) → s.worker.operation ≡ Some op → put_of op ≡ Some what
-    → GivesPlace s.words what a.node → (what.was ≡ None → IsInBlock s.words a.parent.node what.key) → HasOne (ClaimPut s)
-settles_put_at s op what a busy puts takes fits =
+    → MayTake s.words.flat_from s.worker → GivesPlace s.words what a.node → (what.was ≡ None → IsInBlock s.words a.parent.node what.key) → HasOne (ClaimPut s)
+settles_put_at s op what a busy puts ready takes fits =
     let some = some_node_key s.words.flat_from what.key (s.words.key a.node) in record {
       said = Moved;
       after = put_claimed s what some.0 a.node a.parent;
-      row = record { op = op; what = what; below = a.node; parent = a.parent; node_key = some.0; busy = busy; puts = puts; at = a.at; takes = takes; fits = fits; named = some.1; says = refl; gives = refl };
+      row = record { op = op; what = what; below = a.node; parent = a.parent; node_key = some.0; busy = busy; puts = puts; ready = ready; at = a.at; takes = takes; fits = fits; named = some.1; says = refl; gives = refl };
       only = λ other later r. (
           let same = says_put s op what a busy puts other later r in
           let named = named_at s.words (ap (λ (t : Put). t.key) same.0) same.1 r.named in
@@ -236,14 +254,14 @@ settles_put_at s op what a busy puts takes fits =
 
 -- a claim of an operation that puts something, at a clean node, has one outcome or none
 settles_put : (s : Scene) (op : Op) (what : Put) (a : CleanNode s.worker) → s.worker.operation ≡ Some op → put_of op ≡ Some what
-    → Settled (ClaimPut s)
-settles_put s op what a busy puts = elim (decides_gives s.words what a.node) [
+    → MayTake s.words.flat_from s.worker → Settled (ClaimPut s)
+settles_put s op what a busy puts ready = elim (decides_gives s.words what a.node) [
   | inr n ↦ inr (λ said after r. (let same = says_put s op what a busy puts said after r in
       n (subst2 (GivesPlace s.words) same.0 same.1 r.takes)))
   | inl takes ↦ elim (decides_fits s.words what a.parent.node) [
     | inr n ↦ inr (λ said after r. (let same = says_put s op what a busy puts said after r in
         n (subst2 (λ (t : Put) (y : Seen). t.was ≡ None → IsInBlock s.words y.node t.key) same.0 same.2 r.fits)))
-    | inl fits ↦ inl (settles_put_at s op what a busy puts takes fits)
+    | inl fits ↦ inl (settles_put_at s op what a busy puts ready takes fits)
   ]
 ]
 
@@ -255,7 +273,10 @@ settles_claim_put s = elim (cases_option s.worker.operation) [
     | inr n ↦ inr (λ said after r. some_not_none r.puts (ap put_of (same_value r.busy o.1) ∙ n))
     | inl t ↦ elim (clean_node s.worker) [
       | inr n ↦ inr (λ said after r. n r.below r.parent r.at)
-      | inl a ↦ settles_put s o.0 t.0 a o.1 t.1
+      | inl a ↦ elim (decides_ready s.words.flat_from s.worker) [
+        | inr n ↦ inr (λ said after r. n r.ready)
+        | inl ready ↦ settles_put s o.0 t.0 a o.1 t.1 ready
+      ]
     ]
   ]
 ]
@@ -265,14 +286,14 @@ abbrev delete_claimed : Scene → Seen → ℕ → Seen → Scene
 delete_claimed s grandparent leaf parent = claims s grandparent.tag (delete_filling grandparent.node parent.node leaf parent.word)
 
 -- a claim for a delete at a leaf of its key has one outcome or none
-settles_claim_delete_at : (s : Scene) (key : ℕ) (a : CleanLeaf s.worker) (grandparent : Seen) → s.worker.operation ≡ Some (Delete key) → s.words.key a.leaf ≡ key
-    → s.worker.search.grandparent ≡ Some grandparent → Settled (ClaimDelete s)
-settles_claim_delete_at s key a grandparent deletes present above = elim (decides_clean grandparent.word) [
+settles_claim_delete_at : (s : Scene) (key : ℕ) (a : CleanLeaf s.worker) (grandparent : Seen) → s.worker.operation ≡ Some (Delete key) → MayTake s.words.flat_from s.worker
+    → s.words.key a.leaf ≡ key → s.worker.search.grandparent ≡ Some grandparent → Settled (ClaimDelete s)
+settles_claim_delete_at s key a grandparent deletes ready present above = elim (decides_clean grandparent.word) [
   | inr n ↦ inr (λ said after r. n (subst (λ (z : Seen). IsClean z.word) (same_value r.above above) r.calm))
   | inl calm ↦ inl (record {
     said = Moved;
     after = delete_claimed s grandparent a.leaf a.parent;
-    row = record { key = key; leaf = a.leaf; parent = a.parent; grandparent = grandparent; deletes = deletes; at = a.at; present = present; above = above; calm = calm; says = refl; gives = refl };
+    row = record { key = key; leaf = a.leaf; parent = a.parent; grandparent = grandparent; deletes = deletes; ready = ready; at = a.at; present = present; above = above; calm = calm; says = refl; gives = refl };
     only = λ other later r. (let only = a.only r.leaf r.parent r.at in (
       r.says,
       r.gives ∙ (ap (λ x. delete_claimed s x r.leaf r.parent) (same_value r.above above) ∙ ap2 (delete_claimed s grandparent) only.0 only.1),
@@ -290,7 +311,10 @@ settles_claim_delete s = elim (cases_delete s.worker.operation) [
       | inr n ↦ inr (λ said after r. n (ap s.words.key (sym (a.only r.leaf r.parent r.at).0) ∙ (r.present ∙ same_delete r.deletes o.1)))
       | inl present ↦ elim (cases_option s.worker.search.grandparent) [
         | inr e ↦ inr (λ said after r. some_not_none r.above e)
-        | inl g ↦ settles_claim_delete_at s o.0 a g.0 o.1 present g.1
+        | inl g ↦ elim (decides_ready s.words.flat_from s.worker) [
+          | inr n ↦ inr (λ said after r. n r.ready)
+          | inl ready ↦ settles_claim_delete_at s o.0 a g.0 o.1 ready present g.1
+        ]
       ]
     ]
   ]

@@ -157,7 +157,8 @@ claims_card = step down_state act.Claim Moved claimed_scene two (λ h. h)
       node_key = infinity1;
       busy = refl;
       puts = refl;
-      at = record { stands = refl; behind = refl; calm = refl; no_card = refl };
+      ready = inl refl;
+      at = record { stands = refl; behind = refl; calm = refl };
       takes = record {
         leaf = λ outer e. let h : infinity1 ≡ 5 = e in omega arith;
         edge = λ inner. absurd (one_leaf inner);

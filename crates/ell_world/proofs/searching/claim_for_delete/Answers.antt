@@ -1,4 +1,4 @@
-use Rattle.std.proofs.Common.{rules, arith, ◌<◌, sym, ◌∙◌, refl, inr}
+use Rattle.std.proofs.Common.{rules, arith, ◌<◌, sym, ◌∙◌, refl, inl, inr}
 use Rattle.ell_core.specs.declared.event.Stepped.TheVariants.{Moved}
 use Rattle.ell_core.specs.acts.Searching.{IsClean}
 use Rattle.ell_world.specs.Inside.{words_in}
@@ -20,7 +20,8 @@ returns-then-card-memory g c =
             parent = c.args.at.parent;
             grandparent = c.in-Some.grandparent;
             deletes = c.requires.deletes;
-            at = c.requires.at;
+            ready = inl c.requires.at.no_card;
+            at = c.requires.at.at;
             present = sym c.key.ensures ∙ c.if-key.false;
             above = c.in-Some.is;
             calm = calm;

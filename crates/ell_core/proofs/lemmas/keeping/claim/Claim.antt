@@ -10,7 +10,7 @@ use Rattle.ell_layout.specs.declared.field.Field.{Field}
 use Rattle.ell_layout.specs.Words.{Words, put}
 use Rattle.ell_core.specs.state.Machine.{Worker, Machine, Scene, scene, with_scene}
 use Rattle.ell_layout.specs.Cards.{claimed, put_filling, value_below, delete_filling}
-use Rattle.ell_core.specs.acts.Searching.{claims, ClaimPut, ClaimDelete}
+use Rattle.ell_core.specs.acts.Searching.{claims, ClaimPut, ClaimDelete, MayTake}
 use Rattle.ell_core.specs.history.Stages.{Stage, Stages, Unclaimed, IClaimed, DClaimed, insert_open, delete_open, made_by_stage, is_insert, is_delete, is_claimed}
 use Rattle.ell_core.specs.history.Invariant.{CardIsSound, Unflagged, WorkerIsSound, Invariant, Flagged, StandIsSound}
 use Rattle.ell_core.specs.history.Later.{Follows, KeepsInvariant}
@@ -21,6 +21,7 @@ use Rattle.ell_core.proofs.lemmas.keeping.claim.Filling.{claimed_claims, others_
 use Rattle.ell_core.proofs.lemmas.keeping.claim.Frames.{IsJustClaimed, just_claimed, Claiming, unclaimed, before, leads_kept, leads_before, claim_stages, claim_wins, claim_words}
 use Rattle.ell_core.proofs.lemmas.keeping.claim.Words.{words_kept}
 use Rattle.ell_core.proofs.lemmas.keeping.going_on.InHand.{same_place, stands_same, unflagged_claimed}
+use Rattle.ell_core.proofs.lemmas.keeping.claim.Taking.{laid_aside}
 use Rattle.ell_core.proofs.lemmas.keeping.claim.Workers.{worker_kept}
 use Rattle.ell_core.proofs.lemmas.keeping.claim.InsertCard.{InsertSeen, insert_claimed, insert_in_hand}
 use Rattle.ell_core.proofs.lemmas.keeping.claim.DeleteCard.{DeleteSeen, delete_claimed, delete_in_hand}
@@ -37,7 +38,7 @@ made_of_none (Insert k value) = (refl, refl, refl)
 made_of_none (Delete k) = (refl, refl, refl)
 made_of_none (Swap k was value) = (refl, refl, refl)
 
--- a worker without a card claims the next one for its operation, which fills it as a sound card that it then has in hand
+-- a worker that may take a card claims the next one for its operation, which fills it as a sound card that it then has in hand
 pub record ClaimsCard (m : Machine) (stage : Stages) (i : ℕ) (tag : ℕ) (filling : List (Field × ℕ)) (new : Stage)
     (op : Op) : Type 0 where
   pub there : i < m.count
@@ -45,7 +46,7 @@ pub record ClaimsCard (m : Machine) (stage : Stages) (i : ℕ) (tag : ℕ) (fill
   pub room : m.words.next ≤ m.last_card
   pub fresh : IsJustClaimed new
   pub busy : (m.worker i).operation ≡ Some op
-  pub no_card : (m.worker i).card ≡ None
+  pub ready : MayTake m.words.flat_from (m.worker i)
   pub own : CardIsSound (claimed m.words tag filling) (put stage m.words.next new) m.words.next
   pub hand : Unflagged (claimed m.words tag filling) (put stage m.words.next new)
       (claims (scene m i) tag filling).worker op m.words.next
@@ -122,15 +123,15 @@ module _ (m : Machine) (stage : Stages) (i tag : ℕ) (filling : List (Field × 
     shares = refl;
     hands = λ c holds. inr (λ j had. fresh_card c holds j had);
     counts = λ k o. ap (λ f. f k) (counts_unmade stages claimer (λ o c b e f. absurd (false≢true f))
-        ∙ sym (counts_unmade stage (m.worker i) (λ o c b e f. absurd (none c e))));
+        ∙ sym (counts_unmade stage (m.worker i) (λ o c b e f. absurd (none c e f))));
     counts_others = λ j k n o. counts_same stage stages (m.worker j) k (λ op c busy holds f. inl (made_same op c));
     inserts = λ c e. inr (
       before m.words after stage new claiming insert_open refl refl c e,
-      λ had. absurd (none c had.holds),
+      λ had. absurd (none c had.holds had.flagged),
     );
     deletes = λ c e. inr (
       before m.words after stage new claiming delete_open refl refl c e,
-      λ had. absurd (none c had.holds),
+      λ had. absurd (none c had.holds had.flagged),
     );
   }
     where
@@ -140,8 +141,8 @@ module _ (m : Machine) (stage : Stages) (i tag : ℕ) (filling : List (Field × 
           let below = (h.sound.words.cards c).claimed.0 (in_hand_claimed m.words stage (m.worker j) c (h.sound.workers.each j) had) in
           omega arith
 
-      none : (c : ℕ) → (m.worker i).card ≡ Some c → ⊥
-      none c holds = let clash : None ≡ Some c = sym h.no_card ∙ holds in cc
+      none : (c : ℕ) → (m.worker i).card ≡ Some c → ¬ ((m.worker i).flagged ≡ true)
+      none c holds flagged = false≢true (sym (laid_aside m.words.flat_from (m.worker i) c h.ready holds).1 ∙ flagged)
 
   -- the claimed card is an insert's or a delete's
   claimed_kind : HasKind stages m.words.next
@@ -191,7 +192,7 @@ claim_insert m stage i said becomes there sound room e =
       room = room;
       fresh = inl refl;
       busy = e.busy;
-      no_card = e.at.no_card;
+      ready = e.ready;
       own = insert_claimed m.words stage (m.worker i) e.what e.below e.node_key e.parent seen;
       hand = hand_putting (claimed m.words e.parent.tag filling) (put stage m.words.next IClaimed) claimer e.what m.words.next e.op e.puts
           (insert_in_hand m.words stage (m.worker i) e.what e.below e.node_key e.parent seen claimer e.at.stands e.at.behind e.at.calm);
@@ -224,7 +225,7 @@ claim_delete m stage i said becomes there sound room e =
       room = room;
       fresh = inr refl;
       busy = e.deletes;
-      no_card = e.at.no_card;
+      ready = e.ready;
       own = delete_claimed m.words stage (m.worker i) e.key e.leaf e.parent e.grandparent seen;
       hand = delete_in_hand m.words stage (m.worker i) e.key e.leaf e.parent e.grandparent seen
           (claims (scene m i) e.grandparent.tag filling).worker e.at.stands e.at.behind e.above e.calm;
