@@ -10,3 +10,7 @@ pub mod Grace
 pub mod Premises
 -- A run in which the node that an edge insert names is gone.
 pub mod edge
+-- What is dead stays dead, and is in no tree.
+pub mod dead
+-- How far tags have come since an earlier state.
+pub mod tags

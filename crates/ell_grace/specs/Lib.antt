@@ -16,3 +16,7 @@ pub mod Periods
 pub mod Premises
 -- A state that comes from an earlier one.
 pub mod Since
+-- Nodes that are gone or never come.
+pub mod Dead
+-- How far tags have come since an earlier state.
+pub mod Tags

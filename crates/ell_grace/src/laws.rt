@@ -3,6 +3,8 @@ ghost use Rattle.ell_grace.specs.Gone.{EveryStateHasOuts};
 ghost use Rattle.ell_grace.specs.Operations.{OperationsMeetNothingGone};
 ghost use Rattle.ell_grace.specs.Looks.{LooksMeetNothingGone};
 ghost use Rattle.ell_grace.specs.Since.{StatesComeFromThemselves, EventsLeadOn, ChildrenWereNotGone};
+ghost use Rattle.ell_grace.specs.Dead.{EveryStateHasUses, UsesBegin, EventsKeepUses, DeadStaysDead, DeadCardsHaveEnded, NeverComesStaysOut, TakenOutHadCome, ChildrenWereNotDead};
+ghost use Rattle.ell_grace.specs.Tags.{EveryStateHasTags, TagsBegin, TagsLeadOn, TagsRiseByCards, TagsLagLittle};
 ghost use Rattle.ell_grace.specs.Edges.{EdgeNodeIsGone};
 ghost use Rattle.ell_grace.specs.Periods.{GraceStarts, GraceGoesOn, TakenCardsWereGone};
 ghost use Rattle.ell_grace.specs.Premises.{BeginsWhenGone, TakesWhenBusy};
@@ -33,12 +35,48 @@ pub fn children_were_not_gone()
     ensures children { ChildrenWereNotGone }
 {}
 
+/// Dead nodes: a node is dead that is gone, or that never comes into the tree, since its card has ended and did not bring it,
+/// or nobody uses it. What is dead stays dead. Whoever knows an internal node that was not dead may load each child of it,
+/// whatever the child is by now, since that was not dead either.
+pub fn dead_nodes_stay_dead()
+    // In every state of every run no internal node that came into the tree has a child that nobody uses, nor was such a leaf
+    // taken out. While an insert that has made its child exchange has its flag, the node that it brought stands under the parent.
+    ensures uses { EveryStateHasUses }
+    // A state comes from itself, and each event leads on from a state that comes from an earlier one: what was dead is dead.
+    ensures begins { UsesBegin }
+    ensures keeps { EventsKeepUses }
+    ensures stays { DeadStaysDead }
+    // A card whose internal node is dead has ended, or is one of the opening tree's.
+    ensures ended { DeadCardsHaveEnded }
+    // A node that never comes is not in the tree, is no internal node that came into it, and is no child of one.
+    ensures out { NeverComesStaysOut }
+    // No node dies twice: what a card has taken out is no node that never comes.
+    ensures once { TakenOutHadCome }
+    // A child of an internal node that was not dead in the earlier state was not dead there.
+    ensures children { ChildrenWereNotDead }
+{}
+
 /// Why the law leaves out the internal node above which an insert has put its own: that node is in the tree still, and a delete
 /// may take it out while the insert goes on.
 pub fn edge_nodes_may_be_gone()
     // There is a state of a run in which the node that an insert's card names is gone, although the card has won its flag and
     // has not ended.
     ensures { EdgeNodeIsGone }
+{}
+
+/// How far the tag of a child word rises: since an earlier state by the number of the cards that have changed the word, none of
+/// which had ended then. So the tag that a card expects is not far from the one that stands there.
+pub fn tags_rise_by_cards()
+    // In every state of every run the tag where a card has made its child exchange, while its flag stands, is the next one
+    // after the one that it expected.
+    ensures tags { EveryStateHasTags }
+    // A state comes from itself, each event leads on, and so does a run: tags rise by the cards that change their words.
+    ensures begins { TagsBegin }
+    ensures events { TagsLeadOn }
+    ensures runs { TagsRiseByCards }
+    // So where a card makes its child exchange that had not ended in the earlier state, the tag is no less than the one that
+    // the card expects, and greater by one and the number of such cards at most.
+    ensures lags { TagsLagLittle }
 {}
 
 /// Grace periods: whoever takes the slot of a card that was set free, each pass that is in an operation began that when the

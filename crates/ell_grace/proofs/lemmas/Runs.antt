@@ -36,7 +36,7 @@ none_taken setup c x (inl h) = false≢true (sym (each_stage (λ s. is_changed s
 none_taken setup c x (inr h) = false≢true (sym (each_stage (λ s. is_cut s ≡ false) (length setup.start + 1) c refl refl) ∙ h.0)
 
 -- so what it has taken out is sound
-opening_outs : (setup : Setup) → OutsAreSound (opening setup).words (start_stages (length setup.start + 1))
+pub opening_outs : (setup : Setup) → OutsAreSound (opening setup).words (start_stages (length setup.start + 1))
 opening_outs setup = record {
   out = λ c x takes. absurd (none_taken setup c x takes);
   once = λ c d x takes other. absurd (none_taken setup c x takes);

@@ -166,7 +166,8 @@ p6 = on m5 0 act.Claim Moved (claims (scene m5 0) 0 (put_filling 2 6 60 6 4 5 5 
       node_key = 6;
       busy = refl;
       puts = refl;
-      at = record { stands = refl; behind = refl; calm = refl; no_card = refl };
+      ready = inl refl;
+      at = record { stands = refl; behind = refl; calm = refl };
       takes = record { leaf = λ outer e. (let h : 5 ≡ 6 = e in omega arith); edge = λ inner. (let h : 5 % 4 ≡ 0 = inner in absurd (omega arith)) };
       fits = λ none. no_block m5.words 4 6 (none_before 2 4 (omega arith));
       named = first_key;
@@ -267,7 +268,8 @@ p15 = on m14 1 act.Claim Moved (claims (scene m14 1) 1 (put_filling 3 9 90 8 4 8
       node_key = 8;
       busy = refl;
       puts = refl;
-      at = record { stands = refl; behind = refl; calm = refl; no_card = refl };
+      ready = inl refl;
+      at = record { stands = refl; behind = refl; calm = refl };
       takes = record { leaf = λ outer. absurd (outer refl); edge = λ inner. (refl, lacks m14.words refl refl) };
       fits = λ none. no_block m14.words 4 9 (none_before 2 4 (omega arith));
       named = second_key;
@@ -390,7 +392,8 @@ p27 = on m26 2 act.Claim Moved (claims (scene m26 2) 0 (delete_filling 12 8 9 3)
       parent = (record { node = 8; word = 3; tag = 0 });
       grandparent = (record { node = 12; word = 3; tag = 0 });
       deletes = refl;
-      at = record { stands = refl; outer = λ e. (let h : 9 % 4 ≡ 0 = e in absurd (omega arith)); behind = refl; calm = refl; no_card = refl };
+      ready = inl refl;
+      at = record { stands = refl; outer = λ e. (let h : 9 % 4 ≡ 0 = e in absurd (omega arith)); behind = refl; calm = refl };
       present = refl;
       above = refl;
       calm = refl;

@@ -75,7 +75,7 @@ module _ (m : Machine) (stage : Stages) (i : ℕ) (c : ℕ) (said : Stepped) (be
   d_low = (invariant.words.cards c).claimed.0 (delete-claimed (stage c) (ap is_delete now))
 
   -- parent and leaf are what it has taken
-  d_nodes : (d x : ℕ) → d ≡ c → TakesOut becomes.words follows.stages d x → (m.words.p c ≡ x) ⊎ (m.words.l c ≡ x)
+  pub d_nodes : (d x : ℕ) → d ≡ c → TakesOut becomes.words follows.stages d x → (m.words.p c ≡ x) ⊎ (m.words.l c ≡ x)
   d_nodes d x e (inl h) = absurd (one_kind (follows.stages c) (changed-insert (follows.stages c) (subst (λ n. is_changed (follows.stages n) ≡ true) e h.0)) d_delete)
   d_nodes d x e (inr h) = elim h.1 [
     | inl p ↦ inl (sym (follows.words.info c d_low).p ∙ (ap becomes.words.p (sym e) ∙ p))

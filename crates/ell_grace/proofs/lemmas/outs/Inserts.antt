@@ -111,7 +111,7 @@ module _ (m : Machine) (stage : Stages) (i : ℕ) (c : ℕ) (said : Stepped) (be
   i_sound = subst (λ (n : Words). WordsAreSound n follows.stages) i_words follows.invariant.words
 
   -- the leaf is what it has taken
-  i_leaf : (d x : ℕ) → d ≡ c → TakesOut becomes.words follows.stages d x → (m.words.l c ≡ x) × IsLeaf (m.words.l c)
+  pub i_leaf : (d x : ℕ) → d ≡ c → TakesOut becomes.words follows.stages d x → (m.words.l c ≡ x) × IsLeaf (m.words.l c)
   i_leaf d x e (inl h) = (sym (follows.words.info c i_low).l ∙ (ap becomes.words.l (sym e) ∙ h.2), subst IsLeaf (ap becomes.words.l e ∙ (follows.words.info c i_low).l) h.1)
   i_leaf d x e (inr h) = absurd (one_kind (follows.stages c) i_insert (cut-delete (follows.stages c) (subst (λ n. is_cut (follows.stages n) ≡ true) e h.0)))
 

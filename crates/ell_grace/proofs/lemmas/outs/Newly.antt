@@ -59,7 +59,7 @@ module _ (m : Machine) (stage : Stages) (i : ℕ) (a : Act) (said : Stepped) (be
       one_kind (stages c) (changed-insert (stages c) changed) (follows.later.delete c (cut-delete (stage c) cut))
 
   -- what a card that had acted has taken out, it had
-  had_taken : (c x : ℕ) → 0 < acted (stage c) → TakesOut new stages c x → TakesOut old stage c x
+  pub had_taken : (c x : ℕ) → 0 < acted (stage c) → TakesOut new stages c x → TakesOut old stage c x
   had_taken c x some takes =
       let info = follows.words.info c (acted_claimed old stage invariant.words c some) in
       elim (sum-changed (stage c) some) [

@@ -1,10 +1,14 @@
 use Rattle.std.proofs.Common.{ℕ, inl, inr, subst}
 use Rattle.std.proofs.lemmas.Bool.{cases_Bool}
+use Rattle.ell_core.specs.declared.event.Event.{Event}
+use Rattle.ell_core.specs.declared.event.Stepped.{Stepped}
 use Rattle.ell_core.specs.state.Machine.{Machine}
+use Rattle.ell_core.specs.acts.Events.{Steps}
 use Rattle.ell_core.specs.history.Stages.{Stages}
 use Rattle.ell_core.specs.history.Invariant.{Invariant}
+use Rattle.ell_core.specs.history.Later.{Follows}
 use Rattle.ell_core.specs.statements.Since.{has_ended}
-use Rattle.ell_grace.specs.Gone.{IsGone}
+use Rattle.ell_grace.specs.Gone.{IsGone, HasOuts}
 use Rattle.ell_grace.specs.Since.{ComesFrom, StatesComeFromThemselves, EventsLeadOn, ChildrenWereNotGone}
 use Rattle.ell_core.proofs.lemmas.words.Later.{words_same}
 use Rattle.ell_core.proofs.lemmas.stages.Advances.{stages_same}
@@ -19,8 +23,9 @@ use Rattle.ell_grace.proofs.lemmas.since.Places.{reached_stays}
 use Rattle.ell_grace.proofs.lemmas.since.Facts.{marked_fresh}
 use Rattle.ell_grace.proofs.lemmas.since.Cards.{cards_begin, cards_go_on}
 
-pub states_come_from_themselves : StatesComeFromThemselves
-states_come_from_themselves m has = record {
+-- a state comes from itself
+abbrev pub itself : (m : Machine) (has : HasOuts m) → ComesFrom m has.stages m
+itself m has = record {
   stages = has.stages;
   invariant = has.invariant;
   outs = has.outs;
@@ -29,19 +34,25 @@ states_come_from_themselves m has = record {
   cards = cards_begin m has.stages has.invariant has.outs;
 }
 
+pub states_come_from_themselves : StatesComeFromThemselves
+states_come_from_themselves = itself
+
+-- an event leads on, with the stages that follow
+abbrev pub led_on : (m : Machine) (stage : Stages) → Invariant m stage → (old : Machine) (from : ComesFrom m stage old)
+    → (e : Event) (said : Stepped) (new : Machine) → Steps old e said new → Follows old from.stages e.act e.worker said new → ComesFrom m stage new
+led_on m stage first old from e said new steps follows = record {
+  stages = follows.stages;
+  invariant = follows.invariant;
+  outs = outs_go_on old from.stages e said new from.invariant steps follows from.outs;
+  words = words_later m.words old.words new.words from.words follows.words;
+  later = stages_later stage from.stages follows.stages from.later follows.later;
+  cards = cards_go_on m stage old from.stages e said new first from.invariant from.outs from.words from.later steps follows from.cards;
+}
+
 pub events_lead_on : EventsLeadOn
 events_lead_on m stage first old from e said new steps =
-    let follows = steps_follow old from.stages e said new from.invariant steps in (
-      record {
-        stages = follows.stages;
-        invariant = follows.invariant;
-        outs = outs_go_on old from.stages e said new from.invariant steps follows from.outs;
-        words = words_later m.words old.words new.words from.words follows.words;
-        later = stages_later stage from.stages follows.stages from.later follows.later;
-        cards = cards_go_on m stage old from.stages e said new first from.invariant from.outs from.words from.later steps follows from.cards;
-      },
-      follows.later,
-    )
+    let follows = steps_follow old from.stages e said new from.invariant steps in
+    (led_on m stage first old from e said new steps follows, follows.later)
 
 -- what is in the tree now was not gone
 pub reached_was_not_gone : (m : Machine) (stage : Stages) → Invariant m stage → (now : Machine) (from : ComesFrom m stage now) → (x : ℕ)

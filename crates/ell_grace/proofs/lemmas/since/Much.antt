@@ -63,7 +63,7 @@ much_over s h = grind arith
 
 module _ (before after : Stages) (c : ℕ) (won : List Exchange) (grows : wins_of (after c) ≡ wins_of (before c) ++ won)
     (few : sum_by one won ≤ 1) (later : StagesLater before after) where
-  had_much : much (after c) ≤ much (before c) + 1
+  pub had_much : much (after c) ≤ much (before c) + 1
   had_much = let parts = sum_append one (wins_of (before c)) won in let same = ap (sum_by one) grows in omega arith
 
   -- what has won two things had won its flag

@@ -1,0 +1,10 @@
+-- What later words and stages keep of what is dead.
+pub mod Frames
+-- What is used, by what a card has newly brought.
+pub mod Used
+-- So it is after every event.
+pub mod Events
+-- What never comes is in no tree, and a card whose internal node is dead has ended.
+pub mod Out
+-- So it is in every run, and what was dead stays dead.
+pub mod Runs
