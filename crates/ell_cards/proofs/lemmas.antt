@@ -4,6 +4,8 @@ pub mod Ranks
 pub mod words
 -- what a pass knows and was told, after what it knew and was told
 pub mod views
+-- what is shown of what a pass knows, where words have 64 bits
+pub mod shown
 -- passes in their seats, and what a step owes the rule
 pub mod seats
 -- each step call as an event of the machine
@@ -16,3 +18,5 @@ pub mod own_words
 pub mod runs
 -- tables with their periods
 pub mod whole
+-- what the memory of a table with places has of its tree
+pub mod ties

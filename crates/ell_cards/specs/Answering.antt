@@ -6,6 +6,7 @@ use Rattle.ell_ops.specs.declared.reply.Reply.{Reply}
 use Rattle.ell_cards.specs.declared.call.Call.TheVariants as call
 use Rattle.ell_cards.specs.declared.view.View.{View}
 use Rattle.ell_cards.specs.Models.{TablePlan}
+use Rattle.ell_cards.specs.Shown.{shown}
 use Rattle.ell_cards.specs.States.{TableState}
 use Rattle.ell_cards.specs.Turns.{Turn, Makes, TableRun}
 use Rattle.ell_cards.specs.Starts.{Starts}
@@ -27,11 +28,13 @@ pub record AnsweredInRun (plan : TablePlan) (s : TableState) (turns : List Turn)
   pub since : TableRun plan called.ended later s'
   pub point : RepliesAsOneThread plan s seat op begun during at said
 
--- so it is in every run of a table with this plan, from its start to a state in which a pass knows this
+-- so it is in every run of a table with this plan, from its start to a state in which a pass knows what is
+-- shown so
 abbrev pub IsAnsweredInRuns : TablePlan → View → Op → Reply → Type 0
 IsAnsweredInRuns plan v op said =
     (s : TableState) → Starts plan s → (turns : List Turn) (s' : TableState) → TableRun plan s turns s'
-    → (seat : ℕ) → get_elem? s'.views seat ≡ some v → AnsweredInRun plan s turns s' seat op said
+    → (seat : ℕ) (w : View) → shown w ≡ v → get_elem? s'.views seat ≡ some w
+    → AnsweredInRun plan s turns s' seat op said
 
 -- what a pass answered last had its point, whoever may change the key, whatever turns of whatever passes came meanwhile
 abbrev pub AnswersHaveTheirPoints : Type 0

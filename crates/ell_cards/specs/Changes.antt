@@ -329,7 +329,7 @@ told_filling c [] told = told
 told_filling c (e ∷ es) told =
     if is_fixed e.0 then Info c e.0 e.1 ∷ told_filling c es told else told_filling c es told
 
--- claim: the card is in hand, and its words are told; or it was lost, a hindrance
+-- claim: the card is in hand, in place of one that is laid aside, and its words are told; or it was lost, a hindrance
 abbrev pub after_claim : Bool → ℕ → ℕ → View → View
 after_claim true c node_key v = counted (record v {
   worker = with_card c v.worker;

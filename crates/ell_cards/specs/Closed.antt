@@ -13,6 +13,7 @@ use Rattle.ell_cards.specs.Starts.{IsReached, IsSharedIn, RunFromStart}
 use Rattle.ell_core.specs.declared.view.Entry.{Entry}
 use Rattle.ell_core.specs.declared.view.Entry.TheVariants.{Present}
 use Rattle.ell_cards.specs.Models.{TablePlan}
+use Rattle.ell_cards.specs.Shown.{shown}
 
 -- the words of a table that has ended, and how many cards it has beside card 0
 pub record ClosedModel : Type 0 where
@@ -34,12 +35,14 @@ pub record ShowsMap (plan : TablePlan) (ledger : List (ℕ × Entry)) (t : Close
       → IsTreePair (words_of t.words) key value ↔ (ledger_of ledger key ≡ Some (Present value))
 
 -- the words of a table that has ended are those of a last state, to which turns of its passes have led from its start,
--- and in which a seat has this view; what such a run does, that run did
+-- and in which a pass knows what is shown so; what such a run does, that run did
 pub record TableRan (plan : TablePlan) (v : View) (t : ClosedModel) : Type 0 where
   pub state : TableState
   pub seat : ℕ
   pub same : state.words ≡ t.words
-  pub seen : get_elem? state.views seat ≡ some v
+  pub knows : View
+  pub shows : shown knows ≡ v
+  pub seen : get_elem? state.views seat ≡ some knows
   pub reached : IsReached plan state
   pub did : RunFromStart plan reached.first reached.turns state reached.run
 

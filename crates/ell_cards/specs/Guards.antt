@@ -13,7 +13,7 @@ use Rattle.ell_core.specs.declared.put.Put.{Put}
 use Rattle.ell_core.specs.declared.view.Seen.{Seen}
 use Rattle.ell_core.specs.state.Machine.{worker_of}
 use Rattle.ell_layout.specs.Cards.{stored, brought_by}
-use Rattle.ell_core.specs.acts.Searching.{put_of, IsClean, leaf_answer}
+use Rattle.ell_core.specs.acts.Searching.{put_of, IsClean, MayTake, leaf_answer}
 use Rattle.ell_layout.specs.Words.{IsLeaf, has_block}
 use Rattle.ell_core.specs.statements.Told.{is_fixed}
 use Rattle.ell_core.specs.tree.Flat.{IsNodeKey}
@@ -167,15 +167,17 @@ Wants from v (Insert k value) parent x key node_key = WantsInsert from v k paren
 Wants from v (Swap k was value) parent x key node_key = WantsSwap v k was x key node_key
 Wants from v (Delete k) parent x key node_key = WantsDelete v k x key
 
--- claim, in a tree that is flat from a card on, for a card whose node gets this key: next read this card; the pass
--- stands without a card at a node whose key it was told, behind a clean parent
+-- claim, in a tree that is flat from a card on, for a card whose node gets this key: next read this card, which is not
+-- in hand; the pass has no card in hand, or, in a flat tree, one that has not won its flag, which it lays aside; and it
+-- stands at a node whose key it was told, behind a clean parent
 pub record MayClaim (from : ℕ) (v : View) (c node_key : ℕ) : Type 0 where
   pub op : Op
   pub below : ℕ
   pub key : ℕ
   pub parent : Seen
   pub read : v.next ≡ Some c
-  pub no_card : v.worker.card ≡ None
+  pub other : v.worker.card ≢ Some c
+  pub ready : MayTake from v.worker
   pub busy : Does v op
   pub stands : StandsAt v below
   pub told : v.here ≡ Some key

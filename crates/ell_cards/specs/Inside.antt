@@ -4,7 +4,7 @@ use Rattle.atomic_table.specs.Seated.{TableId}
 use Rattle.atomic_table.specs.Table.{Me}
 use Rattle.ell_layout.specs.Layout.{table_size}
 use Rattle.ell_cards.specs.declared.pass.Pass.TheInside.{Inside}
-use Rattle.ell_word.specs.Node.{greatest_card}
+use Rattle.ell_word.specs.Node.{greatest_card, greatest_number}
 use Rattle.ell_cards.specs.declared.pass.Standing.{Standing}
 use Rattle.ell_cards.specs.declared.share.Share.{Share}
 use Rattle.ell_cards.specs.declared.view.Known.{Known}
@@ -14,6 +14,7 @@ use Rattle.ell_cards.specs.declared.view.View.{View}
 use Rattle.ell_cards.specs.Changes.{ledger_keys}
 use Rattle.ell_cards.specs.Naming.{IsNamed}
 use Rattle.ell_cards.specs.Periods.{slots_size}
+use Rattle.ell_cards.specs.Shown.{shown}
 
 -- the share of a pass as its code keeps it is that of its view, and it counts where some keys are shared
 pub record HasShare (share : Share) (v : View) : Type 0 where
@@ -23,6 +24,7 @@ pub record HasShare (share : Share) (v : View) : Type 0 where
 -- all that a pass names is of cards that have words in a table of so many
 pub record HasWords (words : ℕ) (v : View) : Type 0 where
   pub last : ℕ
+  pub low : last ≤ greatest_card
   pub few : table_size last ≤ words
   pub named : IsNamed last v
 
@@ -33,21 +35,23 @@ pub record PassFits (keys : List ℕ) (kept : Share) (words : ℕ) (v : View) : 
   pub ascending : IsStrictlyIncreasing keys
   pub share : HasShare kept v
   pub named : (last : ℕ) → words ≡ table_size last → IsNamed last v
-  pub most : IsNamed greatest_card v
+  pub most : IsNamed greatest_number v
   pub inside : HasWords words v
 
 -- the place of a pass as its code keeps it is the one that it knows, and it has one in a table with places, and no
--- other one; and it announces there what its code says
+-- other one; it announces there what its code says; and without places it has no safe number but 0
 pub record PlaceFits (standing : Standing) (words : ℕ) (p : Period) : Type 0 where
   pub place : p.place ≡ standing.place
   pub other : p.other ≡ None
   pub announces : standing.announces ≡ is_some p.announced
   pub none : (last : ℕ) → words ≡ table_size last → standing.place ≡ None
+  pub unsafe : (last : ℕ) → words ≡ table_size last → p.safe ≡ 0
   pub some : (s : Slots) → words ≡ slots_size s → standing.place ≢ None
 
+-- a pass fits by what is shown of what its seat knows, and its seat holds no slot
 abbrev pub IsPass : {A : Type 0} → Inside A → Type 0
 IsPass p =
-    PassFits p.keys.items p.share p.seat.table_id.words p.seat.me.0.tree × (p.seat.me.1 ≡ [])
+    PassFits p.keys.items p.share p.seat.table_id.words (shown p.seat.me.0.tree) × (p.seat.me.1 ≡ [])
     × PlaceFits p.standing p.seat.table_id.words p.seat.me.0.period
 
 -- a table as it is made, and its first seat

@@ -1,15 +1,19 @@
-use Rattle.std.specs.Prelude.{◌≡◌, ◌≢◌, ℕ, ◌↔◌, false, List}
+use Rattle.std.specs.Prelude.{◌≡◌, ◌≢◌, ℕ, ◌↔◌, false, Option, Some, None, List, [], ◌++◌}
 use mathlib.Core.Option.{some}
 use lib.ListN.{get_elem?}
 use Rattle.ell_word.specs.Node.{IsInternal, card}
 use Rattle.ell_word.specs.Word.{unpacked}
 use Rattle.ell_word.specs.declared.update.State.TheVariants as state
+use Rattle.ell_core.specs.declared.event.Act.{Act}
+use Rattle.ell_core.specs.declared.event.Stepped.{Stepped}
+use Rattle.ell_core.specs.declared.exchange.Exchange.{Exchange}
 use Rattle.ell_core.specs.state.Machine.{Machine}
 use Rattle.ell_core.specs.state.Handovers.{Split, Join}
 use Rattle.ell_core.specs.soundness.Sound.{IsSound}
 use Rattle.ell_core.specs.tree.Tree.{Reached}
+use Rattle.ell_core.specs.acts.Wins.{wins_by}
 use Rattle.ell_core.specs.history.Stages.{waits}
-use Rattle.ell_core.specs.history.Later.{SaysTheSame, StagesLater}
+use Rattle.ell_core.specs.history.Later.{SaysTheSame, StagesLater, wins_of}
 use Rattle.ell_core.specs.statements.Effects.{SamePairs}
 use Rattle.ell_cards.specs.Models.{TablePlan}
 use Rattle.ell_cards.specs.declared.call.Call.{Call}
@@ -25,14 +29,21 @@ use Rattle.ell_cards.specs.Machines.{HasMachine}
 abbrev pub machine_of_table : (plan : TablePlan) (s : TableState) → HasMachine plan s → Machine
 machine_of_table plan s r = seated r.words s.views plan.last_card
 
--- the state after a call has a machine again: the one to which the call's event leads, or the same one; and what the
--- call tells is so
+-- what an act wins for a card, by the card in hand and its answer; no act wins nothing
+abbrev pub act_wins : Option Act → Option ℕ → Stepped → ℕ → List Exchange
+act_wins None hand said d = []
+act_wins (Some a) hand said d = wins_by a hand said d
+
+-- the state after a call has a machine again: the one to which the call's event leads, or the same one; the wins of each
+-- card grow by what the event wins for it; and what the call tells is so
 pub record IsEvent (plan : TablePlan) (s : TableState) (r : HasMachine plan s) (id : ℕ) (v : View)
     (c : Call) : Type 0 where
   pub kept : HasMachine plan (state_after s id v c)
   pub later : StagesLater r.stages kept.stages
   pub event : Becomes id (act_of c (found_by s c)) (said_of c (found_by s c)) (machine_of_table plan s r)
       (machine_of_table plan (state_after s id v c) kept)
+  pub wins : (d : ℕ) → wins_of (kept.stages d)
+      ≡ wins_of (r.stages d) ++ act_wins (act_of c (found_by s c)) v.worker.card (said_of c (found_by s c)) d
   pub tells : Tells plan c v (found_by s c)
 
 -- each step call is one event of the machine, or leaves it
@@ -40,11 +51,13 @@ abbrev pub StepsAreEvents : Type 0
 StepsAreEvents = (plan : TablePlan) (s : TableState) (r : HasMachine plan s) (id : ℕ) (v : View) (c : Call)
     → get_elem? s.views id ≡ some v → May plan c v → IsEvent plan s r id v c
 
--- the state after a split has a machine again: the one before, after a split of that worker
+-- the state after a split has a machine again: the one before, after a split of that worker, with all cards at their
+-- stages
 pub record SplitIsKept (plan : TablePlan) (s : TableState) (r : HasMachine plan s) (id : ℕ) (v : View)
     (left : List ℕ) : Type 0 where
   pub kept : HasMachine plan (state_split s id v left)
   pub later : StagesLater r.stages kept.stages
+  pub stages : kept.stages ≡ r.stages
   pub split : Split (machine_of_table plan s r) id (machine_of_table plan (state_split s id v left) kept)
 
 -- each split is one of the machine
@@ -53,11 +66,13 @@ SplitsAreHandovers =
     (plan : TablePlan) (s : TableState) (r : HasMachine plan s) (id : ℕ) (v : View) (left : List ℕ)
     → get_elem? s.views id ≡ some v → IsFree v → SplitIsKept plan s r id v left
 
--- the state after a join has a machine again: the one before, after a join of these workers
+-- the state after a join has a machine again: the one before, after a join of these workers, with all cards at their
+-- stages
 pub record IsJoin (plan : TablePlan) (s : TableState) (r : HasMachine plan s) (id other : ℕ)
     (v w : View) : Type 0 where
   pub kept : HasMachine plan (state_joined s id other v w)
   pub later : StagesLater r.stages kept.stages
+  pub stages : kept.stages ≡ r.stages
   pub join : Join (machine_of_table plan s r) id other
       (machine_of_table plan (state_joined s id other v w) kept)
 

@@ -5,6 +5,7 @@ use Rattle.ell_ops.specs.declared.op.Op.{Op}
 use Rattle.ell_cards.specs.declared.call.Call.TheVariants as call
 use Rattle.ell_cards.specs.declared.view.View.{View}
 use Rattle.ell_cards.specs.Models.{TablePlan}
+use Rattle.ell_cards.specs.Shown.{shown}
 use Rattle.ell_cards.specs.States.{TableState}
 use Rattle.ell_cards.specs.Turns.{Turn, Makes, TableRun}
 use Rattle.ell_cards.specs.Starts.{Starts}
@@ -35,11 +36,13 @@ pub record IsLaidDownInRun (plan : TablePlan) (s : TableState) (turns : List Tur
   pub laid : IsLaidDown turns seat begin end op
   pub nothing : ChangesNothing plan s turns begin
 
--- so it is in every run of a table with this plan, from its start to a state in which a pass knows this
+-- so it is in every run of a table with this plan, from its start to a state in which a pass knows what is
+-- shown so
 abbrev pub IsLaidDownInRuns : TablePlan → View → Op → Type 0
 IsLaidDownInRuns plan v op =
     (s : TableState) → Starts plan s → (turns : List Turn) (s' : TableState) → TableRun plan s turns s'
-    → (seat : ℕ) → get_elem? s'.views seat ≡ some v → IsLaidDownInRun plan s turns seat op
+    → (seat : ℕ) (w : View) → shown w ≡ v → get_elem? s'.views seat ≡ some w
+    → IsLaidDownInRun plan s turns seat op
 
 -- what a pass laid down last changes nothing, whoever may change the key, whatever turns of whatever passes came
 -- meanwhile, or come later

@@ -9,6 +9,10 @@ pub mod Guards
 -- the step calls as one table: the word that each touches, what it does to it, its event, the change, the guard, what
 -- it tells
 pub mod Calls
+-- what is shown of all this where words have 64 bits
+pub mod Shown
+-- what a step call leaves of a pass, as it is shown
+pub mod ShownTakings
 -- states of a table
 pub mod States
 -- turns of its passes, and runs of a table, one turn after the other
@@ -17,8 +21,12 @@ pub mod Turns
 pub mod TurnEffects
 -- tables as they start, and where runs lead from there
 pub mod Starts
+-- what the words of slots say
+pub mod SlotWords
 -- the places of passes and the clock: where their words stand, and what passes know of grace periods
 pub mod Periods
+-- what is dead in a table's tree, and was when periods began
+pub mod Ages
 -- the rule of a table: its tree, and its periods
 pub mod Whole
 -- what the safe numbers of passes tell
@@ -79,6 +87,8 @@ pub mod Placing
 pub use Rattle.ell_ops.specs.KeySet
 -- What step calls touch, and what was there before.
 pub mod Touching
+-- What step calls touch was not dead, and what passes know to be dead.
+pub mod Dead
 pub use Rattle.ell_ops.specs.Meaning
 pub use Rattle.ell_word.specs.Node
 pub use Rattle.ell_word.specs.Word
@@ -91,3 +101,5 @@ pub use Rattle.ell_core.specs.acts.Searching
 pub use Rattle.ell_core.specs.statements.Effects
 -- which keys go to a child
 pub use Rattle.ell_core.specs.statements.Readers
+-- what the memory of a table with places has of its tree
+pub mod Ties

@@ -14,6 +14,7 @@ use Rattle.ell_cards.specs.declared.view.Told.TheVariants.{Info, Key, Value}
 use Rattle.ell_cards.specs.declared.view.View.{View}
 use Rattle.ell_cards.specs.Models.{TablePlan, flat_from, IsTold, HasCome, HasComeWhole}
 use Rattle.ell_cards.specs.Guards.{TellsOf}
+use Rattle.ell_cards.specs.Shown.{shown}
 use Rattle.ell_cards.specs.States.{TableState}
 use Rattle.ell_cards.specs.Turns.{Turn, Makes, Splits, Joins, CallIsMade, TableRun}
 use Rattle.ell_cards.specs.TurnEffects.{own_words}
@@ -86,10 +87,10 @@ pub record FoundInRun (plan : TablePlan) (s : TableState) (turns : List Turn) (s
   pub began : Began plan s turns s' seat
   pub so : WasSo plan began.to (drop (suc began.first) turns) s' what
 
--- so it is in every run of a table with this plan, from its start to a state in which a pass knows this
+-- so it is in every run of a table with this plan, from its start to a state in which a pass knows what is shown so
 abbrev pub IsFoundInRuns : TablePlan → View → (Words → Type 0) → Type 0
 IsFoundInRuns plan v what = (s : TableState) → Starts plan s → (turns : List Turn) (s' : TableState)
-    → TableRun plan s turns s' → (seat : ℕ) → get_elem? s'.views seat ≡ some v
+    → TableRun plan s turns s' → (seat : ℕ) (w : View) → shown w ≡ v → get_elem? s'.views seat ≡ some w
     → FoundInRun plan s turns s' seat what
 
 -- what any pass has found of any key by its last look, whoever owns it, whatever turns of whatever passes came

@@ -23,7 +23,7 @@ use Rattle.ell_cards.specs.declared.view.View.{View}
 use Rattle.ell_cards.specs.Depths.{level}
 use Rattle.ell_cards.specs.Models.{IsTold, Knows, KnewBefore, stored_at}
 use Rattle.ell_cards.specs.States.{TableState, seated}
-use Rattle.ell_word.specs.Node.{greatest_card}
+use Rattle.ell_word.specs.Node.{greatest_number}
 
 -- what was told holds of the machine's words: a node that was met came into the tree, and a depth that was told of it
 -- is at most its level; a key, a value, or what a fixed field of a claimed card says, with the tag that the card
@@ -76,7 +76,7 @@ pub record HasMachine (plan : TablePlan) (s : TableState) : Type 0 where
   pub words : Words
   pub stages : Stages
   pub invariant : Invariant (seated words s.views plan.last_card) stages
-  pub limit : plan.last_card ≤ greatest_card
+  pub limit : plan.last_card ≤ greatest_number
   pub size : length s.words ≡ table_size plan.last_card
   pub next : slice_index s.words 0 ≡ words.next
   pub flat : slice_index s.words 1 ≡ words.flat_from

@@ -1,4 +1,4 @@
-use Rattle.std.specs.Prelude.{◌≡◌, ◌≢◌, ℕ, ◌<◌, ◌≤◌, ◌||◌, Bool, true, false, Some, None, List, [], ◌∷◌, ◌++◌}
+use Rattle.std.specs.Prelude.{◌≡◌, ◌≢◌, ℕ, ◌+◌, ◌<◌, ◌≤◌, ◌⊎◌, ◌||◌, Bool, true, false, Some, None, List, [], ◌∷◌, ◌++◌}
 use mathlib.Core.Option.{some}
 use lib.ListN.{get_elem?}
 use Rattle.ell_word.specs.Word.{unpacked}
@@ -12,7 +12,7 @@ use Rattle.ell_cards.specs.declared.call.Call.TheVariants as call
 use Rattle.ell_cards.specs.declared.view.Hindrance.{Hindrance}
 use Rattle.ell_cards.specs.declared.view.Hindrance.TheVariants.{Claim, Found}
 use Rattle.ell_cards.specs.declared.view.View.{View}
-use Rattle.ell_cards.specs.Models.{TablePlan, EndedBy}
+use Rattle.ell_cards.specs.Models.{TablePlan, flat_from, EndedBy}
 use Rattle.ell_cards.specs.Changes.{way_now}
 use Rattle.ell_cards.specs.States.{TableState}
 use Rattle.ell_cards.specs.Turns.{Turn, Makes, Splits, Joins, CallIsMade, TableRun}
@@ -118,23 +118,30 @@ abbrev pub AreMeanwhile : (plan : TablePlan) → SearchRun plan → List Hindran
 AreMeanwhile plan r [] = Unit {0}
 AreMeanwhile plan r (h ∷ hs) = IsMeanwhile plan r h × AreMeanwhile plan r hs
 
--- each of these is of another card than this: a lost claim of an earlier one
-abbrev pub AreOfOthers : ℕ → List Hindrance → Type 0
-AreOfOthers c [] = Unit {0}
-AreOfOthers c (Claim d ∷ hs) = (d < c) × AreOfOthers c hs
-AreOfOthers c (Found u ∷ hs) = (u.card ≢ c) × AreOfOthers c hs
+-- each of these is of another card than this: a lost claim of an earlier one, or of a later one below this number
+abbrev pub AreOfOthers : ℕ → ℕ → List Hindrance → Type 0
+AreOfOthers least c [] = Unit {0}
+AreOfOthers least c (Claim d ∷ hs) = ((d < c) ⊎ ((c < d) × (d < least))) × AreOfOthers least c hs
+AreOfOthers least c (Found u ∷ hs) = (u.card ≢ c) × AreOfOthers least c hs
+
+-- the claims of a pass that has this card in hand have shown this of the claim word: that the card was given out; in a
+-- flat tree they may have shown more, where one was lost while the card was in hand
+abbrev pub IsPast : ℕ → ℕ → ℕ → Type 0
+IsPast from least c = (least ≡ c + 1) ⊎ ((0 < from) × (c + 1 < least))
 
 -- so is all that came to be in the way since that search began, in as many tries as there were: what a lost claim, flag
 -- or mark has found, and what the search of a try that was given up had read where it was to act. What the try in hand
 -- met is the last of it. While a card is in hand, none of it is of that card, and what the search has read is not in
--- the way
+-- the way. Each lost claim is of an earlier card; but in a flat tree one may be lost while that card is in hand, and is
+-- of a later one then, which the pass's claims have shown to be given out
 pub record MetMeanwhile (plan : TablePlan) (r : SearchRun plan) : Type 0 where
   pub met : List Hindrance
   pub list : r.view.hindrances ≡ met ++ r.begins.view.hindrances
   pub earlier : List Hindrance
   pub tries : met ≡ r.view.met ++ earlier
   pub each : AreMeanwhile plan r met
-  pub own : (c : ℕ) → r.view.worker.card ≡ Some c → AreOfOthers c met
+  pub own : (c : ℕ) → r.view.worker.card ≡ Some c → AreOfOthers r.view.next_at_least c met
+  pub past : (c : ℕ) → r.view.worker.card ≡ Some c → IsPast (flat_from plan) r.view.next_at_least c
   pub free : (c : ℕ) → r.view.worker.card ≡ Some c → way_now r.view ≡ []
 
 -- what a search has read since it began, in every run

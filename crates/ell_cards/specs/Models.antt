@@ -47,12 +47,14 @@ pub record TableModel : Type 0 where
   pub id : TableId
   pub plan : TablePlan
 
--- the table that a pass belongs to, what it knows, the atomic steps made through it, and its label
+-- the table that a pass belongs to, what is shown of what it knows, the atomic steps made through it, its label, and its
+-- safe number: every pass that is in a period began it when the clock was that at least
 pub record PassModel : Type 0 where
   pub table : TableId
   pub view : View
   pub steps : ℕ
   pub label : ℕ
+  pub safe : ℕ
 
 -- the ledger of a pass: each key of its own with whether it is present, and with which value
 abbrev pub ledger : PassModel → Ledger
@@ -84,7 +86,8 @@ some_more n steps = min (steps + n) 18446744073709551615
 
 -- the pass made one step that it has not counted yet, and knows this now
 abbrev pub Sees : PassModel → PassModel → View → Type 0
-Sees old new v = new ≡ record { table = old.table; view = v; steps = old.steps; label = old.label }
+Sees old new v =
+    new ≡ record { table = old.table; view = v; steps = old.steps; label = old.label; safe = old.safe }
 
 -- the pass counted so many steps, and made none
 abbrev pub Counts : PassModel → PassModel → ℕ → Type 0
@@ -92,7 +95,13 @@ Counts old new n = new ≡ record old { steps = some_more n old.steps }
 
 -- the pass made one step, and knows this now
 abbrev pub Steps : PassModel → PassModel → View → Type 0
-Steps old new v = new ≡ record { table = old.table; view = v; steps = one_more old.steps; label = old.label }
+Steps old new v =
+    new ≡ record { table = old.table; view = v; steps = one_more old.steps; label = old.label; safe = old.safe }
+
+-- the pass came from another one by a step that both count, and knows this; it has looked at no place yet
+abbrev pub StepsOut : PassModel → PassModel → View → Type 0
+StepsOut old new v =
+    new ≡ record { table = old.table; view = v; steps = one_more old.steps; label = old.label; safe = 0 }
 
 -- of a list, the last first, one is this
 pub data Has {A : Type 0} : List A → A → Type 0 where

@@ -1,10 +1,15 @@
-use Rattle.std.specs.Prelude.{◌≡◌, ℕ, ◌≤◌, Some, slice_index}
+use Rattle.std.specs.Prelude.{◌≡◌, ◌≢◌, ℕ, ◌%◌, ◌<◌, ◌≤◌, Some, slice_index}
 use mathlib.Core.Option.{some}
 use lib.ListN.{get_elem?}
 use Rattle.ell_cards.specs.declared.view.Known.{Known}
 use Rattle.ell_cards.specs.declared.view.Slots.{Slots}
+use Rattle.ell_layout.specs.declared.field.Field.{Field}
+use Rattle.ell_layout.specs.Layout.{address}
+use Rattle.ell_cards.specs.declared.call.Call.{Call}
+use Rattle.ell_cards.specs.Calls.{May, word_of}
 use Rattle.ell_cards.specs.Models.{TablePlan}
-use Rattle.ell_cards.specs.Periods.{WholeState, clock_word}
+use Rattle.ell_cards.specs.Periods.{WholeState, clock_word, slot_word, card_in}
+use Rattle.ell_cards.specs.SlotWords.{stamp_in}
 use Rattle.ell_cards.specs.Whole.{IsWhole}
 
 -- a pass in a seat of a table is in a period: it has a place, and announces a reading there
@@ -26,3 +31,20 @@ pub record BeganSafely (s : Slots) (t : WholeState) (k : Known) (reading : ℕ) 
 abbrev pub SafeNumbersAreSafe : Type 0
 SafeNumbersAreSafe = (plan : TablePlan) (s : Slots) (t : WholeState) → plan.slots ≡ Some s → IsWhole plan t
     → (seat : ℕ) (k : Known) (in_period : IsInPeriod t seat k) → BeganSafely s t k in_period.reading
+
+-- the word of a slot sets it free with a stamp below the safe number of some pass
+pub record IsSafelyFree (s : Slots) (t : WholeState) (slot : ℕ) : Type 0 where
+  pub there : slot ≤ s.last
+  pub free : slice_index t.words (slot_word s slot) % 8 ≡ 7
+  pub pass : ℕ
+  pub knows : Known
+  pub sits : get_elem? t.views pass ≡ some knows
+  pub safe : stamp_in (slice_index t.words (slot_word s slot)) < knows.period.safe
+
+-- So it is wherever the steps of passes have led a table with places: no pass may touch a word of the card that lies there,
+-- whatever it knows.
+abbrev pub FreeSlotsAreUntouched : Type 0
+FreeSlotsAreUntouched = (plan : TablePlan) (s : Slots) (t : WholeState) → plan.slots ≡ Some s
+    → IsWhole plan t → (slot : ℕ) → IsSafelyFree s t slot
+    → (seat : ℕ) (k : Known) → get_elem? t.views seat ≡ some k → (c : Call) → May plan c k.tree
+    → (f : Field) → word_of c ≢ address (card_in s t.words slot) f

@@ -1,19 +1,21 @@
-use Rattle.std.specs.Prelude.{◌≡◌, ◌≢◌, ℕ, zero, suc, ◌+◌, ◌-◌, ◌*◌, ◌/◌, ◌<◌, ◌≤◌, ◌^◌, ◌==◌, ◌++◌, nat_lt, if◌then◌else◌, Bool, Option, Some, None, List, [], length, replicate, slice_index, slice_set, min}
+use Rattle.std.specs.Prelude.{◌≡◌, ◌≢◌, ℕ, zero, suc, ◌+◌, ◌-◌, ◌*◌, ◌/◌, ◌<◌, ◌≤◌, ◌==◌, ◌++◌, ◌&&◌, nat_lt, nat_le, if◌then◌else◌, Bool, Option, Some, None, List, [], length, replicate, slice_index, slice_set, min}
 use mathlib.Core.Option.{some, none}
 use mathlib.Core.Option.{Option as Maybe}
 use lib.ListN.{get_elem?}
 use Rattle.atomic_table.specs.Table.{State}
 use Rattle.ell_layout.specs.Layout.{table_size}
-use Rattle.ell_word.specs.Node.{greatest_card}
+use Rattle.ell_word.specs.Node.{greatest_number}
 use Rattle.ell_grace.specs.Grace.{Grace, least_with}
 use Rattle.ell_grace.specs.Periods.{GraceIsSound}
 use Rattle.ell_cards.specs.declared.view.Known.{Known}
 use Rattle.ell_cards.specs.declared.view.Period.{Period}
 use Rattle.ell_cards.specs.declared.view.Slots.{Slots}
+use Rattle.ell_cards.specs.declared.view.Stamp.{Stamp}
 use Rattle.ell_cards.specs.declared.view.Told.{Told}
 use Rattle.ell_cards.specs.declared.view.Told.TheVariants.{Met, Key}
 use Rattle.ell_cards.specs.declared.view.View.{View}
 use Rattle.ell_cards.specs.Models.{TablePlan, IsFree, IsTold}
+use Rattle.ell_cards.specs.SlotWords.{slot_of, card_by, freed_by}
 
 -- the state of a table, with all that its passes know
 abbrev pub WholeState : Type 0
@@ -28,9 +30,29 @@ clock_word s = 774 + 768 * (s.last / 64)
 abbrev pub place_word : Slots → ℕ → ℕ
 place_word s q = clock_word s + 1 + 8 * (s.places - q)
 
--- how many words such a table has. A table without places never has so many.
+-- behind the places stand the words of the slots, one each
+abbrev pub slot_word : Slots → ℕ → ℕ
+slot_word s slot = clock_word s + 9 + 8 * s.places + slot
+
+-- How many words such a table has. A table without places never has so many, since this number is odd: there are words for
+-- four slots, or eight, and so on.
 abbrev pub slots_size : Slots → ℕ
-slots_size s = clock_word s + 9 + 8 * s.places
+slots_size s = clock_word s + 9 + 8 * s.places + 4 * (s.last / 4 + 1)
+
+-- the card that lies in a slot, by the words of a table
+abbrev pub card_in : Slots → List ℕ → ℕ → ℕ
+card_in s words slot = card_by slot (slice_index words (slot_word s slot))
+
+-- the stamp of a card that was set free, if it lies in its slot
+abbrev pub stamp_at : Slots → List ℕ → ℕ → Option ℕ
+stamp_at s words c =
+    if nat_le (slot_of c) s.last && card_in s words (slot_of c) == c
+    then freed_by (slice_index words (slot_word s (slot_of c))) else None
+
+-- the card that a pass is about to set free, and the stamp
+abbrev pub pending_by : Option Stamp → Option (ℕ × ℕ)
+pending_by None = None
+pending_by (Some stamp) = Some (stamp.card, stamp.reading)
 
 -- the words of cards, and behind them those of the periods at the start: nobody has a place but the first pass
 abbrev pub opening_words : Slots → List ℕ → List ℕ
@@ -46,7 +68,7 @@ abbrev pub slots_of : ℕ → ℕ → Option Slots
 slots_of last places = if places == 0 then None else Some (record { last = last; places = places })
 
 abbrev pub last_for : ℕ → ℕ → ℕ
-last_for last places = if places == 0 then last else greatest_card
+last_for last places = if places == 0 then last else greatest_number
 
 -- how many words a table has, with places or without them
 abbrev pub size_by : Option Slots → ℕ → ℕ
@@ -75,9 +97,9 @@ announced_by zero = None
 announced_by (suc zero) = None
 announced_by (suc (suc reading)) = Some reading
 
--- the clock stops here, so that a place has a word for each reading
+-- the clock stops here, so that a place has a word for each reading, and so has a slot that was set free with it
 abbrev pub last_reading : ℕ
-last_reading = 2 ^ 62
+last_reading = 1099511627776
 
 -- what a pass without a place knows of periods: nothing
 abbrev pub no_period : Period
@@ -91,6 +113,9 @@ no_period = record {
   least = 0;
   looked = 0;
   safe = 0;
+  read = None;
+  stamp = None;
+  slot = None;
 }
 
 -- the first pass of a table has the first place, if there is one
@@ -131,6 +156,14 @@ pub record StandsAs (old new : Period) : Type 0 where
   pub other : new.other ≡ old.other
   pub other_says : new.other_says ≡ old.other_says
   pub announced : new.announced ≡ old.announced
+
+-- the word of a slot was read
+abbrev pub after_read : ℕ → ℕ → Period → Period
+after_read slot n p = record p { read = Some (record { slot = slot; word = n }) }
+
+-- the clock was read for a card whose nodes are dead
+abbrev pub after_stamp : ℕ → ℕ → Period → Period
+after_stamp card n p = record p { stamp = Some (record { card = card; reading = n }) }
 
 -- a place was taken that no pass had, if its word was 0
 abbrev pub after_take : ℕ → ℕ → Period → Period
@@ -196,28 +229,27 @@ abbrev pub word_at_place : Slots → List ℕ → ℕ → Option ℕ
 word_at_place s words q = if nat_lt q s.places then announced_by (slice_index words (place_word s q)) else None
 
 -- The grace periods of a table: the clock and what is announced are its words, and what each pass has seen is what it
--- knows. What the clock was when a pass began its period, and which cards were gone then, nobody reads.
+-- knows. Nobody reads which cards are dead, what the clock was when a pass began its period, and which were dead then.
 abbrev pub grace_of : Slots → WholeState → (ℕ → Bool) → (ℕ → ℕ) → (ℕ → ℕ → Bool) → Grace
-grace_of s t gone began was_gone = record {
+grace_of s t dead began was_dead = record {
   clock = slice_index t.words (clock_word s);
-  gone = gone;
+  gone = dead;
   word = word_at_place s t.words;
   began = began;
-  was_gone = was_gone;
-  pending = λ i. None;
+  was_gone = was_dead;
+  pending = λ i. pending_by (period_in t.views i).stamp;
   least = λ i. (period_in t.views i).least;
   seen = λ i q. nat_lt q (period_in t.views i).looked;
   safe = λ i. (period_in t.views i).safe;
-  free = λ c. None;
+  free = stamp_at s t.words;
 }
 
--- The periods of a table are sound: they are such grace periods, what each pass knows of them is so, those of passes
--- that are in one began when the passes know it, and no two passes have one place.
-pub record HasPeriods (s : Slots) (t : WholeState) : Type 0 where
-  pub gone : ℕ → Bool
-  pub began : ℕ → ℕ
-  pub was_gone : ℕ → ℕ → Bool
-  pub sound : GraceIsSound s.places (grace_of s t gone began was_gone)
+-- The periods of a table are sound, by what is dead, what the clock was when each began, and what was dead then: they are
+-- such grace periods, what each pass knows of them is so, those of passes that are in one began when the passes know it, and
+-- no two passes have one place.
+pub record PeriodsAreSound (s : Slots) (t : WholeState) (dead : ℕ → Bool) (began : ℕ → ℕ) (was_dead : ℕ → ℕ → Bool)
+    : Type 0 where
+  pub sound : GraceIsSound s.places (grace_of s t dead began was_dead)
   pub low : slice_index t.words (clock_word s) ≤ last_reading
   pub each : (i : ℕ) (k : Known) → get_elem? t.views i ≡ some k → PeriodHolds s t.words k
   pub since : (i q a : ℕ) (k : Known) → get_elem? t.views i ≡ some k → k.period.place ≡ Some q

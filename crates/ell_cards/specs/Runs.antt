@@ -1,5 +1,5 @@
 use Rattle.std.specs.Prelude.{◌≡◌, ℕ, Option, Some, None, List, [], ◌∷◌, ◌++◌}
-use Rattle.ell_core.specs.history.Later.{StagesLater}
+use Rattle.ell_core.specs.history.Later.{StagesLater, wins_of}
 use Rattle.ell_core.specs.declared.event.Act.{Act}
 use Rattle.ell_core.specs.declared.event.Event.{Event}
 use Rattle.ell_core.specs.declared.event.Shown.{Shown}
@@ -13,7 +13,7 @@ use Rattle.ell_cards.specs.Models.{TablePlan}
 use Rattle.ell_cards.specs.Calls.{act_of, said_of, Becomes}
 use Rattle.ell_cards.specs.States.{TableState}
 use Rattle.ell_cards.specs.Turns.{Turn, Makes, Splits, Joins, TableRun, found_by}
-use Rattle.ell_cards.specs.TurnEffects.{own_machine, PairsGoBy}
+use Rattle.ell_cards.specs.TurnEffects.{own_machine, PairsGoBy, turn_wins}
 use Rattle.ell_cards.specs.Machines.{HasMachine}
 use Rattle.ell_cards.specs.Laws.{machine_of_table}
 
@@ -24,12 +24,13 @@ GoesBy s (Makes seat c) m m' = Becomes seat (act_of c (found_by s c)) (said_of c
 GoesBy s (Splits seat left) m m' = Split m seat m'
 GoesBy s (Joins seat other) m m' = Join m seat other m'
 
--- a turn between states that have machines: the machine goes on by it, so do the pairs of the tree, and the table's own
--- words after it are a sound state
+-- a turn between states that have machines: the machine goes on by it, the wins of each card grow by what it wins for
+-- that card, the pairs of the tree go on by it too, and the table's own words after it are a sound state
 pub record TurnIsLawful (plan : TablePlan) (s : TableState) (r : HasMachine plan s) (t : Turn)
     (s' : TableState) (r' : HasMachine plan s') : Type 0 where
   pub machine : GoesBy s t (machine_of_table plan s r) (machine_of_table plan s' r')
   pub later : StagesLater r.stages r'.stages
+  pub wins : (d : ℕ) → wins_of (r'.stages d) ≡ wins_of (r.stages d) ++ turn_wins s t d
   pub tree : PairsGoBy s t s'
   pub sound : IsSound (own_machine plan.last_card s')
 

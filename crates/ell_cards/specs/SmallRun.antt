@@ -1,4 +1,4 @@
-use Rattle.std.specs.Prelude.{◌≡◌, ◌++◌, true, false, None, List, [], ◌∷◌}
+use Rattle.std.specs.Prelude.{◌≡◌, ℕ, ◌++◌, true, false, None, List, [], ◌∷◌}
 use mathlib.Core.Option.{some}
 use lib.ListN.{get_elem?}
 use Rattle.ell_ops.specs.declared.op.Op.TheVariants.{Find, Insert, Delete}
@@ -13,6 +13,7 @@ use Rattle.ell_cards.specs.declared.glance.Stretch.{Stretch}
 use Rattle.ell_cards.specs.declared.view.View.{View}
 use Rattle.ell_cards.specs.Models.{TablePlan}
 use Rattle.ell_cards.specs.States.{TableState}
+use Rattle.ell_cards.specs.Dead.{KnowsNeverComes}
 use Rattle.ell_cards.specs.Starts.{Starts, IsReached}
 use Rattle.ell_cards.specs.Machines.{HasMachine}
 use Rattle.ell_cards.specs.Laws.{machine_of_table}
@@ -20,6 +21,7 @@ use Rattle.ell_grace.specs.Gone.{IsGone, HasOuts}
 use Rattle.ell_cards.specs.Turns.{Turn, Makes, Splits, Joins, CallIsMade, TableRun}
 use Rattle.ell_cards.specs.TurnEffects.{run_wins}
 use Rattle.ell_word.specs.Link.{linked}
+use Rattle.ell_word.specs.Node.{card}
 
 -- a small table: keys 5 and 7, of which key 5 is there at its start, and three cards to give out beside those of the
 -- start
@@ -148,3 +150,11 @@ pub record LookBeginsWhenGone : Type 0 where
   pub begins : CallIsMade small_plan state 1 call.Look begun
   pub gone : (r : HasMachine small_plan state) (has : HasOuts (machine_of_table small_plan state r))
       → IsGone r.words has.stages 12
+
+-- and by then the pass in seat 0 knows that no node of the card of its delete, which is over, comes into the tree
+pub record DeadIsKnown : Type 0 where
+  pub state : TableState
+  pub reached : IsReached small_plan state
+  pub view : View
+  pub there : get_elem? state.views 0 ≡ some view
+  pub knows : (x : ℕ) → card x ≡ 4 → KnowsNeverComes view 4 x

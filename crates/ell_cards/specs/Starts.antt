@@ -20,7 +20,7 @@ use Rattle.ell_cards.specs.Changes.{first_of}
 use Rattle.ell_cards.specs.States.{TableState}
 use Rattle.ell_cards.specs.Turns.{Turn, Makes, TableTurns, TableRun}
 use Rattle.ell_cards.specs.TurnEffects.{own_words, own_machine, TurnsDo, run_wins}
-use Rattle.ell_word.specs.Node.{greatest_card}
+use Rattle.ell_word.specs.Node.{greatest_card, greatest_number}
 
 -- a key is shared in a table: it is a real key, and the plan shares all but the keys that may have owners
 pub record IsSharedIn (plan : TablePlan) (key : ℕ) : Type 0 where
@@ -32,11 +32,12 @@ pub record IsSharedIn (plan : TablePlan) (key : ℕ) : Type 0 where
 abbrev pub most_places : ℕ
 most_places = 1000000
 
--- a table with places has at least one, numbers for all cards, and words for those of the start keys
+-- a table without places may have words for all cards that it has numbers for; one with places has at least one, all
+-- numbers that there are, and words for the cards of the start keys
 abbrev pub SlotsFit : TablePlan → Option Slots → Type 0
-SlotsFit plan None = Unit {0}
+SlotsFit plan None = plan.last_card ≤ greatest_card
 SlotsFit plan (Some s) =
-    (1 ≤ s.places) × (s.places ≤ most_places) × (plan.last_card ≡ greatest_card) × (length plan.start ≤ s.last)
+    (1 ≤ s.places) × (s.places ≤ most_places) × (plan.last_card ≡ greatest_number) × (length plan.start ≤ s.last)
     × (s.last ≤ greatest_card)
 
 -- what a table may open with: real keys, ascending; start keys, ascending, each of them or shared; and cards for these,
@@ -48,7 +49,7 @@ pub record MayStart (plan : TablePlan) : Type 0 where
   pub given : All (λ k. (set_of plan.keys k ≡ true) ⊎ IsSharedIn plan k) (keys_of plan.start)
   pub room : length plan.start ≤ plan.last_card
   pub few : length plan.start < greatest_card
-  pub limit : plan.last_card ≤ greatest_card
+  pub limit : plan.last_card ≤ greatest_number
   pub slots : SlotsFit plan plan.slots
 
 -- the words of a table are at its start those of the opening tree over the start keys, flat or not
@@ -62,10 +63,11 @@ pub record Starts (plan : TablePlan) (s : TableState) : Type 0 where
   pub words : StartWords plan s.words
   pub is : s ≡ opening s.words [] (first_of plan)
 
--- a table is opened by a plan: it has the plan, and its one pass knows what a first pass does, and has made no step
+-- a table is opened by a plan: it has the plan, and its one pass knows what a first pass does, has made no step, and
+-- looked at no place
 pub record OpensBy (plan : TablePlan) (made : TableModel × PassModel) : Type 0 where
   pub table : made.0.plan ≡ plan
-  pub pass : made.1 ≡ record { table = made.0.id; view = first_of plan; steps = 0; label = 0 }
+  pub pass : made.1 ≡ record { table = made.0.id; view = first_of plan; steps = 0; label = 0; safe = 0 }
 
 -- every such plan has a table
 pub record StartsSome (plan : TablePlan) : Type 0 where

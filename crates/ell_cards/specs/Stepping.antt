@@ -1,40 +1,35 @@
-use Rattle.std.specs.Prelude.{◌≡◌, ◌≢◌, ℕ, ◌==◌, None, List, [], ◌-◌}
-use prog.Atomic.{either}
+use Rattle.std.specs.Prelude.{◌≡◌, ℕ, List, [], ◌-◌}
+use mathlib.Core.Option.{some}
+use lib.ListN.{get_elem?}
 use Rattle.std.specs.List.Sorted.{IsStrictlyIncreasing}
-use Rattle.atomic_table.specs.Table.{Allows, Splits, Joins}
+use Rattle.atomic_table.specs.Table.{Allows}
 use Rattle.ell_cards.specs.declared.call.Call.{Call}
 use Rattle.ell_cards.specs.declared.call.Call.TheVariants as call
 use Rattle.ell_cards.specs.declared.view.Known.{Known}
 use Rattle.ell_cards.specs.declared.view.Period.{Period}
 use Rattle.ell_cards.specs.declared.view.View.{View}
-use Rattle.ell_cards.specs.Models.{flat_from, last_claim, TablePlan, PassModel, one_more, given_share}
+use Rattle.ell_cards.specs.Models.{flat_from, last_claim, TablePlan, PassModel, IsFree, MayPart, one_more, given_share}
 use Rattle.ell_cards.specs.Changes.{ledger_keys}
 use Rattle.ell_cards.specs.Depths.{deepest, IsShallow}
 use Rattle.ell_cards.specs.Naming.{IsNamed}
-use Rattle.ell_cards.specs.Periods.{IsAtRest}
-use Rattle.ell_cards.specs.Calls.{after, Tells}
+use Rattle.ell_cards.specs.Calls.{after, May, Tells}
+use Rattle.ell_cards.specs.Shown.{cut_word, shown, shown_call, CanBeShown}
+use Rattle.ell_cards.specs.States.{TableState}
+use Rattle.ell_cards.specs.Turns.{found_by, view_after}
 use Rattle.ell_cards.specs.Starts.{IsReached}
 use Rattle.ell_cards.specs.Looking.{KeysAreFixed, ValuesAreFixed, ReadsItsOwn, MissesItsOwn}
 use Rattle.ell_cards.specs.declared.share.Share.{Share}
 use Rattle.ell_cards.specs.Whole.{IsWhole}
 use Rattle.ell_cards.specs.Inside.{HasShare}
 
--- wherever turns have led the table, a load of a word is a turn again, and this holds of the word found and of what the
--- pass knows after
-abbrev pub MayLoad : TablePlan → View → ℕ → (ℕ → View → Type 0) → Type 0
-MayLoad plan v i then =
-    (id : ℕ) → Allows (IsReached plan) 0 id (v, []) i (λ n. n) (λ n me. then n me.0 × (me.1 ≡ []))
-
--- so does a store of a value
-abbrev pub MayStore : TablePlan → View → ℕ → ℕ → (ℕ → View → Type 0) → Type 0
-MayStore plan v i value then =
-    (id : ℕ) → Allows (IsReached plan) 0 id (v, []) i (λ n. value) (λ n me. then value me.0 × (me.1 ≡ []))
-
--- and an exchange of an expected value for another
-abbrev pub MayExchange : TablePlan → View → ℕ → ℕ → ℕ → (ℕ → View → Type 0) → Type 0
-MayExchange plan v i expected value then =
-    (id : ℕ) → Allows (IsReached plan) 0 id (v, []) i (λ n. either (n == expected) value n)
-    (λ n me. then n me.0 × (me.1 ≡ []))
+-- Wherever turns have led the table, and whatever a pass knows of which this is shown: each call of which that one is
+-- shown, if the pass may make it, finds a word, and this holds of what is shown of the word and of what the pass knows
+-- after the call.
+abbrev pub MayTell : TablePlan → Call → View → (ℕ → View → Type 0) → Type 0
+MayTell plan c v then =
+    (s : TableState) → IsReached plan s → (id : ℕ) (w : View) → get_elem? s.views id ≡ some w → shown w ≡ v
+    → (whole : Call) → shown_call whole ≡ c → May plan whole w → CanBeShown whole (found_by s whole) w
+    → then (cut_word (found_by s whole)) (shown (view_after s w whole))
 
 -- a step call that begins no operation and no look
 abbrev pub IsQuiet : Call → Type 0
@@ -48,13 +43,10 @@ abbrev pub MayGoOn : TablePlan → Known → ℕ → (ℕ → ℕ) → (ℕ → 
 MayGoOn plan k i f then =
     (id : ℕ) → Allows (IsWhole plan) 0 id (k, []) i f (λ n me. then n me.0.period × (me.0.tree ≡ k.tree) × (me.1 ≡ []))
 
--- whatever the table is, the view of a seat may be cut in these two
-abbrev pub MaySplit : TablePlan → View → View → View → Type 0
-MaySplit plan v left right = (id : ℕ) → Splits (IsReached plan) id v left right
-
--- and the views of two seats may become one, and this
-abbrev pub MayJoin : TablePlan → View → View → View → View → Type 0
-MayJoin plan v w both spent = (id other : ℕ) → Joins (IsReached plan) id v other w both spent
+-- a pass may be split: it has nothing in hand, and may be parted
+pub record MaySplit (v : View) : Type 0 where
+  pub free : IsFree v
+  pub may : MayPart v
 
 -- a pass has the share that it had
 pub record SameShare (old new : View) : Type 0 where
@@ -83,21 +75,19 @@ KeepsPass plan v then =
     (n : ℕ) (w : View) → then n w → (ledger_keys w.worker.ledger ≡ ledger_keys v.worker.ledger) × SameShare v w
     × IsInside plan w
 
--- and it leaves a pass at rest that was, where the table has places
-abbrev pub LeavesRest : TablePlan → View → (ℕ → View → Type 0) → Type 0
-LeavesRest plan v then = plan.slots ≢ None → IsAtRest v → (n : ℕ) (w : View) → then n w → IsAtRest w
-
--- a pass made one step that it has not counted yet: its table and its label are as they were
+-- a pass made one step that it has not counted yet: its table, its label and its safe number are as they were
 pub record SeesBy (old new : PassModel) : Type 0 where
   pub table : new.table ≡ old.table
   pub steps : new.steps ≡ old.steps
   pub label : new.label ≡ old.label
+  pub safe : new.safe ≡ old.safe
 
--- a pass made one step: its table and its label are as they were
+-- a pass made one step: its table, its label and its safe number are as they were
 pub record StepsBy (old new : PassModel) : Type 0 where
   pub table : new.table ≡ old.table
   pub steps : new.steps ≡ one_more old.steps
   pub label : new.label ≡ old.label
+  pub safe : new.safe ≡ old.safe
 
 -- what a step call that found this word leaves of a pass: what it knows is as the call says, and what the call tells is
 -- so; what a look has found of its own keys is what its ledger has; it was told no two keys of one node, nor, before

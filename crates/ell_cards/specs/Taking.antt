@@ -7,6 +7,7 @@ use Rattle.ell_ops.specs.Contents.{contents_of}
 use Rattle.ell_ops.specs.Meaning.{final}
 use Rattle.ell_cards.specs.declared.view.View.{View}
 use Rattle.ell_cards.specs.Models.{TablePlan}
+use Rattle.ell_cards.specs.Shown.{shown}
 use Rattle.ell_cards.specs.States.{TableState}
 use Rattle.ell_cards.specs.Turns.{Turn, TableRun}
 use Rattle.ell_cards.specs.Starts.{Starts}
@@ -21,11 +22,13 @@ pub record TookInRun (plan : TablePlan) (s : TableState) (turns : List Turn) (s'
   pub had : final (contents_of plan.start)
       (run_effects plan s call.point.all call.point.state call.point.led) key ≡ Some value
 
--- so it is in every run of a table with this plan, from its start to a state in which a pass knows this
+-- so it is in every run of a table with this plan, from its start to a state in which a pass knows what is
+-- shown so
 abbrev pub IsTakenInRuns : TablePlan → View → ℕ → ℕ → Type 0
 IsTakenInRuns plan v key value =
     (s : TableState) → Starts plan s → (turns : List Turn) (s' : TableState) → TableRun plan s turns s'
-    → (seat : ℕ) → get_elem? s'.views seat ≡ some v → TookInRun plan s turns s' seat key value
+    → (seat : ℕ) (w : View) → shown w ≡ v → get_elem? s'.views seat ≡ some w
+    → TookInRun plan s turns s' seat key value
 
 -- a delete that was answered yes took the value that its pass says it took
 abbrev pub DeletesTakeWhatTheyTell : Type 0

@@ -1,10 +1,14 @@
 use Rattle.std.specs.Prelude.{◌≡◌, ℕ, ◌<◌, Option, Some, None, List, length, map, slice_index}
+use mathlib.Core.Option.{some}
+use lib.ListN.{get_elem?}
 use Rattle.ell_cards.specs.declared.view.Known.{Known}
 use Rattle.ell_cards.specs.declared.view.Slots.{Slots}
 use Rattle.ell_cards.specs.declared.view.View.{View}
 use Rattle.ell_cards.specs.Models.{TablePlan}
 use Rattle.ell_cards.specs.Changes.{first_of, joined_view, spent_view}
-use Rattle.ell_cards.specs.Periods.{WholeState, slots_size, card_words, no_period, first_period, joined_period, HasPeriods}
+use Rattle.ell_cards.specs.Periods.{WholeState, slots_size, card_words, no_period, first_period, joined_period}
+use Rattle.ell_cards.specs.Ages.{HasPeriods}
+use Rattle.ell_cards.specs.Shown.{StoresAreWhole}
 use Rattle.ell_cards.specs.Starts.{IsReached}
 use Rattle.ell_cards.specs.States.{TableState}
 
@@ -31,15 +35,21 @@ WordsAre plan (Some s) words tree =
     (length words ≡ slots_size s) × ((i : ℕ) → i < card_words plan → slice_index words i ≡ slice_index tree i)
 
 -- its periods are sound, if there are places
-abbrev pub PeriodsAre : Option Slots → WholeState → Type 0
-PeriodsAre None t = Unit {0}
-PeriodsAre (Some s) t = HasPeriods s t
+abbrev pub PeriodsAre : (plan : TablePlan) → Option Slots → TableState → WholeState → Type 0
+PeriodsAre plan None tree t = Unit {0}
+PeriodsAre plan (Some s) tree t = HasPeriods plan s tree t
 
--- The rule of a table: turns of its passes have led its tree where it is, and its grace periods are sound.
+-- what each pass has stored of the leaf's word of its card in hand is what is planned, if it is that once it is cut
+abbrev pub AllStoresAreWhole : TableState → Type 0
+AllStoresAreWhole tree = (seat : ℕ) (v : View) → get_elem? tree.views seat ≡ some v → StoresAreWhole v
+
+-- The rule of a table: turns of its passes have led its tree where it is, what each of them stored is whole, and its
+-- grace periods are sound.
 pub record IsWhole (plan : TablePlan) (t : WholeState) : Type 0 where
   pub tree : TableState
   pub reached : IsReached plan tree
   pub views : trees_of t.views ≡ tree.views
   pub homes : tree.homes ≡ t.homes
   pub words : WordsAre plan plan.slots t.words tree.words
-  pub periods : PeriodsAre plan.slots t
+  pub stores : AllStoresAreWhole tree
+  pub periods : PeriodsAre plan plan.slots tree t

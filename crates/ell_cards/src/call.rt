@@ -35,7 +35,7 @@ pub enum Call {
     LookDown(Glance, Stretch, bool),
     /// Ends a look.
     Rest,
-    /// Takes a card: card, the key that its node gets if it is an insert's or a swap's.
+    /// Takes a card, and lays one in hand aside: card, the key that its node gets if it is an insert's or a swap's.
     Claim(u64, u64),
     /// Stores a word of a card.
     Fill(u64, Field, u64),

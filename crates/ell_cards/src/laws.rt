@@ -7,7 +7,7 @@
 //! `runs_from_starts_are_lawful` is the law of all such runs, and says nothing of machines.
 ghost use Rattle.ell_cards.specs.OwnWords.{OwnWordsAreSound, StepsStayInside, TablePairsChangeAtWins, TableChangesAreOperations, TableAnswersAreTheMaps, LedgersTellTheTree, TreeKeysAreOwned, TableNodesGoOn};
 ghost use Rattle.ell_cards.specs.Starts.{TablesStart, StartsHaveTheirKeys, FirstPassMayBegin, RunsFromStarts};
-ghost use Rattle.ell_cards.specs.SmallRun.{SmallRunIsMade, LookBeginsWhenGone};
+ghost use Rattle.ell_cards.specs.SmallRun.{SmallRunIsMade, LookBeginsWhenGone, DeadIsKnown};
 ghost use Rattle.ell_cards.specs.Readings.{ReadingsArePast, ClaimsAreWon};
 ghost use Rattle.ell_cards.specs.Contention.{TriesAreHinderedByOthers};
 ghost use Rattle.ell_cards.specs.Stretches.{FewFlagsWithoutAChange, TablesHaveHeights};
@@ -23,12 +23,16 @@ ghost use Rattle.ell_cards.specs.LayingDown.{LaidDownCallsChangeNothing, LaidDow
 ghost use Rattle.ell_cards.specs.Answering.{AnswersHaveTheirPoints};
 ghost use Rattle.ell_cards.specs.Taking.{DeletesTakeWhatTheyTell};
 ghost use Rattle.ell_cards.specs.Touching.{CallsTouchTheirWords, TablesHaveOuts, CallsTouchNothingGone, KnownTakenOutIsGone, RestTouchesTheRoot};
+ghost use Rattle.ell_cards.specs.Dead.{TablesHaveUses, TurnsKeepDead, CallsTouchNothingDead, CallsTouchNoDeadCard, KnownNeverComes, KnownDeadIsDead, OneCardTells};
 ghost use Rattle.ell_cards.specs.Sharing.{SharesAddUp};
 ghost use Rattle.ell_cards.specs.Tellings.{NoGreaterNext, NoGreaterUpdate, NoOtherOutcome, NoUntriedClaimLost};
 ghost use Rattle.ell_cards.specs.Laws.{StepsAreEvents, SplitsAreHandovers, JoinsAreHandovers, MachineIsSound, MachineHasOwnWords};
 ghost use Rattle.ell_cards.specs.Runs.{RunsAreLawful, RunsAreSchedules};
 ghost use Rattle.ell_cards.specs.RunLaws.{TableWinsAreInOrder, StartsAreKept, ReachedHasMachine};
-ghost use Rattle.ell_cards.specs.PeriodLaws.{SafeNumbersAreSafe};
+ghost use Rattle.ell_cards.specs.PeriodLaws.{SafeNumbersAreSafe, FreeSlotsAreUntouched};
+ghost use Rattle.ell_cards.specs.Ties.{CallsKeepTies, SplitsKeepTies, JoinsKeepTies, PeriodsKeepTies, TakesKeepTies, OwnSlotsKeepTies, OpeningsAreTied, CardsInSlotsAreFew, ExchangesAreNear};
+ghost use Rattle.ell_cards.specs.ShownTakings.{TakingsAreShown};
+ghost use Rattle.ell_cards.specs.Shown.{StepsAreShown, CallsCanBeShown, GuardsAreLifted, OriginsAreOfTheirKind, StoresStayWhole, TellingsAreShown, CallsActAlike, HandoversAreShown};
 
 /// Each step call of a pass that may make it is one atomic step on one word of the table. A table that had a machine
 /// before it has one after it, to which the call's event leads, with the answer that the word found gives; or the same
@@ -162,11 +166,12 @@ pub fn readings_are_past()
 /// read and has with it, and each that was in its way in any of its tries, is of a card that had not come to its end at
 /// that beginning; if the pass knows that the card has, the card did so meanwhile. A card whose claim was lost was
 /// given out meanwhile, and a clean word that a lost flag or mark found is of a card that ended meanwhile. While the
-/// pass has a card in hand, nothing that was in its way is of that card. A search begins after each begin and each
-/// again. What a pass knows of milestones was reached: the cards that its claims have shown to be given out are, and
-/// each card that it knows to have come to its end did so in the run. And of its tries at one operation, others can
-/// hinder two for each card that is given out to them meanwhile, and one for each card that was in a hand at the
-/// beginning. one for each card that was in a hand at the beginning.
+/// pass has a card in hand, nothing that was in its way is of that card. Each claim that it lost is of an earlier card,
+/// or, in a flat tree, of a later one where it was lost while that card was in hand. A search begins after each begin
+/// and each again. What a pass knows of milestones was reached: the cards that its claims have shown to be given out
+/// are, and each card that it knows to have come to its end did so in the run. And of its tries at one operation, others
+/// can hinder two for each card that is given out to them meanwhile, and one for each card that was in a hand at the
+/// beginning.
 pub fn searches_read_meanwhile()
     // What a search meets in its way is of another card that had not ended when the operation began, or that was given
     // out or ended since then.
@@ -316,7 +321,8 @@ pub fn steps_tell_what_is_there()
 
 /// What a pass was told it has forgotten where it begins an operation or a look, and again where that ends. So from there on,
 /// in every run, each step call of the pass touches only what was not gone then: the word of a node that no card had taken
-/// out of the tree for good, or that of a card that had not come to its end.
+/// out of the tree for good, or that of a card that had not come to its end. Nor does it touch what was dead then: the word of
+/// a node that was gone or never comes into the tree, or that of a card whose internal node was.
 pub fn calls_touch_nothing_gone()
     // Each step call touches a word of the node or of the card that it is said to touch.
     ensures words { CallsTouchTheirWords }
@@ -330,11 +336,72 @@ pub fn calls_touch_nothing_gone()
     ensures gone { KnownTakenOutIsGone }
     // A pass at rest touches nothing but the root's words and the claim word.
     ensures rest { RestTouchesTheRoot }
+    // Wherever turns have led a table, no internal node that came into its tree has a child that nobody uses, and what was dead
+    // stays so.
+    ensures uses { TablesHaveUses }
+    ensures stays { TurnsKeepDead }
+    // From where a pass forgets, its step calls touch nothing that was dead then, and no word of a card whose nodes all were.
+    ensures alive { CallsTouchNothingDead }
+    ensures cards { CallsTouchNoDeadCard }
+    // A node is dead if a pass knows that its card is over and does not bring it, that nobody uses it, or that a card which is
+    // over has taken it out.
+    ensures never { KnownNeverComes }
+    ensures dead { KnownDeadIsDead }
+    // Passes know that a node is dead by one card alone.
+    ensures once { OneCardTells }
+    // There is a run in which a pass knows that no node of its card comes into the tree.
+    ensures known { DeadIsKnown }
 {}
 
 /// Where a table has places, and wherever the steps of its passes have led it: a pass that is in a period, which it announces at
 /// its place, began that when the clock was the safe number of each pass at least, and the reading that it announces.
 pub fn safe_numbers_are_safe()
     // A pass in a period began it when the clock was each safe number at least.
-    ensures { SafeNumbersAreSafe }
+    ensures began { SafeNumbersAreSafe }
+    // No pass may touch a word of the card that lies in a slot which was set free with a stamp below some pass's safe number.
+    ensures free { FreeSlotsAreUntouched }
+{}
+
+/// The memory of a table with places has words for slots alone, in each of which a card lies, while its tree has words for each
+/// card number. Memory is tied to the tree: at a slot it has what the tree has of the card that lies there, cut to 64 bits, as far
+/// as that is kept. A step call touches words that are tied so, and keeps memory tied.
+pub fn ties_are_kept()
+    // A step call finds in memory what is cut of what it finds in the tree, and memory is tied to the tree after it.
+    ensures calls { CallsKeepTies }
+    // So it is after a split of a pass, and a join of two.
+    ensures splits { SplitsKeepTies }
+    ensures joins { JoinsKeepTies }
+    // A step on the words of periods keeps memory tied, and so does one by which a pass takes a slot in which a dead card lies.
+    ensures periods { PeriodsKeepTies }
+    ensures takes { TakesKeepTies }
+    // So does one by which it takes the slot of a card that lies there already.
+    ensures owns { OwnSlotsKeepTies }
+    // And so it is as a table opens.
+    ensures opens { OpeningsAreTied }
+    // Different cards that all lie in their slots are at most as many as there are slots.
+    ensures few { CardsInSlotsAreFew }
+    // So a child exchange that a pass in a period may make expects a link that is near the one in the tree.
+    ensures near { ExchangesAreNear }
+{}
+
+/// Where words have 64 bits, child words have their tags cut, and a pass that reads them knows what is shown of what it
+/// would know by whole words: the same, with each tag cut. Step calls go by that as they do by the whole: what is shown of
+/// what a pass knows after a call is what it knows after the call that is shown, and a call that it may make by what is
+/// shown is one that it may make by the whole.
+pub fn shown_views_step_alike()
+    // What is shown of what a pass knows after a call is what it knows after the call that is shown.
+    ensures steps { StepsAreShown }
+    // Each call can be shown whose word 64 bits hold, and an exchange of a child word if the link that it expects is near.
+    ensures can { CallsCanBeShown }
+    // A call that may be made by what is shown is shown of one that may be made by the whole: the same one, but for tags.
+    ensures guards { GuardsAreLifted }
+    ensures origins { OriginsAreOfTheirKind }
+    ensures stores { StoresStayWhole }
+    // What a call tells of its word, and all that it leaves of a pass, is so of what is shown too.
+    ensures tellings { TellingsAreShown }
+    ensures takings { TakingsAreShown }
+    // A call that is shown is the same act on the same word.
+    ensures acts { CallsActAlike }
+    // Splits and joins go by what is shown as well.
+    ensures handovers { HandoversAreShown }
 {}

@@ -15,6 +15,7 @@ mod period;
 mod places;
 mod rule;
 mod share;
+mod slots;
 mod story;
 mod table;
 mod view;

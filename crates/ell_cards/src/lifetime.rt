@@ -1,21 +1,21 @@
 //! How a table begins, and how its passes part and come together.
-ghost use Rattle.std.specs.Prelude.{◌≡◌, ◌≢◌, ◌⊎◌, ◌≤◌, ◌<◌, ◌+◌, ◌*◌, ◌↔◌, if◌then◌else◌, IsTrue, [], filter, not, max, true, false, length, None, IfOk, IfErr, OnOk, IfSome, replicate, vec_len};
+ghost use Rattle.std.specs.Prelude.{◌≡◌, ◌≢◌, ◌⊎◌, ◌≤◌, ◌<◌, ◌+◌, ◌*◌, ◌↔◌, if◌then◌else◌, IsTrue, [], filter, not, max, true, length, None, IfOk, IfErr, OnOk, IfSome, replicate, vec_len};
 ghost use Rattle.std.specs.List.{All};
 ghost use Rattle.std.specs.List.Sorted.{IsStrictlyIncreasing};
 ghost use Rattle.std.specs.Map.{keys_of};
 ghost use Rattle.ell_ops.specs.Meaning.{greatest_key};
 ghost use Rattle.ell_ops.specs.KeySet.{set_of};
-ghost use Rattle.ell_word.specs.Node.{greatest_card, most_start};
+ghost use Rattle.ell_word.specs.Node.{greatest_card, greatest_number, most_start};
 ghost use Rattle.ell_core.specs.state.Opening.{last_card};
 ghost use Rattle.ell_core.specs.state.Machine.{ledger_of};
 ghost use Rattle.ell_layout.specs.Layout.{table_size};
 ghost use Rattle.ell_layout.specs.Start.{words_at_start};
 ghost use Rattle.ell_layout.specs.Words.{has_block, words_of};
-ghost use Rattle.ell_cards.specs.Models.{flat_from, Steps, IsFree, IsCardCount, MayPart, RefusesCards, SplitRefuses, one_more};
-ghost use Rattle.ell_cards.specs.Changes.{first_of, left_view, right_view, joined_view};
+ghost use Rattle.ell_cards.specs.Models.{flat_from, Steps, StepsOut, IsFree, IsCardCount, MayPart, RefusesCards, SplitRefuses, one_more};
+ghost use Rattle.ell_cards.specs.Changes.{left_view, right_view, joined_view};
 ghost use Rattle.ell_cards.specs.Inside.{IsNewTable};
 ghost use Rattle.ell_cards.specs.Stepping.{MaySplit, MayHave, PartsShare};
-ghost use Rattle.ell_cards.specs.Periods.{IsAtRest, last_for, slots_of, whole_size, whole_words};
+ghost use Rattle.ell_cards.specs.Periods.{last_for, slots_of, whole_size, whole_words};
 ghost use Rattle.ell_cards.specs.Starts.{MayStart, OpensBy, most_places};
 ghost use Rattle.ell_cards.specs.Whole.{IsWhole, first_known};
 ghost use Rattle.atomic_table.specs.Table.{opening};
@@ -23,14 +23,14 @@ ghost use Rattle.atomic_table.specs.Table.{opening};
 use crate::fault::{CardFault, SplitFault};
 use crate::pass::{Pass, Standing};
 use crate::period::last_claim;
-use crate::rule::{CardRule, Joined, PartedBy, SplitInto};
+use crate::rule::{CardRule, Joined, PartedBy, SplitBy};
 use crate::share::{Share, WHOLE_SHARE};
 use crate::table::CardTable;
 use crate::view::{Known, Plan, Slots, TableKind};
 use atomic_table::{Seat, Table};
 use ell_layout::{table_size, write_opening};
 use ell_ops::{NoMemory, united_keys};
-use ell_word::{CARD_MAX, CARDS_MAX, card_of};
+use ell_word::{CARDS_MAX, NUMBER_MAX, card_of};
 use std::alloc::{AllocError, Allocator};
 use std::marker::Brand;
 
@@ -39,8 +39,9 @@ impl<A: Allocator + Copy> CardTable<A> {
     /// to be claimed, 1 to `CARDS_MAX`, and one pass that owns these keys: those of them that are start keys are present,
     /// the others absent. The tree of the start keys has a card for each of them, so the number of the last card is the
     /// number of cards asked for plus that of the start keys. The last card of a table with places has the number
-    /// `CARD_MAX`, but only the cards asked for and those of the start keys have words and may be claimed. `BadCards` is returned exactly if the number of cards asked for is not 1 to `CARDS_MAX`, and
-    /// `NoMemory` if an allocation fails. Conditions: the keys are strictly ascending, and at most `KEY_MAX`; the start keys
+    /// `NUMBER_MAX`, but only the cards asked for and those of the start keys have words and may be claimed. `BadCards` is
+    /// returned exactly if the number of cards asked for is not 1 to `CARDS_MAX`, and `NoMemory` if an allocation fails.
+    /// Conditions: the keys are strictly ascending, and at most `KEY_MAX`; the start keys
     /// are strictly ascending, at most `START_MAX`, and each is among the keys or shared; there are at most 1,000,000 places.
     pub fn reserve(
         alloc: A,
@@ -58,7 +59,7 @@ impl<A: Allocator + Copy> CardTable<A> {
         // It succeeds only with 1 to 1,000,000 cards.
         ensures cards { OnOk result (IsCardCount cards) }
         // The table has this plan, and the pass knows what a first pass does: it owns the keys, of which the start keys
-        // are present, and has made no step.
+        // are present, has made no step, and has the safe number 0.
         ensures opened { IfOk result (OpensBy (record {
           keys = keys.now;
           start = start.now;
@@ -89,7 +90,7 @@ impl<A: Allocator + Copy> CardTable<A> {
 
     // A table with this plan, and its first pass.
     fn open(alloc: A, plan: Plan<A>) -> Result<(CardTable<A>, Pass<A>), AllocError>
-        requires cards { plan.last_card ≤ greatest_card }
+        requires cards { plan.last_card ≤ greatest_number }
         requires few { length plan.start < greatest_card }
         requires may { MayStart plan }
         ensures opened { IfOk result (OpensBy plan) }
@@ -126,12 +127,15 @@ impl<A: Allocator + Copy> CardTable<A> {
         Ok((table, pass))
     }
 
-    /// Returns the number of the last card, at most `CARD_MAX`: how many cards there are besides card 0, including
-    /// those of the start keys. Of a table with places it is `CARD_MAX`.
+    /// Returns the number of the last card. Without places it is how many cards there are besides card 0, including those of
+    /// the start keys, at most `CARD_MAX`. Of a table with places it is `NUMBER_MAX`, the greatest number that a card may have,
+    /// and fewer cards have words.
     pub fn last_card(&self) -> u64
         // Returns the number of the last card.
         ensures cards { result ≡ self.now.plan.last_card }
-        ensures limit { result ≤ greatest_card }
+        // It is at most `NUMBER_MAX`, and without places at most `CARD_MAX`.
+        ensures limit { result ≤ greatest_number }
+        ensures few { self.now.plan.slots ≡ None → result ≤ greatest_card }
     {
         self.last_card
     }
@@ -170,9 +174,10 @@ impl<A: Allocator + Copy> CardTable<A> {
     }
 
     /// Parts a pass with nothing in hand: the left part gets these keys of its own, ascending, and the right part gets
-    /// the rest, a part of the share and, if the table has places, one of them. `TooManyPasses` is returned exactly if the
-    /// pass may not be parted, and in a table with places also if no place was found free; `NoMemory` is returned if an
-    /// allocation fails. Either way the pass is as it was.
+    /// the rest, a part of the share and, if the table has places, one of them: it looks for a free one behind the place
+    /// that the pass found last, and at each place once. `TooManyPasses` is returned exactly if the pass may not be parted,
+    /// and in a table with places also if no place was found free; `NoMemory` is returned if an allocation fails. Either way
+    /// the pass is as it was.
     pub fn split(
         &self,
         pass: Pass<A>,
@@ -182,10 +187,10 @@ impl<A: Allocator + Copy> CardTable<A> {
         requires free { IsFree pass.view }
         requires ascending { IsStrictlyIncreasing left_keys.now }
         requires owned { All (λ k. ledger_of pass.view.worker.ledger k ≢ None) left_keys.now }
-        // The left part gets these keys, as they were.
+        // The left part gets these keys, as they were, and keeps the safe number.
         ensures left { IfOk result (λ parts. Steps pass parts.0 (left_view left_keys.now pass.view)) }
-        // The right part gets the other keys, and a piece of the share.
-        ensures right { IfOk result (λ parts. Steps pass parts.1 (right_view left_keys.now pass.view)) }
+        // The right part gets the other keys, and a piece of the share, and has the safe number 0.
+        ensures right { IfOk result (λ parts. StepsOut pass parts.1 (right_view left_keys.now pass.view)) }
         // Without places, `TooManyPasses` is returned exactly if the tree shares keys and the share is the least one; the
         // only other error is `NoMemory`. The pass is then returned as it was.
         ensures may { OnOk result (MayPart pass.view) }
@@ -206,20 +211,19 @@ impl<A: Allocator + Copy> CardTable<A> {
 
     // Parts a pass: one part has these keys, and the other those, and a place, if the table has places. If no place is left,
     // the pass is as it was.
-    fn split_as<J: SplitInto>(
+    fn split_as<J: SplitBy>(
         &self,
         pass: Pass<A>,
         left: Vec<u64, A>,
         right: Vec<u64, A>,
     ) -> Result<(Pass<A>, Pass<A>), Pass<A>>
         requires own { pass.table ≡ self.now.id }
-        requires rule { MaySplit self.now.plan pass.view J.left J.right }
-        requires rests { IsAtRest J.left × IsAtRest J.right }
-        requires left { MayHave pass.view left.items J.left }
-        requires right { MayHave pass.view right.items J.right }
-        requires shares { PartsShare pass.view J.left J.right }
-        ensures left { IfOk result (λ parts. Steps pass parts.0 J.left) }
-        ensures right { IfOk result (λ parts. Steps pass parts.1 J.right) }
+        requires may { MaySplit pass.view }
+        requires left { MayHave pass.view left.items (left_view J.keys pass.view) }
+        requires right { MayHave pass.view right.items (right_view J.keys pass.view) }
+        requires shares { PartsShare pass.view (left_view J.keys pass.view) (right_view J.keys pass.view) }
+        ensures left { IfOk result (λ parts. Steps pass parts.0 (left_view J.keys pass.view)) }
+        ensures right { IfOk result (λ parts. StepsOut pass parts.1 (right_view J.keys pass.view)) }
         ensures refused { IfErr result (λ p. (p ≡ pass) × (self.now.plan.slots ≢ None)) }
     {
         let Pass {
@@ -227,10 +231,10 @@ impl<A: Allocator + Copy> CardTable<A> {
             label,
             steps,
             share,
-            standing,
+            mut standing,
             mut seat,
         } = pass;
-        let place = self.find_place(&mut seat);
+        let place = self.find_place(&mut seat, standing.found);
         if self.slots.is_some() && place.is_none() {
             return Err(Pass {
                 keys,
@@ -244,6 +248,7 @@ impl<A: Allocator + Copy> CardTable<A> {
         let other = self.table.shared.split_seat::<PartedBy<J>>(&mut seat);
         let steps = steps.saturating_add(1);
         let (kept, given) = share.parted();
+        let apart = standing.parted(place);
         let left = Pass {
             keys: left,
             label,
@@ -257,10 +262,7 @@ impl<A: Allocator + Copy> CardTable<A> {
             label,
             steps,
             share: given,
-            standing: Standing {
-                place,
-                announces: false,
-            },
+            standing: apart,
             seat: other,
         };
         Ok((left, right))
@@ -277,13 +279,14 @@ impl<A: Allocator + Copy> CardTable<A> {
         requires right { right.table ≡ self.now.id }
         requires left_free { IsFree left.view }
         requires right_free { IsFree right.view }
-        // The pass has the keys and the shares of both. Its count of steps in a row is one more than the greater of the
-        // two counts.
+        // The pass has the keys and the shares of both, and the left one's safe number. Its count of steps in a row is
+        // one more than the greater of the two counts.
         ensures joined { IfOk result (λ both. both ≡ record {
           table = left.table;
           view = joined_view left.view right.view;
           steps = one_more (max left.steps right.steps);
           label = left.label;
+          safe = left.safe;
         }) }
         // If an allocation fails, both passes are returned as they were.
         ensures refused { IfErr result (λ refused. (refused.0 ≡ left) × (refused.1 ≡ right)) }
@@ -351,11 +354,11 @@ fn slots_for(last: u64, places: u64) -> Option<Slots>
     }
 }
 
-// The number of the last card of a table of cards up to this one, if there are no places.
+// The number of the last card of a table of cards up to this one, if there are no places, else the greatest number.
 fn last_for(last: u64, places: u64) -> u64
     ensures { result ≡ last_for last places }
 {
-    if places == 0 { last } else { CARD_MAX }
+    if places == 0 { last } else { NUMBER_MAX }
 }
 
 // The opening table. It copies the words, and their first list goes at once.

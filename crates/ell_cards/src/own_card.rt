@@ -18,7 +18,8 @@ use std::alloc::Allocator;
 
 impl<A: Allocator + Copy> CardTable<A> {
     /// Takes the card that `next` read in this try, if it is still the next one. Returns `true` if it did. The node
-    /// of an insert's or a swap's card gets this key: the greater one of its two keys, in a flat tree their branch.
+    /// of an insert's or a swap's card gets this key: the greater one of its two keys, in a flat tree their branch. In
+    /// a flat tree the pass may have a card in hand that has not won its flag, which it lays aside if it takes this one.
     #[inline(always)]
     pub fn claim(&self, pass: &mut Pass<A>, card: u64, node_key: u64) -> bool
         requires own { pass.old.table ≡ self.now.id }

@@ -1,10 +1,8 @@
 //! What a thread steps with.
-ghost use Rattle.std.specs.Prelude.{◌≡◌, ◌↔◌, ℕ, IsTrue, [], false};
+ghost use Rattle.std.specs.Prelude.{◌≡◌, ◌↔◌, IsTrue, false};
 ghost use Rattle.std.specs.List.Sorted.{IsStrictlyIncreasing};
-ghost use Rattle.ell_layout.specs.Layout.{table_size};
 ghost use Rattle.ell_cards.specs.Models.{Counts, MayPart, Owns, PassModel, one_more, whole_share};
 ghost use Rattle.ell_cards.specs.Changes.{ledger_keys};
-ghost use Rattle.ell_cards.specs.Naming.{IsNamed};
 ghost use Rattle.ell_cards.specs.Periods.{period_by};
 
 use crate::share::{Share, WHOLE_SHARE};
@@ -30,16 +28,35 @@ pub struct Pass<A: Allocator + Copy> {
 pub(crate) struct Standing {
     pub place: Option<u64>,
     pub announces: bool,
+    /// The place that it found last for a part of it, at first its own: behind it, it looks for the next one. It may be any
+    /// number.
+    pub found: u64,
 }
 
 impl Standing {
     /// Returns where the first pass of a table stands: at the first place, if there is one.
     pub(crate) fn first(slots: Option<Slots>) -> Standing
-        ensures { result ≡ record { place = (period_by slots).place; announces = false } }
+        ensures { result ≡ record { place = (period_by slots).place; announces = false; found = 0 } }
     {
         Standing {
             place: slots.map(|_| 0),
             announces: false,
+            found: 0,
+        }
+    }
+
+    /// Returns where a part stands that gets this place, if there is one, and leaves the number of the place with the pass, so
+    /// that both look behind it for the next one.
+    pub(crate) fn parted(&mut self, place: Option<u64>) -> Standing
+        ensures own { (self.new.place ≡ self.old.place) × (self.new.announces ≡ self.old.announces) }
+        ensures given { (result.place ≡ place) × (result.announces ≡ false) }
+    {
+        let found = place.unwrap_or(self.found);
+        self.found = found;
+        Standing {
+            place,
+            announces: false,
+            found,
         }
     }
 }
@@ -55,10 +72,11 @@ pub(crate) fn one_more(steps: u64) -> u64
 impl<A: Allocator + Copy> Model for Pass<A> {
     ghost use Rattle.ell_cards.specs.Models.{PassModel};
     ghost use Rattle.ell_cards.specs.Inside.{IsPass};
+    ghost use Rattle.ell_cards.specs.Shown.{shown};
 
     ghost Value = { PassModel };
 
-    ghost view = { λ p. record { table = p.seat.table_id; view = p.seat.me.0.tree; steps = p.steps; label = p.label } };
+    ghost view = { λ p. record { table = p.seat.table_id; view = shown p.seat.me.0.tree; steps = p.steps; label = p.label; safe = p.seat.me.0.period.safe } };
 
     ghost invariant = { IsPass };
 }

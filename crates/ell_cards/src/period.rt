@@ -1,7 +1,7 @@
 //! Grace periods: where a table has places, a pass tells at its own when it is in an operation or a look, and a number is
 //! safe if every pass that is in one began it when the clock was that at least. Their steps are on words of their own, and are
 //! not counted.
-ghost use Rattle.std.specs.Prelude.{◌≡◌, ℕ, ◌≢◌, ◌⊎◌, ◌≤◌, ◌<◌, ◌==◌, if◌then◌else◌, is_some, None, Some, [], true, false, IfSome};
+ghost use Rattle.std.specs.Prelude.{◌≡◌, ℕ, ◌≢◌, ◌⊎◌, ◌≤◌, ◌<◌, ◌+◌, ◌%◌, ◌==◌, if◌then◌else◌, is_some, None, Some, [], true, false, IfSome};
 ghost use prog.Atomic.{either};
 ghost use Rattle.ell_word.specs.Node.{greatest_card};
 ghost use Rattle.ell_grace.specs.Grace.{least_with};
@@ -18,8 +18,8 @@ use atomic_table::Seat;
 use std::alloc::Allocator;
 use std::marker::Brand;
 
-/// The clock stops here, so that a place has a word for each reading.
-const LAST_READING: u64 = 4611686018427387904;
+/// The clock stops here, so that a place has a word for each reading, and so has a slot that was set free with it.
+const LAST_READING: u64 = 1099511627776;
 
 impl Slots {
     /// Returns the address of the clock: behind the group of the last card.
@@ -41,13 +41,25 @@ impl Slots {
         self.clock_word() + 1 + 8 * self.places.saturating_sub(place) as usize
     }
 
+    /// Returns the place at which to look after so many looks at those behind a place. The first place comes after the last
+    /// one.
+    #[inline(always)]
+    pub(crate) fn place_behind(self, place: u64, looks: u64) -> u64
+        requires few { self.places ≤ greatest_card }
+        requires looks { looks < self.places }
+        ensures there { result < self.places }
+        ensures is { result ≡ (place % self.places + 1 + looks) % self.places }
+    {
+        (place % self.places + 1 + looks) % self.places
+    }
+
     /// Returns how many words a table with places has.
     pub(crate) fn size(self) -> usize
         requires last { self.last ≤ greatest_card }
         requires few { self.places ≤ greatest_card }
         ensures { result ≡ slots_size self }
     {
-        self.clock_word() + 9 + 8 * self.places as usize
+        self.clock_word() + 9 + 8 * self.places as usize + 4 * (self.last / 4 + 1) as usize
     }
 }
 
@@ -71,7 +83,11 @@ fn least_with(least: u64, word: u64) -> u64
 impl<A: Allocator + Copy> CardTable<A> {
     // Loads a word of the periods.
     #[inline(always)]
-    fn period_load<J: PeriodTelling>(&self, seat: &mut Seat<(), Known>, word: usize) -> u64
+    pub(crate) fn period_load<J: PeriodTelling>(
+        &self,
+        seat: &mut Seat<(), Known>,
+        word: usize,
+    ) -> u64
         requires own { seat.old.table_id ≡ self.now.id }
         requires empty { seat.old.me.1 ≡ [] }
         requires word { word < self.now.id.words }
@@ -99,7 +115,7 @@ impl<A: Allocator + Copy> CardTable<A> {
 
     // Exchanges a word of the periods.
     #[inline(always)]
-    fn period_exchange<J: PeriodTelling>(
+    pub(crate) fn period_exchange<J: PeriodTelling>(
         &self,
         seat: &mut Seat<(), Known>,
         word: usize,
@@ -121,7 +137,7 @@ impl<A: Allocator + Copy> CardTable<A> {
 
     // Returns the address of the clock, which is one of the table.
     #[inline(always)]
-    fn clock_address(&self, slots: Slots) -> usize
+    pub(crate) fn clock_address(&self, slots: Slots) -> usize
         requires slots { self.now.plan.slots ≡ Some slots }
         ensures word { result ≡ clock_word slots }
         ensures inside { result < self.now.id.words }
@@ -192,6 +208,7 @@ impl<A: Allocator + Copy> CardTable<A> {
         requires fits { PlaceFits standing.old seat.old.table_id.words seat.old.me.0.period }
         ensures open { (self.now.plan.slots ≡ None) ⊎ (seat.new.me.0.period.announced ≢ None) }
         ensures fits { PlaceFits standing.new seat.new.table_id.words seat.new.me.0.period }
+        ensures safe { seat.new.me.0.period.safe ≡ seat.old.me.0.period.safe }
         ensures tree { seat.new.me.0.tree ≡ seat.old.me.0.tree }
         ensures seat { (seat.new.table_id ≡ seat.old.table_id) × (seat.new.me.1 ≡ []) }
     {
@@ -239,8 +256,9 @@ impl<A: Allocator + Copy> CardTable<A> {
         self.period_exchange::<Brand>(seat, self.place_address(slots, place), 0, 1) == 0
     }
 
-    // Takes the first place that no pass has, if there are places and one is free.
-    pub(crate) fn find_place(&self, seat: &mut Seat<(), Known>) -> Option<u64>
+    // Takes a place that no pass has, if there are places and one is free. It looks at each once, first at the one behind the
+    // place that was found last, so that many places are found in a row with few looks at those that are taken.
+    pub(crate) fn find_place(&self, seat: &mut Seat<(), Known>, found: u64) -> Option<u64>
         requires own { seat.old.table_id ≡ self.now.id }
         requires empty { seat.old.me.1 ≡ [] }
         requires none { seat.old.me.0.period.other ≡ None }
@@ -250,7 +268,8 @@ impl<A: Allocator + Copy> CardTable<A> {
         ensures seat { (seat.new.table_id ≡ seat.old.table_id) × (seat.new.me.1 ≡ []) }
     {
         let slots = self.slots?;
-        for place in 0..slots.places {
+        for looks in 0..slots.places {
+            let place = slots.place_behind(found, looks);
             if self.take_place(seat, slots, place) {
                 return Some(place);
             }
@@ -336,15 +355,18 @@ impl<A: Allocator + Copy> CardTable<A> {
         least
     }
 
-    /// Lets the clock go on, and looks at all places. Returns the pass's safe number: each pass that is in a period began it when
-    /// the clock was this at least. Returns 0 if the table has no places. Its steps are not counted.
+    /// Lets the clock go on, and looks at all places. Returns the least number that it saw, which is the pass's safe number from
+    /// now on: as `safe_numbers_are_safe` says, whenever a pass is in a period, it began it when the clock was this at least. It
+    /// may be less than the last one, since a pass may announce a reading of the clock that is older. Returns 0 if the table has
+    /// no places. Its steps are not counted.
     pub fn safe_number(&self, pass: &mut Pass<A>) -> u64
         requires own { pass.old.table ≡ self.now.id }
-        // What the pass knows of the tree is as it was, and it has made no step that is counted.
-        ensures same { pass.new ≡ pass.old }
+        // The pass has this safe number, and is otherwise unchanged: it has made no step that is counted.
+        ensures safe { pass.new ≡ record (pass.old) { safe = result } }
         // A table without places has no safe number but 0.
         ensures none { self.now.plan.slots ≡ None → result ≡ 0 }
     {
+        let _ = &pass.seat;
         let Some(slots) = self.slots else {
             return 0;
         };

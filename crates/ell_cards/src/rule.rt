@@ -15,8 +15,8 @@ impl<A: Allocator + Copy> TableRule<(), Known, Plan<A>> for CardRule {
     ghost first = { first_known };
 }
 
-/// What a step tells of the word that it found and of what the pass knows of the tree after it. The caller of the step picks
-/// it.
+/// What a step tells of the word that it found and of what is shown of what the pass knows of the tree after it. The caller of
+/// the step picks it.
 pub(crate) trait Telling {
     ghost use Rattle.std.specs.Prelude.{ℕ};
     ghost use Rattle.ell_cards.specs.declared.view.View.{View};
@@ -37,8 +37,9 @@ pub(crate) struct By<J> {
 
 impl<J: Telling> Play<(), Known> for By<J> {
     ghost use Rattle.std.specs.Prelude.{◌≡◌};
+    ghost use Rattle.ell_cards.specs.Shown.{shown};
 
-    ghost then = { λ step old found new. J.then found new.0.tree × (new.0.period ≡ old.0.period) × (new.1 ≡ old.1) };
+    ghost then = { λ step old found new. J.then found (shown new.0.tree) × (new.0.period ≡ old.0.period) × (new.1 ≡ old.1) };
 }
 
 /// What a step tells of the word that it found and of what the pass knows of periods after it. The caller of the step picks
@@ -67,34 +68,31 @@ impl<J: PeriodTelling> Play<(), Known> for InPeriod<J> {
     ghost then = { λ step old found new. J.then found new.0.period × (new.0.tree ≡ old.0.tree) × (new.1 ≡ old.1) };
 }
 
-/// What two passes know of the tree after a split. The caller picks it.
-pub(crate) trait SplitInto {
-    ghost use Rattle.ell_cards.specs.declared.view.View.{View};
+/// The keys of the left part of a split. The caller picks them.
+pub(crate) trait SplitBy {
+    ghost use Rattle.std.specs.Prelude.{ℕ, List};
 
-    ghost left: { View };
-
-    ghost right: { View };
+    ghost keys: { List ℕ };
 }
 
-impl SplitInto for Brand {
-    ghost use Rattle.ell_cards.specs.Changes.{spent_view};
+impl SplitBy for Brand {
+    ghost use Rattle.std.specs.Prelude.{[]};
 
-    ghost left = { spent_view };
-
-    ghost right = { spent_view };
+    ghost keys = { [] };
 }
 
-/// A split into what its caller picked. The right part gets the other place of the pass.
+/// A split by the keys that its caller picked. The right part gets the other place of the pass.
 pub(crate) struct PartedBy<J> {
     parts: PhantomData<J>,
 }
 
-impl<J: SplitInto> Split<Known> for PartedBy<J> {
+impl<J: SplitBy> Split<Known> for PartedBy<J> {
+    ghost use Rattle.ell_cards.specs.Changes.{left_view, right_view};
     ghost use Rattle.ell_cards.specs.Periods.{after_give, given_period};
 
-    ghost left = { λ k. record { tree = J.left; period = after_give k.period } };
+    ghost left = { λ k. record { tree = left_view J.keys k.tree; period = after_give k.period } };
 
-    ghost right = { λ k. record { tree = J.right; period = given_period k.period } };
+    ghost right = { λ k. record { tree = right_view J.keys k.tree; period = given_period k.period } };
 }
 
 /// A join: one pass has what two had, and the other nothing.

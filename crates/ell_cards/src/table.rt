@@ -1,21 +1,19 @@
 //! The table, and its one atomic step of each kind.
-ghost use Rattle.std.specs.Prelude.{◌≡◌, ℕ, ◌<◌, ◌≤◌, ◌+◌, ◌==◌, [], OnOk};
+ghost use Rattle.std.specs.Prelude.{◌≡◌, ℕ, ◌<◌, ◌≤◌, ◌+◌, None};
 ghost use Rattle.ell_core.specs.declared.fact.Fact.{Fact};
 ghost use Rattle.ell_core.specs.state.Facts.{card_of_fact};
-ghost use prog.Atomic.{either};
-ghost use Rattle.atomic_table.specs.Table.{Allows};
-ghost use Rattle.ell_word.specs.Node.{greatest_card};
-ghost use Rattle.ell_layout.specs.Layout.{address, table_size};
+ghost use Rattle.ell_word.specs.Node.{greatest_card, greatest_number};
+ghost use Rattle.ell_layout.specs.Layout.{address};
 ghost use Rattle.ell_cards.specs.Models.{flat_from, Knows, Sees, TableModel, Steps};
 ghost use Rattle.ell_cards.specs.Changes.{after_fill};
 ghost use Rattle.ell_cards.specs.Naming.{IsNamed};
 ghost use Rattle.ell_cards.specs.Guards.{MayFill};
 ghost use Rattle.ell_cards.specs.Depths.{IsShallow, deepest};
-ghost use Rattle.ell_cards.specs.Calls.{word_of, atomic_of, Load, Exchange, after, May, Tells};
+ghost use Rattle.ell_cards.specs.Calls.{word_of, atomic_of, Load, Store, Exchange, after, May, Tells};
 ghost use Rattle.ell_cards.specs.Looking.{KeysAreFixed, ValuesAreFixed, ReadsItsOwn, MissesItsOwn};
 ghost use Rattle.ell_cards.specs.Periods.{whole_size};
 ghost use Rattle.ell_cards.specs.Starts.{SlotsFit};
-ghost use Rattle.ell_cards.specs.Stepping.{IsQuiet, MayLoad, MayStore, MayExchange, KeepsPass, LeavesRest, SeesBy, StepsBy};
+ghost use Rattle.ell_cards.specs.Stepping.{IsQuiet, MayTell, KeepsPass, SeesBy, StepsBy};
 
 use crate::call::Call;
 use crate::pass::{Pass, one_more};
@@ -44,13 +42,14 @@ impl<A: Allocator + Copy> Model for CardTable<A> {
 
     ghost invariant = { λ t. (t.table.shared.table_id.words ≡ whole_size t.table.shared.key)
         × (t.table.shared.table_id.slots ≡ 0)
-        × (t.table.shared.key.last_card ≤ greatest_card)
+        × (t.table.shared.key.last_card ≤ greatest_number)
         × (t.last_card ≡ t.table.shared.key.last_card)
         × (t.shared ≡ t.table.shared.key.shared)
         × (t.first_block ≡ flat_from t.table.shared.key)
-        × (deepest t.table.shared.key ≤ greatest_card + 64)
+        × (deepest t.table.shared.key ≤ greatest_number + 64)
         × (t.slots ≡ t.table.shared.key.slots)
-        × SlotsFit t.table.shared.key t.table.shared.key.slots };
+        × SlotsFit t.table.shared.key t.table.shared.key.slots
+        × (t.table.shared.key.slots ≡ None → deepest t.table.shared.key ≤ greatest_card + 64) };
 }
 
 impl<A: Allocator + Copy> CardTable<A> {
@@ -71,20 +70,26 @@ impl<A: Allocator + Copy> CardTable<A> {
         requires own { pass.now.table ≡ self.now.id }
         // All that the pass knows is of cards of the table.
         ensures cards { (fact : Fact) → Knows pass.now.view fact → card_of_fact fact ≤ self.now.plan.last_card }
-        ensures room { self.now.plan.last_card ≤ greatest_card }
+        ensures room { self.now.plan.last_card ≤ greatest_number }
         // No internal node of the table is deeper than this.
-        ensures deep { deepest self.now.plan ≤ greatest_card + 64 }
+        ensures deep { deepest self.now.plan ≤ greatest_number + 64 }
+        // Without places, the last card is at most `CARD_MAX`, and no internal node is more than 64 deeper than that.
+        ensures few { self.now.plan.slots ≡ None → self.now.plan.last_card ≤ greatest_card }
+        ensures shallow { self.now.plan.slots ≡ None → deepest self.now.plan ≤ greatest_card + 64 }
     {
         self.names(pass);
     }
 
-    // What the pass names is in the table.
+    // What the pass names is in the table, and is of cards that have words.
     #[inline(always)]
     pub(crate) fn names(&self, pass: &Pass<A>)
         requires own { pass.now.table ≡ self.now.id }
         ensures named { IsNamed self.now.plan.last_card pass.now.view }
-        ensures room { self.now.plan.last_card ≤ greatest_card }
-        ensures deep { deepest self.now.plan ≤ greatest_card + 64 }
+        ensures words { IsNamed greatest_card pass.now.view }
+        ensures room { self.now.plan.last_card ≤ greatest_number }
+        ensures deep { deepest self.now.plan ≤ greatest_number + 64 }
+        ensures few { self.now.plan.slots ≡ None → self.now.plan.last_card ≤ greatest_card }
+        ensures shallow { self.now.plan.slots ≡ None → deepest self.now.plan ≤ greatest_card + 64 }
     {
         let _ = &self.table;
         let _ = &pass.seat;
@@ -94,10 +99,12 @@ impl<A: Allocator + Copy> CardTable<A> {
     #[inline(always)]
     pub(crate) fn load_as<J: Telling>(&self, pass: &mut Pass<A>, call: Call, word: usize) -> u64
         requires own { pass.old.table ≡ self.now.id }
-        requires word { (last : ℕ) → IsNamed last pass.old.view → word < table_size last }
-        requires rule { MayLoad self.now.plan pass.old.view word J.then }
+        requires may { May self.now.plan call pass.old.view }
+        requires quiet { IsQuiet call }
+        requires word { word ≡ word_of call }
+        requires atomic { atomic_of call ≡ Load }
+        requires tells { MayTell self.now.plan call pass.old.view J.then }
         requires keeps { KeepsPass self.now.plan pass.old.view J.then }
-        requires rests { LeavesRest self.now.plan pass.old.view J.then }
         ensures told { J.then result pass.new.view }
         ensures step { SeesBy pass.old pass.new }
     {
@@ -148,8 +155,10 @@ impl<A: Allocator + Copy> CardTable<A> {
     #[inline(always)]
     fn load_entered_as<J: Telling>(&self, pass: &mut Pass<A>, call: Call, word: usize) -> u64
         requires own { pass.old.table ≡ self.now.id }
-        requires word { (last : ℕ) → IsNamed last pass.old.view → word < table_size last }
-        requires rule { MayLoad self.now.plan pass.old.view word J.then }
+        requires may { May self.now.plan call pass.old.view }
+        requires word { word ≡ word_of call }
+        requires atomic { atomic_of call ≡ Load }
+        requires tells { MayTell self.now.plan call pass.old.view J.then }
         requires keeps { KeepsPass self.now.plan pass.old.view J.then }
         ensures told { J.then result pass.new.view }
         ensures step { SeesBy pass.old pass.new }
@@ -178,10 +187,12 @@ impl<A: Allocator + Copy> CardTable<A> {
     #[inline(always)]
     fn store_as<J: Telling>(&self, pass: &mut Pass<A>, call: Call, word: usize, value: u64)
         requires own { pass.old.table ≡ self.now.id }
-        requires word { (last : ℕ) → IsNamed last pass.old.view → word < table_size last }
-        requires rule { MayStore self.now.plan pass.old.view word value J.then }
+        requires may { May self.now.plan call pass.old.view }
+        requires quiet { IsQuiet call }
+        requires word { word ≡ word_of call }
+        requires atomic { atomic_of call ≡ Store value }
+        requires tells { MayTell self.now.plan call pass.old.view (λ n. J.then value) }
         requires keeps { KeepsPass self.now.plan pass.old.view J.then }
-        requires rests { LeavesRest self.now.plan pass.old.view J.then }
         ensures told { J.then value pass.new.view }
         ensures step { StepsBy pass.old pass.new }
     {
@@ -214,10 +225,12 @@ impl<A: Allocator + Copy> CardTable<A> {
         value: u64,
     ) -> u64
         requires own { pass.old.table ≡ self.now.id }
-        requires word { (last : ℕ) → IsNamed last pass.old.view → word < table_size last }
-        requires rule { MayExchange self.now.plan pass.old.view word expected value J.then }
+        requires may { May self.now.plan call pass.old.view }
+        requires quiet { IsQuiet call }
+        requires word { word ≡ word_of call }
+        requires atomic { atomic_of call ≡ Exchange expected value }
+        requires tells { MayTell self.now.plan call pass.old.view J.then }
         requires keeps { KeepsPass self.now.plan pass.old.view J.then }
-        requires rests { LeavesRest self.now.plan pass.old.view J.then }
         ensures told { J.then result pass.new.view }
         ensures step { StepsBy pass.old pass.new }
     {

@@ -130,6 +130,26 @@ pub struct Period {
     pub looked: u64,
     /// Every pass that is in a period began it when the clock was this at least.
     pub safe: u64,
+    /// The word of a slot that it read last.
+    pub read: Option<SlotRead>,
+    /// The card that it is about to set free, as its nodes are dead.
+    pub stamp: Option<Stamp>,
+    /// The card whose slot it has taken last.
+    pub slot: Option<u64>,
+}
+
+/// The word of a slot as a pass has read it.
+#[derive(Clone, Copy)]
+pub struct SlotRead {
+    pub slot: u64,
+    pub word: u64,
+}
+
+/// A card whose nodes are dead, and a reading of the clock since they were.
+#[derive(Clone, Copy)]
+pub struct Stamp {
+    pub card: u64,
+    pub reading: u64,
 }
 
 /// What a pass knows: of the tree, and of grace periods. No value of this type is made.

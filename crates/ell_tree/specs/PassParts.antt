@@ -25,13 +25,14 @@ pub record IsFirst (t : TreeModel) (p : PassModel) : Type 0 where
   pub steps : p.steps ≡ 0
   pub made : p.view.made ≡ 0
   pub label : p.label ≡ 0
+  pub safe : p.safe ≡ 0
   pub milestones : (last : ℕ) → milestones_known last p.view ≡ 0
   pub share : p.view.share ≡ whole_share
   pub ownable : p.view.worker.shared ≡ ownable_if t.plan.shared t.plan.keys
   pub idle : IsIdle p
 
--- the left part of a pass: it has these keys as the pass had them, and keeps the counts; of the steps made, the split
--- is its own
+-- the left part of a pass: it has these keys as the pass had them, and keeps the counts and the safe number; of the
+-- steps made, the split is its own
 pub record IsLeftPart (keys : List ℕ) (p part : PassModel) : Type 0 where
   pub own : part.table ≡ p.table
   pub ledger : (k : ℕ) → ledger part k ≡ (if set_of keys k then ledger p k else None)
@@ -43,12 +44,13 @@ pub record IsLeftPart (keys : List ℕ) (p part : PassModel) : Type 0 where
   pub steps : part.steps ≡ one_more p.steps
   pub made : part.view.made ≡ p.view.made + 1
   pub label : part.label ≡ p.label
+  pub safe : part.safe ≡ p.safe
   pub milestones : (last : ℕ) → milestones_known last part.view ≡ milestones_known last p.view
   pub share : part.view.share ≡ p.view.share - given_share p.view.share
   pub ownable : part.view.worker.shared ≡ p.view.worker.shared
   pub idle : IsIdle part
 
--- the right part: it has the other keys, and counts anew
+-- the right part: it has the other keys, and counts anew; it has looked at no place yet
 pub record IsRightPart (keys : List ℕ) (p part : PassModel) : Type 0 where
   pub own : part.table ≡ p.table
   pub ledger : (k : ℕ) → ledger part k ≡ (if set_of keys k then None else ledger p k)
@@ -60,6 +62,7 @@ pub record IsRightPart (keys : List ℕ) (p part : PassModel) : Type 0 where
   pub steps : part.steps ≡ one_more p.steps
   pub made : part.view.made ≡ 0
   pub label : part.label ≡ p.label
+  pub safe : part.safe ≡ 0
   pub milestones : (last : ℕ) → milestones_known last part.view ≡ milestones_known last p.view
   pub share : part.view.share ≡ given_share p.view.share
   pub ownable : part.view.worker.shared ≡ p.view.worker.shared
@@ -70,7 +73,8 @@ abbrev pub or_else : Option Entry → Option Entry → Option Entry
 or_else (Some present) other = Some present
 or_else None other = other
 
--- two passes in one: it has the keys of both, adds the counts, and has the later reading of the claim word
+-- two passes in one: it has the keys of both, adds the counts, and has the later reading of the claim word, and the left
+-- one's safe number
 pub record IsUnion (left right both : PassModel) : Type 0 where
   pub own : both.table ≡ left.table
   pub ledger : (k : ℕ) → ledger both k ≡ or_else (ledger left k) (ledger right k)
@@ -83,6 +87,7 @@ pub record IsUnion (left right both : PassModel) : Type 0 where
   pub steps : both.steps ≡ one_more (max left.steps right.steps)
   pub made : both.view.made ≡ left.view.made + right.view.made + 1
   pub label : both.label ≡ left.label
+  pub safe : both.safe ≡ left.safe
   pub milestones : (last : ℕ) → (milestones_known last left.view ≤ milestones_known last both.view)
       × (milestones_known last right.view ≤ milestones_known last both.view)
   pub share : both.view.share ≡ (left.view.share + right.view.share) % 2 ^ 64

@@ -3,7 +3,7 @@ ghost use Rattle.std.specs.Prelude.{◌≡◌, ◌≤◌, ◌+◌, ℕ, Some, No
 ghost use Rattle.std.specs.Bool.{OnTrue, OnFalse};
 ghost use Rattle.ell_ops.specs.declared.op.Op.TheVariants.{Delete};
 ghost use Rattle.ell_word.specs.Link.{IsLink};
-ghost use Rattle.ell_word.specs.Node.{greatest_card};
+ghost use Rattle.ell_word.specs.Node.{greatest_number};
 ghost use Rattle.ell_word.specs.Word.{packed};
 ghost use Rattle.ell_core.specs.declared.fact.Fact.TheVariants.{DFlagged, DOver};
 ghost use Rattle.ell_layout.specs.declared.field.Field.TheVariants as field;
@@ -118,7 +118,7 @@ fn flag_delete<A: Allocator + Copy, G: StepGate>(
 ) -> Result<(), Update>
     requires own { pass.old.table ≡ table.now.id }
     requires above { place.grandparent ≡ Some above }
-    requires limit { place.parent.update.card ≤ greatest_card }
+    requires limit { place.parent.update.card ≤ greatest_number }
     requires link { IsLink (node_with place above.tag) }
     requires card { (key : ℕ) × HasCard (Delete key) place above.tag
         (delete_filling above.node place.parent.node place.node (packed place.parent.update)) pass.old.view card }
@@ -143,7 +143,7 @@ fn fill_delete<A: Allocator + Copy, G: StepGate>(
     gate: &G,
 )
     requires own { pass.old.table ≡ table.now.id }
-    requires limit { place.parent.update.card ≤ greatest_card }
+    requires limit { place.parent.update.card ≤ greatest_number }
     requires link { IsLink (node_with place above.tag) }
     requires card { (key : ℕ) × HasCard (Delete key) place above.tag
         (delete_filling above.node place.parent.node place.node (packed place.parent.update)) pass.old.view card }
@@ -168,7 +168,7 @@ fn finish_own<A: Allocator + Copy, G: StepGate>(
     gate: &G,
 ) -> bool
     requires own { pass.old.table ≡ table.now.id }
-    requires limit { parent.update.card ≤ greatest_card }
+    requires limit { parent.update.card ≤ greatest_number }
     requires knows { Knows pass.old.view (DFlagged card) }
     requires grandparent { IsTold pass.old.view (Info card field.Gp grandparent) }
     requires node { IsInnerMet table.now.plan.last_card pass.old.view grandparent }

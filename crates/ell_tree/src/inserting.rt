@@ -1,7 +1,7 @@
 //! Inserts (paper of 2010, figure 8: Insert), and swaps, which work the same way.
 ghost use Rattle.std.specs.Prelude.{◌≡◌, ◌≤◌, ◌+◌, Some, None};
 ghost use Rattle.ell_word.specs.Link.{IsLink};
-ghost use Rattle.ell_word.specs.Node.{greatest_card};
+ghost use Rattle.ell_word.specs.Node.{greatest_number};
 ghost use Rattle.ell_core.specs.acts.Searching.{put_of};
 ghost use Rattle.ell_core.specs.declared.fact.Fact.TheVariants.{IFlagged};
 ghost use Rattle.ell_tree.specs.CardsTaken.{TakesNoCard, TryTakes};
@@ -120,7 +120,7 @@ fn flag_insert<A: Allocator + Copy, G: StepGate>(
     gate: &G,
 ) -> Result<(), Update>
     requires own { pass.old.table ≡ table.now.id }
-    requires limit { card ≤ greatest_card }
+    requires limit { card ≤ greatest_number }
     requires link { IsLink (node_with place place.parent.tag) }
     requires card { HasCardToPut what place node_key pass.old.view card }
     requires node { IsInnerMet table.now.plan.last_card pass.old.view place.parent.node }
@@ -146,7 +146,7 @@ fn fill_insert<A: Allocator + Copy, G: StepGate>(
     gate: &G,
 )
     requires own { pass.old.table ≡ table.now.id }
-    requires limit { card ≤ greatest_card }
+    requires limit { card ≤ greatest_number }
     requires link { IsLink (node_with place place.parent.tag) }
     requires card { HasCardToPut what place node_key pass.old.view card }
     ensures { Fills pass.old pass.new 10 }

@@ -1,7 +1,7 @@
 //! One try of an insert, a delete or a swap: how it ends, and its card.
 ghost use Rattle.std.specs.Prelude.{◌≡◌, ◌≤◌, None};
 ghost use Rattle.ell_word.specs.declared.update.State.TheVariants.{Clean};
-ghost use Rattle.ell_word.specs.Node.{greatest_card};
+ghost use Rattle.ell_word.specs.Node.{greatest_number};
 ghost use Rattle.ell_cards.specs.Models.{Does, Steps, flat_from};
 ghost use Rattle.ell_cards.specs.Guards.{MayFill, Wants};
 ghost use Rattle.ell_cards.specs.Changes.{after_fill};
@@ -59,7 +59,7 @@ pub(crate) fn take_card<A: Allocator + Copy, G: StepGate>(
     ensures keeps { Keeps pass.old pass.new 2 }
     ensures claims { Claims table.now.plan.last_card op place node_key pass.old pass.new result }
     ensures taken { AskTakes pass.old pass.new result }
-    ensures limit { table.now.plan.last_card ≤ greatest_card }
+    ensures limit { table.now.plan.last_card ≤ greatest_number }
 {
     let label = pass.label();
     gate.before(label, Kind::Look);

@@ -7,7 +7,6 @@ use Rattle.ell_core.proofs.lemmas.tree.Ranks.{rank_plain, rank_same, rank_flat_m
 use Rattle.ell_cards.specs.Depths.{level, most_depth, deepest}
 use Rattle.ell_cards.specs.Models.{TablePlan, flat_from}
 use Rattle.ell_layout.specs.Branches.{greatest_depth, halvings_of}
-use Rattle.ell_word.specs.Node.{greatest_card}
 
 -- in a tree that is not flat a node of a greater rank has a greater number
 pub number_rises : (w : Words) → w.flat_from ≡ 0 → (x y : ℕ) → rank w x < rank w y → x < y
@@ -41,8 +40,8 @@ halvings_few (suc n) leaves = by (nat_lt 1 leaves) (halvings_few n (leaves - lea
     by true rest = omega arith
     by false rest = omega arith
 
-pub deepest_most : (plan : TablePlan) → plan.last_card ≤ greatest_card → length plan.start < greatest_card → deepest plan ≤ greatest_card + 64
-deepest_most plan room few = elim (cases_Bool plan.flat) [
+pub deepest_most : (plan : TablePlan) (last : ℕ) → plan.last_card ≤ last → length plan.start < last → deepest plan ≤ last + 64
+deepest_most plan last room few = elim (cases_Bool plan.flat) [
   | inl flat ↦ (
       let most = ap (λ b. if b then greatest_depth (length plan.start + 1) + 64 else plan.last_card) flat in
       let halved = halvings_few (length plan.start + 1) (length plan.start + 1) in

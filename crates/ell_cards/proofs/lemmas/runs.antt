@@ -118,3 +118,7 @@ pub mod Stories
 pub mod Placing
 -- What step calls touch was there when the operation began.
 pub mod Touching
+-- And it was not dead.
+pub mod Alive
+-- how far the tags of child words have come since an earlier state
+pub mod TagsOfRuns

@@ -11,6 +11,7 @@ use Rattle.ell_layout.specs.Words.{words_of, IsLeaf}
 use Rattle.ell_core.specs.tree.Tree.{IsTreeKey, ListsTreePairs}
 use Rattle.ell_core.specs.tree.Room.{HoldsKeys}
 use Rattle.ell_core.proofs.lemmas.tree.Pairs.{Contains-from_list_any}
+use Rattle.ell_cards.specs.declared.view.View.{View}
 use Rattle.ell_cards.specs.Models.{PassModel, IsFree, whole_share}
 use Rattle.ell_cards.specs.Changing.{HasMap}
 use Rattle.ell_cards.specs.Accounts.{AreOfOneThread}
@@ -168,9 +169,12 @@ module _ (t : TreeModel) (p : PassModel) (closed : ClosedModel) (ends : TableEnd
         → AreOfOneThread (contents_of t.plan.start) p.view.answers (contents_of pairs)
     of_thread free whole mode =
         let ran = ends.ran in
-        let account = whole_accounts_are_of_one_thread t.plan ran.state mode ran.reached ran.seat p.view ran.seen (whole mode) free in
+        let share = ap (λ (v : View). v.share) ran.shows ∙ whole mode in
+        let idle = ap (λ (v : View). v.worker.operation) ran.shows ∙ free in
+        let account = whole_accounts_are_of_one_thread t.plan ran.state mode ran.reached ran.seat ran.knows ran.seen share idle in
         let is : HasMap (words_of closed.words) account.left = subst (λ ws. HasMap (words_of ws) account.left) ran.same account.is in
-        subst (AreOfOneThread (contents_of t.plan.start) p.view.answers) (one_map (words_of closed.words) account.left (contents_of pairs) is is_list) account.thread
+        subst (λ deeds. AreOfOneThread (contents_of t.plan.start) deeds (contents_of pairs)) (ap (λ (v : View). v.answers) ran.shows)
+        (subst (AreOfOneThread (contents_of t.plan.start) ran.knows.answers) (one_map (words_of closed.words) account.left (contents_of pairs) is is_list) account.thread)
 
     pub closes : closed.last_card ≡ t.plan.last_card → ClosesTo t p pairs
     closes cards = record {

@@ -1,7 +1,7 @@
 use Rattle.std.proofs.Common.{◌≡◌, ℕ, ◌<◌, ◌≤◌, arith}
 use Rattle.ell_word.specs.declared.link.Link.{Link}
 use Rattle.ell_word.specs.Link.{IsLink, greatest_tag, linked, link_in, tag_unit}
-use Rattle.ell_word.specs.Node.{greatest_card}
+use Rattle.ell_word.specs.Node.{greatest_number}
 use Rattle.ell_layout.proofs.lemmas.Writes.{link_back}
 use Rattle.ell_cards.specs.Models.{InTable}
 
@@ -14,13 +14,13 @@ pub node_same : (l : Link) → l.node < tag_unit → (link_in (linked l)).node �
 node_same l small = omega (arith, small)
 
 -- a node of a table is small enough for a word
-pub node_small : (last x : ℕ) → InTable last x → last ≤ greatest_card → x < tag_unit
+pub node_small : (last x : ℕ) → InTable last x → last ≤ greatest_number → x < tag_unit
 node_small last x there room = omega (arith, there, room)
 
 -- so a child of a table that was read is what its word says
-pub child_same : (last : ℕ) (l : Link) → InTable last l.node → last ≤ greatest_card → (link_in (linked l)).node ≡ l.node
+pub child_same : (last : ℕ) (l : Link) → InTable last l.node → last ≤ greatest_number → (link_in (linked l)).node ≡ l.node
 child_same last l there room = node_same l (node_small last l.node there room)
 
 -- a node of a table and a tag have a word
-pub has_word : (last : ℕ) (l : Link) → InTable last l.node → last ≤ greatest_card → l.tag ≤ greatest_tag → IsLink l
+pub has_word : (last : ℕ) (l : Link) → InTable last l.node → last ≤ greatest_number → l.tag ≤ greatest_tag → IsLink l
 has_word last l there room low = record { node = node_small last l.node there room; tag = low }

@@ -4,7 +4,7 @@ use Rattle.std.specs.Map.{keys_of}
 use Rattle.ell_ops.specs.KeySet.{set_of}
 use Rattle.ell_core.specs.state.Machine.{ledger_of}
 use Rattle.ell_tree.proofs.lemmas.Milestones.{milestones_more, milestones_none, known_left, known_right}
-use Rattle.ell_cards.specs.Models.{TablePlan, PassModel, TableModel, Steps, one_more}
+use Rattle.ell_cards.specs.Models.{TablePlan, PassModel, TableModel, Steps, StepsOut, one_more}
 use Rattle.ell_cards.specs.Changes.{first_of, left_view, right_view, united_ledgers, joined_view}
 use Rattle.ell_cards.proofs.lemmas.lifetimes.Parts.{part_on, part_off}
 use Rattle.ell_core.specs.state.Machine.{entry_of}
@@ -44,7 +44,7 @@ start_value_is None = refl
 -- a first pass has all keys, the start keys present with their values
 pub first_pass : (plan : TablePlan) (made : TableModel × PassModel) → (plan.shared ≡ false → All (λ k. set_of plan.keys k ≡ true) (keys_of plan.start))
     → OpensBy plan made → IsFirst made.0 made.1
-first_pass plan made given opens = subst (IsFirst made.0) (sym opens.pass) (subst (λ p. IsFirst (record { id = made.0.id; plan = p }) (record { table = made.0.id; view = first_of plan; steps = 0; label = 0 })) (sym opens.table) (record {
+first_pass plan made given opens = subst (IsFirst made.0) (sym opens.pass) (subst (λ p. IsFirst (record { id = made.0.id; plan = p }) (record { table = made.0.id; view = first_of plan; steps = 0; label = 0; safe = 0 })) (sym opens.table) (record {
   own = refl;
   ledger = λ k. ledger_at_start plan.keys plan.start k;
   each = λ k among. ap value_in (ledger_at_start plan.keys plan.start k ∙ ap (λ b. if b then Some (start_entry plan.start k) else None) among)
@@ -61,6 +61,7 @@ first_pass plan made given opens = subst (IsFirst made.0) (sym opens.pass) (subs
   steps = refl;
   made = refl;
   label = refl;
+  safe = refl;
   milestones = λ cards. milestones_none cards;
   idle = refl;
 }))
@@ -92,13 +93,14 @@ left_part keys p part s = subst (IsLeftPart keys p) (sym s) (record {
   steps = refl;
   made = refl;
   label = refl;
+  safe = refl;
   milestones = λ cards. refl;
   share = refl;
   ownable = refl;
   idle = refl;
 })
 
-pub right_part : (keys : List ℕ) (p part : PassModel) → Steps p part (right_view keys p.view) → IsRightPart keys p part
+pub right_part : (keys : List ℕ) (p part : PassModel) → StepsOut p part (right_view keys p.view) → IsRightPart keys p part
 right_part keys p part s = subst (IsRightPart keys p) (sym s) (record {
   own = refl;
   ledger = right_ledger keys p.view.worker.ledger;
@@ -110,6 +112,7 @@ right_part keys p part s = subst (IsRightPart keys p) (sym s) (record {
   steps = refl;
   made = refl;
   label = refl;
+  safe = refl;
   milestones = λ cards. refl;
   share = refl;
   ownable = refl;
@@ -128,7 +131,7 @@ both_ledger l m k = elim (ledger_united l m k) [
 ]
 
 pub union : (left right both : PassModel)
-    → both ≡ record { table = left.table; view = joined_view left.view right.view; steps = one_more (max left.steps right.steps); label = left.label }
+    → both ≡ record { table = left.table; view = joined_view left.view right.view; steps = one_more (max left.steps right.steps); label = left.label; safe = left.safe }
     → IsUnion left right both
 union left right both e = subst (IsUnion left right) (sym e) (record {
   own = refl;
@@ -142,6 +145,7 @@ union left right both e = subst (IsUnion left right) (sym e) (record {
   steps = refl;
   made = refl;
   label = refl;
+  safe = refl;
   milestones = λ cards. (
     milestones_more cards left.view (joined_view left.view right.view) (λ f h. known_left left.view.worker.knows right.view.worker.knows f h) (omega arith),
     milestones_more cards right.view (joined_view left.view right.view) (λ f h. known_right left.view.worker.knows right.view.worker.knows f h) (omega arith),

@@ -3,13 +3,20 @@ use Rattle.std.proofs.Common.{◌≡◌, ℕ, ◌<◌, nat_lt, if◌then◌else�
 use Rattle.std.proofs.lemmas.Bool.Decides.{nat_tests}
 use Rattle.ell_cards.specs.declared.view.Known.{Known}
 use Rattle.ell_cards.specs.declared.view.Slots.{Slots}
+use Rattle.ell_cards.specs.Ages.{HasPeriods}
+use Rattle.ell_cards.specs.Models.{TablePlan}
+use Rattle.ell_cards.specs.States.{TableState}
 use Rattle.ell_cards.specs.PeriodLaws.{IsInPeriod, BeganSafely}
-use Rattle.ell_cards.specs.Periods.{WholeState, HasPeriods, announced_by, place_says, place_word, period_of, word_at_place}
+use Rattle.ell_cards.specs.Periods.{WholeState, PeriodsAreSound, announced_by, place_says, place_word, period_of, word_at_place}
 use Rattle.ell_cards.specs.Whole.{PeriodsAre}
 use Rattle.ell_cards.proofs.lemmas.whole.Steps.{announced_again}
+use Rattle.ell_cards.proofs.lemmas.whole.Untouched.{free_slots_are_untouched}
 use Rattle.ell_cards.proofs.laws.safe_numbers_are_safe.Goals as goal
 
-module _ (s : Slots) (t : WholeState) (h : HasPeriods s t) (seat : ℕ) (k : Known) (is : IsInPeriod t seat k) where
+module _ (plan : TablePlan) (s : Slots) (tree : TableState) (t : WholeState) (has : HasPeriods plan s tree t) (seat : ℕ) (k : Known) (is : IsInPeriod t seat k) where
+  h : PeriodsAreSound s t has.dead has.began has.was_dead
+  h = has.periods
+
   -- the place of a pass in a period says what it announces
   says : word_at_place s t.words is.place ≡ Some is.reading
   says =
@@ -30,4 +37,7 @@ module _ (s : Slots) (t : WholeState) (h : HasPeriods s t) (seat : ℕ) (k : Kno
       }
 
 pub returns : goal.returns
-returns c = λ plan s t placed h seat k is. began_safely s t (subst (λ o. PeriodsAre o t) placed h.periods) seat k is
+returns c = record {
+  began = λ plan s t placed h seat k is. began_safely plan s h.tree t (subst (λ o. PeriodsAre plan o h.tree t) placed h.periods) seat k is;
+  free = free_slots_are_untouched;
+}

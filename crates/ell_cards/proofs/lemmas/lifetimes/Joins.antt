@@ -22,7 +22,7 @@ use Rattle.ell_cards.specs.Machines.{ViewHolds}
 use Rattle.ell_cards.specs.Inside.{PassFits}
 use Rattle.ell_cards.specs.Laws.{JoinsAreHandovers}
 use Rattle.ell_cards.proofs.lemmas.seats.Seats.{inside, seated_put, mine_is, mine_sound}
-use Rattle.ell_word.specs.Node.{greatest_card}
+use Rattle.ell_word.specs.Node.{greatest_number}
 use Rattle.ell_cards.proofs.lemmas.seats.Named.{named_more}
 use Rattle.ell_cards.proofs.lemmas.lifetimes.Idle.{rest_holds, rest_named}
 use Rattle.ell_ops.specs.KeySet.{Lists, set_of, union}
@@ -158,6 +158,7 @@ joins_are_handovers plan s r id other v w here there apart free other_free =
       };
     } in record {
       later = stages_same r.stages;
+      stages = refl;
       kept = record {
         words = r.words;
         stages = r.stages;
@@ -222,12 +223,13 @@ joined_fits words left right ours theirs one other keys mine yours v w h g same_
         counts = either_counts mine.counts yours.counts v.worker.shared w.worker.shared h.share.counts g.share.counts;
       };
       named = λ cards size. joined_named cards v w (h.named cards (sym same_left ∙ size)) (g.named cards (sym same_right ∙ size));
-      most = joined_named greatest_card v w h.most g.most;
+      most = joined_named greatest_number v w h.most g.most;
       inside =
           let last = max h.inside.last g.inside.last in
           let few = h.inside.few in
           let few' = g.inside.few in record {
             last = last;
+            low = let low = h.inside.low in let low' = g.inside.low in omega arith;
             few = omega arith;
             named = joined_named last v w (named_more h.inside.last last (omega arith) v h.inside.named) (named_more g.inside.last last (omega arith) w g.inside.named);
           };

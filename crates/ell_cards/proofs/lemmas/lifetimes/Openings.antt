@@ -6,7 +6,7 @@ use lib.ListN.{get_elem?}
 use Rattle.atomic_table.specs.Table.{opening}
 use Rattle.ell_layout.specs.Layout.{table_size}
 use Rattle.ell_layout.specs.Words.{Words, table_word}
-use Rattle.ell_word.specs.Node.{greatest_card}
+use Rattle.ell_word.specs.Node.{greatest_number}
 use Rattle.ell_cards.specs.Naming.{IsNamed}
 use Rattle.ell_core.specs.state.Opening.{last_card}
 use Rattle.ell_layout.specs.Start.{words_at_start}
@@ -146,8 +146,8 @@ first_fits plan words room rising = record {
   ascending = rising;
   share = record { units = refl; counts = mode plan.shared };
   named = λ cards size. first_named cards;
-  most = first_named greatest_card;
-  inside = record { last = 0; few = room; named = first_named 0 };
+  most = first_named greatest_number;
+  inside = record { last = 0; low = omega arith; few = room; named = first_named 0 };
 }
   where
     first_named : (cards : ℕ) → IsNamed cards (first_of plan)

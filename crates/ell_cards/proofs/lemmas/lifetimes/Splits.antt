@@ -102,6 +102,7 @@ splits_are_handovers plan s r id v chosen here free =
       };
     } in record {
       later = stages_same r.stages;
+      stages = refl;
       kept = record {
         words = r.words;
         stages = r.stages;

@@ -301,7 +301,8 @@ answers_with_card plan v op said card took last s starts turns s' run seat there
     ]
 
 pub answers_have_their_points : AnswersHaveTheirPoints
-answers_have_their_points plan v op said card took last s starts turns s' run seat there = (answers_with_card plan v op said card took last s starts turns s' run seat there).0
+answers_have_their_points plan v op said card took last s starts turns s' run seat w is there =
+    (answers_with_card plan w op said card took (ap (λ (u : View). u.answered) is ∙ last) s starts turns s' run seat there).0
 
 -- the turn before which a pass has an operation in hand: the call that begins it, or another, before which it had it
 pub turn_begun : (plan : TablePlan) (seat : ℕ) (op : Op) (s : TableState) (t : Turn) (s' : TableState) → TableTurns plan s t s' → (v : View) → get_elem? s'.views seat ≡ some v

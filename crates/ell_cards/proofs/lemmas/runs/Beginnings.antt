@@ -18,7 +18,8 @@ use Rattle.ell_cards.specs.TurnEffects.{own_words}
 use Rattle.ell_cards.specs.States.{TableState}
 use Rattle.ell_cards.specs.Starts.{Starts}
 use Rattle.ell_cards.specs.Turns.{CallIsMade, Turn, Makes, Splits, Joins, TableTurns, TableRun, found_by, view_after}
-use Rattle.ell_cards.specs.Looking.{BeginsNothing, LooksOn, Began, HasFound, HasMissed, FoundInRun, HasThere, WasSo, IsFoundInRuns, HasBetween, TellsBetween, LooksAreOfOneState, LooksAreInOrder, StretchesAreOfOneState, StretchesAreInOrder}
+use Rattle.ell_cards.specs.Looking.{BeginsNothing, LooksOn, Began, HasFound, HasMissed, FoundInRun, HasThere, WasSo, HasBetween, HasFoundBetween, TellsBetween, LooksAreOfOneState, LooksAreInOrder, StretchesAreOfOneState, StretchesAreInOrder}
+use Rattle.ell_cards.proofs.lemmas.shown.ShownViews.{found_whole, found_between_whole}
 use Rattle.ell_cards.proofs.lemmas.runs.Glances.{claim_look, flag_look, mark_look, stretches_of_one_state, keys_of_one_state}
 use Rattle.ell_cards.proofs.lemmas.runs.Starting.{starts_are_kept}
 use Rattle.ell_cards.proofs.lemmas.runs.TurnsOfRuns.{runs_are_lawful}
@@ -165,17 +166,29 @@ since_it_began plan v what g among s starts turns s' run seat there so =
       | inr h ↦ absurd (starts_still plan s starts seat h.1)
     ]
 
+-- so it is in every run to a state in which a pass knows this itself
+abbrev pub IsFoundThere : TablePlan → View → (Words → Type 0) → Type 0
+IsFoundThere plan v what = (s : TableState) → Starts plan s → (turns : List Turn) (s' : TableState)
+    → TableRun plan s turns s' → (seat : ℕ) → get_elem? s'.views seat ≡ some v → FoundInRun plan s turns s' seat what
+
 -- what a look has found of a stretch was so
-pub stretches_are_of_one_state : StretchesAreOfOneState
-stretches_are_of_one_state plan v low high said found s starts turns s' run seat there =
+stretch_there : (plan : TablePlan) (v : View) (low high : ℕ) (there : Option (ℕ × ℕ)) → HasFoundBetween (flat_from plan) v low high there
+    → IsFoundThere plan v (HasBetween low high there)
+stretch_there plan v low high said found s starts turns s' run seat there =
     since_it_began plan v (HasBetween low high said) found.comes.come.glance found.comes.come.among s starts turns s' run seat there
     (λ from kept to call more after on. stretches_of_one_state plan v low high said found from kept seat to call more s' after on there)
+
+pub stretches_are_of_one_state : StretchesAreOfOneState
+stretches_are_of_one_state plan v low high said found s starts turns s' run seat w is there =
+    stretch_there plan w low high said
+    (found_between_whole (flat_from plan) w low high said (subst (λ u. HasFoundBetween (flat_from plan) u low high said) (sym is) found))
+    s starts turns s' run seat there
 
 -- of two looks, one after the other, the second is of no earlier state
 pub stretches_are_in_order : StretchesAreInOrder
 stretches_are_in_order plan s starts turns ended run seat v at first found other begun call more s' run' on w at' second found' =
     let kept = (runs_are_lawful plan s (starts_are_kept plan s starts).kept turns ended run).kept in (
-      stretches_are_of_one_state plan v first.0 first.1 first.2 found s starts turns ended run seat at,
+      stretch_there plan v first.0 first.1 first.2 found s starts turns ended run seat at,
       stretches_of_one_state plan w second.0 second.1 second.2 found' ended kept other begun call more s' run' on at',
     )
 
@@ -210,13 +223,17 @@ look_of_one_state plan v key said found s r seat s1 call turns s' run on there =
     was_of_key plan s1 turns s' key said
     (keys_of_one_state plan v key found.leaf found.leaf_key (with_key key said) found.comes found.told (tells_key (flat_from plan) v key said found) s r seat s1 call turns s' run on there)
 
-pub looks_are_of_one_state : LooksAreOfOneState
-looks_are_of_one_state plan v key said found s starts turns s' run seat there =
+pub look_there : (plan : TablePlan) (v : View) (key : ℕ) (there : Option ℕ) → HasFound v key there → IsFoundThere plan v (HasThere key there)
+look_there plan v key said found s starts turns s' run seat there =
     since_it_began plan v (HasThere key said) found.comes.glance found.comes.among s starts turns s' run seat there
     (λ from kept to call more after on. look_of_one_state plan v key said found from kept seat to call more s' after on there)
 
+pub looks_are_of_one_state : LooksAreOfOneState
+looks_are_of_one_state plan v key said found s starts turns s' run seat w is there =
+    look_there plan w key said (found_whole w key said (subst (λ u. HasFound u key said) (sym is) found)) s starts turns s' run seat there
+
 -- and with a key that it has found missing
-pub missing_in_one_state : (plan : TablePlan) (v : View) (key : ℕ) → HasMissed (flat_from plan) v key → IsFoundInRuns plan v (HasThere key None)
+pub missing_in_one_state : (plan : TablePlan) (v : View) (key : ℕ) → HasMissed (flat_from plan) v key → IsFoundThere plan v (HasThere key None)
 missing_in_one_state plan v key missed s starts turns s' run seat there =
     since_it_began plan v (HasThere key None) missed.comes.glance missed.comes.among s starts turns s' run seat there
     (λ from kept to call more after on. was_of_key plan to more s' key None
@@ -225,6 +242,6 @@ missing_in_one_state plan v key missed s starts turns s' run seat there =
 pub looks_are_in_order : LooksAreInOrder
 looks_are_in_order plan s starts turns ended run seat v at first found other begun call more s' run' on w at' second found' =
     let kept = (runs_are_lawful plan s (starts_are_kept plan s starts).kept turns ended run).kept in (
-      looks_are_of_one_state plan v first.0 first.1 found s starts turns ended run seat at,
+      look_there plan v first.0 first.1 found s starts turns ended run seat at,
       look_of_one_state plan w second.0 second.1 found' ended kept other begun call more s' run' on at',
     )

@@ -8,6 +8,7 @@ use Rattle.ell_cards.specs.Models.{TablePlan, IsFree, whole_share}
 use Rattle.ell_cards.specs.States.{TableState}
 use Rattle.ell_cards.specs.Starts.{IsReached}
 use Rattle.ell_cards.specs.Closed.{TableEnds}
+use Rattle.ell_cards.specs.Shown.{shown}
 use Rattle.ell_cards.proofs.lemmas.lifetimes.Ends.{shows}
 use Rattle.ell_cards.proofs.lemmas.runs.Reaching.{reached_kept, reached_ran}
 use Rattle.ell_cards.proofs.lemmas.runs.Sharing.{IsAlone, reached_closed}
@@ -25,8 +26,8 @@ alone plan s h id v here whole = by plan.shared refl
 -- how a table ends that was led here, by a pass with nothing in hand that owns each key that may have an owner, and has the whole share if the
 -- others are shared
 pub ends : (plan : TablePlan) (s : TableState) → IsReached plan s → (id : ℕ) (v : View) → get_elem? s.views id ≡ some v → IsFree v → (plan.shared ≡ true → v.share ≡ whole_share)
-    → All (λ k. ledger_of v.worker.ledger k ≢ None) plan.keys → TableEnds plan v (record { words = s.words; last_card = plan.last_card })
+    → All (λ k. ledger_of v.worker.ledger k ≢ None) plan.keys → TableEnds plan (shown v) (record { words = s.words; last_card = plan.last_card })
 ends plan s h id v here free whole all = record {
-  ran = record { state = s; seat = id; same = refl; seen = here; reached = h; did = reached_ran plan s h };
+  ran = record { state = s; seat = id; same = refl; knows = v; shows = refl; seen = here; reached = h; did = reached_ran plan s h };
   shows = shows plan s h (reached_kept plan s h) id v here (alone plan s h id v here whole) free all;
 }

@@ -26,24 +26,24 @@ use Rattle.ell_cards.proofs.lemmas.runs.Won.{times, times_in, won_by, after_won,
 use Rattle.ell_cards.proofs.lemmas.runs.Counts.{ClaimsCount, claims_are_counted, claims_none}
 use Rattle.ell_cards.specs.Models.{TablePlan}
 
--- a card in hand was claimed by the pass; and the card that the claim word told to be the next was not, while the pass has none in hand and stands
+-- a card in hand was claimed by the pass; and the card that the claim word told to be the next was not, while it is not in hand and the pass stands
 -- somewhere
 pub record HandIsClaimed (v : View) : Type 0 where
   pub held : (c : ℕ) → v.worker.card ≡ Some c → 0 < times exchange.Claim c v.won
-  pub read : (n x : ℕ) → v.next ≡ Some n → v.worker.card ≡ None → v.worker.search.node ≡ Some x → times exchange.Claim n v.won ≡ 0
+  pub read : (n x : ℕ) → v.next ≡ Some n → v.worker.card ≢ Some n → v.worker.search.node ≡ Some x → times exchange.Claim n v.won ≡ 0
 
--- the pass has no other card in hand than it had, and what it has read of the claim word, if it stands somewhere without a card, it had
+-- the pass has no other card in hand than it had, and what it has read of the claim word, if it stands somewhere without that card, it had so
 record KeepsHand (v w : View) : Type 0 where
   held : (c : ℕ) → w.worker.card ≡ Some c → v.worker.card ≡ Some c
-  read : (n x : ℕ) → w.next ≡ Some n → w.worker.card ≡ None → w.worker.search.node ≡ Some x
-      → (v.next ≡ Some n) × (v.worker.card ≡ None) × (y : ℕ) × (v.worker.search.node ≡ Some y)
+  read : (n x : ℕ) → w.next ≡ Some n → w.worker.card ≢ Some n → w.worker.search.node ≡ Some x
+      → (v.next ≡ Some n) × (v.worker.card ≢ Some n) × (y : ℕ) × (v.worker.search.node ≡ Some y)
 
 -- where it stands nowhere, or has read nothing
 keeps_nowhere : (v w : View) → ((c : ℕ) → w.worker.card ≡ Some c → v.worker.card ≡ Some c) → w.worker.search.node ≡ None → KeepsHand v w
 keeps_nowhere v w held node = record { held = held; read = λ n x e no at. absurd (some_not_none at node) }
 
 keeps_all : (v w : View) → w.worker.card ≡ v.worker.card → w.next ≡ v.next → w.worker.search.node ≡ v.worker.search.node → KeepsHand v w
-keeps_all v w card next node = record { held = λ c e. sym card ∙ e; read = λ n x e no at. (sym next ∙ e, sym card ∙ no, x, sym node ∙ at) }
+keeps_all v w card next node = record { held = λ c e. sym card ∙ e; read = λ n x e no at. (sym next ∙ e, λ has. no (card ∙ has), x, sym node ∙ at) }
 
 flag_keeps : (b : Bool) (new : Fact) (x : ℕ) (u : Update) (v w : View) → w.worker ≡ (after_flag b new x u v).worker → KeepsHand v w
 flag_keeps true new x u v w same = keeps_nowhere v w (λ c e. sym (ap (λ k. k.card) same) ∙ e) (ap (λ k. k.search.node) same)
@@ -102,15 +102,15 @@ keeps_claimed c n v apart keeps h = record {
   read = λ e x read no at. let was = keeps.read e x read no at in claims_same c n v apart e ∙ h.read e was.2 was.0 was.1 was.3;
 }
 
-claim_claimed : (b : Bool) (c q : ℕ) (v : View) → HandIsClaimed v → HandIsClaimed (after_claim b c q v)
-claim_claimed true c q v h = record {
+claim_claimed : (b : Bool) (c q : ℕ) (v : View) → v.next ≡ Some c → HandIsClaimed v → HandIsClaimed (after_claim b c q v)
+claim_claimed true c q v next h = record {
   held = λ d has. subst (λ (b : Bool). 0 < (if b then 1 else 0) + times exchange.Claim d v.won) (sym (eq-eqb d c (sym (some_same has)))) (omega arith);
-  read = λ n x e no at. absurd (some_not_none refl no);
+  read = λ n x e other at. absurd (other (sym next ∙ e));
 }
-claim_claimed false c q v h = record { held = h.held; read = h.read }
+claim_claimed false c q v next h = record { held = h.held; read = h.read }
 
 after_claimed : (plan : TablePlan) (c : Call) (n : ℕ) (v : View) → May plan c v → (c ≡ call.Next → times exchange.Claim n v.won ≡ 0) → HandIsClaimed v → HandIsClaimed (after c n v)
-after_claimed plan (call.Claim c q) n v may fresh h = claim_claimed (n == c) c q v h
+after_claimed plan (call.Claim c q) n v may fresh h = claim_claimed (n == c) c q v may.0.read h
 after_claimed plan call.Next n v may fresh h = record {
   held = h.held;
   read = λ m x e no at. ap (λ k. times exchange.Claim k v.won) (sym (some_same e)) ∙ fresh refl;

@@ -1,4 +1,4 @@
-use Rattle.std.proofs.Common.{◌≡◌, ◌≢◌, ℕ, ◌⊎◌, ◌/◌, ◌%◌, ◌<◌, ◌≤◌, ◌==◌, if◌then◌else◌, Bool, true, false, Option, Some, None, List, [], ◌∷◌, ◌++◌, inl, inr, refl, sym, ap, ◌∙◌, subst, arith, eq-eqb, eqb-true, true≢false, unwrap_or}
+use Rattle.std.proofs.Common.{◌≡◌, ◌≢◌, ℕ, ◌+◌, ◌⊎◌, ◌/◌, ◌%◌, ◌<◌, ◌≤◌, ◌==◌, if◌then◌else◌, Bool, true, false, Option, Some, None, List, [], ◌∷◌, ◌++◌, inl, inr, refl, sym, ap, ◌∙◌, subst, arith, eq-eqb, eqb-true, true≢false, unwrap_or}
 use Rattle.ell_core.specs.acts.Searching.{put_of}
 use Rattle.ell_core.proofs.lemmas.keeping.Puts.{putting_hand}
 use Rattle.std.proofs.lemmas.Bool.{cases_eq, false≢true}
@@ -31,6 +31,7 @@ use Rattle.ell_core.specs.history.Later.{WordsLater, StagesLater}
 use Rattle.ell_core.specs.statements.StepLaws.{Reliance}
 use Rattle.ell_core.specs.statements.Since.{has_ended, SeenSince, SearchSince, CleansSince}
 use Rattle.ell_core.proofs.lemmas.outcomes.Decide.{some_not_none}
+use Rattle.ell_core.proofs.lemmas.keeping.claim.Taking.{laid_aside}
 use Rattle.ell_core.proofs.lemmas.following.Reliance.{may_rely}
 use Rattle.ell_core.proofs.lemmas.following.Since.{word_unended}
 use Rattle.ell_core.proofs.lemmas.words.CleanWords.{clean_remainder}
@@ -38,7 +39,7 @@ use Rattle.ell_core.proofs.lemmas.words.Packed.{packed_again}
 use Rattle.ell_core.proofs.lemmas.stages.Ended.{ends_last}
 use Rattle.ell_core.proofs.lemmas.following.waiting.Cards.{hand_waits}
 use Rattle.ell_core.proofs.lemmas.stages.Order.{delete_won-delete, insert_won-insert, insert_open-insert, one_kind, won_cases}
-use Rattle.ell_cards.specs.Models.{TablePlan}
+use Rattle.ell_cards.specs.Models.{TablePlan, flat_from}
 use Rattle.ell_cards.specs.declared.call.Call.{Call}
 use Rattle.ell_cards.specs.declared.call.Call.TheVariants as call
 use Rattle.ell_cards.specs.declared.view.Hindrance.{Hindrance}
@@ -50,7 +51,7 @@ use Rattle.ell_cards.specs.States.{TableState, seat_worker}
 use Rattle.ell_cards.specs.Machines.{HasMachine}
 use Rattle.ell_cards.specs.Turns.{found_by}
 use Rattle.ell_cards.specs.Laws.{machine_of_table}
-use Rattle.ell_cards.specs.Meanwhile.{KeepsOn, AreOfOthers}
+use Rattle.ell_cards.specs.Meanwhile.{KeepsOn, AreOfOthers, IsPast}
 use Rattle.ell_cards.proofs.lemmas.seats.Seats.{relies}
 use Rattle.ell_cards.proofs.lemmas.stepping.Looks.{update_listed}
 use Rattle.ell_cards.proofs.lemmas.stepping.Exchanges.{told_is}
@@ -82,10 +83,25 @@ met_later w stage now after later_words ends words later (Found u ∷ hs) h =
     ((h.0.0, λ e. ends_last after ends later u.card (h.0.1 e), omega arith), met_later w stage now after later_words ends words later hs h.1)
 
 -- what was met is of cards below the claim word
-all_earlier : (w : Words) (stage : Stages) (now : Words) (after : Stages) (n : ℕ) → now.next ≤ n → (hs : List Hindrance) → AllMet w stage now after hs → AreOfOthers n hs
-all_earlier w stage now after n most [] h = tt
-all_earlier w stage now after n most (Claim c ∷ hs) h = let low = h.0.1 in (omega arith, all_earlier w stage now after n most hs h.1)
-all_earlier w stage now after n most (Found u ∷ hs) h = let low = h.0.2 in (omega arith, all_earlier w stage now after n most hs h.1)
+all_earlier : (w : Words) (stage : Stages) (now : Words) (after : Stages) (n : ℕ) → now.next ≤ n → (hs : List Hindrance) → AllMet w stage now after hs
+    → (least : ℕ) → AreOfOthers least n hs
+all_earlier w stage now after n most [] h least = tt
+all_earlier w stage now after n most (Claim c ∷ hs) h least =
+    let low = h.0.1 in (inl (omega arith), all_earlier w stage now after n most hs h.1 least)
+all_earlier w stage now after n most (Found u ∷ hs) h least =
+    let low = h.0.2 in (omega arith, all_earlier w stage now after n most hs h.1 least)
+
+-- what is of other cards below a number is so below a greater one
+others_more : (least more c : ℕ) → least ≤ more → (hs : List Hindrance) → AreOfOthers least c hs → AreOfOthers more c hs
+others_more least more c low [] h = tt
+others_more least more c low (Claim d ∷ hs) h = (
+  elim h.0 [
+    | inl earlier ↦ inl earlier
+    | inr later ↦ (let below = later.1 in inr (later.0, omega arith))
+  ],
+  others_more least more c low hs h.1,
+)
+others_more least more c low (Found u ∷ hs) h = (h.0, others_more least more c low hs h.1)
 
 -- what two lists have was met, in one
 all_append : (w : Words) (stage : Stages) (now : Words) (after : Stages) (a b : List Hindrance) → AllMet w stage now after a → AllMet w stage now after b
@@ -128,8 +144,22 @@ module _ (w : Words) (stage : Stages) (now : Words) (after : Stages) where
 abbrev IsBehind : Search → Seen → Type 0
 IsBehind q seen = (q.parent ≡ Some seen) ⊎ (q.grandparent ≡ Some seen)
 
+-- what the claims of a pass have shown of the claim word is no more than what its last reading does, once that card is claimed, and that the card in
+-- hand was given out
+pub record ShowsClaims (from : ℕ) (v : View) : Type 0 where
+  pub read : (n : ℕ) → v.next ≡ Some n → v.next_at_least ≤ n + 1
+  pub past : (c : ℕ) → v.worker.card ≡ Some c → IsPast from v.next_at_least c
+
+-- so it is where neither changes
+shows_on : (from : ℕ) (v u : View) → u.next ≡ v.next → u.next_at_least ≡ v.next_at_least → ((c : ℕ) → u.worker.card ≡ Some c → v.worker.card ≡ Some c)
+    → ShowsClaims from v → ShowsClaims from u
+shows_on from v u next least hand h = record {
+  read = λ n e. subst (λ m. m ≤ n + 1) (sym least) (h.read n (sym next ∙ e));
+  past = λ c has. subst (λ m. IsPast from m c) (sym least) (h.past c (hand c has));
+}
+
 -- what a pass has met since its search began, what it has read of the claim word and behind it, the card in its hand, and where that goes
-pub record HinderedSince (w : Words) (stage : Stages) (now : Words) (after : Stages) (old : List Hindrance) (v : View) : Type 0 where
+pub record HinderedSince (from : ℕ) (w : Words) (stage : Stages) (now : Words) (after : Stages) (old : List Hindrance) (v : View) : Type 0 where
   pub met : List Hindrance
   pub list : v.hindrances ≡ met ++ old
   pub earlier : List Hindrance
@@ -137,7 +167,8 @@ pub record HinderedSince (w : Words) (stage : Stages) (now : Words) (after : Sta
   pub each : AllMet w stage now after met
   pub next : (n : ℕ) → v.next ≡ Some n → w.next ≤ n
   pub named : (seen : Seen) → IsBehind v.worker.search seen → (unpacked seen.word).card < now.next
-  pub own : (c : ℕ) → v.worker.card ≡ Some c → AreOfOthers c met
+  pub shows : ShowsClaims from v
+  pub own : (c : ℕ) → v.worker.card ≡ Some c → AreOfOthers v.next_at_least c met
   pub hand : (k c : ℕ) → v.worker.operation ≡ Some (Delete k) → v.worker.card ≡ Some c → v.worker.flagged ≡ true → PlaceSince w stage (now.p c) (now.was c)
 
 -- a card whose flag was won does not wait for it
@@ -163,7 +194,7 @@ module _ (plan : TablePlan) (m0 : Machine) (stage : Stages) (first : Invariant m
     (seat : ℕ) (v : View) (there : get_elem? s.views seat ≡ some v)
     (since : SearchSince m0.words stage r.words ((machine_of_table plan s r).worker seat))
     (later_words : Words) (ends : Stages) (words' : WordsLater r.words later_words) (later' : StagesLater now ends)
-    (old : List Hindrance) (hindered : HinderedSince m0.words stage r.words now old v) where
+    (old : List Hindrance) (hindered : HinderedSince (flat_from plan) m0.words stage r.words now old v) where
   -- the worker
   me : (machine_of_table plan s r).worker seat ≡ worker_of v.worker
   me = ap seat_worker there
@@ -185,10 +216,10 @@ module _ (plan : TablePlan) (m0 : Machine) (stage : Stages) (first : Invariant m
   -- a step that meets nothing
   calm : (u : View) → u.hindrances ≡ v.hindrances → u.met ≡ v.met → ((n : ℕ) → u.next ≡ Some n → m0.words.next ≤ n)
       → ((seen : Seen) → IsBehind u.worker.search seen → (unpacked seen.word).card < later_words.next)
-      → ((c : ℕ) → u.worker.card ≡ Some c → AreOfOthers c hindered.met)
+      → ShowsClaims (flat_from plan) u → ((c : ℕ) → u.worker.card ≡ Some c → AreOfOthers u.next_at_least c hindered.met)
       → ((k c : ℕ) → u.worker.operation ≡ Some (Delete k) → u.worker.card ≡ Some c → u.worker.flagged ≡ true → PlaceSince m0.words stage (later_words.p c) (later_words.was c))
-      → HinderedSince m0.words stage later_words ends old u
-  calm u hindrances in_try read named own in_hand = record {
+      → HinderedSince (flat_from plan) m0.words stage later_words ends old u
+  calm u hindrances in_try read named shows own in_hand = record {
     met = hindered.met;
     list = hindrances ∙ hindered.list;
     earlier = hindered.earlier;
@@ -196,6 +227,7 @@ module _ (plan : TablePlan) (m0 : Machine) (stage : Stages) (first : Invariant m
     each = met_later m0.words stage r.words now later_words ends words' later' hindered.met hindered.each;
     next = read;
     named = named;
+    shows = shows;
     own = own;
     hand = in_hand;
   }
@@ -205,23 +237,25 @@ module _ (plan : TablePlan) (m0 : Machine) (stage : Stages) (first : Invariant m
   in_hand_still k c busy has flagged = hand_later c (rely.hand c (ap (λ (z : Worker). z.card) me ∙ has)) (hindered.hand k c busy has flagged)
 
   -- one that leaves what is in hand, too
-  quiet : (u : View) → u.hindrances ≡ v.hindrances → u.met ≡ v.met → u.next ≡ v.next → u.worker.operation ≡ v.worker.operation → u.worker.card ≡ v.worker.card
-      → u.worker.flagged ≡ v.worker.flagged → ((seen : Seen) → IsBehind u.worker.search seen → IsBehind v.worker.search seen) → HinderedSince m0.words stage later_words ends old u
-  quiet u hindrances in_try read op holds_card flag behind =
-      calm u hindrances in_try (λ n e. hindered.next n (sym read ∙ e)) (λ seen h. named_later seen (behind seen h)) (λ c has. hindered.own c (sym holds_card ∙ has))
+  quiet : (u : View) → u.hindrances ≡ v.hindrances → u.met ≡ v.met → u.next ≡ v.next → u.next_at_least ≡ v.next_at_least → u.worker.operation ≡ v.worker.operation → u.worker.card ≡ v.worker.card
+      → u.worker.flagged ≡ v.worker.flagged → ((seen : Seen) → IsBehind u.worker.search seen → IsBehind v.worker.search seen) → HinderedSince (flat_from plan) m0.words stage later_words ends old u
+  quiet u hindrances in_try read least op holds_card flag behind =
+      calm u hindrances in_try (λ n e. hindered.next n (sym read ∙ e)) (λ seen h. named_later seen (behind seen h))
+      (shows_on (flat_from plan) v u read least (λ c has. sym holds_card ∙ has) hindered.shows)
+      (λ c has. subst (λ m. AreOfOthers m c hindered.met) (sym least) (hindered.own c (sym holds_card ∙ has)))
       (λ k c busy has flagged. in_hand_still k c (sym op ∙ busy) (sym holds_card ∙ has) (sym flag ∙ flagged))
 
   -- a step of another
-  pub hindered_rests : HinderedSince m0.words stage later_words ends old v
-  hindered_rests = quiet v refl refl refl refl refl refl (λ seen h. h)
+  pub hindered_rests : HinderedSince (flat_from plan) m0.words stage later_words ends old v
+  hindered_rests = quiet v refl refl refl refl refl refl refl (λ seen h. h)
 
   -- a step that meets one thing
   one_met : (u : View) (h : Hindrance) → u.hindrances ≡ h ∷ v.hindrances → u.met ≡ h ∷ v.met → Met m0.words stage later_words ends h → u.next ≡ v.next
       → ((seen : Seen) → IsBehind u.worker.search seen → IsBehind v.worker.search seen)
-      → ((c : ℕ) → u.worker.card ≡ Some c → AreOfOthers c (h ∷ hindered.met))
+      → ShowsClaims (flat_from plan) u → ((c : ℕ) → u.worker.card ≡ Some c → AreOfOthers u.next_at_least c (h ∷ hindered.met))
       → ((k c : ℕ) → u.worker.operation ≡ Some (Delete k) → u.worker.card ≡ Some c → u.worker.flagged ≡ true → PlaceSince m0.words stage (later_words.p c) (later_words.was c))
-      → HinderedSince m0.words stage later_words ends old u
-  one_met u h hindrances in_try is_met read behind own in_hand = record {
+      → HinderedSince (flat_from plan) m0.words stage later_words ends old u
+  one_met u h hindrances in_try is_met read behind shows own in_hand = record {
     met = h ∷ hindered.met;
     list = hindrances ∙ ap (λ hs. h ∷ hs) hindered.list;
     earlier = hindered.earlier;
@@ -229,6 +263,7 @@ module _ (plan : TablePlan) (m0 : Machine) (stage : Stages) (first : Invariant m
     each = (is_met, met_later m0.words stage r.words now later_words ends words' later' hindered.met hindered.each);
     next = λ n e. hindered.next n (sym read ∙ e);
     named = λ seen h. named_later seen (behind seen h);
+    shows = shows;
     own = own;
     hand = in_hand;
   }
@@ -266,14 +301,18 @@ module _ (plan : TablePlan) (m0 : Machine) (stage : Stages) (first : Invariant m
       finds seen.node seen.word n inner born place low (three seen.word calm) (ap r.words.update node ∙ is) (λ e. other (e ∙ word))
 
   -- a lost claim
-  claim_hindered : (c q : ℕ) → May plan (call.Claim c q) v → (b : Bool) → (found_by s (call.Claim c q) == c) ≡ b → HinderedSince m0.words stage later_words ends old (after_claim b c q v)
+  claim_hindered : (c q : ℕ) → May plan (call.Claim c q) v → (b : Bool) → (found_by s (call.Claim c q) == c) ≡ b → HinderedSince (flat_from plan) m0.words stage later_words ends old (after_claim b c q v)
   claim_hindered c q may true e =
       calm (after_claim true c q v) refl refl hindered.next named_later
+      (record {
+        read = λ n read. (let same = same_Some c n (sym may.0.read ∙ read) in omega arith);
+        past = λ d has. (let same = same_Some c d has in inl (omega arith));
+      })
       (λ d has.
       let same = same_Some c d has in
       let found = eqb-true (found_by s (call.Claim c q)) c e in
       let is = r.next in
-      all_earlier m0.words stage r.words now d (omega arith) hindered.met hindered.each)
+      all_earlier m0.words stage r.words now d (omega arith) hindered.met hindered.each (c + 1))
       (λ k d busy has flagged. absurd (true≢false (sym flagged)))
   claim_hindered c q may false e =
       let low = (r.views seat v there).read c may.0.read in
@@ -281,8 +320,25 @@ module _ (plan : TablePlan) (m0 : Machine) (stage : Stages) (first : Invariant m
       let more = words'.next in
       let other : found_by s (call.Claim c q) ≢ c = (λ same. true≢false (sym (eq-eqb (found_by s (call.Claim c q)) c same) ∙ e)) in
       one_met (after_claim false c q v) (Claim c) refl refl (hindered.next c may.0.read, omega arith) refl (λ seen h. h)
-      (λ d has. absurd (some_not_none has may.0.no_card))
-      (λ k d busy has flagged. absurd (some_not_none has may.0.no_card))
+      (record {
+        read = λ n read. (let same = same_Some c n (sym may.0.read ∙ read) in omega arith);
+        past = λ d has. (let past = later_than d has in inr ((laid_aside (flat_from plan) v.worker d may.0.ready has).0, omega arith));
+      })
+      (λ d has. (
+        inr (later_than d has, omega arith),
+        others_more v.next_at_least (c + 1) d (hindered.shows.read c may.0.read) hindered.met (hindered.own d has),
+      ))
+      (λ k d busy has flagged. absurd (true≢false (sym flagged ∙ (laid_aside (flat_from plan) v.worker d may.0.ready has).1)))
+    where
+      -- a card that is in hand was given out before the one that the claim word tells to be the next
+      later_than : (d : ℕ) → v.worker.card ≡ Some d → d < c
+      later_than d has =
+          let most = hindered.shows.read c may.0.read in
+          let apart : c ≢ d = (λ same. may.0.other (has ∙ ap Some (sym same))) in
+          elim (hindered.shows.past d has) [
+            | inl least ↦ omega arith
+            | inr more ↦ (let past = more.1 in omega arith)
+          ]
 
   -- an operation is in hand where a card is
   busy_hand : (c : ℕ) → v.worker.card ≡ Some c → (op : Op) × (v.worker.operation ≡ Some op)
@@ -333,16 +389,19 @@ module _ (plan : TablePlan) (m0 : Machine) (stage : Stages) (first : Invariant m
   flag_hindered : (k : Exchange) (c : ℕ) (new : Fact) (x : ℕ) (from n : ℕ) (b : Bool) → (n == from) ≡ b
       → ((key d : ℕ) → v.worker.operation ≡ Some (Delete key) → v.worker.card ≡ Some d → PlaceSince m0.words stage (later_words.p d) (later_words.was d))
       → (n ≢ from → Met m0.words stage later_words ends (Found (unpacked n)))
-      → HinderedSince m0.words stage later_words ends old (exchanged (if_won b k c) n (after_flag b new x (unpacked n) v))
+      → HinderedSince (flat_from plan) m0.words stage later_words ends old (exchanged (if_won b k c) n (after_flag b new x (unpacked n) v))
   flag_hindered k c new x from n true e in_hand lost =
-      calm (exchanged (if_won true k c) n (after_flag true new x (unpacked n) v)) refl refl hindered.next named_later hindered.own
+      calm (exchanged (if_won true k c) n (after_flag true new x (unpacked n) v)) refl refl hindered.next named_later
+      (shows_on (flat_from plan) v (exchanged (if_won true k c) n (after_flag true new x (unpacked n) v)) refl refl (λ d has. has) hindered.shows) hindered.own
       (λ key d busy has flagged. in_hand key d busy has)
   flag_hindered k c new x from n false e in_hand lost =
       one_met (exchanged [] n (after_flag false new x (unpacked n) v)) (Found (unpacked n)) refl refl
-      (lost (λ q. true≢false (sym (eq-eqb n from q) ∙ e))) refl (λ seen h. h) (λ d has. absurd (some_not_none has refl)) (λ key d busy has flagged. absurd (true≢false (sym flagged)))
+      (lost (λ q. true≢false (sym (eq-eqb n from q) ∙ e))) refl (λ seen h. h)
+      (shows_on (flat_from plan) v (exchanged [] n (after_flag false new x (unpacked n) v)) refl refl (λ d has. absurd (some_not_none has refl)) hindered.shows)
+      (λ d has. absurd (some_not_none has refl)) (λ key d busy has flagged. absurd (true≢false (sym flagged)))
 
   iflag_hindered : (c p : ℕ) (from : Update) → May plan (call.IFlag c p from) v
-      → HinderedSince m0.words stage later_words ends old (after (call.IFlag c p from) (found_by s (call.IFlag c p from)) v)
+      → HinderedSince (flat_from plan) m0.words stage later_words ends old (after (call.IFlag c p from) (found_by s (call.IFlag c p from)) v)
   iflag_hindered c p from may =
       let n = found_by s (call.IFlag c p from) in
       let seen = may.parent in
@@ -360,7 +419,7 @@ module _ (plan : TablePlan) (m0 : Machine) (stage : Stages) (first : Invariant m
       (subst (λ (z : Seen). IsClean z.word) same held.calm) is)
 
   dflag_hindered : (c gp : ℕ) (from : Update) → May plan (call.DFlag c gp from) v
-      → HinderedSince m0.words stage later_words ends old (after (call.DFlag c gp from) (found_by s (call.DFlag c gp from)) v)
+      → HinderedSince (flat_from plan) m0.words stage later_words ends old (after (call.DFlag c gp from) (found_by s (call.DFlag c gp from)) v)
   dflag_hindered c gp from may =
       let n = found_by s (call.DFlag c gp from) in
       let seen = may.grandparent in
@@ -447,7 +506,7 @@ module _ (plan : TablePlan) (m0 : Machine) (stage : Stages) (first : Invariant m
       (subst (λ x. m0.words.update x < r.words.update x) p_is rose) (unpacked n).state (unpacked n).card (is ∙ sym (packed_again n)) apart
 
   mark_hindered : (c p was : ℕ) → May plan (call.Mark c p was) v
-      → HinderedSince m0.words stage later_words ends old (after (call.Mark c p was) (found_by s (call.Mark c p was)) v)
+      → HinderedSince (flat_from plan) m0.words stage later_words ends old (after (call.Mark c p was) (found_by s (call.Mark c p was)) v)
   mark_hindered c p was may = by (n == was) refl
     where
       n : ℕ
@@ -456,24 +515,25 @@ module _ (plan : TablePlan) (m0 : Machine) (stage : Stages) (first : Invariant m
       is : r.words.update p ≡ n
       is = mark_found c p was may
 
-      held : (b : Bool) → is_this v.worker.card c ≡ b → n ≢ was → is_mark_of c (unpacked n).state (unpacked n).card ≡ false → HinderedSince m0.words stage later_words ends old
+      held : (b : Bool) → is_this v.worker.card c ≡ b → n ≢ was → is_mark_of c (unpacked n).state (unpacked n).card ≡ false → HinderedSince (flat_from plan) m0.words stage later_words ends old
           (exchanged [] n (record (unmarking c p (unpacked n) v) {
             hindrances = if b then Found (unpacked n) ∷ v.hindrances else v.hindrances;
             met = if b then Found (unpacked n) ∷ v.met else v.met;
           }))
       held true e other apart = one_met _ (Found (unpacked n)) refl refl (mark_met c p was n may is other (held_is v.worker.card c e)) refl (λ seen h. h)
+          (shows_on (flat_from plan) v _ refl refl (λ d has. has) hindered.shows)
           (λ d has.
           let one : c ≡ d = same_Some c d (sym (held_is v.worker.card c e) ∙ has) in
           (λ q. mark_apart c p was n may is other (held_is v.worker.card c e) apart (q ∙ sym one), hindered.own d has))
           (λ k d busy has flagged. hand_later d (rely.hand d (ap (λ (z : Worker). z.card) me ∙ has)) (hindered.hand k d busy has flagged))
-      held false e other apart = quiet _ refl refl refl refl refl refl (λ seen h. h)
+      held false e other apart = quiet _ refl refl refl refl refl refl refl (λ seen h. h)
 
-      lost : (b : Bool) → is_mark_of c (unpacked n).state (unpacked n).card ≡ b → n ≢ was → HinderedSince m0.words stage later_words ends old (exchanged [] n (if b then with_fact (Marked c) v else unmarking c p (unpacked n) v))
-      lost true e other = quiet _ refl refl refl refl refl refl (λ seen h. h)
+      lost : (b : Bool) → is_mark_of c (unpacked n).state (unpacked n).card ≡ b → n ≢ was → HinderedSince (flat_from plan) m0.words stage later_words ends old (exchanged [] n (if b then with_fact (Marked c) v else unmarking c p (unpacked n) v))
+      lost true e other = quiet _ refl refl refl refl refl refl refl (λ seen h. h)
       lost false e other = held (is_this v.worker.card c) refl other e
 
-      by : (b : Bool) → (n == was) ≡ b → HinderedSince m0.words stage later_words ends old (exchanged (if_won b exchange.Mark c) n (after_mark b c p (unpacked n) v))
-      by true e = quiet _ refl refl refl refl refl refl (λ seen h. h)
+      by : (b : Bool) → (n == was) ≡ b → HinderedSince (flat_from plan) m0.words stage later_words ends old (exchanged (if_won b exchange.Mark c) n (after_mark b c p (unpacked n) v))
+      by true e = quiet _ refl refl refl refl refl refl refl (λ seen h. h)
       by false e = lost (is_mark_of c (unpacked n).state (unpacked n).card) refl (λ q. true≢false (sym (eq-eqb n was q) ∙ e))
 
   -- a search that has gone down has the word behind it that it read
@@ -489,16 +549,20 @@ module _ (plan : TablePlan) (m0 : Machine) (stage : Stages) (first : Invariant m
 
   -- the end of a try, with nothing in hand then, nor anything behind the search
   tried : (u : View) (way : List Hindrance) → u.hindrances ≡ way ++ v.hindrances → AllMet m0.words stage later_words ends way → u.met ≡ []
-      → u.worker.search.parent ≡ None → u.worker.search.grandparent ≡ None → ((n : ℕ) → u.next ≡ Some n → m0.words.next ≤ n) → u.worker.card ≡ None
-      → HinderedSince m0.words stage later_words ends old u
-  tried u way hindrances each none behind above read no_card = record {
+      → u.worker.search.parent ≡ None → u.worker.search.grandparent ≡ None → ((n : ℕ) → u.next ≡ Some n → v.next ≡ Some n) → u.next_at_least ≡ v.next_at_least → u.worker.card ≡ None
+      → HinderedSince (flat_from plan) m0.words stage later_words ends old u
+  tried u way hindrances each none behind above read least no_card = record {
     met = way ++ hindered.met;
     list = hindrances ∙ (ap (λ hs. way ++ hs) hindered.list ∙ sym (append_assoc way hindered.met old));
     earlier = way ++ hindered.met;
     tries = ap (λ hs. hs ++ (way ++ hindered.met)) (sym none);
     each = all_append m0.words stage later_words ends way hindered.met each
         (met_later m0.words stage r.words now later_words ends words' later' hindered.met hindered.each);
-    next = read;
+    next = λ n e. hindered.next n (read n e);
+    shows = record {
+      read = λ n e. subst (λ m. m ≤ n + 1) (sym least) (hindered.shows.read n (read n e));
+      past = λ c has. absurd (some_not_none has no_card);
+    };
     named = λ seen h. elim h [
       | inl e ↦ absurd (some_not_none e behind)
       | inr e ↦ absurd (some_not_none e above)
@@ -515,32 +579,38 @@ module _ (plan : TablePlan) (m0 : Machine) (stage : Stages) (first : Invariant m
       (λ seen e. (since.grandparent seen (ap (λ (z : Worker). z.search.grandparent) me ∙ e), named_later seen (inr e)))
 
   -- any call that keeps on
-  pub call_hindered : (c : Call) → KeepsOn c → May plan c v → HinderedSince m0.words stage later_words ends old (after c (found_by s c) v)
+  pub call_hindered : (c : Call) → KeepsOn c → May plan c v → HinderedSince (flat_from plan) m0.words stage later_words ends old (after c (found_by s c) v)
   call_hindered (call.Begin op) keeps may = absurd keeps
-  call_hindered call.Again keeps may = tried (after_again v) (way_now v) refl way_was_met refl refl refl (λ n e. absurd (some_not_none e refl)) refl
-  call_hindered call.Leave keeps may = tried (after_leave v) (way_now v) refl way_was_met refl refl refl hindered.next refl
-  call_hindered (call.Answer said) keeps may = tried (after_answer said v) [] refl tt refl refl refl hindered.next refl
-  call_hindered call.Rest keeps may = tried (after_rest v) [] refl tt refl refl refl hindered.next refl
-  call_hindered (call.Upd x) keeps may = quiet _ refl refl refl refl refl refl (λ seen h. h)
+  call_hindered call.Again keeps may = tried (after_again v) (way_now v) refl way_was_met refl refl refl (λ n e. absurd (some_not_none e refl)) refl refl
+  call_hindered call.Leave keeps may = tried (after_leave v) (way_now v) refl way_was_met refl refl refl (λ n e. e) refl refl
+  call_hindered (call.Answer said) keeps may = tried (after_answer said v) [] refl tt refl refl refl (λ n e. e) refl refl
+  call_hindered call.Rest keeps may = tried (after_rest v) [] refl tt refl refl refl (λ n e. e) refl refl
+  call_hindered (call.Upd x) keeps may = quiet _ refl refl refl refl refl refl refl (λ seen h. h)
   call_hindered (call.Down x right) keeps may =
-      calm (after (call.Down x right) (found_by s (call.Down x right)) v) refl refl hindered.next (went_down x right may) hindered.own in_hand_still
+      calm (after (call.Down x right) (found_by s (call.Down x right)) v) refl refl hindered.next (went_down x right may)
+      (shows_on (flat_from plan) v (after (call.Down x right) (found_by s (call.Down x right)) v) refl refl (λ c has. has) hindered.shows) hindered.own in_hand_still
   call_hindered call.Next keeps may =
       calm (after call.Next (found_by s call.Next) v) refl refl
       (λ n e. (let same = same_Some (found_by s call.Next) n e in let is = r.next in let more = words.next in omega arith))
-      named_later hindered.own in_hand_still
-  call_hindered (call.KeyOf x) keeps may = quiet _ refl refl refl refl refl refl (λ seen h. h)
-  call_hindered (call.ValueOf x) keeps may = quiet _ refl refl refl refl refl refl (λ seen h. h)
-  call_hindered (call.Info c f) keeps may = quiet _ refl refl refl refl refl refl (λ seen h. h)
-  call_hindered (call.FrozenChild c p right) keeps may = quiet _ refl refl refl refl refl refl (λ seen h. h)
-  call_hindered call.Look keeps may = quiet _ refl refl refl refl refl refl (λ seen h. h)
-  call_hindered (call.LookDown from key right) keeps may = quiet _ refl refl refl refl refl refl (λ seen h. h)
+      named_later
+      (record {
+        read = λ n e. (let same = same_Some (found_by s call.Next) n e in let is = r.next in let least = (r.views seat v there).least in omega arith);
+        past = hindered.shows.past;
+      })
+      hindered.own in_hand_still
+  call_hindered (call.KeyOf x) keeps may = quiet _ refl refl refl refl refl refl refl (λ seen h. h)
+  call_hindered (call.ValueOf x) keeps may = quiet _ refl refl refl refl refl refl refl (λ seen h. h)
+  call_hindered (call.Info c f) keeps may = quiet _ refl refl refl refl refl refl refl (λ seen h. h)
+  call_hindered (call.FrozenChild c p right) keeps may = quiet _ refl refl refl refl refl refl refl (λ seen h. h)
+  call_hindered call.Look keeps may = quiet _ refl refl refl refl refl refl refl (λ seen h. h)
+  call_hindered (call.LookDown from key right) keeps may = quiet _ refl refl refl refl refl refl refl (λ seen h. h)
   call_hindered (call.Claim c q) keeps may = claim_hindered c q may (found_by s (call.Claim c q) == c) refl
-  call_hindered (call.Fill c f value) keeps may = quiet _ refl refl refl refl refl refl (λ seen h. h)
+  call_hindered (call.Fill c f value) keeps may = quiet _ refl refl refl refl refl refl refl (λ seen h. h)
   call_hindered (call.IFlag c p from) keeps may = iflag_hindered c p from may
-  call_hindered (call.IChild c p l q right) keeps may = quiet _ refl refl refl refl refl refl (λ seen h. h)
-  call_hindered (call.IUnflag c p) keeps may = quiet _ refl refl refl refl refl refl (λ seen h. h)
+  call_hindered (call.IChild c p l q right) keeps may = quiet _ refl refl refl refl refl refl refl (λ seen h. h)
+  call_hindered (call.IUnflag c p) keeps may = quiet _ refl refl refl refl refl refl refl (λ seen h. h)
   call_hindered (call.DFlag c gp from) keeps may = dflag_hindered c gp from may
   call_hindered (call.Mark c p was) keeps may = mark_hindered c p was may
-  call_hindered (call.DChild c gp p y right) keeps may = quiet _ refl refl refl refl refl refl (λ seen h. h)
-  call_hindered (call.DUnflag c gp) keeps may = quiet _ refl refl refl refl refl refl (λ seen h. h)
-  call_hindered (call.Backtrack c gp) keeps may = quiet _ refl refl refl refl refl refl (λ seen h. h)
+  call_hindered (call.DChild c gp p y right) keeps may = quiet _ refl refl refl refl refl refl refl (λ seen h. h)
+  call_hindered (call.DUnflag c gp) keeps may = quiet _ refl refl refl refl refl refl refl (λ seen h. h)
+  call_hindered (call.Backtrack c gp) keeps may = quiet _ refl refl refl refl refl refl refl (λ seen h. h)

@@ -135,9 +135,9 @@ within (x ∷ xs) b = let h = within xs b in omega arith
 
 -- what a pass laid down last was laid down in the run, and began in it
 pub laid_down_last_changes_nothing : LaidDownLastChangesNothing
-laid_down_last_changes_nothing plan v op last s starts turns s' run seat there =
+laid_down_last_changes_nothing plan v op last s starts turns s' run seat w is there =
     elim (run_back plan seat (Laid op) (IsLeave op) (λ c. Unit {0}) (laid_before op) (λ chosen v e. some_not_none e refl) (λ chosen v e. some_not_none e refl)
-    (λ v w e. some_not_none e refl) (λ e. some_not_none e refl) s turns s' run (record { view = v; there = there; has = last })) [
+    (λ v w e. some_not_none e refl) (λ e. some_not_none e refl) s turns s' run (record { view = w; there = there; has = ap (λ (u : View). u.laid_down) is ∙ last })) [
       | inr h ↦ absurd (each_first (first_of plan) (λ u. Laid op u → ⊥) (λ e. some_not_none e refl) seat h.1.view
           (ap (λ (t : TableState). get_elem? t.views seat) (sym starts.is) ∙ h.1.there) h.1.has)
       | inl a ↦

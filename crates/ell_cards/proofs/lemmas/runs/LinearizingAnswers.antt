@@ -9,7 +9,7 @@ use Rattle.ell_cards.specs.Meanwhile.{KeepOn}
 use Rattle.ell_cards.specs.Linearizing.{IsItsCall, LastAnswersAreOfCalls}
 use Rattle.ell_cards.proofs.lemmas.runs.Searched.{first_keeps}
 use Rattle.ell_cards.proofs.lemmas.runs.LinearizingCalls.{first_alone}
-use Rattle.ell_cards.proofs.lemmas.runs.Answering.{answers_have_their_points}
+use Rattle.ell_cards.proofs.lemmas.runs.Answering.{answers_with_card}
 
 -- what stands behind a list
 pub behind : {A : Type 0} (a b : List A) (k n : ℕ) → n ≡ length a + k → get_elem? (a ++ b) n ≡ get_elem? b k
@@ -65,5 +65,5 @@ call_among seat op said earlier during later on = record {
 -- what a pass answered last is a call's
 pub last_answers_are_of_calls : LastAnswersAreOfCalls
 last_answers_are_of_calls plan v op said card took answered opened starts turns s' run seat there =
-    let h = answers_have_their_points plan v op said card took answered opened starts turns s' run seat there in
+    let h = (answers_with_card plan v op said card took answered opened starts turns s' run seat there).0 in
     subst (λ ts. IsItsCall ts seat op said) (sym h.is) (call_among seat op said h.earlier h.during h.later h.called.on)

@@ -35,7 +35,7 @@ use Rattle.ell_cards.specs.declared.call.Call.TheVariants as call
 use Rattle.ell_cards.specs.declared.view.Hindrance.{Hindrance}
 use Rattle.ell_cards.specs.declared.view.Hindrance.TheVariants.{Claim, Found}
 use Rattle.ell_cards.specs.declared.view.View.{View}
-use Rattle.ell_cards.specs.Models.{TablePlan, EndedBy}
+use Rattle.ell_cards.specs.Models.{TablePlan, flat_from, EndedBy}
 use Rattle.ell_cards.specs.Calls.{after, act_of, said_of, Becomes, May}
 use Rattle.ell_cards.specs.Changes.{way_now, left_view, right_view, joined_view, spent_view}
 use Rattle.ell_cards.specs.States.{TableState, seat_worker}
@@ -44,7 +44,7 @@ use Rattle.ell_cards.specs.Laws.{machine_of_table}
 use Rattle.ell_cards.specs.Turns.{Turn, Makes, Splits, Joins, TableTurns, TableRun, found_by, view_after, state_after}
 use Rattle.ell_cards.specs.TurnEffects.{turn_wins, run_wins}
 use Rattle.ell_cards.specs.RunLaws.{StartIsKept}
-use Rattle.ell_cards.specs.Meanwhile.{is_end, has_end, KeepsOn, KeepOn, BeginsHere, IsBeginning, SearchesBeginThere, SearchRun, ended_before, ended_since, EndsMeanwhile, WordEndsMeanwhile, AreMeanwhile, SearchesReadMeanwhile, SearchesMeetMeanwhile, KnownMilestonesWereReached}
+use Rattle.ell_cards.specs.Meanwhile.{is_end, has_end, KeepsOn, KeepOn, BeginsHere, IsBeginning, SearchesBeginThere, SearchRun, ended_before, ended_since, EndsMeanwhile, WordEndsMeanwhile, AreMeanwhile, AreOfOthers, IsPast, SearchesReadMeanwhile, SearchesMeetMeanwhile, KnownMilestonesWereReached}
 use Rattle.ell_cards.proofs.lemmas.runs.TurnsOfRuns.{turn_lawful}
 use Rattle.ell_core.proofs.lemmas.following.Lawful.{splits_lawful, joins_lawful}
 use Rattle.ell_layout.proofs.lemmas.Listed.{listed_next}
@@ -158,13 +158,13 @@ module _ (m0 : Machine) (stage0 : Stages) (first : Invariant m0 stage0) (seat : 
       since : SearchSince m0.words stage0 kept.words ((machine_of_table plan s kept).worker seat)
       view : View
       there : get_elem? s.views seat ≡ some view
-      hindered : HinderedSince m0.words stage0 kept.words went.stages old view
+      hindered : HinderedSince (flat_from plan) m0.words stage0 kept.words went.stages old view
 
     -- what led to a state and what a turn makes of it
     then_goes : (s : TableState) (won : ℕ → List Exchange) (at : Leads s won) (s' : TableState) (kept : HasMachine plan s') (more : ℕ → List Exchange)
         → (goes : Went at.kept.words at.went.stages more (machine_of_table plan s' kept))
         → SearchSince m0.words stage0 kept.words ((machine_of_table plan s' kept).worker seat) → (view : View) → get_elem? s'.views seat ≡ some view
-        → HinderedSince m0.words stage0 kept.words goes.stages old view → Leads s' (λ d. won d ++ more d)
+        → HinderedSince (flat_from plan) m0.words stage0 kept.words goes.stages old view → Leads s' (λ d. won d ++ more d)
     then_goes s won at s' kept more goes since view there hindered = record {
       kept = kept;
       went = went_after m0.words stage0 won (machine_of_table plan s at.kept) more (machine_of_table plan s' kept) at.went goes;
@@ -176,7 +176,7 @@ module _ (m0 : Machine) (stage0 : Stages) (first : Invariant m0 stage0) (seat : 
 
     -- what hindered a pass that makes no step
     hindered_still : (s : TableState) (won : ℕ → List Exchange) (at : Leads s won) (now : Words) (after : Stages) → WordsLater at.kept.words now → StagesLater at.went.stages after
-        → HinderedSince m0.words stage0 now after old at.view
+        → HinderedSince (flat_from plan) m0.words stage0 now after old at.view
     hindered_still s won at now after words later =
         hindered_rests plan m0 stage0 first s at.kept at.went.stages at.went.invariant at.went.words at.went.later at.went.cleans seat at.view at.there at.since now after words later old at.hindered
 
@@ -322,6 +322,10 @@ module _ (plan : TablePlan) (q : SearchRun plan) where
         | inl e ↦ absurd (some_not_none e (ap (λ (k : Search). k.parent) q.begins.root))
         | inr e ↦ absurd (some_not_none e (ap (λ (k : Search). k.grandparent) q.begins.root))
       ];
+      shows = record {
+        read = λ n e. absurd (some_not_none e q.begins.unread);
+        past = λ c has. absurd (some_not_none has q.begins.no_card);
+      };
       own = λ c has. tt;
       hand = λ k c busy has flagged. absurd (some_not_none has q.begins.no_card);
     };
@@ -392,7 +396,10 @@ searches_meet_meanwhile plan q =
       earlier = l.hindered.earlier;
       tries = l.hindered.tries ∙ ap (λ (u : View). u.met ++ l.hindered.earlier) same;
       each = met_in plan q l.hindered.met l.hindered.each;
-      own = λ c has. l.hindered.own c (ap (λ (u : View). u.worker.card) same ∙ has);
+      own = λ c has. subst (λ m. AreOfOthers m c l.hindered.met) (ap (λ (u : View). u.next_at_least) same)
+          (l.hindered.own c (ap (λ (u : View). u.worker.card) same ∙ has));
+      past = λ c has. subst (λ m. IsPast (flat_from plan) m c) (ap (λ (u : View). u.next_at_least) same)
+          (l.hindered.shows.past c (ap (λ (u : View). u.worker.card) same ∙ has));
       free = hand_free plan q;
     }
 

@@ -17,7 +17,7 @@ use Rattle.ell_cards.proofs.lemmas.seats.Seats.{set_there}
 use Rattle.ell_cards.proofs.lemmas.own_words.OwnLedgers.{ledgers_tell_the_tree}
 use Rattle.ell_cards.proofs.lemmas.runs.Starting.{starts_are_kept}
 use Rattle.ell_cards.specs.Starts.{IsReached}
-use Rattle.ell_cards.proofs.lemmas.runs.Beginnings.{looks_are_of_one_state, missing_in_one_state}
+use Rattle.ell_cards.proofs.lemmas.runs.Beginnings.{look_there, missing_in_one_state}
 use Rattle.ell_cards.proofs.lemmas.runs.OwnSeat.{run_free}
 use Rattle.ell_cards.proofs.lemmas.runs.TurnsOfRuns.{runs_are_lawful}
 
@@ -70,6 +70,6 @@ own_found plan s h seat v at key there f owns =
 -- a pass reads its own changes
 pub looks_read_their_own : LooksReadTheirOwn
 looks_read_their_own plan s h seat v at = (
-  λ key there found owns. own_found plan s h seat v at key there (looks_are_of_one_state plan v key there found h.first h.starts h.turns s h.run seat at) owns,
+  λ key there found owns. own_found plan s h seat v at key there (look_there plan v key there found h.first h.starts h.turns s h.run seat at) owns,
   λ key missed owns. own_found plan s h seat v at key None (missing_in_one_state plan v key missed h.first h.starts h.turns s h.run seat at) owns,
 )

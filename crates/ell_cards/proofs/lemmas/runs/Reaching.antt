@@ -1,33 +1,33 @@
-use Rattle.std.proofs.Common.{◌≡◌, ◌==◌, ℕ, if◌then◌else◌, Bool, true, false, List, [], ◌∷◌, ◌++◌, ◌+◌, ◌≤◌, get_or, set, length, refl, sym, ap, ◌∙◌, subst, arith}
-use prog.Atomic.{either}
+use Rattle.std.proofs.Common.{◌≡◌, ℕ, List, [], ◌∷◌, ◌++◌, ◌+◌, ◌≤◌, length, refl, sym, ◌∙◌, subst, arith}
 use lib.ListN.{get_elem?}
 use mathlib.Core.Option.{some}
-use Rattle.atomic_table.specs.Table.{Allows, opening, keeps}
-use Rattle.atomic_table.proofs.Lists.{set_else}
-use Rattle.ell_layout.specs.declared.field.Field.{Field}
+use Rattle.atomic_table.specs.Table.{opening}
 use Rattle.ell_layout.specs.declared.field.Field.TheVariants as field
-use Rattle.ell_layout.specs.Layout.{address, table_size}
+use Rattle.ell_layout.specs.Layout.{table_size}
 use Rattle.ell_layout.specs.Words.{words_of}
 use Rattle.ell_layout.specs.Start.{words_at_start}
 use Rattle.ell_cards.specs.declared.call.Call.{Call}
 use Rattle.ell_cards.specs.declared.call.Call.TheVariants as call
+use Rattle.ell_layout.specs.declared.field.Field.{Field}
 use Rattle.ell_cards.specs.declared.view.Told.TheVariants.{Key, Value, Info}
 use Rattle.ell_cards.specs.declared.view.View.{View}
-use Rattle.ell_cards.specs.Models.{TablePlan, last_claim, IsFree, MayPart}
-use Rattle.ell_cards.specs.Changes.{first_of, left_view, right_view, joined_view, spent_view}
-use Rattle.ell_cards.specs.Calls.{Load, Exchange, word_of, atomic_of, left_by, after, May}
+use Rattle.ell_cards.specs.Models.{TablePlan, last_claim}
+use Rattle.ell_cards.specs.Changes.{first_of}
+use Rattle.ell_cards.specs.Calls.{May}
 use Rattle.ell_cards.specs.States.{TableState}
 use Rattle.ell_cards.specs.Machines.{HasMachine}
-use Rattle.ell_cards.specs.Turns.{Turn, Makes, Splits, Joins, TableTurns, TableRun}
+use Rattle.ell_cards.specs.Turns.{Turn, Makes, TableTurns, TableRun, found_by, view_after, state_after}
 use Rattle.ell_cards.specs.Starts.{MayStart, Starts, IsReached, RunFromStart}
 use Rattle.ell_cards.specs.Looking.{KeysAreFixed, ValuesAreFixed}
-use Rattle.ell_cards.specs.Stepping.{MayLoad, MayStore, MayExchange, MaySplit, MayJoin, IsTaken}
+use Rattle.ell_cards.specs.Shown.{cut_word, shown, shown_call}
+use Rattle.ell_cards.specs.Stepping.{MayTell, IsTaken}
 use Rattle.ell_cards.proofs.lemmas.seats.Seats.{set_there}
 use Rattle.ell_cards.proofs.lemmas.seats.Named.{kept_named, named_to, kept_shallow}
 use Rattle.ell_cards.proofs.lemmas.seats.Taken.{keys_stay, same_share}
 use Rattle.ell_cards.proofs.lemmas.stepping.AllCalls.{steps_are_events}
 use Rattle.ell_cards.proofs.lemmas.runs.Starting.{starts_are_kept, runs_from_starts}
 use Rattle.ell_cards.proofs.lemmas.runs.TurnsOfRuns.{one_more_turn, runs_are_lawful}
+use Rattle.ell_cards.proofs.lemmas.shown.ShownViews.{takings_are_shown}
 use Rattle.ell_cards.proofs.lemmas.runs.OwnLooks.{looks_read_their_own}
 use Rattle.ell_cards.proofs.lemmas.runs.Rooms.{claims_within}
 
@@ -86,86 +86,57 @@ module _ (plan : TablePlan) where
   pub claims_to : (s : TableState) (h : IsReached plan s) → (reached_kept s h).words.next ≤ last_claim plan + 1
   claims_to s h = let word = claims_within plan s h in let next = (reached_kept s h).next in omega arith
 
-  -- a step call is a turn, wherever turns have led the table, and leaves of its pass what the call says
-  taken : (c : Call) (v : View) (f : ℕ → ℕ) → ((n : ℕ) → f n ≡ left_by (atomic_of c) n) → May plan c v
-      → (id : ℕ) → Allows (IsReached plan) 0 id (v, []) (word_of c) f (λ n me. IsTaken plan c v n me.0 × (me.1 ≡ []))
-  taken c v f same may id s h homes here small =
-      let n = get_or s.words (word_of c) 0 in
-      let w = after c n v in
-      let s' : TableState = record { words = set s.words (word_of c) (f n); homes = s.homes; views = set s.views id w } in
-      let on = reached_on s h (Makes id c) s' (record {
-        view = v;
-        there = here;
-        may = may;
-        gives = ap (λ (m : ℕ). record { words = set s.words (word_of c) m; homes = s.homes; views = set s.views id w }) (same n);
-      }) in (
-        w,
-        keeps,
-        tt,
-        on,
-        (
-          record {
-            view = refl;
-            tells = (steps_are_events plan s (reached_kept s h) id v c here may).tells;
-            own = (looks_read_their_own plan s' on id w (set_there s.views id w v here)).0;
-            missed = (looks_read_their_own plan s' on id w (set_there s.views id w v here)).1;
-            fixed = told_once s' on id w (set_there s.views id w v here);
-            values = told_one_value s h id v here;
-            keys = keys_stay c n v;
-            share = same_share c n v;
-            named = kept_named plan s' (reached_kept s' on) id w (set_there s.views id w v here);
-            inside = named_to plan s' (reached_kept s' on) id w (set_there s.views id w v here) (last_claim plan) (claims_to s' on);
-            shallow = kept_shallow plan s' (reached_kept s' on) id w (set_there s.views id w v here);
-          },
-          refl,
-        ),
-      )
+  -- a step call is a turn
+  pub call_on : (s : TableState) → IsReached plan s → (id : ℕ) (c : Call) (v : View) → get_elem? s.views id ≡ some v → May plan c v
+      → IsReached plan (state_after s id v c)
+  call_on s h id c v here may =
+      reached_on s h (Makes id c) (state_after s id v c) (record { view = v; there = here; may = may; gives = refl })
 
-  -- a load
-  pub may_load : (c : Call) (v : View) (word : ℕ) → word ≡ word_of c → atomic_of c ≡ Load → May plan c v
-      → MayLoad plan v word (IsTaken plan c v)
-  may_load c v word at loads may =
-      subst (λ i. MayLoad plan v i (IsTaken plan c v)) (sym at) (taken c v (λ n. n) (λ n. ap (λ a. left_by a n) (sym loads)) may)
+  -- and leaves of its pass what the call says
+  calls_leave : (c : Call) (v : View) → May plan c v → (s : TableState) → IsReached plan s → (id : ℕ) → get_elem? s.views id ≡ some v
+      → IsTaken plan c v (found_by s c) (view_after s v c)
+  calls_leave c v may s h id here =
+      let n = found_by s c in
+      let w = view_after s v c in
+      let s' = state_after s id v c in
+      let on = call_on s h id c v here may in
+      let there = set_there s.views id w v here in record {
+        view = refl;
+        tells = (steps_are_events plan s (reached_kept s h) id v c here may).tells;
+        own = (looks_read_their_own plan s' on id w there).0;
+        missed = (looks_read_their_own plan s' on id w there).1;
+        fixed = told_once s' on id w there;
+        values = told_one_value s h id v here;
+        keys = keys_stay c n v;
+        share = same_share c n v;
+        named = kept_named plan s' (reached_kept s' on) id w there;
+        inside = named_to plan s' (reached_kept s' on) id w there (last_claim plan) (claims_to s' on);
+        shallow = kept_shallow plan s' (reached_kept s' on) id w there;
+      }
 
-  -- the store of a fill
-  pub may_fill : (c : ℕ) (f : Field) (value : ℕ) (v : View) (word : ℕ) → word ≡ address c f → May plan (call.Fill c f value) v
-      → MayStore plan v word value (IsTaken plan (call.Fill c f value) v)
-  may_fill c f value v word at may =
-      subst (λ i. MayStore plan v i value (IsTaken plan (call.Fill c f value) v)) (sym at)
-      (λ id s h homes here small.
-      let x = taken (call.Fill c f value) v (λ n. value) (λ n. refl) may id s h homes here small in
-      let t = x.4.0 in
-      (x.0, x.1, x.2, x.3, (record { view = t.view; tells = tt; own = t.own; missed = t.missed; fixed = t.fixed; values = t.values; keys = t.keys; share = t.share; named = t.named; inside = t.inside; shallow = t.shallow }, x.4.1)))
+  -- so it is of what is shown of the pass
+  pub calls_tell : (c : Call) (v : View) → MayTell plan c v (IsTaken plan c v)
+  calls_tell c v s h id w here is whole same may can =
+      let n = found_by s whole in
+      let now = view_after s w whole in
+      subst (λ (d : Call). IsTaken plan d v (cut_word n) (shown now)) same
+      (subst (λ (u : View). IsTaken plan (shown_call whole) u (cut_word n) (shown now)) is
+      (takings_are_shown plan whole w n now can (calls_leave whole w may s h id here)))
 
-  either_is : (b : Bool) (x y : ℕ) → either b x y ≡ (if b then x else y)
-  either_is true x y = refl
-  either_is false x y = refl
-
-  -- an exchange
-  pub may_exchange : (c : Call) (v : View) (word expected value : ℕ) → word ≡ word_of c
-      → atomic_of c ≡ Exchange expected value → May plan c v → MayExchange plan v word expected value (IsTaken plan c v)
-  may_exchange c v word expected value at exchanges may =
-      subst (λ i. MayExchange plan v i expected value (IsTaken plan c v)) (sym at)
-      (taken c v (λ n. either (n == expected) value n)
-      (λ n. either_is (n == expected) value n ∙ ap (λ a. left_by a n) (sym exchanges)) may)
-
-  -- a split
-  pub splits : (v : View) (chosen : List ℕ) → IsFree v → MayPart v → MaySplit plan v (left_view chosen v) (right_view chosen v)
-  splits v chosen free may id s h here =
-      reached_on s h (Splits id chosen) (record { words = s.words; homes = s.homes; views = set s.views id (left_view chosen v) ++ right_view chosen v ∷ [] })
-      (record { view = v; there = here; free = free; may = may; gives = refl })
-
-  -- a join
-  pub joins : (v w : View) → IsFree v → IsFree w → MayJoin plan v w (joined_view v w) spent_view
-  joins v w free other_free id other s h here apart there =
-      reached_on s h (Joins id other) (record { words = s.words; homes = s.homes; views = set (set s.views id (joined_view v w)) other spent_view })
-      (record {
-        view = v;
-        view' = w;
-        there = here;
-        there' = sym (set_else s.views id other (joined_view v w) apart) ∙ there;
-        apart = λ e. apart (sym e);
-        free = free;
-        free' = other_free;
-        gives = refl;
-      })
+  -- a fill tells nothing of what it found
+  pub fill_tells : (c : ℕ) (f : Field) (value : ℕ) (v : View)
+      → MayTell plan (call.Fill c f value) v (λ n. IsTaken plan (call.Fill c f value) v value)
+  fill_tells c f value v s h id w here is whole same may can =
+      let t = calls_tell (call.Fill c f value) v s h id w here is whole same may can in record {
+        view = t.view;
+        tells = tt;
+        own = t.own;
+        missed = t.missed;
+        fixed = t.fixed;
+        values = t.values;
+        keys = t.keys;
+        share = t.share;
+        named = t.named;
+        inside = t.inside;
+        shallow = t.shallow;
+      }

@@ -32,7 +32,7 @@ use Rattle.ell_cards.specs.Calls.{May}
 use Rattle.ell_cards.specs.States.{TableState}
 use Rattle.ell_cards.specs.Starts.{Starts, StartWords, MayStart, IsSharedIn}
 use Rattle.ell_cards.specs.Turns.{Turn, Makes, Splits, Joins, TableTurns, TableRun, state_after, state_split, state_joined}
-use Rattle.ell_cards.specs.SmallRun.{before_the_look, LookBeginsWhenGone, small_plan, small_run, SmallRunIsMade, parting, delete_flags, insert_claims, insert_flags, mark_is_lost, insert_ends, delete_begins_anew, delete_ends, look, ending}
+use Rattle.ell_cards.specs.SmallRun.{before_the_look, LookBeginsWhenGone, DeadIsKnown, small_plan, small_run, SmallRunIsMade, parting, delete_flags, insert_claims, insert_flags, mark_is_lost, insert_ends, delete_begins_anew, delete_ends, look, ending}
 use Rattle.ell_cards.proofs.lemmas.lifetimes.StartLists.{start_list_starts, small_list, small_words}
 use Rattle.ell_cards.specs.Models.{TablePlan}
 
@@ -170,7 +170,7 @@ start_is_given zero d low = inl refl
 start_is_given (suc k) d low = absurd (omega (arith, low))
 
 may_there : MayStart small_plan
-may_there = record { ascending = keys_rise; real = keys_are_real; start_ascending = start_rises; given = start_is_given; room = omega arith; few = omega arith; limit = omega arith; slots = tt }
+may_there = record { ascending = keys_rise; real = keys_are_real; start_ascending = start_rises; given = start_is_given; room = omega arith; few = omega arith; limit = omega arith; slots = omega arith }
 
 starts_there : Starts small_plan at_0
 starts_there = record {
@@ -200,7 +200,7 @@ delete_flags_asks =
     ▸ (refl, record { op = Delete 5; word = 3; key = infinity1; busy = refl; stands = refl; inner = refl; read = refl; told = refl; side = refl; no_card = refl })
     ▸ (refl, told_at 0 _ _ refl)
     ▸ (refl, tt)
-    ▸ (refl, (record { op = Delete 5; below = 5; key = 5; parent = record { node = 4; word = 3; tag = 0 }; read = refl; no_card = refl; busy = refl; stands = refl; told = refl; behind = refl; calm = refl; wants = record { outer = leaf_5; same = refl; above = record { node = 0; word = 3; tag = 0 }; grandparent = refl; calm = refl } }, omega arith))
+    ▸ (refl, (record { op = Delete 5; below = 5; key = 5; parent = record { node = 4; word = 3; tag = 0 }; read = refl; other = λ e. some_not_none e refl; ready = inl refl; busy = refl; stands = refl; told = refl; behind = refl; calm = refl; wants = record { outer = leaf_5; same = refl; above = record { node = 0; word = 3; tag = 0 }; grandparent = refl; calm = refl } }, omega arith))
     ▸ (refl, record { holds = refl; unflagged = refl })
     ▸ (refl, record { holds = refl; unflagged = refl })
     ▸ (refl, record { holds = refl; unflagged = refl })
@@ -224,7 +224,7 @@ insert_claims_asks =
     ▸ (refl, told_at 0 _ _ refl)
     ▸ (refl, (told_at 1 _ _ refl, leaf_5))
     ▸ (refl, tt)
-    ▸ (refl, (record { op = Insert 7 70; below = 5; key = 5; parent = record { node = 4; word = 3; tag = 0 }; read = refl; no_card = refl; busy = refl; stands = refl; told = refl; behind = refl; calm = refl; wants = record { leaf = λ outer. ((λ e. let h : ◌≡◌ {A = ℕ} 5 7 = e in omega arith), (50, told_at 0 _ _ refl)); edge = λ inner. absurd (leaf_5 inner); fits = λ has. absurd (false≢true (sym (none_plain 4) ∙ has)); named = record { greater = λ plain. refl; branch = λ some two. absurd (omega arith) } } }, omega arith))
+    ▸ (refl, (record { op = Insert 7 70; below = 5; key = 5; parent = record { node = 4; word = 3; tag = 0 }; read = refl; other = λ e. some_not_none e refl; ready = inl refl; busy = refl; stands = refl; told = refl; behind = refl; calm = refl; wants = record { leaf = λ outer. ((λ e. let h : ◌≡◌ {A = ℕ} 5 7 = e in omega arith), (50, told_at 0 _ _ refl)); edge = λ inner. absurd (leaf_5 inner); fits = λ has. absurd (false≢true (sym (none_plain 4) ∙ has)); named = record { greater = λ plain. refl; branch = λ some two. absurd (omega arith) } } }, omega arith))
     ▸ tt
 
 abbrev at_3 : TableState
@@ -290,7 +290,7 @@ delete_begins_anew_asks =
     ▸ (refl, record { op = Delete 5; word = 3; key = 7; busy = refl; stands = refl; inner = refl; read = refl; told = refl; side = refl; no_card = refl })
     ▸ (refl, told_at 0 _ _ refl)
     ▸ (refl, tt)
-    ▸ (refl, (record { op = Delete 5; below = 13; key = 5; parent = record { node = 12; word = 3; tag = 0 }; read = refl; no_card = refl; busy = refl; stands = refl; told = refl; behind = refl; calm = refl; wants = record { outer = leaf_13; same = refl; above = record { node = 4; word = 15; tag = 1 }; grandparent = refl; calm = refl } }, omega arith))
+    ▸ (refl, (record { op = Delete 5; below = 13; key = 5; parent = record { node = 12; word = 3; tag = 0 }; read = refl; other = λ e. some_not_none e refl; ready = inl refl; busy = refl; stands = refl; told = refl; behind = refl; calm = refl; wants = record { outer = leaf_13; same = refl; above = record { node = 4; word = 15; tag = 1 }; grandparent = refl; calm = refl } }, omega arith))
     ▸ tt
 
 abbrev at_7 : TableState
@@ -382,4 +382,14 @@ look_begins_when_gone = record {
       (has.invariant.workers.each 0).facts (fact.DOver 4) (ap (λ (u : Worker). u.knows (fact.DOver 4)) (mine_is small_plan at_8 r 0 (view_at at_8 0) refl)) in
       let parent : r.words.p 4 ≡ 12 = sym (r.settled 4 field.P (known_settled small_plan at_8 r 0 (view_at at_8 0) refl 4 (inr (inr refl)))) in
       record { taker = 4; ended = over-ended (has.stages 4) over; takes = inr (over-cut (has.stages 4) over, inl parent) };
+}
+
+-- and knows it to be over, and so that none of its card's nodes comes into the tree
+pub dead_is_known : DeadIsKnown
+dead_is_known = record {
+  state = at_8;
+  reached = record { first = at_0; starts = starts_there; turns = before_the_look; run = run_made small_plan at_0 before_the_look before_asks };
+  view = view_at at_8 0;
+  there = refl;
+  knows = λ x on. (on, inl (inl refl));
 }

@@ -1,12 +1,14 @@
-use Rattle.std.proofs.Common.{ℕ, ◌∙◌, refl, arith}
+use Rattle.std.proofs.Common.{ℕ, ◌∙◌, arith}
 use Rattle.ell_cards.specs.declared.view.View.{View}
 use Rattle.ell_cards.specs.Models.{TablePlan}
 use Rattle.ell_cards.specs.Histories.{history_of}
-use Rattle.ell_cards.specs.Stepping.{MayLoad, IsTaken}
+use Rattle.ell_cards.specs.Shown.{shown}
+use Rattle.ell_cards.specs.Stepping.{MayTell, IsTaken}
+use Rattle.ell_cards.specs.Turns.{view_after}
 use Rattle.ell_cards.specs.declared.call.Call.TheVariants as call
 use Rattle.ell_cards.specs.Stories.{HasStory, StoriesAreTold}
 use Rattle.ell_cards.proofs.lemmas.seats.Seats.{set_there}
-use Rattle.ell_cards.proofs.lemmas.runs.Reaching.{may_load}
+use Rattle.ell_cards.proofs.lemmas.runs.Reaching.{call_on, calls_tell}
 use Rattle.ell_cards.proofs.lemmas.runs.Histories.{linear_of}
 use Rattle.ell_cards.proofs.lemmas.runs.Spent.{all_there}
 use Rattle.ell_cards.proofs.lemmas.runs.Accounts.{total_within, total_one, lin, stands, few_counts, same_counts}
@@ -27,11 +29,24 @@ stories_are_told plan s h seat v here = record {
       same_counts plan h.first h.starts h.turns s h.run there.free such ∙ total_one such s.views seat v here there.silent;
 }
 
+-- so it is of what is shown of the pass
+story_shown : (plan : TablePlan) (v : View) → HasStory plan v → HasStory plan (shown v)
+story_shown plan v h = record {
+  history = h.history;
+  linear = h.linear;
+  mine = h.mine;
+  places = h.places;
+  stand = h.stand;
+  all = h.all;
+}
+
 -- a load may tell it
 abbrev pub TellsStory : TablePlan → View → ℕ → View → Type 0
 TellsStory plan v n w = IsTaken plan call.Next v n w × HasStory plan w
 
-pub may_tell : (plan : TablePlan) (v : View) → MayLoad plan v 0 (TellsStory plan v)
-may_tell plan v id s h homes here small =
-    let x = may_load plan call.Next v 0 refl refl tt id s h homes here small in
-    (x.0, x.1, x.2, x.3, ((x.4.0, stories_are_told plan _ x.3 id x.0 (set_there s.views id x.0 v here)), x.4.1))
+pub may_tell : (plan : TablePlan) (v : View) → MayTell plan call.Next v (TellsStory plan v)
+may_tell plan v s h id w here is whole same may can = (
+  calls_tell plan call.Next v s h id w here is whole same may can,
+  (let now = view_after s w whole in
+      story_shown plan now (stories_are_told plan _ (call_on plan s h id whole w here may) id now (set_there s.views id now w here))),
+)

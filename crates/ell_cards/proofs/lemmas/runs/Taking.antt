@@ -56,8 +56,8 @@ says_no there key says leaves =
 
 -- a delete that was answered yes took what its pass says it took
 pub deletes_take_what_they_tell : DeletesTakeWhatTheyTell
-deletes_take_what_they_tell plan v key card value last s starts turns s' run seat there =
-    let a = answers_with_card plan v (Delete key) Yes card (Some value) last s starts turns s' run seat there in
+deletes_take_what_they_tell plan v key card value last s starts turns s' run seat w is there =
+    let a = answers_with_card plan w (Delete key) Yes card (Some value) (ap (λ (u : View). u.answered) is ∙ last) s starts turns s' run seat there in
     let did = a.0 in
     let p = did.point in
     let had = final (contents_of plan.start) (run_effects plan s p.all p.state p.led) in

@@ -10,6 +10,8 @@ use Rattle.ell_word.specs.declared.link.Link.{Link}
 use Rattle.ell_word.specs.declared.update.State.{State}
 use Rattle.ell_word.specs.declared.update.State.TheVariants as state
 use Rattle.ell_core.specs.declared.event.Act.{Act}
+use Rattle.ell_core.specs.declared.event.Event.{Event}
+use Rattle.ell_core.specs.declared.event.Stepped.{Stepped}
 use Rattle.ell_core.specs.declared.fact.Fact.{Fact}
 use Rattle.ell_core.specs.declared.fact.Fact.TheVariants as fact
 use Rattle.ell_layout.specs.declared.field.Field.{Field}
@@ -18,7 +20,8 @@ use Rattle.ell_layout.specs.Layout.{address}
 use Rattle.ell_layout.specs.Words.{Words, IsLeaf, word, key_field, child_field}
 use Rattle.ell_layout.specs.Cards.{says_by}
 use Rattle.ell_core.specs.state.Machine.{Machine, Worker}
-use Rattle.ell_core.specs.history.Stages.{insert_over, delete_over, Stage, Stages, Born, is_claimed, insert_won, is_changed, delete_won, is_cut, is_unmarkable, waits, allows}
+use Rattle.ell_core.specs.acts.Events.{Steps}
+use Rattle.ell_core.specs.history.Stages.{insert_over, delete_over, Stage, Stages, Born, is_start, is_claimed, insert_won, is_changed, delete_won, is_cut, is_unmarkable, waits, allows}
 use Rattle.ell_core.specs.history.Invariant.{Invariant}
 use Rattle.ell_core.specs.history.Later.{WordsLater, StagesLater, wins_of}
 use Rattle.ell_core.specs.statements.Since.{has_ended}
@@ -55,7 +58,7 @@ use Rattle.ell_cards.specs.Laws.{machine_of_table}
 use Rattle.ell_cards.specs.Turns.{Turn, Makes, Splits, Joins, CallIsMade, TableTurns, TableRun, found_by}
 use Rattle.ell_cards.specs.Starts.{IsReached}
 use Rattle.ell_cards.specs.Runs.{GoesBy}
-use Rattle.ell_cards.specs.Touching.{forgets, AtRoot, touched_by, IsWordOf, WasThere, CallsTouchTheirWords, CallsTouchNothingGone, TablesHaveOuts, KnownTakenOutIsGone}
+use Rattle.ell_cards.specs.Touching.{forgets, Touched, AtNode, OfCard, AtRoot, touched_by, IsWordOf, WasThere, CallsTouchTheirWords, CallsTouchNothingGone, TablesHaveOuts, KnowsTakenOut, KnownTakenOutIsGone}
 use Rattle.ell_cards.proofs.lemmas.seats.Seats.{mine_is, set_there}
 use Rattle.ell_cards.proofs.lemmas.seats.Entries.{with_entry}
 use Rattle.ell_cards.proofs.lemmas.lifetimes.Splits.{of_split}
@@ -123,13 +126,43 @@ unclaimed-unended s h = grind arith
 cut_much : (s : Stage) → is_cut s ≡ true → 3 ≤ much s
 cut_much s h = grind arith
 
-module _ (plan : TablePlan) (m : Machine) (stage : Stages) (first : Invariant m stage) where
-  -- what is so of an entry that a pass was told since: a node that it met is in the tree or was, and was not gone; a card of
+insert_won-unstarted : (s : Stage) → insert_won s ≡ true → is_start s ≡ false
+insert_won-unstarted s h = grind arith
+
+delete_won-unstarted : (s : Stage) → delete_won s ≡ true → is_start s ≡ false
+delete_won-unstarted s h = grind arith
+
+waits-unstarted : (s : Stage) → waits s ≡ true → is_start s ≡ false
+waits-unstarted s h = grind arith
+
+-- What was so of nodes at these stages of a state, by what is kept in each state that comes from it: what was so was not gone;
+-- it was so of each internal node that has come into the tree by now and was not gone, and of each child that one of which it
+-- was so has by now. And each event keeps what is kept, and so do words that stay as they were.
+pub record NodesWere (m : Machine) (stage : Stages) (Kept : (now : Machine) → ComesFrom m stage now → Type 0) (Was : ℕ → Type 0) : Type 0 where
+  pub stays : (x : ℕ) → Was x → ¬ IsGone m.words stage x
+  pub inner : (now : Machine) (from : ComesFrom m stage now) → Kept now from → (x : ℕ) → IsInternal x → Born from.stages x
+      → ¬ IsGone m.words stage x → Was x
+  pub child : (now : Machine) (from : ComesFrom m stage now) → Kept now from → (x : ℕ) → IsInternal x → Born from.stages x
+      → Was x → (right : Bool) → Was (now.words.child x right)
+  pub events : (old : Machine) (from : ComesFrom m stage old) → Kept old from → (e : Event) (said : Stepped) (new : Machine) → Steps old e said new
+      → (to : ComesFrom m stage new) × StagesLater from.stages to.stages × Kept new to
+  pub words : (old : Machine) (from : ComesFrom m stage old) → Kept old from → (new : Machine) → new.words ≡ old.words → Invariant new from.stages
+      → (to : ComesFrom m stage new) × StagesLater from.stages to.stages × Kept new to
+
+module _ (plan : TablePlan) (m : Machine) (stage : Stages) (first : Invariant m stage) (Kept : (now : Machine) → ComesFrom m stage now → Type 0)
+    (Was : ℕ → Type 0) (were : NodesWere m stage Kept Was) where
+  -- what is so of an entry that a pass was told since: a node that it met is in the tree or was, and it was so of it; a card of
   -- which it learnt had not ended
   abbrev Since : Stages → Told → Type 0
-  Since now (Met x) = Born now x × (¬ IsGone m.words stage x)
+  Since now (Met x) = Born now x × Was x
   Since now (Info c f x) = has_ended (stage c) ≡ false
   Since now _ = Unit {0}
+
+  -- what a call touches was there: it was so of the node, or the card had not ended and is not of the opening tree
+  abbrev pub Touches : Touched → Type 0
+  Touches (AtNode x) = Was x
+  Touches (OfCard c) = (has_ended (stage c) ≡ false) × (is_start (stage c) ≡ false)
+  Touches AtRoot = Unit {0}
 
   since_on : (old new : Stages) → StagesLater old new → (e : Told) → Since old e → Since new e
   since_on old new later (Met x) h = (later.born x h.0, h.1)
@@ -141,16 +174,17 @@ module _ (plan : TablePlan) (m : Machine) (stage : Stages) (first : Invariant m 
   since_on old new later (Frozen c right x) h = tt
 
   -- the root is in the tree
-  root_since : (now : Machine) (from : ComesFrom m stage now) → Since from.stages (Met 0)
-  root_since now from = (
-    root_born now.words from.stages from.invariant.words,
-    reached_was_not_gone m stage first now from 0
-        (reached_stays now.words from.stages from.invariant.words from.outs 0 (record { path = []; leads = refl })),
-  )
+  root_since : (now : Machine) (from : ComesFrom m stage now) → Kept now from → Since from.stages (Met 0)
+  root_since now from kept =
+      let born = root_born now.words from.stages from.invariant.words in (
+        born,
+        were.inner now from kept 0 refl born (reached_was_not_gone m stage first now from 0
+            (reached_stays now.words from.stages from.invariant.words from.outs 0 (record { path = []; leads = refl }))),
+      )
 
-  forgotten_since : (now : Machine) (from : ComesFrom m stage now) (e : Told) → Has forgotten e → Since from.stages e
-  forgotten_since now from e (latest _ _) = root_since now from
-  forgotten_since now from e (earlier _ _ _ none) = elim none [ ]
+  forgotten_since : (now : Machine) (from : ComesFrom m stage now) → Kept now from → (e : Told) → Has forgotten e → Since from.stages e
+  forgotten_since now from kept e (latest _ _) = root_since now from kept
+  forgotten_since now from kept e (earlier _ _ _ none) = elim none [ ]
 
   -- a node that is met
   met_since : (now : Stages) (depth x : ℕ) (told : List Told) → Since now (Met x) → ((e : Told) → Has told e → Since now e)
@@ -183,7 +217,7 @@ module _ (plan : TablePlan) (m : Machine) (stage : Stages) (first : Invariant m 
       by false d rest g = rest g
 
   module _ (s : TableState) (h : IsReached plan s) (r : HasMachine plan s) (id : ℕ) (v : View) (there : get_elem? s.views id ≡ some v)
-      (from : ComesFrom m stage (machine_of_table plan s r)) where
+      (from : ComesFrom m stage (machine_of_table plan s r)) (kept : Kept (machine_of_table plan s r) from) where
     abbrev M : Machine
     M = machine_of_table plan s r
 
@@ -199,28 +233,29 @@ module _ (plan : TablePlan) (m : Machine) (stage : Stages) (first : Invariant m 
     child_fine x right inner listed fine =
         subst (λ y. Fine (Met y)) (ap (λ (l : Link). l.node) (sym (child_read plan s r id v there x right inner listed))) (
           (from.invariant.words.children x inner fine.0).born right,
-          children_were_not_gone m stage first M from x inner fine.0 fine.1 right,
+          were.child M from kept x inner fine.0 fine.1 right,
         )
 
     -- the card of an update word that was found at a node
     found_fine : (x : ℕ) → IsInternal x → Born r.stages x → Fine (Met x) → (n : ℕ) → get_or s.words (update_address x) 0 ≡ n
         → (unpacked n).state ≢ state.Clean → has_ended (stage (unpacked n).card) ≡ false
     found_fine x inner listed fine n is dirty =
-        found_fresh m stage M from.stages first from.invariant from.words from.later x inner fine.0 fine.1 (unpacked n).state (unpacked n).card
+        found_fresh m stage M from.stages first from.invariant from.words from.later x inner fine.0 (were.stays x fine.1) (unpacked n).state (unpacked n).card
         (sym (listed_update plan s r x inner listed) ∙ (is ∙ sym (packed_again n))) dirty
 
     -- a card may be known by these facts
     insert_goes : (c : ℕ) → insert_won (from.stages c) ≡ true → has_ended (stage c) ≡ false → Fine (Met (r.words.p c))
-    insert_goes c won un = (
-      ((from.invariant.words.cards c).insert (insert_won-insert (from.stages c) won)).parent.born,
-      from.cards.insert c won un,
-    )
+    insert_goes c won un =
+        let card = (from.invariant.words.cards c).insert (insert_won-insert (from.stages c) won) in
+        (card.parent.born, were.inner M from kept (r.words.p c) card.parent.inner card.parent.born (from.cards.insert c won un))
 
     delete_goes : (c : ℕ) → delete_won (from.stages c) ≡ true → has_ended (stage c) ≡ false → Fine (Met (r.words.gp c)) × Fine (Met (r.words.p c))
     delete_goes c won un =
         let card = (from.invariant.words.cards c).delete (delete_won-delete (from.stages c) won) in
-        let stay = from.cards.delete c won un in
-        ((card.grandparent.born, stay.0), (card.parent.born, stay.1))
+        let stay = from.cards.delete c won un in (
+          (card.grandparent.born, were.inner M from kept (r.words.gp c) card.grandparent.inner card.grandparent.born stay.0),
+          (card.parent.born, were.inner M from kept (r.words.p c) card.parent.inner card.parent.born stay.1),
+        )
 
     allowed : (f : Fact) → Knows v f → allows f (from.stages (card_of_fact f)) ≡ true
     allowed f k = (from.invariant.workers.each id).facts f (knows_it f k)
@@ -234,7 +269,7 @@ module _ (plan : TablePlan) (m : Machine) (stage : Stages) (first : Invariant m 
     above_fine : (c : ℕ) → KnowsCard v c → has_ended (stage c) ≡ false → Fine (Met (r.words.gp c))
     above_fine c (inl k) un =
         let card = (from.invariant.words.cards c).insert (insert_won-insert (from.stages c) (allowed (fact.IFlagged c) k)) in
-        subst (λ x. Fine (Met x)) (sym card.gp) (root_since M from)
+        subst (λ x. Fine (Met x)) (sym card.gp) (root_since M from kept)
     above_fine c (inr (inl k)) un = (delete_goes c (allowed (fact.DFlagged c) k) un).0
     above_fine c (inr (inr k)) un = (delete_goes c (marked-won (from.stages c) (allowed (fact.Marked c) k)) un).0
 
@@ -379,20 +414,32 @@ module _ (plan : TablePlan) (m : Machine) (stage : Stages) (first : Invariant m 
               on false g = found e g
       told_since _ keeps may e h = old e h
 
+      -- a card that is known flagged or marked is not of the opening tree
+      known_unstarted : (c : ℕ) → KnowsCard v c → is_start (stage c) ≡ false
+      known_unstarted c knows = sym (from.later.start c) ∙ elim knows [
+        | inl k ↦ insert_won-unstarted (from.stages c) (allowed (fact.IFlagged c) k)
+        | inr r ↦ elim r [
+          | inl k ↦ delete_won-unstarted (from.stages c) (allowed (fact.DFlagged c) k)
+          | inr k ↦ delete_won-unstarted (from.stages c) (marked-won (from.stages c) (allowed (fact.Marked c) k))
+        ]
+      ]
+
       -- what a call touches
-      touches : (c : Call) → May plan c v → WasThere m.words stage (touched_by c)
+      touches : (c : Call) → May plan c v → Touches (touched_by c)
       touches (call.Upd x) may = (old (Met x) (met.node x may.stands)).1
       touches (call.Down x right) may = (old (Met x) (met.node x may.stands)).1
       touches (call.KeyOf x) may = (old (Met x) may).1
       touches (call.ValueOf x) may = (old (Met x) may.0).1
-      touches (call.Info c f) may = asked_un c f may
+      touches (call.Info c f) may = (asked_un c f may, known_unstarted c may.knows)
       touches (call.FrozenChild c p right) may = (marked_parent c p may.knows may.place).1
       touches (call.LookDown at to right) may = (old (Met at.node) may.met).1
       touches (call.Fill c f value) may =
           let me = mine_is plan s r id v there in
-          unended_before stage from.stages from.later c (waits-unended (from.stages c)
-          (hand_waits M.words from.stages (M.worker id) c (from.invariant.workers.each id)
-          (ap (λ (u : Worker). u.card) me ∙ may.holds) (ap (λ (u : Worker). u.flagged) me ∙ may.unflagged)))
+          let waiting = hand_waits M.words from.stages (M.worker id) c (from.invariant.workers.each id)
+          (ap (λ (u : Worker). u.card) me ∙ may.holds) (ap (λ (u : Worker). u.flagged) me ∙ may.unflagged) in (
+            unended_before stage from.stages from.later c (waits-unended (from.stages c) waiting),
+            sym (from.later.start c) ∙ waits-unstarted (from.stages c) waiting,
+          )
       touches (call.IFlag c p at) may =
           let passed = subst (IsPassed v) may.node (met.parent may.parent may.behind) in (old (Met p) passed.met).1
       touches (call.DFlag c gp at) may =
@@ -413,14 +460,14 @@ module _ (plan : TablePlan) (m : Machine) (stage : Stages) (first : Invariant m 
 
     -- what a call tells that forgets
     told_anew : (c : Call) → forgets c ≡ true → (e : Told) → IsTold (after c (found_by s c) v) e → Fine e
-    told_anew (call.Begin op) anew e h = forgotten_since M from e h
-    told_anew call.Again anew e h = forgotten_since M from e h
-    told_anew call.Leave anew e h = forgotten_since M from e h
-    told_anew (call.Answer said) anew e h = forgotten_since M from e h
-    told_anew call.Rest anew e h = forgotten_since M from e h
+    told_anew (call.Begin op) anew e h = forgotten_since M from kept e h
+    told_anew call.Again anew e h = forgotten_since M from kept e h
+    told_anew call.Leave anew e h = forgotten_since M from kept e h
+    told_anew (call.Answer said) anew e h = forgotten_since M from kept e h
+    told_anew call.Rest anew e h = forgotten_since M from kept e h
     told_anew call.Look anew e h =
         met_since from.stages 1 (link_in (found_by s call.Look)).node forgotten
-        (child_fine 0 false refl (root_born M.words r.stages r.invariant.words) (root_since M from)) (forgotten_since M from) e h
+        (child_fine 0 false refl (root_born M.words r.stages r.invariant.words) (root_since M from kept)) (forgotten_since M from kept) e h
     told_anew _ anew e h = absurd (false≢true anew)
 
   -- a state in a run, and what the pass in a seat was told since
@@ -428,37 +475,25 @@ module _ (plan : TablePlan) (m : Machine) (stage : Stages) (first : Invariant m 
     pub reached : IsReached plan s
     pub machine : HasMachine plan s
     pub from : ComesFrom m stage (machine_of_table plan s machine)
+    pub kept : Kept (machine_of_table plan s machine) from
     pub told : (v : View) → get_elem? s.views seat ≡ some v → (e : Told) → IsTold v e → Since from.stages e
 
-  -- so do words that stay as they were
-  handed_over : (old new : Machine) (from : ComesFrom m stage old) → new.words ≡ old.words → Invariant new from.stages
-      → (to : ComesFrom m stage new) × StagesLater from.stages to.stages
-  handed_over old new from same invariant = (
-    record {
-      stages = from.stages;
-      invariant = invariant;
-      outs = subst (λ w. OutsAreSound w from.stages) (sym same) from.outs;
-      words = subst (λ w. WordsLater m.words w) (sym same) from.words;
-      later = from.later;
-      cards = subst (λ w. CardsSince m.words stage w from.stages) (sym same) from.cards;
-    },
-    stages_same from.stages,
-  )
-
   -- a turn leads on
-  leads_on : (s : TableState) (r : HasMachine plan s) (t : Turn) (s' : TableState) (k : HasMachine plan s')
+  pub leads_on : (s : TableState) (r : HasMachine plan s) (t : Turn) (s' : TableState) (k : HasMachine plan s')
       → GoesBy s t (machine_of_table plan s r) (machine_of_table plan s' k) → (from : ComesFrom m stage (machine_of_table plan s r))
-      → (to : ComesFrom m stage (machine_of_table plan s' k)) × StagesLater from.stages to.stages
-  leads_on s r (Makes seat c) s' k goes from = by (act_of c (found_by s c)) goes
+      → Kept (machine_of_table plan s r) from
+      → (to : ComesFrom m stage (machine_of_table plan s' k)) × StagesLater from.stages to.stages × Kept (machine_of_table plan s' k) to
+  leads_on s r (Makes seat c) s' k goes from kept = by (act_of c (found_by s c)) goes
     where
       by : (a : Option Act) → Becomes seat a (said_of c (found_by s c)) (machine_of_table plan s r) (machine_of_table plan s' k)
-          → (to : ComesFrom m stage (machine_of_table plan s' k)) × StagesLater from.stages to.stages
-      by None same = subst (λ (n : Machine). (to : ComesFrom m stage n) × StagesLater from.stages to.stages) (sym same) (from, stages_same from.stages)
-      by (Some a) steps = events_lead_on m stage first (machine_of_table plan s r) from (record { worker = seat; act = a }) (said_of c (found_by s c))
+          → (to : ComesFrom m stage (machine_of_table plan s' k)) × StagesLater from.stages to.stages × Kept (machine_of_table plan s' k) to
+      by None same = subst (λ (n : Machine). (to : ComesFrom m stage n) × StagesLater from.stages to.stages × Kept n to) (sym same)
+          (from, stages_same from.stages, kept)
+      by (Some a) steps = were.events (machine_of_table plan s r) from kept (record { worker = seat; act = a }) (said_of c (found_by s c))
           (machine_of_table plan s' k) steps
-  leads_on s r (Splits seat left) s' k goes from = handed_over (machine_of_table plan s r) (machine_of_table plan s' k) from
+  leads_on s r (Splits seat left) s' k goes from kept = were.words (machine_of_table plan s r) from kept (machine_of_table plan s' k)
       (ap (λ (n : Machine). n.words) goes.gives) (splits_lawful (machine_of_table plan s r) from.stages seat (machine_of_table plan s' k) from.invariant goes)
-  leads_on s r (Joins seat other) s' k goes from = handed_over (machine_of_table plan s r) (machine_of_table plan s' k) from
+  leads_on s r (Joins seat other) s' k goes from kept = were.words (machine_of_table plan s r) from kept (machine_of_table plan s' k)
       (ap (λ (n : Machine). n.words) goes.gives) (joins_lawful (machine_of_table plan s r) from.stages seat other (machine_of_table plan s' k) from.invariant goes)
 
   -- the view of a pass after its call
@@ -483,23 +518,23 @@ module _ (plan : TablePlan) (m : Machine) (stage : Stages) (first : Invariant m 
     where
       by : (v : View) → get_elem? s.views seat ≡ some v → May plan c v → (b : Bool) → forgets c ≡ b
           → (e : Told) → IsTold (after c (found_by s c) v) e → Since at.from.stages e
-      by v here may true anew = told_anew s at.reached at.machine seat v here at.from c anew
-      by v here may false keeps = told_since s at.reached at.machine seat v here at.from (at.told v here) c keeps may
+      by v here may true anew = told_anew s at.reached at.machine seat v here at.from at.kept c anew
+      by v here may false keeps = told_since s at.reached at.machine seat v here at.from at.kept (at.told v here) c keeps may
   turn_told seat s at (Splits other chosen) s' turn u there =
       elim (of_split s.views other turn.view turn.there (left_view chosen turn.view) (right_view chosen turn.view) seat u
       (ap (λ (x : TableState). get_elem? x.views seat) (sym turn.gives) ∙ there)) [
-        | inl l ↦ subst (λ (w : View). (e : Told) → IsTold w e → Since at.from.stages e) l (forgotten_since (machine_of_table plan s at.machine) at.from)
+        | inl l ↦ subst (λ (w : View). (e : Told) → IsTold w e → Since at.from.stages e) l (forgotten_since (machine_of_table plan s at.machine) at.from at.kept)
         | inr o ↦ elim o [
-          | inl q ↦ subst (λ (w : View). (e : Told) → IsTold w e → Since at.from.stages e) q (forgotten_since (machine_of_table plan s at.machine) at.from)
+          | inl q ↦ subst (λ (w : View). (e : Told) → IsTold w e → Since at.from.stages e) q (forgotten_since (machine_of_table plan s at.machine) at.from at.kept)
           | inr was ↦ at.told u was
         ]
       ]
   turn_told seat s at (Joins one other) s' turn u there =
       elim (of_join s.views one other turn.view turn.view' turn.there turn.there' (λ e. turn.apart (sym e)) (joined_view turn.view turn.view') seat u
       (ap (λ (x : TableState). get_elem? x.views seat) (sym turn.gives) ∙ there)) [
-        | inl l ↦ subst (λ (w : View). (e : Told) → IsTold w e → Since at.from.stages e) l (forgotten_since (machine_of_table plan s at.machine) at.from)
+        | inl l ↦ subst (λ (w : View). (e : Told) → IsTold w e → Since at.from.stages e) l (forgotten_since (machine_of_table plan s at.machine) at.from at.kept)
         | inr o ↦ elim o [
-          | inl q ↦ subst (λ (w : View). (e : Told) → IsTold w e → Since at.from.stages e) q (forgotten_since (machine_of_table plan s at.machine) at.from)
+          | inl q ↦ subst (λ (w : View). (e : Told) → IsTold w e → Since at.from.stages e) q (forgotten_since (machine_of_table plan s at.machine) at.from at.kept)
           | inr was ↦ at.told u was
         ]
       ]
@@ -507,10 +542,11 @@ module _ (plan : TablePlan) (m : Machine) (stage : Stages) (first : Invariant m 
   turn_still : (seat : ℕ) (s : TableState) (at : Still seat s) (t : Turn) (s' : TableState) → TableTurns plan s t s' → Still seat s'
   turn_still seat s at t s' turn =
       let lawful = turn_lawful plan s at.machine t s' turn in
-      let to = leads_on s at.machine t s' lawful.0 lawful.1.machine at.from in record {
+      let to = leads_on s at.machine t s' lawful.0 lawful.1.machine at.from at.kept in record {
         reached = reached_on plan s at.reached t s' turn;
         machine = lawful.0;
         from = to.0;
+        kept = to.2;
         told = λ u there e told. since_on at.from.stages to.0.stages to.1 e (turn_told seat s at t s' turn u there e told);
       }
 
@@ -518,42 +554,101 @@ module _ (plan : TablePlan) (m : Machine) (stage : Stages) (first : Invariant m 
   run_still seat s at [] now run = subst (Still seat) (sym run) at
   run_still seat s at (t ∷ ts) now run = run_still seat run.0 (turn_still seat s at t run.0 run.1) ts now run.2
 
+  -- where a pass forgets, whatever it touches from there on was there
+  pub touches_on : (s : TableState) → IsReached plan s → (seat : ℕ) (c : Call) (begun : TableState) → CallIsMade plan s seat c begun → forgets c ≡ true
+      → (r : HasMachine plan s) (from : ComesFrom m stage (machine_of_table plan s r)) → Kept (machine_of_table plan s r) from
+      → (turns : List Turn) (now : TableState) → TableRun plan begun turns now
+      → (v : View) → get_elem? now.views seat ≡ some v → (next : Call) → May plan next v → Touches (touched_by next)
+  touches_on s reached seat c begun made anew r from kept turns now run v there next may =
+      let lawful = turn_lawful plan s r (Makes seat c) begun made in
+      let to = leads_on s r (Makes seat c) begun lawful.0 lawful.1.machine from kept in
+      let at = run_still seat begun (record {
+        reached = reached_on plan s reached (Makes seat c) begun made;
+        machine = lawful.0;
+        from = to.0;
+        kept = to.2;
+        told = λ u here e told. since_on from.stages to.0.stages to.1 e
+            (told_anew s reached r seat made.view made.there from kept c anew e
+            (subst (λ (w : View). IsTold w e) (sym (own_view seat s c begun made u here)) told));
+      }) turns now run in
+      touches now at.reached at.machine seat v there at.from at.kept (at.told v there) next may
+
+  -- turns lead on from where the cards have come so far
+  pub run_comes : (s : TableState) (r : HasMachine plan s) (from : ComesFrom m stage (machine_of_table plan s r)) → Kept (machine_of_table plan s r) from
+      → (turns : List Turn) (s' : TableState) → TableRun plan s turns s'
+      → (k : HasMachine plan s') × (to : ComesFrom m stage (machine_of_table plan s' k)) × Kept (machine_of_table plan s' k) to
+  run_comes s r from kept [] s' run =
+      subst (λ (x : TableState). (k : HasMachine plan x) × (to : ComesFrom m stage (machine_of_table plan x k)) × Kept (machine_of_table plan x k) to) (sym run)
+      (r, from, kept)
+  run_comes s r from kept (t ∷ ts) s' run =
+      let lawful = turn_lawful plan s r t run.0 run.1 in
+      let to = leads_on s r t run.0 lawful.0 lawful.1.machine from kept in
+      run_comes run.0 lawful.0 to.0 to.2 ts s' run.2
+
+-- words that stay as they were lead on, and what holds of them holds
+pub handed_over : (Holds : Words → Stages → Type 0) (m : Machine) (stage : Stages) (old : Machine) (from : ComesFrom m stage old) → Holds old.words from.stages
+    → (new : Machine) → new.words ≡ old.words → Invariant new from.stages
+    → (to : ComesFrom m stage new) × StagesLater from.stages to.stages × Holds new.words to.stages
+handed_over Holds m stage old from holds new same invariant = (
+  record {
+    stages = from.stages;
+    invariant = invariant;
+    outs = subst (λ w. OutsAreSound w from.stages) (sym same) from.outs;
+    words = subst (λ w. WordsLater m.words w) (sym same) from.words;
+    later = from.later;
+    cards = subst (λ w. CardsSince m.words stage w from.stages) (sym same) from.cards;
+  },
+  stages_same from.stages,
+  subst (λ w. Holds w from.stages) (sym same) holds,
+)
+
+-- so it is of what was not gone, and nothing more is kept
+abbrev nothing : (m : Machine) (stage : Stages) (now : Machine) → ComesFrom m stage now → Type 0
+nothing m stage now from = Unit {0}
+
+not_gone : (m : Machine) (stage : Stages) → Invariant m stage → NodesWere m stage (nothing m stage) (λ x. ¬ IsGone m.words stage x)
+not_gone m stage first = record {
+  stays = λ x stays. stays;
+  inner = λ now from kept x inner born stays. stays;
+  child = λ now from kept x inner born stays right. children_were_not_gone m stage first now from x inner born stays right;
+  events = λ old from kept e said new steps. (let to = events_lead_on m stage first old from e said new steps in (to.0, to.1, tt));
+  words = λ old from kept new same invariant. handed_over (λ w after. Unit {0}) m stage old from tt new same invariant;
+}
+
 -- where a pass forgets, whatever it touches from there on was there
 pub calls_touch_nothing_gone : CallsTouchNothingGone
 calls_touch_nothing_gone plan s reached seat c begun made anew r has turns now run v there next may =
     let m = machine_of_table plan s r in
-    let from = states_come_from_themselves m has in
-    let lawful = turn_lawful plan s r (Makes seat c) begun made in
-    let to = leads_on plan m has.stages has.invariant s r (Makes seat c) begun lawful.0 lawful.1.machine from in
-    let at = run_still plan m has.stages has.invariant seat begun (record {
-      reached = reached_on plan s reached (Makes seat c) begun made;
-      machine = lawful.0;
-      from = to.0;
-      told = λ u here e told. since_on plan m has.stages has.invariant from.stages to.0.stages to.1 e
-          (told_anew plan m has.stages has.invariant s reached r seat made.view made.there from c anew e
-          (subst (λ (w : View). IsTold w e) (sym (own_view plan m has.stages has.invariant seat s c begun made u here)) told));
-    }) turns now run in
-    touches plan m has.stages has.invariant now at.reached at.machine seat v there at.from (at.told v there) next may
+    by (touched_by next) (touches_on plan m has.stages has.invariant (nothing m has.stages) (λ x. ¬ IsGone m.words has.stages x)
+    (not_gone m has.stages has.invariant) s reached seat c begun made anew r (states_come_from_themselves m has) tt turns now run v there next may)
+  where
+    by : (t : Touched)
+        → Touches plan (machine_of_table plan s r) has.stages has.invariant (nothing (machine_of_table plan s r) has.stages)
+        (λ x. ¬ IsGone r.words has.stages x) (not_gone (machine_of_table plan s r) has.stages has.invariant) t
+        → WasThere r.words has.stages t
+    by (AtNode x) h = h
+    by (OfCard c) h = h.0
+    by AtRoot h = tt
 
 -- a card that has won nothing has taken nothing out
-none_out : (w : Words) (stage : Stages) → ((c : ℕ) → wins_of (stage c) ≡ []) → (c x : ℕ) → TakesOut w stage c x → ⊥
+pub none_out : (w : Words) (stage : Stages) → ((c : ℕ) → wins_of (stage c) ≡ []) → (c x : ℕ) → TakesOut w stage c x → ⊥
 none_out w stage none c x takes = elim takes [
   | inl h ↦ (let more = changed_much (stage c) h.0 in let zero = ap (sum_by one) (none c) in omega arith)
   | inr h ↦ (let more = cut_much (stage c) h.0 in let zero = ap (sum_by one) (none c) in omega arith)
 ]
 
-none_cut : (s : Stage) → wins_of s ≡ [] → is_cut s ≡ true → ⊥
+pub none_cut : (s : Stage) → wins_of s ≡ [] → is_cut s ≡ true → ⊥
 none_cut s none cut = let more = cut_much s cut in let zero = ap (sum_by one) none in omega arith
 
--- turns lead on from where the cards have come so far
-run_comes : (plan : TablePlan) (m : Machine) (stage : Stages) (first : Invariant m stage) (s : TableState) (r : HasMachine plan s)
-    → ComesFrom m stage (machine_of_table plan s r) → (turns : List Turn) (s' : TableState) → TableRun plan s turns s'
-    → (k : HasMachine plan s') × ComesFrom m stage (machine_of_table plan s' k)
-run_comes plan m stage first s r from [] s' run =
-    subst (λ (x : TableState). (k : HasMachine plan x) × ComesFrom m stage (machine_of_table plan x k)) (sym run) (r, from)
-run_comes plan m stage first s r from (t ∷ ts) s' run =
-    let lawful = turn_lawful plan s r t run.0 run.1 in
-    run_comes plan m stage first run.0 lawful.0 (leads_on plan m stage first s r t run.0 lawful.0 lawful.1.machine from).0 ts s' run.2
+-- where no card has won anything, nothing was taken out
+pub nothing_out : (w : Words) (stage : Stages) → ((c : ℕ) → wins_of (stage c) ≡ []) → OutsAreSound w stage
+nothing_out w stage none =
+    let out = none_out w stage none in
+    record {
+      out = λ c x takes. absurd (out c x takes);
+      once = λ c d x takes other. absurd (out c x takes);
+      sibling = λ c cut still. absurd (none_cut (stage c) (none c) cut);
+    }
 
 -- so wherever turns have led a table, its machine has its outs
 pub tables_have_outs : TablesHaveOuts
@@ -561,17 +656,9 @@ tables_have_outs plan s h =
     let start = starts_are_kept plan h.first h.starts in
     let r = start.kept in
     let m = machine_of_table plan h.first r in
-    let none = none_out r.words r.stages start.unwon in
-    let has : HasOuts m = record {
-      stages = r.stages;
-      invariant = r.invariant;
-      outs = record {
-        out = λ c x takes. absurd (none c x takes);
-        once = λ c d x takes other. absurd (none c x takes);
-        sibling = λ c cut still. absurd (none_cut (r.stages c) (start.unwon c) cut);
-      };
-    } in
-    let ran = run_comes plan m r.stages r.invariant h.first r (states_come_from_themselves m has) h.turns s h.run in
+    let has : HasOuts m = record { stages = r.stages; invariant = r.invariant; outs = nothing_out r.words r.stages start.unwon } in
+    let ran = run_comes plan m r.stages r.invariant (nothing m r.stages) (λ x. ¬ IsGone m.words r.stages x) (not_gone m r.stages r.invariant)
+    h.first r (states_come_from_themselves m has) tt h.turns s h.run in
     (ran.0, record { stages = ran.1.stages; invariant = ran.1.invariant; outs = ran.1.outs })
 
 -- a card that is over has ended, and has made its child exchange
@@ -581,27 +668,32 @@ iover-ended s h = (grind arith, grind arith)
 dover-ended : (s : Stage) → delete_over s ≡ true → (has_ended s ≡ true) × (is_cut s ≡ true)
 dover-ended s h = (grind arith, grind arith)
 
--- so what a pass knows to be taken out is gone
-pub known_taken_out_is_gone : KnownTakenOutIsGone
-known_taken_out_is_gone plan s seat v there c x knows r has = elim knows [
+-- so what a pass knows to be taken out by a card, the card has taken out, and has ended
+pub known_takes_out : (plan : TablePlan) (s : TableState) (seat : ℕ) (v : View) → get_elem? s.views seat ≡ some v → (c x : ℕ) → KnowsTakenOut v c x
+    → (r : HasMachine plan s) (has : HasOuts (machine_of_table plan s r)) → (has_ended (has.stages c) ≡ true) × TakesOut r.words has.stages c x
+known_takes_out plan s seat v there c x knows r has = elim knows [
   | inl put ↦
       let over = iover-ended (has.stages c) (allowed (fact.IOver c) put.0) in
       let leaf = told_is plan s r seat v there c field.L x put.2 in
-      record { taker = c; ended = over.0; takes = inl (over.1, subst IsLeaf (sym leaf) put.1, leaf) }
+      (over.0, inl (over.1, subst IsLeaf (sym leaf) put.1, leaf))
   | inr cut ↦
-      let over = dover-ended (has.stages c) (allowed (fact.DOver c) cut.0) in
-      record {
-        taker = c;
-        ended = over.0;
-        takes = inr (
+      let over = dover-ended (has.stages c) (allowed (fact.DOver c) cut.0) in (
+        over.0,
+        inr (
           over.1,
           elim cut.1 [
             | inl p ↦ inl (told_is plan s r seat v there c field.P x p)
             | inr l ↦ inr (told_is plan s r seat v there c field.L x l)
           ],
-        );
-      }
+        ),
+      )
 ]
   where
     allowed : (f : Fact) → Knows v f → allows f (has.stages (card_of_fact f)) ≡ true
     allowed f k = (has.invariant.workers.each seat).facts f (ap (λ (u : Worker). u.knows f) (mine_is plan s r seat v there) ∙ k)
+
+-- and it is gone
+pub known_taken_out_is_gone : KnownTakenOutIsGone
+known_taken_out_is_gone plan s seat v there c x knows r has =
+    let it = known_takes_out plan s seat v there c x knows r has in
+    record { taker = c; ended = it.0; takes = it.1 }

@@ -16,6 +16,7 @@ use Rattle.ell_core.specs.declared.view.Seen.{Seen}
 use Rattle.ell_core.specs.history.Invariant.{WorkerIsSound}
 use Rattle.ell_layout.proofs.lemmas.Listed.{listed_next}
 use Rattle.ell_core.proofs.lemmas.outcomes.Decide.{some_not_none}
+use Rattle.ell_core.proofs.lemmas.keeping.claim.Taking.{laid_aside}
 use Rattle.ell_core.specs.acts.Searching.{MayStop}
 use Rattle.ell_core.specs.state.Machine.{worker_of}
 use Rattle.ell_cards.specs.declared.call.Call.{Call}
@@ -27,7 +28,7 @@ use Rattle.ell_cards.specs.Changes.{if_won, exchanged, after_claim, after_flag, 
 use Rattle.ell_cards.proofs.lemmas.runs.InHand.{met_in_try}
 use Rattle.std.specs.List.{list_all}
 use Rattle.ell_cards.specs.Calls.{after, May}
-use Rattle.ell_cards.specs.Models.{TablePlan, EndedBy}
+use Rattle.ell_cards.specs.Models.{TablePlan, flat_from, EndedBy}
 use Rattle.ell_cards.specs.Contention.{how_many, given_to_others, cards_in_hand, TriesAreHinderedByOthers, AreHinderedByOthers}
 use Rattle.ell_cards.specs.Meanwhile.{KeepsOn, KeepOn, BeginsHere, SearchRun, EndsMeanwhile, WordEndsMeanwhile, AreMeanwhile, AreOfOthers, ended_before, ended_since}
 use Rattle.ell_cards.specs.States.{TableState, seat_worker}
@@ -232,7 +233,7 @@ module _ (plan : TablePlan) where
       apart,
     )
 
-    met_others : (hs : List Hindrance) → AreMeanwhile plan ran hs → AllUnclaimed v.won hs → ((c : ℕ) → v.worker.card ≡ Some c → AreOfOthers c hs)
+    met_others : (hs : List Hindrance) → AreMeanwhile plan ran hs → AllUnclaimed v.won hs → ((c : ℕ) → v.worker.card ≡ Some c → AreOfOthers v.next_at_least c hs)
         → Each (IsOfOthers h.begun s v) hs
     met_others [] are free apart = tt
     met_others (Claim c ∷ hs) are free apart =
@@ -248,15 +249,15 @@ module _ (plan : TablePlan) where
     first_are [] b h = tt
     first_are (x ∷ a) b h = (h.0, first_are a b h.1)
 
-    first_own : (c : ℕ) (a b : List Hindrance) → AreOfOthers c (a ++ b) → AreOfOthers c a
+    first_own : (c : ℕ) (a b : List Hindrance) → AreOfOthers v.next_at_least c (a ++ b) → AreOfOthers v.next_at_least c a
     first_own c [] b h = tt
     first_own c (Claim d ∷ a) b h = (h.0, first_own c a b h.1)
     first_own c (Found u ∷ a) b h = (h.0, first_own c a b h.1)
 
-    own_apart : (c : ℕ) → v.worker.card ≡ Some c → AreOfOthers c v.met
+    own_apart : (c : ℕ) → v.worker.card ≡ Some c → AreOfOthers v.next_at_least c v.met
     own_apart c has =
         let m = searches_meet_meanwhile plan ran in
-        first_own c v.met m.earlier (subst (AreOfOthers c) m.tries (m.own c has))
+        first_own c v.met m.earlier (subst (AreOfOthers v.next_at_least c) m.tries (m.own c has))
 
     met_are : AreMeanwhile plan ran v.met
     met_are =
@@ -431,20 +432,30 @@ module _ (plan : TablePlan) where
 
     module _ (c : Call) (made : t ≡ Makes seat c) (at : get_elem? s'.views seat ≡ some (view_after s v c)) where
       -- a claim
-      claim_rests : (d q : ℕ) (b : Bool) → (found_by s (call.Claim d q) == d) ≡ b → May plan (call.Claim d q) v → Grows s v s' (after_claim b d q v) → Rests s v s' (after_claim b d q v)
-      claim_rests d q true e may g = record {
+      claim_rests : (d q : ℕ) (b : Bool) → (found_by s (call.Claim d q) == d) ≡ b → ((y : ℕ) → ends_in y (turn_won s t) ≡ 0) → May plan (call.Claim d q) v
+          → get_elem? s'.views seat ≡ some (after_claim b d q v) → Grows s v s' (after_claim b d q v) → Rests s v s' (after_claim b d q v)
+      claim_rests d q true e ends_none may there_now g = record {
         hindered = refl;
         operation = λ op busy. busy;
         aside = λ x own no.
             let other : x ≢ d = (λ same. no (ap Some (sym same))) in
-            inl (
-              subst (λ (b : Bool). 0 < (if b then 1 else 0) + times exchange.Claim x v.won → 0 < times exchange.Claim x v.won) (sym (ne_eqb x d other)) (λ m. omega arith) own,
-              λ has. some_not_none has may.0.no_card,
-            );
+            let before = subst (λ (b : Bool). 0 < (if b then 1 else 0) + times exchange.Claim x v.won → 0 < times exchange.Claim x v.won) (sym (ne_eqb x d other)) (λ m. omega arith) own in
+            held x own no before (is_this v.worker.card x) refl;
         lost = lost_on (after_claim true d q v).won g.own;
       }
-      claim_rests d q false e may g = alike (after_claim false d q v) g refl refl refl (λ x. refl)
-          ((hands_are_claimed plan s here seat v there).read d may.0.below may.0.read may.0.no_card may.0.stands, lost_on v.won (λ x low. refl))
+        where
+          -- a card that is in hand is laid aside
+          held : (x : ℕ) → 0 < times exchange.Claim x (after_claim true d q v).won → (after_claim true d q v).worker.card ≢ Some x → 0 < times exchange.Claim x v.won
+              → (b : Bool) → is_this v.worker.card x ≡ b → ((0 < times exchange.Claim x v.won) × (v.worker.card ≢ Some x)) ⊎ IsAbandoned s' x
+          held x own else_where before true is =
+              let has = held_is v.worker.card x is in
+              let was = hand_unended plan s here seat v there x has (laid_aside (flat_from plan) v.worker x may.0.ready has).1 in
+              let rise = ends_rise x plan s t s' turn in
+              let none = ends_none x in
+              inr (own_abandoned plan s' next_here seat (after_claim true d q v) there_now x own else_where (omega arith))
+          held x own else_where before false is = inl (before, λ has. false≢true (sym is ∙ (ap (λ o. is_this o x) has ∙ eq-eqb x x refl)))
+      claim_rests d q false e ends_none may there_now g = alike (after_claim false d q v) g refl refl refl (λ x. refl)
+          ((hands_are_claimed plan s here seat v there).read d may.0.below may.0.read may.0.other may.0.stands, lost_on v.won (λ x low. refl))
 
       -- a flag
       flag_rests : (k : Exchange) (d x : ℕ) (new : Fact) (n : ℕ) (b : Bool) (w : View) → w ≡ exchanged (if_won b k d) n (after_flag b new x (unpacked n) v)
@@ -512,7 +523,10 @@ module _ (plan : TablePlan) where
     call_rests call.Leave goes made may at g = absurd goes
     call_rests (call.Answer said) goes made may at g = absurd goes
     call_rests call.Rest goes made may at g = absurd goes
-    call_rests (call.Claim c q) goes made may at g = claim_rests (call.Claim c q) made at c q (found_by s (call.Claim c q) == c) refl may g
+    call_rests (call.Claim c q) goes made may at g =
+        let i = call.Claim c q in
+        let b = found_by s i == c in
+        claim_rests i made at c q b refl (no_end_of i made at exchange.Claim c b refl refl refl (ap (turn_won s) made)) may at g
     call_rests (call.IFlag c p from) goes made may at g =
         let i = call.IFlag c p from in
         let n = found_by s i in

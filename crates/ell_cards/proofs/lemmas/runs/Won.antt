@@ -101,7 +101,7 @@ in_append : (k : Exchange) (c : ℕ) (a b : List View) → times_in k c (a ++ b)
 in_append k c [] b = omega arith
 in_append k c (v ∷ vs) b = let h = in_append k c vs b in omega arith
 
-count_append : (k : Exchange) (a b : List Exchange) → count k (a ++ b) ≡ count k a + count k b
+pub count_append : (k : Exchange) (a b : List Exchange) → count k (a ++ b) ≡ count k a + count k b
 count_append k [] b = omega arith
 count_append k (j ∷ js) b = let h = count_append k js b in omega arith
 
@@ -183,7 +183,7 @@ call_counts k more (call.DUnflag c gp) d n = single (n == dflag c) exchange.DUnf
 call_counts k more (call.Backtrack c gp) d n = single (n == dflag c) exchange.Backtrack c k d
 call_counts k more _ d n = refl
 
-turn_counts : (k : Exchange) → 0 < number k → (s : TableState) (t : Turn) (d : ℕ) → times k d (turn_won s t) ≡ count k (turn_wins s t d)
+pub turn_counts : (k : Exchange) → 0 < number k → (s : TableState) (t : Turn) (d : ℕ) → times k d (turn_won s t) ≡ count k (turn_wins s t d)
 turn_counts k more s (Makes id c) d = call_counts k more c d (found_by s c)
 turn_counts k more s (Splits id chosen) d = refl
 turn_counts k more s (Joins id other) d = refl

@@ -2,6 +2,7 @@ use Rattle.std.proofs.Common.{◌≡◌, ◌≢◌, ℕ, ◌<◌, true, false, L
 use Rattle.ell_core.proofs.lemmas.stages.Advances.{stages_same}
 use Rattle.std.specs.Prelude.{Some, None}
 use Rattle.std.proofs.lemmas.Bool.{cases_eq}
+use Rattle.std.proofs.lemmas.List.{append-nil}
 use mathlib.Core.Option.{some}
 use lib.ListN.{get_elem?}
 use lib.Seq.{set-get_or}
@@ -36,7 +37,8 @@ use Rattle.ell_cards.specs.States.{TableState, seat_worker, seated}
 use Rattle.ell_cards.specs.Machines.{EntryHolds, over_before, ViewHolds, HasMachine}
 use Rattle.ell_cards.specs.Calls.{word_of, atomic_of, left_by, act_of, said_of, Becomes, Tells}
 use Rattle.ell_cards.specs.Turns.{found_by, view_after, state_after}
-use Rattle.ell_cards.specs.Laws.{IsEvent}
+use Rattle.ell_core.specs.history.Later.{wins_of}
+use Rattle.ell_cards.specs.Laws.{act_wins, IsEvent}
 use Rattle.ell_core.proofs.lemmas.stages.Waiting.{waits-kind, waits-wins, kind-waits}
 use Rattle.ell_core.proofs.lemmas.following.waiting.Cards.{hand_waits}
 use Rattle.ell_cards.proofs.lemmas.words.Fields.{listed_else, listed_next, listed_flat}
@@ -61,7 +63,7 @@ pub record Onward (w : Words) (stage : Stages) (v after : View) : Type 0 where
 module _ (plan : TablePlan) (s : TableState) (r : HasMachine plan s) (id : ℕ) (v : View) (here : get_elem? s.views id ≡ some v) where
   -- a state that an event leads to has a machine
   pub record IsReached (list : List ℕ) (new : Words) (after : View) (a : core.Act) (said : Stepped) : Type 0 where
-    pub kept : IsKept plan (record { words = list; homes = s.homes; views = set s.views id after }) new r.stages
+    pub kept : IsKept plan (record { words = list; homes = s.homes; views = set s.views id after }) new r.stages (wins_by a v.worker.card said)
     pub steps : Steps (machine plan s r id v here) (record { worker = id; act = a }) said (seated new (set s.views id after) plan.last_card)
 
   -- a card that waits goes on to, where the event wins nothing for it
@@ -140,7 +142,7 @@ module _ (plan : TablePlan) (s : TableState) (r : HasMachine plan s) (id : ℕ) 
   looks a said after h none entries on i =
       let l = leads plan s r id v here a said r.words after h in
       let moves = moves_none a said after l.0 l.1 none in record {
-        kept = subst (λ ws. IsKept plan (record { words = ws; homes = s.homes; views = set s.views id after }) r.words r.stages)
+        kept = subst (λ ws. IsKept plan (record { words = ws; homes = s.homes; views = set s.views id after }) r.words r.stages (wins_by a v.worker.card said))
             (sym (set-get_or s.words i 0))
             (kept_event plan s r id v here a said r.words after s.words l.0 l.1 moves
             (view_on a said r.words after s.words l.0 l.1 moves
@@ -170,7 +172,7 @@ module _ (plan : TablePlan) (s : TableState) (r : HasMachine plan s) (id : ℕ) 
       → ((c : ℕ) (f : Field) → waits (r.stages c) ≡ false → listed list c f ≡ listed s.words c f)
       → ViewHolds list r.words r.stages after
       → ((j : ℕ) (u : View) → j ≢ id → get_elem? s.views j ≡ some u → ViewHolds list r.words r.stages u)
-      → IsKept plan (record { words = list; homes = s.homes; views = set s.views id after }) r.words r.stages
+      → IsKept plan (record { words = list; homes = s.homes; views = set s.views id after }) r.words r.stages (λ c. [])
   kept_note after list same size next flat calm own others = record {
     kept = record {
       words = r.words;
@@ -198,13 +200,14 @@ module _ (plan : TablePlan) (s : TableState) (r : HasMachine plan s) (id : ℕ) 
     };
     words = refl;
     later = stages_same r.stages;
+    wins = λ c. sym (append-nil (wins_of (r.stages c)));
   }
 
   -- the same where the list does not change
   pub kept_told : (after : View) → after.worker ≡ v.worker → ViewHolds s.words r.words r.stages after
-      → (i : ℕ) → IsKept plan (record { words = set s.words i (get_or s.words i 0); homes = s.homes; views = set s.views id after }) r.words r.stages
+      → (i : ℕ) → IsKept plan (record { words = set s.words i (get_or s.words i 0); homes = s.homes; views = set s.views id after }) r.words r.stages (λ c. [])
   kept_told after same own i =
-      subst (λ ws. IsKept plan (record { words = ws; homes = s.homes; views = set s.views id after }) r.words r.stages)
+      subst (λ ws. IsKept plan (record { words = ws; homes = s.homes; views = set s.views id after }) r.words r.stages (λ c. []))
       (sym (set-get_or s.words i 0))
       (kept_note after s.words same refl refl refl (λ c f still. refl) own (λ j u n e. r.views j u e))
 
@@ -219,12 +222,13 @@ module _ (plan : TablePlan) (s : TableState) (r : HasMachine plan s) (id : ℕ) 
         (seated w (set s.views id (view_after s v c)) plan.last_card)) (sym at.kept.words)
         (subst (λ b. Becomes id (act_of c (found_by s c)) b (machine plan s r id v here) (seated new (set s.views id (view_after s v c)) plan.last_card)) (sym says)
         (subst (λ o. Becomes id o said (machine plan s r id v here) (seated new (set s.views id (view_after s v c)) plan.last_card)) (sym acts) at.steps));
+    wins = λ d. at.kept.wins d ∙ λ t. wins_of (r.stages d) ++ act_wins (sym acts t) v.worker.card (sym says t) d;
     tells = tells;
   }
 
   -- a step call that leaves the machine
   pub is_no_event : (c : Call)
-      → IsKept plan (state_after s id v c) r.words r.stages → (view_after s v c).worker ≡ v.worker
+      → IsKept plan (state_after s id v c) r.words r.stages (λ d. []) → (view_after s v c).worker ≡ v.worker
       → act_of c (found_by s c) ≡ None → Tells plan c v (found_by s c) → IsEvent plan s r id v c
   is_no_event c at same none tells = record {
     kept = at.kept;
@@ -232,5 +236,6 @@ module _ (plan : TablePlan) (s : TableState) (r : HasMachine plan s) (id : ℕ) 
     event = subst (λ o. Becomes id o (said_of c (found_by s c)) (machine plan s r id v here)
         (seated at.kept.words (set s.views id (view_after s v c)) plan.last_card)) (sym none)
         (sym (same_machine (view_after s v c) same ∙ ap (λ w. seated w (set s.views id (view_after s v c)) plan.last_card) (sym at.words)));
+    wins = λ d. at.wins d ∙ λ t. wins_of (r.stages d) ++ act_wins (sym none t) v.worker.card (said_of c (found_by s c)) d;
     tells = tells;
   }

@@ -1,6 +1,6 @@
 use Rattle.std.proofs.Common.{◌≡◌, ◌≢◌, ℕ, ◌<◌, ◌≤◌, Option, Some, None, List, [], ap, sym, ◌∙◌, subst, arith}
 use Rattle.atomic_table.specs.Table.{Me, Allows}
-use Rattle.ell_word.specs.Node.{greatest_card}
+use Rattle.ell_word.specs.Node.{greatest_card, greatest_number}
 use Rattle.ell_layout.specs.Layout.{table_size}
 use Rattle.ell_cards.specs.declared.share.Share.{Share}
 use Rattle.ell_cards.specs.declared.view.Known.{Known}
@@ -11,11 +11,16 @@ use Rattle.ell_cards.specs.Models.{TablePlan, TableModel, PassModel, last_claim,
 use Rattle.ell_cards.specs.Changes.{ledger_keys}
 use Rattle.ell_cards.specs.Naming.{IsNamed}
 use Rattle.ell_cards.specs.Inside.{HasShare, PassFits}
-use Rattle.ell_cards.specs.Periods.{IsAtRest, size_by, whole_size}
-use Rattle.ell_cards.specs.Starts.{IsReached, SlotsFit}
-use Rattle.ell_cards.specs.Stepping.{IsInside, MayHave, KeepsPass, SameShare}
+use Rattle.ell_cards.specs.declared.call.Call.{Call}
+use Rattle.ell_cards.specs.Calls.{word_of, atomic_of, left_by, May}
+use Rattle.ell_cards.specs.Periods.{size_by, whole_size}
+use Rattle.ell_cards.specs.Starts.{SlotsFit}
+use Rattle.ell_cards.specs.Shown.{shown, StoresWord}
+use Rattle.ell_cards.specs.Stepping.{IsInside, IsQuiet, MayHave, MayTell, KeepsPass, SameShare}
 use Rattle.ell_cards.specs.Whole.{IsWhole}
 use Rattle.ell_cards.proofs.lemmas.seats.Named.{named_more}
+use Rattle.ell_cards.proofs.lemmas.seats.Taken.{word_fits}
+use Rattle.ell_cards.proofs.lemmas.whole.Lifts.{claims_few}
 use Rattle.ell_cards.proofs.lemmas.whole.Places.{no_places}
 use Rattle.ell_cards.proofs.lemmas.whole.Trees.{tree_step}
 
@@ -50,7 +55,7 @@ module _ (plan : TablePlan) (words : ℕ) (size : words ≡ whole_size plan) (fi
   claims_fit (Some s) is = omega arith
 
   -- a pass names what is in its table
-  named_of : (o : Option Slots) → words ≡ size_by o plan.last_card → SlotsFit plan o → (v : View) → ((last : ℕ) → words ≡ table_size last → IsNamed last v) → IsNamed greatest_card v → IsNamed plan.last_card v
+  named_of : (o : Option Slots) → words ≡ size_by o plan.last_card → SlotsFit plan o → (v : View) → ((last : ℕ) → words ≡ table_size last → IsNamed last v) → IsNamed greatest_number v → IsNamed plan.last_card v
   named_of None is fit v named most = named plan.last_card is
   named_of (Some s) is fit v named most = subst (λ n. IsNamed n v) (sym fit.2) most
 
@@ -58,15 +63,15 @@ module _ (plan : TablePlan) (words : ℕ) (size : words ≡ whole_size plan) (fi
   named_in keys share v fits = named_of plan.slots size fit v fits.named fits.most
 
   -- a pass after a step is one again
-  pub still_fits : (keys : List ℕ) (share : Share) (v w : View) → PassFits keys share words v → plan.last_card ≤ greatest_card
+  pub still_fits : (keys : List ℕ) (share : Share) (v w : View) → PassFits keys share words v → plan.last_card ≤ greatest_number
       → (ledger_keys w.worker.ledger ≡ ledger_keys v.worker.ledger) × SameShare v w × IsInside plan w → PassFits keys share words w
   still_fits keys share v w fits room keeps = record {
     owned = fits.owned ∙ sym keeps.0;
     ascending = fits.ascending;
     share = same_share share v w fits.share keeps.1;
     named = named_by plan.slots size w keeps.2.0;
-    most = named_more plan.last_card greatest_card room w keeps.2.0;
-    inside = record { last = last_claim plan; few = claims_fit plan.slots size; named = keeps.2.1 };
+    most = named_more plan.last_card greatest_number room w keeps.2.0;
+    inside = record { last = last_claim plan; low = claims_few plan plan.slots fit; few = claims_fit plan.slots size; named = keeps.2.1 };
   }
 
 -- a pass that has new keys and a new share, and knows what goes with them
@@ -77,8 +82,8 @@ has_keys words was keys had share v w fits has may = record {
   ascending = may.ascending;
   share = has;
   named = λ last e. may.named last (fits.named last e);
-  most = may.named greatest_card fits.most;
-  inside = record { last = fits.inside.last; few = fits.inside.few; named = may.named fits.inside.last fits.inside.named };
+  most = may.named greatest_number fits.most;
+  inside = record { last = fits.inside.last; low = fits.inside.low; few = fits.inside.few; named = may.named fits.inside.last fits.inside.named };
 }
 
 -- a table as its code keeps it and as callers see it, and a pass of it so
@@ -95,34 +100,43 @@ module _ (t u : TableModel) (p q : PassModel) (same_table : t ≡ u) (same_pass 
       subst (λ (m : TableModel). IsNamed m.plan.last_card q.view) same_table
       (subst (λ (m : PassModel). IsNamed t.plan.last_card m.view) same_pass (named_in t.plan p.table.words own_size fit keys share p.view fits))
 
-  -- the word of a step is one of the table
-  pub inside_there : (keys : List ℕ) (share : Share) (word : ℕ) → PassFits keys share p.table.words p.view → ((last : ℕ) → IsNamed last q.view → word < table_size last) → word < t.id.words
-  inside_there keys share word fits there =
+  -- a table without places has no more cards than may have words
+  pub few_there : u.plan.slots ≡ None → u.plan.last_card ≤ greatest_card
+  few_there = subst (λ (m : TableModel). m.plan.slots ≡ None → m.plan.last_card ≤ greatest_card) same_table (λ none. subst (SlotsFit t.plan) none fit)
+
+  -- and what it names is of cards that have words
+  pub words_there : (keys : List ℕ) (share : Share) → PassFits keys share p.table.words p.view → IsNamed greatest_card q.view
+  words_there keys share fits =
+      subst (λ (m : PassModel). IsNamed greatest_card m.view) same_pass (named_more fits.inside.last greatest_card fits.inside.low p.view fits.inside.named)
+
+  -- the word of a step call is one of the table
+  inside_there : (keys : List ℕ) (share : Share) (c : Call) → PassFits keys share p.table.words p.view → May u.plan c q.view → word_of c < t.id.words
+  inside_there keys share c fits may =
       let has = fits.inside in
       let few = has.few in
-      let below = there has.last (subst (λ (m : PassModel). IsNamed has.last m.view) same_pass has.named) in
+      let below = word_fits u.plan c q.view may has.last (subst (λ (m : PassModel). IsNamed has.last m.view) same_pass has.named) in
       let same = ap (λ i. i.words) of_table in
       omega arith
 
-  -- what a step owes, by what its caller says of the table and the pass
-  pub owed : (seat : ℕ) (period : Period) (held : List (ℕ × Unit {0})) (keys : List ℕ) (share : Share) (word : ℕ) (f : ℕ → ℕ) (told : ℕ → View → Type 0) → t.id.slots ≡ 0 → held ≡ []
-      → PassFits keys share p.table.words p.view → ((last : ℕ) → IsNamed last q.view → word < table_size last)
-      → (u.plan.slots ≢ None → period.announced ≡ None → IsAtRest q.view → (n : ℕ) (w : View) → told n w → IsAtRest w)
-      → ((id : ℕ) → Allows (IsReached u.plan) 0 id (q.view, []) word f (λ n x. told n x.0 × (x.1 ≡ [])))
+  -- what a step call owes, by what its caller says of the table and the pass, which is shown of the tree that its seat knows
+  pub owed : (tree : View) → shown tree ≡ p.view → (seat : ℕ) (period : Period) (held : List (ℕ × Unit {0})) (keys : List ℕ) (share : Share) (word : ℕ) (f : ℕ → ℕ) (told : ℕ → View → Type 0) (c : Call) → t.id.slots ≡ 0 → held ≡ []
+      → PassFits keys share p.table.words p.view → StoresWord c → word ≡ word_of c → May u.plan c q.view → ((n : ℕ) → f n ≡ left_by (atomic_of c) n)
+      → (u.plan.slots ≢ None → period.announced ≡ None → IsQuiet c) → MayTell u.plan c q.view told
       → (p.table ≡ t.id) × (word < t.id.words)
-      × Allows (IsWhole t.plan) t.id.slots seat (record { tree = p.view; period = period }, held) word f (λ n x. told n x.0.tree × (x.0.period ≡ period) × (x.1 ≡ held))
-  owed seat period held keys share word f told none empty fits there rests rule =
-      let step = tree_step u.plan (record { tree = q.view; period = period }) word f told there rests rule in
-      let rule : (id : ℕ) → Allows (IsWhole t.plan) 0 id (record { tree = p.view; period = period }, []) word f (λ n x. told n x.0.tree × (x.0.period ≡ period) × (x.1 ≡ [])) =
-      subst (λ (m : TableModel). (id : ℕ) → Allows (IsWhole m.plan) 0 id (record { tree = p.view; period = period }, []) word f (λ n x. told n x.0.tree × (x.0.period ≡ period) × (x.1 ≡ []))) (sym same_table)
-      (subst (λ (m : PassModel). (id : ℕ) → Allows (IsWhole u.plan) 0 id (record { tree = m.view; period = period }, []) word f (λ n x. told n x.0.tree × (x.0.period ≡ period) × (x.1 ≡ []))) (sym same_pass) step) in (
+      × Allows (IsWhole t.plan) t.id.slots seat (record { tree = tree; period = period }, held) word f (λ n x. told n (shown x.0.tree) × (x.0.period ≡ period) × (x.1 ≡ held))
+  owed tree shows seat period held keys share word f told c none empty fits stores at may does quiet tells =
+      let is : q.view ≡ shown tree = ap (λ (m : PassModel). m.view) (sym same_pass) ∙ sym shows in
+      let step = tree_step u.plan (record { tree = tree; period = period }) c f told stores (subst (May u.plan c) is may) does quiet (subst (λ v. MayTell u.plan c v told) is tells) in
+      let rule : (id : ℕ) → Allows (IsWhole t.plan) 0 id (record { tree = tree; period = period }, []) word f (λ n x. told n (shown x.0.tree) × (x.0.period ≡ period) × (x.1 ≡ [])) =
+      subst (λ (i : ℕ). (id : ℕ) → Allows (IsWhole t.plan) 0 id (record { tree = tree; period = period }, []) i f (λ n x. told n (shown x.0.tree) × (x.0.period ≡ period) × (x.1 ≡ []))) (sym at)
+      (subst (λ (m : TableModel). (id : ℕ) → Allows (IsWhole m.plan) 0 id (record { tree = tree; period = period }, []) (word_of c) f (λ n x. told n (shown x.0.tree) × (x.0.period ≡ period) × (x.1 ≡ []))) (sym same_table) step) in (
         of_table,
-        inside_there keys share word fits there,
-        allowed t.plan t.id.slots seat (record { tree = p.view; period = period }, held) word f (λ n x l. told n x.0.tree × (x.0.period ≡ period) × (x.1 ≡ l)) none empty rule,
+        subst (λ i. i < t.id.words) (sym at) (inside_there keys share c fits may),
+        allowed t.plan t.id.slots seat (record { tree = tree; period = period }, held) word f (λ n x l. told n (shown x.0.tree) × (x.0.period ≡ period) × (x.1 ≡ l)) none empty rule,
       )
 
   -- the pass after a step that told this
-  pub stepped : (keys : List ℕ) (share : Share) (words n : ℕ) (w : View) (told : ℕ → View → Type 0) → t.plan.last_card ≤ greatest_card → PassFits keys share p.table.words p.view → words ≡ p.table.words
+  pub stepped : (keys : List ℕ) (share : Share) (words n : ℕ) (w : View) (told : ℕ → View → Type 0) → t.plan.last_card ≤ greatest_number → PassFits keys share p.table.words p.view → words ≡ p.table.words
       → KeepsPass u.plan q.view told → told n w → PassFits keys share words w
   stepped keys share words n w told room fits same keeps says =
       still_fits t.plan words (same ∙ own_size) fit keys share p.view w (subst (λ i. PassFits keys share i p.view) (sym same) fits) room

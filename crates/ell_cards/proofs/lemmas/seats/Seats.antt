@@ -8,6 +8,7 @@ use Rattle.ell_word.specs.Node.{card}
 use Rattle.ell_core.specs.declared.event.Act.{Act}
 use Rattle.ell_core.specs.declared.event.Event.{Event}
 use Rattle.ell_core.specs.declared.event.Stepped.{Stepped}
+use Rattle.ell_core.specs.declared.exchange.Exchange.{Exchange}
 use Rattle.ell_layout.specs.declared.field.Field.{Field}
 use Rattle.ell_layout.specs.Layout.{listed}
 use Rattle.ell_layout.specs.Words.{Words, table_word, put}
@@ -72,11 +73,12 @@ module _ (views : List View) (id : ℕ) (v : View) (here : get_elem? views id �
     last_card = cards;
   }
 
--- a state has a machine, of these words
-pub record IsKept (plan : TablePlan) (s : TableState) (w : Words) (stage : Stages) : Type 0 where
+-- a state has a machine, of these words, and each card has won this since these stages
+pub record IsKept (plan : TablePlan) (s : TableState) (w : Words) (stage : Stages) (won : ℕ → List Exchange) : Type 0 where
   pub kept : HasMachine plan s
   pub words : kept.words ≡ w
   pub later : StagesLater stage kept.stages
+  pub wins : (c : ℕ) → wins_of (kept.stages c) ≡ wins_of (stage c) ++ won c
 
 module _ (plan : TablePlan) (s : TableState) (r : HasMachine plan s) (id : ℕ) (v : View) (here : get_elem? s.views id ≡ some v) where
   -- the machine
@@ -192,7 +194,7 @@ module _ (plan : TablePlan) (s : TableState) (r : HasMachine plan s) (id : ℕ) 
       → Leads a said new after stages → Moves list new stages → ViewHolds list new stages after
       → ((k : ℕ) → WorkerOwns (worker_of after.worker) k → WorkerOwns (worker_of v.worker) k)
       → after.worker.shared ≡ v.worker.shared
-      → IsKept plan (record { words = list; homes = s.homes; views = set s.views id after }) new r.stages
+      → IsKept plan (record { words = list; homes = s.homes; views = set s.views id after }) new r.stages (wins_by a v.worker.card said)
   kept_event a said new after list stages led moves own owns same_list = record {
     kept = record {
       words = new;
@@ -220,6 +222,7 @@ module _ (plan : TablePlan) (s : TableState) (r : HasMachine plan s) (id : ℕ) 
     };
     words = refl;
     later = led.later;
+    wins = led.wins;
   }
     where
       by : (c : ℕ) (f : Field) → waits (stages c) ≡ false → (b : Bool) → waits (r.stages c) ≡ b → listed list c f ≡ table_word new c f

@@ -1,10 +1,10 @@
 use Rattle.std.proofs.Common.{◌≡◌, ◌≢◌, ◌==◌, ℕ, ◌+◌, ◌%◌, ◌<◌, ◌≤◌, if◌then◌else◌, Bool, true, false, List, [], ◌∷◌, ◌++◌, length, get_or, set, Some, None, refl, sym, ap, ◌∙◌, subst, inl, inr, arith, eqb-true, true≢false, length-set, get_or-set_same, get_or-set_other, eq-eqb}
-use Rattle.ell_core.specs.history.Later.{StagesLater}
+use Rattle.ell_core.specs.history.Later.{StagesLater, wins_of}
 use Rattle.std.specs.Prelude.{unwrap_or, Option}
 use Rattle.std.proofs.lemmas.Option.{same_Some}
 use Rattle.ell_core.specs.declared.put.Put.{Put}
 use Rattle.ell_core.specs.declared.view.Seen.{Seen}
-use Rattle.ell_core.specs.acts.Searching.{put_of, GivesPlace}
+use Rattle.ell_core.specs.acts.Searching.{put_of, GivesPlace, MayTake}
 use Rattle.ell_core.proofs.lemmas.keeping.Puts.{added, replacing}
 use Rattle.ell_core.specs.statements.Told.{is_fixed}
 use Rattle.ell_cards.specs.Models.{TablePlan, flat_from}
@@ -46,7 +46,7 @@ use Rattle.ell_cards.specs.Changes.{told_value, value_told, told_filling, fillin
 use Rattle.ell_cards.specs.Guards.{MayClaim, Wants, WantsInsert}
 use Rattle.ell_cards.specs.States.{TableState, seated}
 use Rattle.ell_cards.specs.Machines.{EntryHolds, HasMachine}
-use Rattle.ell_cards.specs.Laws.{IsEvent}
+use Rattle.ell_cards.specs.Laws.{act_wins, IsEvent}
 use Rattle.ell_cards.specs.Calls.{Becomes}
 use Rattle.ell_cards.proofs.lemmas.words.Fields.{table_says, table_blank}
 use Rattle.ell_cards.proofs.lemmas.views.Entries.{filling_more}
@@ -241,6 +241,10 @@ module _ (plan : TablePlan) (s : TableState) (r : HasMachine plan s) (id : ℕ) 
           (ap (λ (u : Worker). u.search.node) (mine_is plan s r id v here) ∙ may.stands)
           (ap (λ (u : Worker). u.search.parent) (mine_is plan s r id v here) ∙ may.behind)
 
+      -- it may take a card in the machine as by the plan
+      ready : MayTake r.words.flat_from (worker_of v.worker)
+      ready = subst (λ n. MayTake n (worker_of v.worker)) (sym r.shape) may.ready
+
       puts : (op : Op) (what : Put) → put_of op ≡ Some what → v.worker.operation ≡ Some op → GivesPlace r.words what may.below
           → (what.was ≡ None → IsInBlock r.words may.parent.node what.key) → IsNodeKey r.words.flat_from what.key (r.words.key may.below) node_key
           → (IsLeaf may.below → told_value v.told may.below ≡ r.words.value may.below)
@@ -267,7 +271,8 @@ module _ (plan : TablePlan) (s : TableState) (r : HasMachine plan s) (id : ℕ) 
             node_key = node_key;
             busy = busy;
             puts = is_put;
-            at = record { stands = may.stands; behind = may.behind; calm = may.calm; no_card = may.no_card };
+            ready = ready;
+            at = record { stands = may.stands; behind = may.behind; calm = may.calm };
             takes = takes_it;
             fits = fits;
             named = named;
@@ -347,7 +352,8 @@ module _ (plan : TablePlan) (s : TableState) (r : HasMachine plan s) (id : ℕ) 
             parent = may.parent;
             grandparent = above;
             deletes = busy;
-            at = record { stands = may.stands; outer = wants.outer; behind = may.behind; calm = may.calm; no_card = may.no_card };
+            ready = ready;
+            at = record { stands = may.stands; outer = wants.outer; behind = may.behind; calm = may.calm };
             present = key_is ∙ wants.same;
             above = wants.grandparent;
             calm = wants.calm;
@@ -361,6 +367,7 @@ module _ (plan : TablePlan) (s : TableState) (r : HasMachine plan s) (id : ℕ) 
     later : StagesLater r.stages kept.stages
     event : Becomes id (if b then Some act.Claim else None) Moved (machine plan s r id v here)
         (seated kept.words (set s.views id (after_claim b c node_key v)) plan.last_card)
+    wins : (d : ℕ) → wins_of (kept.stages d) ≡ wins_of (r.stages d) ++ act_wins (if b then Some act.Claim else None) v.worker.card Moved d
 
   claim_at : (c node_key : ℕ) → MayClaim (flat_from plan) v c node_key → c ≤ plan.last_card → (b : Bool) → (get_or s.words 0 0 == c) ≡ b → ClaimAt c node_key b
   claim_at c node_key may room true e =
@@ -369,6 +376,7 @@ module _ (plan : TablePlan) (s : TableState) (r : HasMachine plan s) (id : ℕ) 
         later = reached.kept.later;
         event = subst (λ w. Becomes id (Some act.Claim) Moved (machine plan s r id v here) (seated w (set s.views id (after_claim true c node_key v)) plan.last_card))
             (sym reached.kept.words) reached.steps;
+        wins = reached.kept.wins;
       }
   claim_at c node_key may room false e =
       let h = r.views id v here in
@@ -377,9 +385,10 @@ module _ (plan : TablePlan) (s : TableState) (r : HasMachine plan s) (id : ℕ) 
         later = kept.later;
         event = sym (same_machine plan s r id v here (after_claim false c node_key v) refl
             ∙ ap (λ w. seated w (set s.views id (after_claim false c node_key v)) plan.last_card) (sym kept.words));
+        wins = kept.wins;
       }
 
   -- claim
   pub keeps_claim : (c node_key : ℕ) → MayClaim (flat_from plan) v c node_key → c ≤ plan.last_card → IsEvent plan s r id v (call.Claim c node_key)
   keeps_claim c node_key may room =
-      let h = claim_at c node_key may room (get_or s.words 0 0 == c) refl in record { kept = h.kept; later = h.later; event = h.event; tells = tt }
+      let h = claim_at c node_key may room (get_or s.words 0 0 == c) refl in record { kept = h.kept; later = h.later; event = h.event; wins = h.wins; tells = tt }

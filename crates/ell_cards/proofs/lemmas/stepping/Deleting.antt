@@ -130,7 +130,7 @@ module _ (plan : TablePlan) (s : TableState) (r : HasMachine plan s) (id : ℕ) 
       refl refl (names_card plan s r id v here p n reads is_p)
 
   -- the sibling of the leaf, as it was told
-  sibling_told : (c p l y : ℕ) → r.words.p c ≡ p → r.words.l c ≡ l → IsSibling v c l y → sibling r.words c ≡ y
+  pub sibling_told : (c p l y : ℕ) → r.words.p c ≡ p → r.words.l c ≡ l → IsSibling v c l y → sibling r.words c ≡ y
   sibling_told c p l y p_is l_is (inl a) =
       let right_is : r.words.child (r.words.p c) true ≡ y = ((r.views id v here).entries (Frozen c true y) a.0).2 in
       ap (λ (b : Bool). if b then r.words.child (r.words.p c) false else r.words.child (r.words.p c) true)

@@ -2,7 +2,7 @@ use Rattle.std.proofs.Common.{inl, inr, ◌⊎◌, if◌then◌else◌, eq-eqb, 
 use Rattle.ell_core.proofs.lemmas.keeping.insert_child.IChild.{brought_side}
 use mathlib.Core.Option.{some}
 use lib.ListN.{get_elem?}
-use Rattle.ell_word.specs.Node.{card, left_leaf, right_leaf, greatest_card}
+use Rattle.ell_word.specs.Node.{card, left_leaf, right_leaf, greatest_number}
 use Rattle.ell_core.specs.declared.exchange.Exchange.TheVariants as exchange
 use Rattle.ell_core.specs.declared.event.Act.TheVariants as act
 use Rattle.ell_core.specs.declared.fact.Fact.TheVariants.{IChanged, IOver, IFlagged}
@@ -36,12 +36,12 @@ use Rattle.ell_cards.proofs.lemmas.seats.Seats.{mine_sound}
 use Rattle.ell_core.proofs.lemmas.stages.Order.{insert-claimed, insert_won-insert}
 
 -- a node that a card of the table brings is small
-brought_small : (c last q : ℕ) (replaces : Bool) → q ≡ brought_by c replaces → c ≤ last → last ≤ greatest_card → q < tag_unit
+brought_small : (c last q : ℕ) (replaces : Bool) → q ≡ brought_by c replaces → c ≤ last → last ≤ greatest_number → q < tag_unit
 brought_small c last q true e low room = omega arith
 brought_small c last q false e low room = omega arith
 
 -- the key of the right leaf of an insert's card lies on the side of the parent on which its node goes
-right_side : (w : Words) (stage : Stages) (c : ℕ) → InsertCard w stage c → is_right w (w.p c) (w.key (right_leaf c)) ≡ insert_side w c
+pub right_side : (w : Words) (stage : Stages) (c : ℕ) → InsertCard w stage c → is_right w (w.p c) (w.key (right_leaf c)) ≡ insert_side w c
 right_side w stage c said = by said.copy
   where
     by : IsCopy w c (left_leaf c) ⊎ IsCopy w c (right_leaf c) → is_right w (w.p c) (w.key (right_leaf c)) ≡ insert_side w c

@@ -1,4 +1,4 @@
-use Rattle.std.proofs.Common.{◌≡◌, ◌==◌, ℕ, if◌then◌else◌, true, Option, Some, None, refl, sym, ap, subst, unwrap_or, nat_le, eq-eqb}
+use Rattle.std.proofs.Common.{◌≡◌, ◌==◌, ℕ, if◌then◌else◌, true, Option, Some, None, inl, refl, sym, ap, subst, unwrap_or, nat_le, eq-eqb}
 use Rattle.ell_ops.specs.declared.op.Op.{Op}
 use Rattle.ell_ops.specs.declared.op.Op.TheVariants.{Find, Insert, Delete, Swap}
 use Rattle.ell_ops.specs.Meaning.{key_of}
@@ -7,6 +7,7 @@ use Rattle.ell_word.specs.Node.{IsInternal}
 use Rattle.ell_word.specs.Word.{packed}
 use Rattle.ell_core.specs.declared.view.Seen.{Seen}
 use Rattle.ell_core.specs.acts.Searching.{IsClean}
+use Rattle.ell_core.proofs.lemmas.outcomes.Decide.{some_not_none}
 use Rattle.ell_cards.specs.declared.view.View.{View}
 use Rattle.ell_cards.specs.Models.{PassModel, Sees, Steps, Does, StandsAt}
 use Rattle.ell_cards.specs.Changes.{after_upd, is_this, value_told, filling_for, filling_of}
@@ -52,7 +53,8 @@ may_claim from a b op c below key node_key parent s busy no_card stands told beh
       key = key;
       parent = parent;
       read = refl;
-      no_card = no_card;
+      other = λ e. some_not_none e no_card;
+      ready = inl no_card;
       busy = busy;
       stands = stands;
       told = told;

@@ -14,17 +14,26 @@ use Rattle.ell_cards.specs.declared.view.Known.{Known}
 use Rattle.ell_cards.specs.declared.view.Period.{Period}
 use Rattle.ell_cards.specs.declared.view.Slots.{Slots}
 use Rattle.ell_cards.specs.declared.view.View.{View}
-use Rattle.ell_cards.specs.Models.{TablePlan}
-use Rattle.ell_cards.specs.Changes.{joined_view, spent_view}
-use Rattle.ell_cards.specs.Periods.{WholeState, no_period, after_give, given_period, joined_period, period_in, place_says, IsAtRest, PeriodHolds, HasPlace, own, spare, HasPeriods, grace_of}
-use Rattle.ell_cards.specs.Stepping.{MaySplit, MayJoin}
+use Rattle.ell_cards.specs.Models.{TablePlan, IsFree}
+use Rattle.ell_cards.specs.Changes.{left_view, right_view, joined_view, spent_view}
+use Rattle.ell_cards.specs.Periods.{WholeState, no_period, after_give, given_period, joined_period, period_in, pending_by, place_says, IsAtRest, PeriodHolds, HasPlace, own, spare, PeriodsAreSound, grace_of}
+use Rattle.ell_cards.specs.Ages.{AgesAreSound}
+use Rattle.ell_cards.specs.States.{TableState}
+use Rattle.ell_cards.specs.Shown.{StoresAreWhole}
+use Rattle.ell_cards.specs.Stepping.{MaySplit}
+use Rattle.ell_cards.specs.Turns.{TableTurns, Splits as SplitsInto, Joins as JoinsWith}
 use Rattle.ell_cards.specs.Whole.{trees_of, joined_known, spent_known, PeriodsAre, IsWhole}
+use Rattle.ell_cards.proofs.lemmas.lifetimes.Joins.{each_joined as each_view_joined}
+use Rattle.ell_cards.proofs.lemmas.lifetimes.Splits.{each_split as each_view_split}
+use Rattle.ell_cards.proofs.lemmas.shown.ShownViews.{unfilled_whole}
+use Rattle.ell_cards.proofs.lemmas.runs.Reaching.{reached_on}
+use Rattle.ell_cards.proofs.lemmas.whole.Ages.{AgesOn, Onward, onward, dead_on, still_since, noted_on, read_on}
 use Rattle.ell_cards.proofs.lemmas.whole.Rests.{is_at_rest}
 use Rattle.ell_cards.proofs.lemmas.whole.Seats.{part_same, part_put}
 use Rattle.ell_cards.proofs.lemmas.whole.Trees.{tree_at, grace_same}
 
 -- what is at a place of a list with one more at its end
-at_end : {A : Type 0} (l : List A) (a b : A) (j : ℕ) → get_elem? (l ++ a ∷ []) j ≡ some b → (get_elem? l j ≡ some b) ⊎ ((j ≡ length l) × (a ≡ b))
+pub at_end : {A : Type 0} (l : List A) (a b : A) (j : ℕ) → get_elem? (l ++ a ∷ []) j ≡ some b → (get_elem? l j ≡ some b) ⊎ ((j ≡ length l) × (a ≡ b))
 at_end [] a b zero e = inr (refl, some-injective a b e)
 at_end [] a b (suc j) e = absurd (some-ne-none b (sym e))
 at_end (x ∷ xs) a b zero e = inl e
@@ -47,7 +56,8 @@ trees_more [] k = refl
 trees_more (x ∷ xs) k = ap (λ l. x.tree ∷ l) (trees_more xs k)
 
 -- a split
-module _ (sl : Slots) (t : WholeState) (id : ℕ) (k : Known) (here : get_elem? t.views id ≡ some k) (h : HasPeriods sl t) (left right : View)
+module _ (sl : Slots) (t : WholeState) (id : ℕ) (k : Known) (here : get_elem? t.views id ≡ some k) (dead : ℕ → Bool) (began : ℕ → ℕ) (was_dead : ℕ → ℕ → Bool)
+    (h : PeriodsAreSound sl t dead began was_dead) (left right : View)
     (left_rests : IsAtRest left) (right_rests : IsAtRest right) (quiet : (q : ℕ) → k.period.other ≡ Some q → k.period.other_says ≡ None) where
   abbrev left_known : Known
   left_known = record { tree = left; period = after_give k.period }
@@ -129,8 +139,8 @@ module _ (sl : Slots) (t : WholeState) (id : ℕ) (k : Known) (here : get_elem? 
   each_holds j u (of_other apart at) = h.each j u at
 
   -- the left part is in the period of the pass, and the right part in none
-  since_origin : (j q a : ℕ) (u : Known) → Origin j u → u.period.place ≡ Some q → u.period.announced ≡ Some a → h.began q ≡ u.period.began
-  since_origin j q a u (of_left at is) = subst (λ (x : Known). x.period.place ≡ Some q → x.period.announced ≡ Some a → h.began q ≡ x.period.began) is (h.since id q a k here)
+  since_origin : (j q a : ℕ) (u : Known) → Origin j u → u.period.place ≡ Some q → u.period.announced ≡ Some a → began q ≡ u.period.began
+  since_origin j q a u (of_left at is) = subst (λ (x : Known). x.period.place ≡ Some q → x.period.announced ≡ Some a → began q ≡ x.period.began) is (h.since id q a k here)
   since_origin j q a u (of_right at is) = λ placed an. absurd (some_not_none (ap (λ (x : Known). x.period.announced) is ∙ an) refl)
   since_origin j q a u (of_other apart at) = h.since j q a u at
 
@@ -138,13 +148,11 @@ module _ (sl : Slots) (t : WholeState) (id : ℕ) (k : Known) (here : get_elem? 
       → part (period_in parted.views i) ≡ part (period_in t.views i)
   part_parted part same new i = part_more part (set t.views id left_known) right_known new i ∙ part_same t.views id k here left_known part same i
 
-  pub split_periods : HasPeriods sl parted
+  pub split_periods : PeriodsAreSound sl parted dead began was_dead
   split_periods = record {
-    gone = h.gone;
-    began = h.began;
-    was_gone = h.was_gone;
-    sound = grace_same sl.places (grace_of sl t h.gone h.began h.was_gone) (grace_of sl parted h.gone h.began h.was_gone)
-        refl (λ c. refl) (λ q. refl) (λ q. refl) (λ q c. refl) (λ i. refl)
+    sound = grace_same sl.places (grace_of sl t dead began was_dead) (grace_of sl parted dead began was_dead)
+        refl (λ c. refl) (λ q. refl) (λ q. refl) (λ q c. refl)
+        (part_parted (λ p. pending_by p.stamp) refl refl)
         (part_parted (λ p. p.least) refl refl)
         (λ i q. part_parted (λ p. nat_lt q p.looked) refl refl i)
         (part_parted (λ p. p.safe) refl refl)
@@ -155,31 +163,86 @@ module _ (sl : Slots) (t : WholeState) (id : ℕ) (k : Known) (here : get_elem? 
     apart = λ a b q x y at at' has has'. one_has a b q x y (origin a x at) (origin b y at') has has';
   }
 
+-- the ages after a split, whose parts are both at rest
+module _ (plan : TablePlan) (s : Slots) (tree tree' : TableState) (t : WholeState) (id : ℕ) (k : Known) (here : get_elem? t.views id ≡ some k) (keys : List ℕ) (turn : TableTurns plan tree (SplitsInto id keys) tree')
+    (left right : Known) (left_rests : IsAtRest left.tree) (right_rests : IsAtRest right.tree) (left_read : left.period.read ≡ k.period.read) (right_read : right.period.read ≡ None)
+    (dead : ℕ → Bool) (was_dead : ℕ → ℕ → Bool) where
+  pub ages_after_split : (h : AgesAreSound plan s tree t dead was_dead)
+      → AgesOn plan s tree t dead was_dead h (SplitsInto id keys) tree' (record { words = t.words; homes = t.homes; views = set t.views id left ++ right ∷ [] })
+  ages_after_split h = record {
+    ages = record {
+      now = dead_on plan tree dead h.now (SplitsInto id keys) tree' on;
+      still = h.still;
+      since = λ seat q a u at placed an. elim (at_end (set t.views id left) right u seat at) [
+        | inl was ↦ ⊎_elim
+            (λ (e : (seat ≡ id) × (left ≡ u)). inl (subst (λ (x : Known). IsAtRest x.tree) e.1 left_rests))
+            (λ (e : (seat ≢ id) × (get_elem? t.views seat ≡ some u)).
+            still_since plan tree seat (was_dead q) u.tree (SplitsInto id keys) tree' turn (h.since seat q a u e.1 placed an))
+            (at_set t.views id seat left u was)
+        | inr new ↦ inl (subst (λ (x : Known). IsAtRest x.tree) new.1 right_rests)
+      ];
+      noted = noted_on plan s tree tree' t dead was_dead h (SplitsInto id keys) on t.words (λ slot low. refl);
+      read = λ seat u r at has. elim (at_end (set t.views id left) right u seat at) [
+        | inl was ↦ ⊎_elim
+            (λ (e : (seat ≡ id) × (left ≡ u)). read_on plan s tree tree' t dead was_dead h (SplitsInto id keys) on id k r here (sym left_read ∙ (ap (λ (x : Known). x.period.read) e.1 ∙ has)))
+            (λ (e : (seat ≢ id) × (get_elem? t.views seat ≡ some u)). read_on plan s tree tree' t dead was_dead h (SplitsInto id keys) on seat u r e.1 has)
+            (at_set t.views id seat left u was)
+        | inr new ↦ λ i is. absurd (some_not_none (ap (λ (x : Known). x.period.read) new.1 ∙ has) right_read)
+      ];
+    };
+    later = on.later;
+    wins = on.wins;
+  }
+    where
+      on : Onward plan tree h.now.machine h.now.uses (SplitsInto id keys) tree'
+      on = onward plan tree h.now.machine h.now.uses (SplitsInto id keys) tree' turn
+
 -- a split of the tree is a split of the table
-pub whole_splits : (plan : TablePlan) (k : Known) (left right : View) → IsAtRest left → IsAtRest right
-    → ((q : ℕ) → k.period.other ≡ Some q → k.period.other_says ≡ None) → MaySplit plan k.tree left right
-    → (id : ℕ) → Splits (IsWhole plan) id k (record { tree = left; period = after_give k.period }) (record { tree = right; period = given_period k.period })
-whole_splits plan k left right left_rests right_rests quiet may id s h here =
-    let l : Known = record { tree = left; period = after_give k.period } in
-    let r : Known = record { tree = right; period = given_period k.period } in
+pub whole_splits : (plan : TablePlan) (k : Known) (keys : List ℕ) → ((q : ℕ) → k.period.other ≡ Some q → k.period.other_says ≡ None) → MaySplit k.tree
+    → (id : ℕ) → Splits (IsWhole plan) id k (record { tree = left_view keys k.tree; period = after_give k.period }) (record { tree = right_view keys k.tree; period = given_period k.period })
+whole_splits plan k keys quiet may id s h here =
+    let l : Known = record { tree = left_view keys k.tree; period = after_give k.period } in
+    let r : Known = record { tree = right_view keys k.tree; period = given_period k.period } in
     let there : get_elem? h.tree.views id ≡ some k.tree = ap (λ v. get_elem? v id) (sym h.views) ∙ tree_at s.views id k here in
+    let tree : TableState = record { words = h.tree.words; homes = h.tree.homes; views = set h.tree.views id (left_view keys k.tree) ++ (right_view keys k.tree) ∷ [] } in
+    let turn : TableTurns plan h.tree (SplitsInto id keys) tree = record {
+      view = k.tree;
+      there = there;
+      free = may.free;
+      may = may.may;
+      gives = refl;
+    } in
     record {
-      tree = record { words = h.tree.words; homes = h.tree.homes; views = set h.tree.views id left ++ right ∷ [] };
-      reached = may id h.tree h.reached there;
-      views = trees_more (set s.views id l) r ∙ (ap (λ v. v ++ right ∷ []) (map-set (λ (x : Known). x.tree) s.views id l) ∙ ap (λ v. set v id left ++ right ∷ []) h.views);
+      tree = tree;
+      reached = reached_on plan h.tree h.reached (SplitsInto id keys) tree turn;
+      views = trees_more (set s.views id l) r ∙ (ap (λ v. v ++ (right_view keys k.tree) ∷ []) (map-set (λ (x : Known). x.tree) s.views id l) ∙ ap (λ v. set v id (left_view keys k.tree) ++ (right_view keys k.tree) ∷ []) h.views);
       homes = h.homes;
       words = h.words;
-      periods = by plan.slots h.periods;
+      stores = each_view_split h.tree.views id k.tree there (left_view keys k.tree) (right_view keys k.tree) StoresAreWhole
+          (unfilled_whole (left_view keys k.tree) refl refl) (unfilled_whole (right_view keys k.tree) refl refl) h.stores;
+      periods = by h.tree tree turn plan.slots h.periods;
     }
   where
-    by : (o : Option Slots) → PeriodsAre o s
-        → PeriodsAre o (record { words = s.words; homes = s.homes; views = set s.views id (record { tree = left; period = after_give k.period }) ++ record { tree = right; period = given_period k.period } ∷ [] })
-    by None periods = tt
-    by (Some sl) periods = split_periods sl s id k here periods left right left_rests right_rests quiet
+    left_rests : IsAtRest (left_view keys k.tree)
+    left_rests = is_at_rest (left_view keys k.tree) refl refl refl refl refl
 
--- whoever has seen nothing of the others' periods knows nothing wrong of them
+    right_rests : IsAtRest (right_view keys k.tree)
+    right_rests = is_at_rest (right_view keys k.tree) refl refl refl refl refl
+
+    by : (tree tree' : TableState) → TableTurns plan tree (SplitsInto id keys) tree' → (o : Option Slots) → PeriodsAre plan o tree s
+        → PeriodsAre plan o tree' (record { words = s.words; homes = s.homes; views = set s.views id (record { tree = left_view keys k.tree; period = after_give k.period }) ++ record { tree = right_view keys k.tree; period = given_period k.period } ∷ [] })
+    by tree tree' turn None periods = tt
+    by tree tree' turn (Some sl) h = record {
+      dead = h.dead;
+      began = h.began;
+      was_dead = h.was_dead;
+      periods = split_periods sl s id k here h.dead h.began h.was_dead h.periods (left_view keys k.tree) (right_view keys k.tree) left_rests right_rests quiet;
+      ages = (ages_after_split plan sl tree tree' s id k here keys turn (record { tree = left_view keys k.tree; period = after_give k.period }) (record { tree = right_view keys k.tree; period = given_period k.period }) left_rests right_rests refl refl h.dead h.was_dead h.ages).ages;
+    }
+
+-- whoever has seen nothing of the others' periods, and is about to free no card, knows nothing wrong of them
 reset : (places : ℕ) (w : Grace) (i : ℕ) → GraceIsSound places w
-    → GraceIsSound places (record w { least = put w.least i 0; seen = put w.seen i (λ q. false); safe = put w.safe i 0 })
+    → GraceIsSound places (record w { pending = put w.pending i None; least = put w.least i 0; seen = put w.seen i (λ q. false); safe = put w.safe i 0 })
 reset places w i h = record {
   inside = h.inside;
   announced = h.announced;
@@ -191,13 +254,16 @@ reset places w i h = record {
         let same = put_other w.least i 0 j n in omega arith)
   ];
   least_past = λ j. put_cases (λ n. n ≤ w.clock) w.least i 0 j (λ e. omega arith) (λ n. h.least_past j);
-  pending = λ j c r is. (let s = h.pending j c r is in record { past = s.past; gone = s.gone; before = s.before });
+  pending = λ j c r is. elim (cases_eq j i) [
+    | inl e ↦ absurd (some_not_none is (ap (put w.pending i None) e ∙ put_same w.pending i None))
+    | inr n ↦ (let s = h.pending j c r (sym (put_other w.pending i None j n) ∙ is) in record { past = s.past; gone = s.gone; before = s.before })
+  ];
   free = λ c r is. (let s = h.free c r is in record { past = s.past; gone = s.gone; before = s.before });
 }
 
 -- a join
 module _ (sl : Slots) (t : WholeState) (id other : ℕ) (k l : Known) (here : get_elem? t.views id ≡ some k) (there : get_elem? t.views other ≡ some l) (aside : other ≢ id)
-    (h : HasPeriods sl t) where
+    (dead : ℕ → Bool) (began : ℕ → ℕ) (was_dead : ℕ → ℕ → Bool) (h : PeriodsAreSound sl t dead began was_dead) where
   abbrev both : Known
   both = joined_known k l
 
@@ -272,8 +338,8 @@ module _ (sl : Slots) (t : WholeState) (id other : ℕ) (k l : Known) (here : ge
   one_joined a b q x y (of_another apart apart' at) (of_another apart'' apart''' at') has has' = h.apart a b q x y at at' has has'
 
   -- the pass that has both is in the period in which it was
-  since_before : (j q a : ℕ) (u : Known) → Before j u → u.period.place ≡ Some q → u.period.announced ≡ Some a → h.began q ≡ u.period.began
-  since_before j q a u (of_both at is) = subst (λ (x : Known). x.period.place ≡ Some q → x.period.announced ≡ Some a → h.began q ≡ x.period.began) is (h.since id q a k here)
+  since_before : (j q a : ℕ) (u : Known) → Before j u → u.period.place ≡ Some q → u.period.announced ≡ Some a → began q ≡ u.period.began
+  since_before j q a u (of_both at is) = subst (λ (x : Known). x.period.place ≡ Some q → x.period.announced ≡ Some a → began q ≡ x.period.began) is (h.since id q a k here)
   since_before j q a u (of_spent is) = λ placed an. absurd (some_not_none (ap (λ (x : Known). x.period.announced) is ∙ an) refl)
   since_before j q a u (of_another apart apart' at) = h.since j q a u at
 
@@ -283,23 +349,22 @@ module _ (sl : Slots) (t : WholeState) (id other : ℕ) (k l : Known) (here : ge
       part_put (set t.views id both) other l still_there spent_known part i
       ∙ ap (λ (f : ℕ → A). put f other (part no_period) i) (λ p j. part_same t.views id k here both part same j p)
 
-  pub join_periods : HasPeriods sl joined
+  pub join_periods : PeriodsAreSound sl joined dead began was_dead
   join_periods = record {
-    gone = h.gone;
-    began = h.began;
-    was_gone = h.was_gone;
     sound = grace_same sl.places
-        (record (grace_of sl t h.gone h.began h.was_gone) {
+        (record (grace_of sl t dead began was_dead) {
+          pending = put (λ i. pending_by (period_in t.views i).stamp) other None;
           least = put (λ i. (period_in t.views i).least) other 0;
           seen = put (λ i q. nat_lt q (period_in t.views i).looked) other (λ q. false);
           safe = put (λ i. (period_in t.views i).safe) other 0;
         })
-        (grace_of sl joined h.gone h.began h.was_gone)
-        refl (λ c. refl) (λ q. refl) (λ q. refl) (λ q c. refl) (λ i. refl)
+        (grace_of sl joined dead began was_dead)
+        refl (λ c. refl) (λ q. refl) (λ q. refl) (λ q c. refl)
+        (part_joined (λ p. pending_by p.stamp) refl)
         (part_joined (λ p. p.least) refl)
         (λ i q. ap (λ (f : ℕ → Bool). f q) (part_joined (λ p r. nat_lt r p.looked) refl i ∙ ap (λ (f : ℕ → Bool). put (λ j r. nat_lt r (period_in t.views j).looked) other f i) (λ p r. none_looked r p)))
         (part_joined (λ p. p.safe) refl)
-        (λ c. refl) (reset sl.places (grace_of sl t h.gone h.began h.was_gone) other h.sound);
+        (λ c. refl) (reset sl.places (grace_of sl t dead began was_dead) other h.sound);
     low = h.low;
     each = λ j u at. each_joined j u (before j u at);
     since = λ j q a u at. since_before j q a u (before j u at);
@@ -309,26 +374,78 @@ module _ (sl : Slots) (t : WholeState) (id other : ℕ) (k l : Known) (here : ge
       none_looked : (r : ℕ) → nat_lt r 0 ≡ false
       none_looked r = false_from_ne_true (nat_lt r 0) (λ is. let low = ltb-true r 0 is in omega arith)
 
+-- the ages after a join, whose pass is at rest
+module _ (plan : TablePlan) (s : Slots) (tree tree' : TableState) (t : WholeState) (id other : ℕ) (k : Known) (here : get_elem? t.views id ≡ some k) (turn : TableTurns plan tree (JoinsWith id other) tree')
+    (both spent : Known) (both_rests : IsAtRest both.tree) (spent_rests : IsAtRest spent.tree) (both_read : both.period.read ≡ k.period.read) (spent_read : spent.period.read ≡ None)
+    (dead : ℕ → Bool) (was_dead : ℕ → ℕ → Bool) where
+  pub ages_after_join : (h : AgesAreSound plan s tree t dead was_dead)
+      → AgesOn plan s tree t dead was_dead h (JoinsWith id other) tree' (record { words = t.words; homes = t.homes; views = set (set t.views id both) other spent })
+  ages_after_join h = record {
+    ages = record {
+      now = dead_on plan tree dead h.now (JoinsWith id other) tree' on;
+      still = h.still;
+      since = λ seat q a u at placed an. ⊎_elim
+          (λ (e : (seat ≡ other) × (spent ≡ u)). inl (subst (λ (x : Known). IsAtRest x.tree) e.1 spent_rests))
+          (λ (e : (seat ≢ other) × (get_elem? (set t.views id both) seat ≡ some u)). ⊎_elim
+          (λ (f : (seat ≡ id) × (both ≡ u)). inl (subst (λ (x : Known). IsAtRest x.tree) f.1 both_rests))
+          (λ (f : (seat ≢ id) × (get_elem? t.views seat ≡ some u)).
+          still_since plan tree seat (was_dead q) u.tree (JoinsWith id other) tree' turn (h.since seat q a u f.1 placed an))
+          (at_set t.views id seat both u e.1))
+          (at_set (set t.views id both) other seat spent u at);
+      noted = noted_on plan s tree tree' t dead was_dead h (JoinsWith id other) on t.words (λ slot low. refl);
+      read = λ seat u r at has. ⊎_elim
+          (λ (e : (seat ≡ other) × (spent ≡ u)). λ i is. absurd (some_not_none (ap (λ (x : Known). x.period.read) e.1 ∙ has) spent_read))
+          (λ (e : (seat ≢ other) × (get_elem? (set t.views id both) seat ≡ some u)). ⊎_elim
+          (λ (f : (seat ≡ id) × (both ≡ u)). read_on plan s tree tree' t dead was_dead h (JoinsWith id other) on id k r here (sym both_read ∙ (ap (λ (x : Known). x.period.read) f.1 ∙ has)))
+          (λ (f : (seat ≢ id) × (get_elem? t.views seat ≡ some u)). read_on plan s tree tree' t dead was_dead h (JoinsWith id other) on seat u r f.1 has)
+          (at_set t.views id seat both u e.1))
+          (at_set (set t.views id both) other seat spent u at);
+    };
+    later = on.later;
+    wins = on.wins;
+  }
+    where
+      on : Onward plan tree h.now.machine h.now.uses (JoinsWith id other) tree'
+      on = onward plan tree h.now.machine h.now.uses (JoinsWith id other) tree' turn
+
 -- a join of the tree is a join of the table
-pub whole_joins : (plan : TablePlan) (k l : Known) → MayJoin plan k.tree l.tree (joined_view k.tree l.tree) spent_view
+pub whole_joins : (plan : TablePlan) (k l : Known) → IsFree k.tree → IsFree l.tree
     → (id other : ℕ) → Joins (IsWhole plan) id k other l (joined_known k l) spent_known
-whole_joins plan k l may id other s h here aside there =
+whole_joins plan k l free other_free id other s h here aside there =
     let ours : get_elem? h.tree.views id ≡ some k.tree = ap (λ v. get_elem? v id) (sym h.views) ∙ tree_at s.views id k here in
     let theirs : get_elem? s.views other ≡ some l = sym (set_else s.views id other (joined_known k l) aside) ∙ there in
-    let at : get_elem? (set h.tree.views id (joined_view k.tree l.tree)) other ≡ some l.tree =
-    set_else h.tree.views id other (joined_view k.tree l.tree) aside ∙ (ap (λ v. get_elem? v other) (sym h.views) ∙ tree_at s.views other l theirs) in
+    let tree : TableState = record { words = h.tree.words; homes = h.tree.homes; views = set (set h.tree.views id (joined_view k.tree l.tree)) other spent_view } in
+    let turn : TableTurns plan h.tree (JoinsWith id other) tree = record {
+      view = k.tree;
+      view' = l.tree;
+      there = ours;
+      there' = ap (λ v. get_elem? v other) (sym h.views) ∙ tree_at s.views other l theirs;
+      apart = λ e. aside (sym e);
+      free = free;
+      free' = other_free;
+      gives = refl;
+    } in
     record {
-      tree = record { words = h.tree.words; homes = h.tree.homes; views = set (set h.tree.views id (joined_view k.tree l.tree)) other spent_view };
-      reached = may id other h.tree h.reached ours aside at;
+      tree = tree;
+      reached = reached_on plan h.tree h.reached (JoinsWith id other) tree turn;
       views = map-set (λ (x : Known). x.tree) (set s.views id (joined_known k l)) other spent_known
           ∙ (ap (λ v. set v other spent_view) (map-set (λ (x : Known). x.tree) s.views id (joined_known k l))
           ∙ ap (λ v. set (set v id (joined_view k.tree l.tree)) other spent_view) h.views);
       homes = h.homes;
       words = h.words;
-      periods = by plan.slots h.periods theirs;
+      stores = each_view_joined h.tree.views id other k.tree l.tree ours turn.there' aside (joined_view k.tree l.tree) StoresAreWhole
+          (unfilled_whole (joined_view k.tree l.tree) refl refl) (unfilled_whole spent_view refl refl) h.stores;
+      periods = by h.tree tree turn plan.slots h.periods theirs;
     }
   where
-    by : (o : Option Slots) → PeriodsAre o s → get_elem? s.views other ≡ some l
-        → PeriodsAre o (record { words = s.words; homes = s.homes; views = set (set s.views id (joined_known k l)) other spent_known })
-    by None periods theirs = tt
-    by (Some sl) periods theirs = join_periods sl s id other k l here theirs aside periods
+    by : (tree tree' : TableState) → TableTurns plan tree (JoinsWith id other) tree' → (o : Option Slots) → PeriodsAre plan o tree s → get_elem? s.views other ≡ some l
+        → PeriodsAre plan o tree' (record { words = s.words; homes = s.homes; views = set (set s.views id (joined_known k l)) other spent_known })
+    by tree tree' turn None periods theirs = tt
+    by tree tree' turn (Some sl) h theirs = record {
+      dead = h.dead;
+      began = h.began;
+      was_dead = h.was_dead;
+      periods = join_periods sl s id other k l here theirs aside h.dead h.began h.was_dead h.periods;
+      ages = (ages_after_join plan sl tree tree' s id other k here turn (joined_known k l) spent_known
+          (is_at_rest (joined_view k.tree l.tree) refl refl refl refl refl) (is_at_rest spent_view refl refl refl refl refl) refl refl h.dead h.was_dead h.ages).ages;
+    }

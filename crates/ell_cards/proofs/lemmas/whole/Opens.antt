@@ -1,5 +1,5 @@
-use Rattle.std.proofs.Common.{◌≡◌, ◌≢◌, ℕ, zero, suc, ◌-◌, ◌<◌, ◌≤◌, ◌==◌, nat_lt, if◌then◌else◌, Bool, true, false, Option, Some, None, List, [], ◌∷◌, ◌++◌, length, replicate, get_or, inl, inr, refl, sym, ap, ◌∙◌, subst, arith, length-set, get_or-set_same, get_or-set_other, eq-eqb, true≢false}
-use Rattle.std.proofs.lemmas.Bool.{cases_eq, cases_lt}
+use Rattle.std.proofs.Common.{◌≡◌, ◌≢◌, ℕ, zero, suc, ◌+◌, ◌*◌, ◌-◌, ◌<◌, ◌≤◌, ◌==◌, ◌&&◌, nat_lt, nat_le, if◌then◌else◌, Bool, true, false, Option, Some, None, List, [], ◌∷◌, ◌++◌, length, replicate, get_or, inl, inr, ◌⊎◌, refl, sym, ap, ◌∙◌, subst, arith, length-set, get_or-set_same, get_or-set_other, eq-eqb, true≢false}
+use Rattle.std.proofs.lemmas.Bool.{cases_eq, cases_lt, false≢true}
 use Rattle.std.proofs.lemmas.List.{length-append, length-replicate, get_or_past, get_or-replicate, get_or_append_left, get_or-append_right}
 use Rattle.std.proofs.lemmas.Option.{same_Some}
 use mathlib.Core.Option.{some, some-injective, some-ne-none}
@@ -7,7 +7,7 @@ use lib.ListN.{get_elem?}
 use Rattle.atomic_table.specs.Table.{opening}
 use Rattle.ell_core.proofs.lemmas.outcomes.Decide.{some_not_none}
 use Rattle.ell_grace.proofs.lemmas.Grace.{grace_starts}
-use Rattle.ell_word.specs.Node.{greatest_card}
+use Rattle.ell_word.specs.Node.{greatest_card, greatest_number}
 use Rattle.ell_layout.specs.Layout.{address, table_size}
 use Rattle.ell_layout.specs.Start.{words_at_start}
 use Rattle.ell_layout.specs.Words.{words_of, table_words}
@@ -17,14 +17,22 @@ use Rattle.ell_cards.specs.declared.view.Slots.{Slots}
 use Rattle.ell_cards.specs.declared.view.View.{View}
 use Rattle.ell_cards.specs.Models.{TablePlan, last_claim, last_claim_of}
 use Rattle.ell_cards.specs.Changes.{first_of}
-use Rattle.ell_cards.specs.Periods.{slots_of, last_for, clock_word, place_word, slots_size, opening_words, whole_words, size_by, whole_size, period_by, announced_by, period_in, card_words, card_words_by, IsAtRest, PeriodHolds, HasPeriods, grace_of}
-use Rattle.ell_cards.specs.Starts.{MayStart, SlotsFit, most_places}
+use Rattle.ell_cards.specs.Periods.{slots_of, last_for, clock_word, place_word, slot_word, slots_size, stamp_at, pending_by, opening_words, whole_words, size_by, whole_size, period_by, announced_by, period_in, card_words, card_words_by, IsAtRest, PeriodHolds, PeriodsAreSound, grace_of}
+use Rattle.ell_cards.specs.Ages.{ForgotWhen, HasPeriods}
+use Rattle.ell_cards.specs.SlotWords.{slot_of, card_by, freed_by, is_noted}
+use Rattle.ell_cards.specs.States.{TableState}
+use Rattle.ell_grace.specs.Dead.{IsDead}
+use Rattle.ell_cards.specs.Starts.{MayStart, SlotsFit, IsReached, most_places}
+use Rattle.ell_cards.specs.Shown.{StoresAreWhole}
 use Rattle.ell_cards.specs.Whole.{first_known, WordsAre, PeriodsAre, IsWhole}
+use Rattle.ell_cards.proofs.lemmas.lifetimes.Openings.{each_first}
+use Rattle.ell_cards.proofs.lemmas.shown.ShownViews.{unfilled_whole}
 use Rattle.ell_cards.proofs.lemmas.runs.Reaching.{reached_first}
+use Rattle.ell_cards.proofs.lemmas.runs.Alive.{tables_have_uses}
 use Rattle.ell_cards.proofs.lemmas.whole.Rests.{is_at_rest}
 
 -- so many zeros are as many
-zeros_many : (n : ℕ) → length (replicate {A = ℕ} n 0) ≡ n
+pub zeros_many : (n : ℕ) → length (replicate {A = ℕ} n 0) ≡ n
 zeros_many n = length-replicate n 0
 
 -- zeros are zeros, and so is what is behind them
@@ -35,14 +43,14 @@ zeros n i = elim (cases_lt i n) [
 ]
 
 -- a list with zeros behind it has the same words
-with_zeros : (l : List ℕ) (n i : ℕ) → get_or (l ++ replicate n 0) i 0 ≡ get_or l i 0
+pub with_zeros : (l : List ℕ) (n i : ℕ) → get_or (l ++ replicate n 0) i 0 ≡ get_or l i 0
 with_zeros l n i = elim (cases_lt i (length l)) [
   | inl low ↦ get_or_append_left l (replicate n 0) 0 i low
   | inr past ↦ get_or-append_right l (replicate n 0) (length l) i 0 refl (omega arith) ∙ (zeros n (i - length l) ∙ sym (get_or_past l i 0 (omega arith)))
 ]
 
 -- lists that have the same words are the same words by their names
-words_same : (l m : List ℕ) → ((i : ℕ) → get_or l i 0 ≡ get_or m i 0) → words_of l ≡ words_of m
+pub words_same : (l m : List ℕ) → ((i : ℕ) → get_or l i 0 ≡ get_or m i 0) → words_of l ≡ words_of m
 unfolding words_of
 words_same l m same = λ t. record (table_words (same 0 t) (λ c f. same (address c f) t)) { flat_from = same 1 t }
 
@@ -65,11 +73,15 @@ module _ (s : Slots) (cards : List ℕ) (size : length cards ≡ table_size s.la
       (let both = length-append cards (replicate (slots_size s - length cards) 0) in let many = zeros_many (slots_size s - length cards) in omega arith)
 
   -- all other words are those of the cards
-  other_word : (i : ℕ) → i ≢ place_word s 0 → get_or all i 0 ≡ get_or cards i 0
+  pub other_word : (i : ℕ) → i ≢ place_word s 0 → get_or all i 0 ≡ get_or cards i 0
   other_word i apart = get_or-set_other (cards ++ replicate (slots_size s - length cards) 0) (place_word s 0) i 1 0 apart ∙ with_zeros cards (slots_size s - length cards) i
 
   behind_cards : (i : ℕ) → table_size s.last ≤ i → i ≢ place_word s 0 → get_or all i 0 ≡ 0
   behind_cards i past apart = other_word i apart ∙ get_or_past cards i 0 (omega arith)
+
+  -- no slot's word says anything
+  pub slots_empty : (slot : ℕ) → get_or all (slot_word s slot) 0 ≡ 0
+  slots_empty slot = behind_cards (slot_word s slot) (omega arith) (λ e. omega arith)
 
   -- no place announces anything
   quiet : (q : ℕ) → announced_by (get_or all (place_word s q) 0) ≡ None
@@ -77,6 +89,17 @@ module _ (s : Slots) (cards : List ℕ) (size : length cards ≡ table_size s.la
     | inl e ↦ ap (λ i. announced_by (get_or all i 0)) e ∙ ap announced_by first_place
     | inr n ↦ ap announced_by (behind_cards (place_word s q) (omega arith) n)
   ]
+
+  -- no slot is free
+  unfreed : (c : ℕ) → stamp_at s all c ≡ None
+  unfreed c =
+      ap (λ n. if nat_le (slot_of c) s.last && card_by (slot_of c) n == c then freed_by n else None)
+      (behind_cards (slot_word s (slot_of c)) (omega arith) (λ e. omega arith))
+      ∙ neither (nat_le (slot_of c) s.last && card_by (slot_of c) 0 == c)
+    where
+      neither : (b : Bool) → (if b then freed_by 0 else None) ≡ None
+      neither true = refl
+      neither false = refl
 
   module _ (v : View) (rest : IsAtRest v) (one : 1 ≤ s.places) where
     abbrev first : Known
@@ -100,18 +123,15 @@ module _ (s : Slots) (cards : List ℕ) (size : length cards ≡ table_size s.la
     nothing part x here there zero = here
     nothing part x here there (suc i) = there
 
-    pub first_periods : HasPeriods s (opening all [] first)
+    pub first_periods : PeriodsAreSound s (opening all [] first) (λ x. false) (λ q. 0) (λ q x. false)
     first_periods = record {
-      gone = λ c. false;
-      began = λ q. 0;
-      was_gone = λ q c. false;
       sound = grace_starts s.places (grace_of s (opening all [] first) (λ c. false) (λ q. 0) (λ q c. false)) (record {
         word = λ q. unsaid (nat_lt q s.places) q;
-        pending = λ i. refl;
+        pending = nothing (λ p. pending_by p.stamp) None refl refl;
         least = nothing (λ p. p.least) 0 refl refl;
         seen = λ i q. nothing (λ p. nat_lt q p.looked) false (none q) (none q) i;
         safe = nothing (λ p. p.safe) 0 refl refl;
-        free = λ c. refl;
+        free = unfreed;
       });
       low = let clock = behind_cards (clock_word s) (omega arith) (λ e. omega arith) in omega arith;
       each = alone (λ j u. PeriodHolds s all u) first_holds;
@@ -125,6 +145,33 @@ module _ (s : Slots) (cards : List ℕ) (size : length cards ≡ table_size s.la
         unsaid : (b : Bool) (q : ℕ) → (if b then announced_by (get_or all (place_word s q) 0) else None) ≡ None
         unsaid true q = quiet q
         unsaid false q = refl
+
+-- a word that is 0 notes nothing
+none_noted : (k : ℕ) → is_noted 0 k ≡ true → ⊥
+none_noted zero is = false≢true is
+none_noted (suc zero) is = false≢true is
+none_noted (suc (suc zero)) is = false≢true is
+none_noted (suc (suc (suc k))) is = false≢true is
+
+-- nothing is dead in it, and nobody is in a period
+pub first_whole : (plan : TablePlan) (s : Slots) (tree : TableState) → IsReached plan tree → (cards : List ℕ) (size : length cards ≡ table_size s.last) → IsAtRest (first_of plan) → 1 ≤ s.places
+    → HasPeriods plan s tree (opening (opening_words s cards) [] (record { tree = first_of plan; period = period_by (Some s) }))
+first_whole plan s tree reached cards size rest one =
+    let has = tables_have_uses plan tree reached in record {
+      dead = λ x. false;
+      began = λ q. 0;
+      was_dead = λ q x. false;
+      periods = first_periods s cards size (first_of plan) rest one;
+      ages = record {
+        now = record { machine = has.0; uses = has.1; each = λ c k low is. absurd (false≢true is) };
+        still = λ q x is. is;
+        since = λ i q a k at. alone s cards size (first_of plan) rest one (λ j u. u.period.place ≡ Some q → u.period.announced ≡ Some a → IsAtRest u.tree ⊎ ForgotWhen plan tree j (λ x. false))
+            (λ is an. inl rest) i k at;
+        noted = λ slot k low is. absurd (none_noted k (subst (λ n. is_noted n k ≡ true) (slots_empty s cards size slot) is));
+        read = λ i k r at. alone s cards size (first_of plan) rest one (λ j u. u.period.read ≡ Some r → (b : ℕ) → is_noted r.word b ≡ true → IsDead has.0.words has.1.outs.stages (4 * card_by r.slot r.word + b))
+            (λ is. absurd (some_not_none is refl)) i k at;
+      };
+    }
 
 -- a table starts so
 pub whole_first : (plan : TablePlan) (may : MayStart plan) (cards words : List ℕ) → length cards ≡ table_size (last_claim plan) → words_of cards ≡ words_at_start plan.flat plan.start
@@ -140,8 +187,9 @@ whole_first plan may cards words size are is = by plan.slots refl may.slots
           reached = reached_first plan cards may all are;
           views = refl;
           homes = refl;
+          stores = each_first (first_of plan) StoresAreWhole (unfilled_whole (first_of plan) refl refl);
           words = subst (λ o. WordsAre plan o words cards) (sym none) same;
-          periods = subst (λ o. PeriodsAre o (opening words [] (first_known plan))) (sym none) tt;
+          periods = subst (λ o. PeriodsAre plan o (opening cards [] (first_of plan)) (opening words [] (first_known plan))) (sym none) tt;
         }
     by (Some s) placed fit =
         let same : words ≡ opening_words s cards = is ∙ ap (λ o. whole_words o cards) placed in
@@ -152,11 +200,13 @@ whole_first plan may cards words size are is = by plan.slots refl may.slots
         let tree = cards ++ replicate long 0 in
         let long_size : length tree ≡ table_size plan.last_card = length-append cards (replicate long 0) ∙ (let many = zeros_many long in omega arith) in
         let rest : IsAtRest (first_of plan) = is_at_rest (first_of plan) refl refl refl refl refl in
+        let reached = reached_first plan tree may long_size (words_same tree cards (with_zeros cards long) ∙ are) in
         record {
           tree = opening tree [] (first_of plan);
-          reached = reached_first plan tree may long_size (words_same tree cards (with_zeros cards long) ∙ are);
+          reached = reached;
           views = refl;
           homes = refl;
+          stores = each_first (first_of plan) StoresAreWhole (unfilled_whole (first_of plan) refl refl);
           words = subst (λ o. WordsAre plan o words tree) (sym placed)
               (subst (λ l. (length l ≡ slots_size s) × ((i : ℕ) → i < card_words plan → get_or l i 0 ≡ get_or tree i 0)) (sym same) (
                 all_size s cards all,
@@ -164,10 +214,10 @@ whole_first plan may cards words size are is = by plan.slots refl may.slots
                     let low : i < card_words_by (Some s) plan.last_card = subst (λ o. i < card_words_by o plan.last_card) placed low in
                     other_word s cards all i (λ e. omega arith) ∙ sym (with_zeros cards long i)),
               ));
-          periods = subst (λ o. PeriodsAre o (opening words [] (first_known plan))) (sym placed)
-              (subst (λ l. HasPeriods s (opening l [] (first_known plan))) (sym same)
-              (subst (λ o. HasPeriods s (opening (opening_words s cards) [] (record { tree = first_of plan; period = period_by o }))) (sym placed)
-              (first_periods s cards all (first_of plan) rest fit.0)));
+          periods = subst (λ o. PeriodsAre plan o (opening tree [] (first_of plan)) (opening words [] (first_known plan))) (sym placed)
+              (subst (λ l. HasPeriods plan s (opening tree [] (first_of plan)) (opening l [] (first_known plan))) (sym same)
+              (subst (λ o. HasPeriods plan s (opening tree [] (first_of plan)) (opening (opening_words s cards) [] (record { tree = first_of plan; period = period_by o }))) (sym placed)
+              (first_whole plan s (opening tree [] (first_of plan)) reached cards all rest fit.0)));
         }
 
 -- and has as many words as it is to have
@@ -184,16 +234,16 @@ pub slots_fit : (plan : TablePlan) (last places : ℕ) → plan.slots ≡ slots_
 slots_fit plan last places slots number few room most = subst (SlotsFit plan) (sym slots) (by (places == 0) refl)
   where
     by : (b : Bool) → (places == 0) ≡ b → SlotsFit plan (if b then None else Some (record { last = last; places = places }))
-    by true none = tt
+    by true none = let is : plan.last_card ≡ last = number ∙ ap (λ b. if b then last else greatest_number) none in omega arith
     by false other =
         let some_place : places ≢ 0 = λ e. true≢false (sym (eq-eqb places 0 e) ∙ other) in
-        let is : plan.last_card ≡ greatest_card = number ∙ ap (λ b. if b then last else greatest_card) other in
+        let is : plan.last_card ≡ greatest_number = number ∙ ap (λ b. if b then last else greatest_number) other in
         (omega arith, few, is, room, most)
 
 -- and its cards are as many as there are numbers for, and enough for the start keys
-pub last_fits : (last places start : ℕ) → start ≤ last → last ≤ greatest_card → (start ≤ last_for last places) × (last_for last places ≤ greatest_card)
+pub last_fits : (last places start : ℕ) → start ≤ last → last ≤ greatest_card → (start ≤ last_for last places) × (last_for last places ≤ greatest_number)
 last_fits last places start room most = by (places == 0)
   where
-    by : (b : Bool) → (start ≤ (if b then last else greatest_card)) × ((if b then last else greatest_card) ≤ greatest_card)
-    by true = (room, most)
+    by : (b : Bool) → (start ≤ (if b then last else greatest_number)) × ((if b then last else greatest_number) ≤ greatest_number)
+    by true = (room, omega arith)
     by false = (omega arith, omega arith)

@@ -25,12 +25,13 @@ size_some plan = by plan.slots
     by (Some s) = omega arith
 
 -- the first pass of a table has the first place, if there is one
-pub first_place_fits : (o : Option Slots) (last words : ℕ) → words ≡ size_by o last → PlaceFits (record { place = (period_by o).place; announces = false }) words (period_by o)
+pub first_place_fits : (o : Option Slots) (last words : ℕ) → words ≡ size_by o last → PlaceFits (record { place = (period_by o).place; announces = false; found = 0 }) words (period_by o)
 first_place_fits None last words is = record {
   place = refl;
   other = refl;
   announces = refl;
   none = λ other e. refl;
+  unsafe = λ other e. refl;
   some = λ s e none. no_places words last s e is;
 }
 first_place_fits (Some s) last words is = record {
@@ -38,6 +39,7 @@ first_place_fits (Some s) last words is = record {
   other = refl;
   announces = refl;
   none = λ other e. absurd (no_places words other s is e);
+  unsafe = λ other e. refl;
   some = λ t e none. some_not_none refl none;
 }
 
@@ -47,6 +49,7 @@ pub record Found (o : Option Slots) (result : Option ℕ) (old new : Period) : T
   pub quiet : (q : ℕ) → new.other ≡ Some q → new.other_says ≡ None
   pub place : new.place ≡ old.place
   pub announced : new.announced ≡ old.announced
+  pub safe : new.safe ≡ old.safe
   pub placed : (q : ℕ) → result ≡ Some q → o ≢ None
 
 pub found_is : (o : Option Slots) (result : Option ℕ) (old new : Period) → old.other ≡ None → IfSome result (λ q. (new ≡ after_take q 0 old) × (o ≢ None)) → (result ≡ None → new ≡ old)
@@ -56,6 +59,7 @@ found_is o (Some r) old new none took lost = record {
   quiet = λ q is. ap (λ (p : Period). p.other_says) took.0;
   place = ap (λ (p : Period). p.place) took.0;
   announced = ap (λ (p : Period). p.announced) took.0;
+  safe = ap (λ (p : Period). p.safe) took.0;
   placed = λ q is. took.1;
 }
 found_is o None old new none took lost =
@@ -64,28 +68,31 @@ found_is o None old new none took lost =
       quiet = λ q is. absurd (some_not_none is (ap (λ (p : Period). p.other) same ∙ none));
       place = ap (λ (p : Period). p.place) same;
       announced = ap (λ (p : Period). p.announced) same;
+      safe = ap (λ (p : Period). p.safe) same;
       placed = λ q is. absurd (some_not_none is refl);
     }
 
 -- the places of two parts: the left one has the pass's own, and the right one what was found, if there are places
-pub left_place_fits : (standing : Standing) (words words' : ℕ) (o : Option Slots) (result : Option ℕ) (old new : Period) → words' ≡ words → Found o result old new
-    → PlaceFits standing words old → PlaceFits standing words' (after_give new)
-left_place_fits standing words words' o result old new same found fits = record {
-  place = found.place ∙ fits.place;
+pub left_place_fits : (was standing : Standing) (words words' : ℕ) (o : Option Slots) (result : Option ℕ) (old new : Period) → words' ≡ words → Found o result old new
+    → (standing.place ≡ was.place) × (standing.announces ≡ was.announces) → PlaceFits was words old → PlaceFits standing words' (after_give new)
+left_place_fits was standing words words' o result old new same found kept fits = record {
+  place = found.place ∙ (fits.place ∙ sym kept.0);
   other = refl;
-  announces = fits.announces ∙ ap is_some (sym found.announced);
-  none = λ last e. fits.none last (sym same ∙ e);
-  some = λ s e. fits.some s (sym same ∙ e);
+  announces = kept.1 ∙ (fits.announces ∙ ap is_some (sym found.announced));
+  none = λ last e. kept.0 ∙ fits.none last (sym same ∙ e);
+  unsafe = λ last e. found.safe ∙ fits.unsafe last (sym same ∙ e);
+  some = λ s e none. fits.some s (sym same ∙ e) (sym kept.0 ∙ none);
 }
 
-pub right_place_fits : (o : Option Slots) (last words : ℕ) (result : Option ℕ) (old new : Period) → words ≡ size_by o last → Found o result old new → (o ≢ None → result ≢ None)
-    → PlaceFits (record { place = result; announces = false }) words (given_period new)
-right_place_fits o last words result old new size found each = record {
-  place = found.other;
+pub right_place_fits : (standing : Standing) (o : Option Slots) (last words : ℕ) (result : Option ℕ) (old new : Period) → words ≡ size_by o last → Found o result old new → (o ≢ None → result ≢ None)
+    → (standing.place ≡ result) × (standing.announces ≡ false) → PlaceFits standing words (given_period new)
+right_place_fits standing o last words result old new size found each given = record {
+  place = found.other ∙ sym given.0;
   other = refl;
-  announces = refl;
-  none = by o result size found.placed;
-  some = λ s e. each (λ is. no_places words last s e (size ∙ ap (λ x. size_by x last) is));
+  announces = given.1;
+  none = λ other e. given.0 ∙ by o result size found.placed other e;
+  unsafe = λ other e. refl;
+  some = λ s e none. each (λ is. no_places words last s e (size ∙ ap (λ x. size_by x last) is)) (sym given.0 ∙ none);
 }
   where
     by : (o : Option Slots) (result : Option ℕ) → words ≡ size_by o last → ((q : ℕ) → result ≡ Some q → o ≢ None) → (other : ℕ) → words ≡ table_size other → result ≡ None
@@ -101,6 +108,7 @@ joined_place_fits standing words words' (Some q) p other new same is now fits = 
   other = refl;
   announces = fits.announces;
   none = λ last e. fits.none last (sym same ∙ e);
+  unsafe = λ last e. fits.unsafe last (sym same ∙ e);
   some = λ s e. fits.some s (sym same ∙ e);
 })
 joined_place_fits standing words words' None p other new same is now fits = subst (PlaceFits standing words') (sym now) (record {
@@ -108,6 +116,7 @@ joined_place_fits standing words words' None p other new same is now fits = subs
   other = is;
   announces = fits.announces;
   none = λ last e. fits.none last (sym same ∙ e);
+  unsafe = λ last e. fits.unsafe last (sym same ∙ e);
   some = λ s e. fits.some s (sym same ∙ e);
 })
 

@@ -1,4 +1,4 @@
-use Rattle.std.proofs.Common.{◌≡◌, ℕ, None, [], ◌∷◌, refl, sym, subst, inl, inr, arith}
+use Rattle.std.proofs.Common.{◌≡◌, ℕ, None, [], ◌∷◌, refl, subst, inl, inr, arith}
 use Rattle.ell_core.proofs.lemmas.outcomes.Decide.{some_not_none}
 use Rattle.ell_layout.specs.declared.field.Field.TheVariants as field
 use Rattle.ell_cards.specs.declared.call.Call.{Call}
@@ -11,7 +11,7 @@ use Rattle.ell_cards.specs.Changes.{forgotten}
 use Rattle.ell_cards.specs.Calls.{Exchange, atomic_of, after, May}
 use Rattle.ell_cards.specs.Periods.{IsOfRoot, IsAtRest}
 use Rattle.ell_cards.specs.Touching.{RestTouchesTheRoot}
-use Rattle.ell_cards.specs.Stepping.{IsQuiet, IsTaken, LeavesRest}
+use Rattle.ell_cards.specs.Stepping.{IsQuiet}
 use Rattle.ell_cards.proofs.lemmas.lifetimes.Idle.{root_alone}
 
 -- a pass that has forgotten what it was told, has nothing in hand, and stands nowhere
@@ -25,7 +25,7 @@ is_at_rest v free nowhere empty told nothing = record {
 }
 
 -- nothing is in an empty list
-has_none : {A : Type 0} (e : A) → Has [] e → ⊥
+pub has_none : {A : Type 0} (e : A) → Has [] e → ⊥
 has_none e h = elim h [ ]
 
 module _ (v : View) (rest : IsAtRest v) where
@@ -83,10 +83,6 @@ module _ (v : View) (rest : IsAtRest v) where
   stays_at_rest plan (call.DChild c gp p s right) n quiet may = absurd (rest.forgot (Info c field.Gp gp) may.grandparent)
   stays_at_rest plan (call.DUnflag c gp) n quiet may = absurd (rest.forgot (Info c field.Gp gp) may.place)
   stays_at_rest plan (call.Backtrack c gp) n quiet may = absurd (rest.forgot (Info c field.Gp gp) may.place)
-
--- so does what it tells
-pub taken_rests : (plan : TablePlan) (c : Call) (v : View) → IsQuiet c → May plan c v → LeavesRest plan v (IsTaken plan c v)
-taken_rests plan c v quiet may some rest n w told = subst IsAtRest (sym told.view) (stays_at_rest v rest plan c n quiet may)
 
 -- no exchange begins anything
 pub exchange_is_quiet : (c : Call) (expected value : ℕ) → atomic_of c ≡ Exchange expected value → IsQuiet c

@@ -1,5 +1,6 @@
-use Rattle.std.proofs.Common.{◌≡◌, ◌≢◌, ℕ, ◌<◌, ◌≤◌, None, List, get_or, set, inl, inr, sym, ap, ◌∙◌, arith}
+use Rattle.std.proofs.Common.{◌≡◌, ◌≢◌, ℕ, ◌<◌, ◌≤◌, ◌==◌, ◌&&◌, nat_le, if◌then◌else◌, Bool, true, false, Option, None, List, get_or, set, inl, inr, refl, sym, ap, ◌∙◌, arith}
 use Rattle.std.proofs.lemmas.Bool.{cases_eq}
+use Rattle.std.proofs.lemmas.Bool.Decides.{nat_tests}
 use mathlib.Core.Option.{some}
 use lib.ListN.{get_elem?}
 use Rattle.atomic_table.proofs.Lists.{set_else}
@@ -9,7 +10,8 @@ use Rattle.ell_layout.proofs.lemmas.Writes.{put_same, put_other}
 use Rattle.ell_cards.specs.declared.view.Known.{Known}
 use Rattle.ell_cards.specs.declared.view.Period.{Period}
 use Rattle.ell_cards.specs.declared.view.Slots.{Slots}
-use Rattle.ell_cards.specs.Periods.{clock_word, place_word, period_of, period_in, PeriodHolds, HasPlace, own, spare, IsAtRest, place_says}
+use Rattle.ell_cards.specs.Periods.{clock_word, place_word, slot_word, stamp_at, period_of, period_in, PeriodHolds, HasPlace, own, spare, IsAtRest, place_says}
+use Rattle.ell_cards.specs.SlotWords.{slot_of, card_by, freed_by}
 use Rattle.ell_cards.proofs.lemmas.seats.Seats.{set_there}
 
 -- the words of the cards stand before the clock, and the places behind it
@@ -19,6 +21,28 @@ before_clock s i low = omega arith
 -- two places have two words
 pub places_apart : (s : Slots) (q r : ℕ) → q < s.places → r < s.places → q ≢ r → place_word s q ≢ place_word s r
 places_apart s q r low low' apart same = apart (omega arith)
+
+-- the words of the slots stand behind all others
+pub before_slots : (s : Slots) (q slot : ℕ) → place_word s q < slot_word s slot
+before_slots s q slot = omega arith
+
+pub clock_before_slots : (s : Slots) (slot : ℕ) → clock_word s < slot_word s slot
+clock_before_slots s slot = omega arith
+
+-- the stamp of a card, by whether its slot is one of the table, and by the word of that
+abbrev pub stamp_by : ℕ → Bool → ℕ → Option ℕ
+stamp_by c b n = if b && card_by (slot_of c) n == c then freed_by n else None
+
+-- where the words of the slots are the same, so are the stamps
+pub stamps_same : (s : Slots) (words words' : List ℕ)
+    → ((slot : ℕ) → slot ≤ s.last → get_or words' (slot_word s slot) 0 ≡ get_or words (slot_word s slot) 0)
+    → (c : ℕ) → stamp_at s words' c ≡ stamp_at s words c
+stamps_same s words words' same c = by (nat_le (slot_of c) s.last) refl
+  where
+    by : (b : Bool) → nat_le (slot_of c) s.last ≡ b
+        → stamp_by c b (get_or words' (slot_word s (slot_of c)) 0) ≡ stamp_by c b (get_or words (slot_word s (slot_of c)) 0)
+    by true is = ap (stamp_by c true) (same (slot_of c) (grind (arith, nat_tests)))
+    by false is = refl
 
 -- what the passes know of periods, where one knows something else
 module _ (views : List Known) (id : ℕ) (k : Known) (here : get_elem? views id ≡ some k) (after : Known) where

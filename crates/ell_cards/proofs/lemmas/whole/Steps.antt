@@ -1,15 +1,11 @@
-use Rattle.std.proofs.Common.{◌≡◌, ◌≢◌, ℕ, zero, suc, ◌+◌, ◌<◌, ◌≤◌, ◌==◌, nat_lt, if◌then◌else◌, min, Bool, true, false, Option, Some, None, List, length, get_or, set, inl, inr, ◌⊎◌, refl, sym, ap, ◌∙◌, subst, ⊎_elim, arith, eq-eqb, ne_eqb, length-set, get_or-set_same, get_or-set_other}
+use Rattle.std.proofs.Common.{◌≡◌, ◌≢◌, ℕ, zero, suc, ◌+◌, ◌<◌, ◌≤◌, ◌==◌, nat_lt, if◌then◌else◌, Bool, true, false, Option, Some, None, List, length, get_or, set, inl, inr, ◌⊎◌, refl, sym, ap, ◌∙◌, subst, ⊎_elim, arith, get_or-set_same, get_or-set_other}
 use Rattle.std.proofs.lemmas.Bool.{cases_eq}
 use Rattle.std.proofs.lemmas.Bool.Decides.{nat_tests}
-use Rattle.std.proofs.lemmas.List.{map-set}
 use Rattle.std.proofs.lemmas.Option.{same_Some}
 use mathlib.Core.Option.{some}
 use lib.ListN.{get_elem?}
-use prog.Atomic.{either}
-use Rattle.atomic_table.specs.Table.{keeps}
 use Rattle.atomic_table.proofs.Lists.{at_set, set_again}
 use Rattle.ell_core.proofs.lemmas.outcomes.Decide.{some_not_none}
-use Rattle.ell_layout.specs.Layout.{table_size}
 use Rattle.ell_layout.specs.Words.{put}
 use Rattle.ell_layout.proofs.lemmas.Writes.{put_same, put_other}
 use Rattle.ell_grace.specs.Grace.{Grace, least_with, ticks, begins, ends, scans, looks, settles}
@@ -18,12 +14,9 @@ use Rattle.ell_grace.proofs.lemmas.Grace.{grace_goes_on}
 use Rattle.ell_cards.specs.declared.view.Known.{Known}
 use Rattle.ell_cards.specs.declared.view.Period.{Period}
 use Rattle.ell_cards.specs.declared.view.Slots.{Slots}
-use Rattle.ell_cards.specs.Models.{TablePlan}
-use Rattle.ell_cards.specs.Periods.{WholeState, clock_word, place_word, slots_size, period_in, word_at_place, announced_by, place_says, last_reading, card_words, card_words_by, after_clock, after_announce, after_retract, after_look_at, after_take, after_give, settled_at, HasPlace, own, spare, IsAtRest, PeriodHolds, HasPeriods, grace_of}
-use Rattle.ell_cards.specs.Stepping.{MayGoOn}
-use Rattle.ell_cards.specs.Whole.{trees_of, WordsAre, PeriodsAre}
-use Rattle.ell_cards.proofs.lemmas.whole.Seats.{before_clock, places_apart, period_was, part_put, part_same, holds_on}
-use Rattle.ell_cards.proofs.lemmas.whole.Trees.{tree_at, grace_same}
+use Rattle.ell_cards.specs.Periods.{WholeState, clock_word, place_word, slot_word, slots_size, stamp_at, pending_by, period_in, word_at_place, announced_by, place_says, last_reading, after_clock, after_announce, after_retract, after_look_at, after_take, after_give, settled_at, HasPlace, own, spare, IsAtRest, PeriodHolds, PeriodsAreSound, grace_of}
+use Rattle.ell_cards.proofs.lemmas.whole.Seats.{places_apart, before_slots, clock_before_slots, stamps_same, period_was, part_put, part_same, holds_on}
+use Rattle.ell_cards.proofs.lemmas.whole.Trees.{grace_same}
 
 -- the word of a place that a pass has is not 0
 says_something : (o : Option ℕ) → 1 ≤ place_says o
@@ -48,7 +41,7 @@ one_place_more : (looked q r : ℕ) → q ≡ looked → nat_lt r (looked + 1) �
 one_place_more looked q r next = grind (arith, nat_tests)
 
 -- a word that is stored again leaves all words as they were
-word_again : (words : List ℕ) (i : ℕ) → i < length words → (j : ℕ) → get_or (set words i (get_or words i 0)) j 0 ≡ get_or words j 0
+pub word_again : (words : List ℕ) (i : ℕ) → i < length words → (j : ℕ) → get_or (set words i (get_or words i 0)) j 0 ≡ get_or words j 0
 word_again words i inside j = elim (cases_eq j i) [
   | inl e ↦ ap (λ x. get_or (set words i (get_or words i 0)) x 0) e ∙ (get_or-set_same words i (get_or words i 0) 0 inside ∙ sym (ap (λ x. get_or words x 0) e))
   | inr n ↦ get_or-set_other words i j (get_or words i 0) 0 n
@@ -65,8 +58,8 @@ IsNobodys t q = (j : ℕ) (u : Known) → get_elem? t.views j ≡ some u → Has
 
 -- The periods of a table where a pass knows something else of them and the words became other ones, if the places of other
 -- passes say the same and so does the clock, and each place of the pass was its own or nobody's.
-module _ (s : Slots) (t : WholeState) (id : ℕ) (k : Known) (here : get_elem? t.views id ≡ some k) (h : HasPeriods s t)
-    (words : List ℕ) (p : Period) where
+module _ (s : Slots) (t : WholeState) (id : ℕ) (k : Known) (here : get_elem? t.views id ≡ some k) (dead : ℕ → Bool) (began : ℕ → ℕ) (was_dead : ℕ → ℕ → Bool)
+    (h : PeriodsAreSound s t dead began was_dead) (words : List ℕ) (p : Period) where
   abbrev now : Known
   now = record { tree = k.tree; period = p }
 
@@ -92,15 +85,12 @@ module _ (s : Slots) (t : WholeState) (id : ℕ) (k : Known) (here : get_elem? t
     apart_in i j q x y (inr a) (inr b) has has' = h.apart i j q x y a.1 b.1 has has'
 
     -- the periods are sound again, if the grace periods are and what the pass knows is so
-    pub periods_after : (gone : ℕ → Bool) (began : ℕ → ℕ) (was_gone : ℕ → ℕ → Bool)
-        → ((q a : ℕ) → p.place ≡ Some q → p.announced ≡ Some a → began q ≡ p.began)
-        → ((j q a : ℕ) (u : Known) → j ≢ id → get_elem? t.views j ≡ some u → u.period.place ≡ Some q → u.period.announced ≡ Some a → began q ≡ u.period.began)
-        → GraceIsSound s.places (grace_of s after gone began was_gone)
-        → PeriodHolds s words now → HasPeriods s after
-    periods_after gone began was_gone since since' sound holds = record {
-      gone = gone;
-      began = began;
-      was_gone = was_gone;
+    pub periods_after : (dead' : ℕ → Bool) (began' : ℕ → ℕ) (was_dead' : ℕ → ℕ → Bool)
+        → ((q a : ℕ) → p.place ≡ Some q → p.announced ≡ Some a → began' q ≡ p.began)
+        → ((j q a : ℕ) (u : Known) → j ≢ id → get_elem? t.views j ≡ some u → u.period.place ≡ Some q → u.period.announced ≡ Some a → began' q ≡ u.period.began)
+        → GraceIsSound s.places (grace_of s after dead' began' was_dead')
+        → PeriodHolds s words now → PeriodsAreSound s after dead' began' was_dead'
+    periods_after dead' began' was_dead' since since' sound holds = record {
       sound = sound;
       low = let was = h.low in omega arith;
       each = λ j u at. ⊎_elim
@@ -108,14 +98,15 @@ module _ (s : Slots) (t : WholeState) (id : ℕ) (k : Known) (here : get_elem? t
           (λ (a : (j ≢ id) × (get_elem? t.views j ≡ some u)). holds_on s t.words words u (others j u a.0 a.1) (omega arith) (h.each j u a.1))
           (at_set t.views id j now u at);
       since = λ j q a u at is an. ⊎_elim
-          (λ (e : (j ≡ id) × (now ≡ u)). subst (λ (x : Known). x.period.place ≡ Some q → x.period.announced ≡ Some a → began q ≡ x.period.began) e.1 (since q a) is an)
+          (λ (e : (j ≡ id) × (now ≡ u)). subst (λ (x : Known). x.period.place ≡ Some q → x.period.announced ≡ Some a → began' q ≡ x.period.began) e.1 (since q a) is an)
           (λ (e : (j ≢ id) × (get_elem? t.views j ≡ some u)). since' j q a u e.0 e.1 is an)
           (at_set t.views id j now u at);
       apart = λ i j q x y at at' has has'. apart_in i j q x y (at_set t.views id i now x at) (at_set t.views id j now y at') has has';
     }
 
 -- the periods of a table after a step of a pass on their words
-module _ (s : Slots) (t : WholeState) (id : ℕ) (k : Known) (here : get_elem? t.views id ≡ some k) (h : HasPeriods s t) (size : length t.words ≡ slots_size s) where
+module _ (s : Slots) (t : WholeState) (id : ℕ) (k : Known) (here : get_elem? t.views id ≡ some k) (dead : ℕ → Bool) (began : ℕ → ℕ) (was_dead : ℕ → ℕ → Bool)
+    (h : PeriodsAreSound s t dead began was_dead) (size : length t.words ≡ slots_size s) where
   -- a word is stored again, so nothing changes
   module _ (i : ℕ) (inside : i < slots_size s) where
     abbrev again : List ℕ
@@ -127,20 +118,24 @@ module _ (s : Slots) (t : WholeState) (id : ℕ) (k : Known) (here : get_elem? t
     same_word : (q : ℕ) → word_at_place s again q ≡ word_at_place s t.words q
     same_word q = ap (λ x. if nat_lt q s.places then announced_by x else None) (same_at (place_word s q))
 
+    same_stamps : (c : ℕ) → stamp_at s again c ≡ stamp_at s t.words c
+    same_stamps = stamps_same s t.words again (λ slot low. same_at (slot_word s slot))
+
     same_holds : PeriodHolds s again k
     same_holds = holds_on s t.words again k (λ q has. same_at (place_word s q)) (let clock = same_at (clock_word s) in omega arith) (h.each id k here)
 
-    pub periods_stay : HasPeriods s (record { words = again; homes = t.homes; views = set t.views id (record { tree = k.tree; period = k.period }) })
+    pub periods_stay : PeriodsAreSound s (record { words = again; homes = t.homes; views = set t.views id (record { tree = k.tree; period = k.period }) }) dead began was_dead
     periods_stay =
-        periods_after s t id k here h again k.period (same_at (clock_word s)) (λ j u other at q has. same_at (place_word s q)) (λ q has. inl has) h.gone h.began h.was_gone
+        periods_after s t id k here dead began was_dead h again k.period (same_at (clock_word s)) (λ j u other at q has. same_at (place_word s q)) (λ q has. inl has) dead began was_dead
         (λ r a at an. h.since id r a k here at an) (λ j r a u other there at an. h.since j r a u there at an)
-        (grace_same s.places (grace_of s t h.gone h.began h.was_gone)
-        (grace_of s (record { words = again; homes = t.homes; views = set t.views id (record { tree = k.tree; period = k.period }) }) h.gone h.began h.was_gone)
-        (same_at (clock_word s)) (λ c. refl) same_word (λ q. refl) (λ q c. refl) (λ j. refl)
+        (grace_same s.places (grace_of s t dead began was_dead)
+        (grace_of s (record { words = again; homes = t.homes; views = set t.views id (record { tree = k.tree; period = k.period }) }) dead began was_dead)
+        (same_at (clock_word s)) (λ c. refl) same_word (λ q. refl) (λ q c. refl)
+        (part_same t.views id k here k (λ p. pending_by p.stamp) refl)
         (part_same t.views id k here k (λ p. p.least) refl)
         (λ j q. part_same t.views id k here k (λ p. nat_lt q p.looked) refl j)
         (part_same t.views id k here k (λ p. p.safe) refl)
-        (λ c. refl) h.sound)
+        same_stamps h.sound)
         same_holds
 
   -- the pass reads the clock
@@ -152,7 +147,7 @@ module _ (s : Slots) (t : WholeState) (id : ℕ) (k : Known) (here : get_elem? t
 
   -- the grace periods as they are, and after a scan has begun
   abbrev was : Grace
-  was = grace_of s t h.gone h.began h.was_gone
+  was = grace_of s t dead began was_dead
 
   abbrev scanned : Grace
   scanned = record was { least = put was.least id was.clock; seen = put was.seen id (λ q. false) }
@@ -171,18 +166,19 @@ module _ (s : Slots) (t : WholeState) (id : ℕ) (k : Known) (here : get_elem? t
     rests = now.rests;
   }
 
-  pub periods_read : HasPeriods s (record { words = set t.words (clock_word s) (get_or t.words (clock_word s) 0); homes = t.homes; views = set t.views id reads })
+  pub periods_read : PeriodsAreSound s (record { words = set t.words (clock_word s) (get_or t.words (clock_word s) 0); homes = t.homes; views = set t.views id reads }) dead began was_dead
   periods_read =
-      periods_after s t id k here h (again (clock_word s) (omega arith)) reads.period (same_at (clock_word s) (omega arith) (clock_word s))
-      (λ j u other at q has. same_at (clock_word s) (omega arith) (place_word s q)) gains h.gone h.began h.was_gone
+      periods_after s t id k here dead began was_dead h (again (clock_word s) (omega arith)) reads.period (same_at (clock_word s) (omega arith) (clock_word s))
+      (λ j u other at q has. same_at (clock_word s) (omega arith) (place_word s q)) gains dead began was_dead
       (λ r a at an. h.since id r a k here at an) (λ j r a u other there at an. h.since j r a u there at an)
       (grace_same s.places scanned
-      (grace_of s (record { words = again (clock_word s) (omega arith); homes = t.homes; views = set t.views id reads }) h.gone h.began h.was_gone)
-      (same_at (clock_word s) (omega arith) (clock_word s)) (λ c. refl) (same_word (clock_word s) (omega arith)) (λ q. refl) (λ q c. refl) (λ j. refl)
+      (grace_of s (record { words = again (clock_word s) (omega arith); homes = t.homes; views = set t.views id reads }) dead began was_dead)
+      (same_at (clock_word s) (omega arith) (clock_word s)) (λ c. refl) (same_word (clock_word s) (omega arith)) (λ q. refl) (λ q c. refl)
+      (part_same t.views id k here reads (λ p. pending_by p.stamp) refl)
       (part_put t.views id k here reads (λ p. p.least))
       seen
       (part_same t.views id k here reads (λ p. p.safe) refl)
-      (λ c. refl) (grace_goes_on s.places was scanned h.sound (scans id refl)))
+      (same_stamps (clock_word s) (omega arith)) (grace_goes_on s.places was scanned h.sound (scans id refl)))
       reads_holds
     where
       gains : (q : ℕ) → HasPlace reads.period q → HasPlace k.period q ⊎ IsNobodys t q
@@ -204,17 +200,18 @@ module _ (s : Slots) (t : WholeState) (id : ℕ) (k : Known) (here : get_elem? t
     later_place : (q : ℕ) → get_or later (place_word s q) 0 ≡ get_or t.words (place_word s q) 0
     later_place q = get_or-set_other t.words (clock_word s) (place_word s q) (reading_now + 1) 0 (λ e. omega arith)
 
+    later_stamps : (c : ℕ) → stamp_at s later c ≡ stamp_at s t.words c
+    later_stamps = stamps_same s t.words later (λ slot inside. (let behind = clock_before_slots s slot in
+        get_or-set_other t.words (clock_word s) (slot_word s slot) (reading_now + 1) 0 (λ e. omega arith)))
+
     abbrev gone_on : Grace
     gone_on = record was { clock = was.clock + 1 }
 
-    periods_later : HasPeriods s (record { words = later; homes = t.homes; views = t.views })
+    periods_later : PeriodsAreSound s (record { words = later; homes = t.homes; views = t.views }) dead began was_dead
     periods_later = record {
-      gone = h.gone;
-      began = h.began;
-      was_gone = h.was_gone;
-      sound = grace_same s.places gone_on (grace_of s (record { words = later; homes = t.homes; views = t.views }) h.gone h.began h.was_gone)
+      sound = grace_same s.places gone_on (grace_of s (record { words = later; homes = t.homes; views = t.views }) dead began was_dead)
           later_clock (λ c. refl) (λ q. ap (λ x. if nat_lt q s.places then announced_by x else None) (later_place q))
-          (λ q. refl) (λ q c. refl) (λ j. refl) (λ j. refl) (λ j q. refl) (λ j. refl) (λ c. refl)
+          (λ q. refl) (λ q c. refl) (λ j. refl) (λ j. refl) (λ j q. refl) (λ j. refl) later_stamps
           (grace_goes_on s.places was gone_on h.sound (ticks refl));
       low = let now = later_clock in omega arith;
       each = λ j u at. holds_on s t.words later u (λ q has. later_place q) (let now = later_clock in omega arith) (h.each j u at);
@@ -222,8 +219,8 @@ module _ (s : Slots) (t : WholeState) (id : ℕ) (k : Known) (here : get_elem? t
       apart = h.apart;
     }
 
-    pub periods_ticked : HasPeriods s (record { words = set t.words (clock_word s) (reading_now + 1); homes = t.homes; views = set t.views id (record { tree = k.tree; period = k.period }) })
-    periods_ticked = subst (λ l. HasPeriods s (record { words = later; homes = t.homes; views = l })) (sym (set_again t.views id k here)) periods_later
+    pub periods_ticked : PeriodsAreSound s (record { words = set t.words (clock_word s) (reading_now + 1); homes = t.homes; views = set t.views id (record { tree = k.tree; period = k.period }) }) dead began was_dead
+    periods_ticked = subst (λ l. PeriodsAreSound s (record { words = later; homes = t.homes; views = l }) dead began was_dead) (sym (set_again t.views id k here)) periods_later
 
   -- the pass looks at the word of the next place
   module _ (q : ℕ) (next : q ≡ k.period.looked) (below : q < s.places) where
@@ -263,6 +260,9 @@ module _ (s : Slots) (t : WholeState) (id : ℕ) (k : Known) (here : get_elem? t
     least_after : (i : ℕ) → (period_in (set t.views id sees) i).least ≡ looked_now.least i
     least_after i = part_put t.views id k here sees (λ p. p.least) i ∙ ap (λ n. put was.least id n i) least_now
 
+    pending_after : (i : ℕ) → pending_by (period_in (set t.views id sees) i).stamp ≡ looked_now.pending i
+    pending_after = part_same t.views id k here sees (λ p. pending_by p.stamp) refl
+
     seen_more : (r : ℕ) → nat_lt r (k.period.looked + 1) ≡ put (was.seen id) q true r
     seen_more r =
         one_place_more k.period.looked q r next
@@ -280,21 +280,21 @@ module _ (s : Slots) (t : WholeState) (id : ℕ) (k : Known) (here : get_elem? t
         ap {A = ℕ → Bool} (λ g. g r) (put_same was.seen id (put (was.seen id) q true)) ∙ (sym (seen_more r) ∙ there)
 
     -- then the least number is the safe one, and before that the safe number is as it was
-    seen_sound : (b : Bool) → nat_lt (k.period.looked + 1) s.places ≡ b → GraceIsSound s.places (grace_of s after_it h.gone h.began h.was_gone)
+    seen_sound : (b : Bool) → nat_lt (k.period.looked + 1) s.places ≡ b → GraceIsSound s.places (grace_of s after_it dead began was_dead)
     seen_sound true is =
-        grace_same s.places looked_now (grace_of s after_it h.gone h.began h.was_gone)
-        (kept_at (clock_word s)) (λ c. refl) (same_word (place_word s q) (omega arith)) (λ r. refl) (λ r c. refl) (λ j. refl)
+        grace_same s.places looked_now (grace_of s after_it dead began was_dead)
+        (kept_at (clock_word s)) (λ c. refl) (same_word (place_word s q) (omega arith)) (λ r. refl) (λ r c. refl) pending_after
         least_after seen_after
         (part_same t.views id k here sees (λ p. p.safe)
         (ap (λ b. if b then k.period.safe else least_with k.period.least (announced_by found)) is))
-        (λ c. refl) looked_sound
+        (same_stamps (place_word s q) (omega arith)) looked_sound
     seen_sound false is =
         let all : s.places ≤ k.period.looked + 1 = grind (arith, nat_tests) in
-        grace_same s.places settled_now (grace_of s after_it h.gone h.began h.was_gone)
-        (kept_at (clock_word s)) (λ c. refl) (same_word (place_word s q) (omega arith)) (λ r. refl) (λ r c. refl) (λ j. refl)
+        grace_same s.places settled_now (grace_of s after_it dead began was_dead)
+        (kept_at (clock_word s)) (λ c. refl) (same_word (place_word s q) (omega arith)) (λ r. refl) (λ r c. refl) pending_after
         least_after seen_after
         (λ i. part_put t.views id k here sees (λ p. p.safe) i ∙ ap (λ n. put was.safe id n i) (safe_now is))
-        (λ c. refl) (grace_goes_on s.places looked_now settled_now looked_sound (settles id (all_seen all) refl))
+        (same_stamps (place_word s q) (omega arith)) (grace_goes_on s.places looked_now settled_now looked_sound (settles id (all_seen all) refl))
       where
         safe_now : nat_lt (k.period.looked + 1) s.places ≡ false → settled_at s.places (k.period.looked + 1) (least_with k.period.least (announced_by found)) k.period.safe ≡ looked_now.least id
         safe_now e =
@@ -311,9 +311,9 @@ module _ (s : Slots) (t : WholeState) (id : ℕ) (k : Known) (here : get_elem? t
       rests = now.rests;
     }
 
-    pub periods_seen : HasPeriods s (record { words = set t.words (place_word s q) (get_or t.words (place_word s q) 0); homes = t.homes; views = set t.views id sees })
+    pub periods_seen : PeriodsAreSound s (record { words = set t.words (place_word s q) (get_or t.words (place_word s q) 0); homes = t.homes; views = set t.views id sees }) dead began was_dead
     periods_seen =
-        periods_after s t id k here h kept sees.period (kept_at (clock_word s)) (λ j u other at r has. kept_at (place_word s r)) gains h.gone h.began h.was_gone
+        periods_after s t id k here dead began was_dead h kept sees.period (kept_at (clock_word s)) (λ j u other at r has. kept_at (place_word s r)) gains dead began was_dead
         (λ r a at an. h.since id r a k here at an) (λ j r a u other there at an. h.since j r a u there at an)
         (seen_sound (nat_lt (k.period.looked + 1) s.places) refl)
         sees_holds
@@ -347,6 +347,10 @@ module _ (s : Slots) (t : WholeState) (id : ℕ) (k : Known) (here : get_elem? t
             let there : nat_lt q s.places ≡ true = grind (arith, nat_tests) in
             ap (λ b. if b then announced_by (get_or turned (place_word s q) 0) else None) there ∙ (ap announced_by turned_here ∙ says)
 
+    turned_stamps : (c : ℕ) → stamp_at s turned c ≡ stamp_at s t.words c
+    turned_stamps = stamps_same s t.words turned (λ slot inside. (let behind = before_slots s q slot in
+        get_or-set_other t.words (place_word s q) (slot_word s slot) v 0 (λ e. omega arith)))
+
     -- who has another place finds its word as it was
     place_else : (j r : ℕ) (u : Known) → get_elem? t.views j ≡ some u → HasPlace u.period r → r ≢ q → get_or turned (place_word s r) 0 ≡ get_or t.words (place_word s r) 0
     place_else j r u at (own is) other = turned_else r ((h.each j u at).place r is).0 other
@@ -364,7 +368,8 @@ module _ (s : Slots) (t : WholeState) (id : ℕ) (k : Known) (here : get_elem? t
     nobody_has empty j u at (spare is) = let says = ((h.each j u at).other q is).1 in let more = says_something u.period.other_says in absurd (omega arith)
 
     -- the grace periods after an announcement
-    module _ (p : Period) (least : p.least ≡ k.period.least) (looked : p.looked ≡ k.period.looked) (safe : p.safe ≡ k.period.safe) where
+    module _ (p : Period) (least : p.least ≡ k.period.least) (looked : p.looked ≡ k.period.looked) (safe : p.safe ≡ k.period.safe)
+        (stamp : p.stamp ≡ k.period.stamp) where
       abbrev knows : Known
       knows = record { tree = k.tree; period = p }
 
@@ -378,23 +383,25 @@ module _ (s : Slots) (t : WholeState) (id : ℕ) (k : Known) (here : get_elem? t
       ended_now = record was { word = put was.word q None }
 
       begun : (reading : ℕ) → announced_by v ≡ Some reading → reading ≤ get_or t.words (clock_word s) 0
-          → GraceIsSound s.places (grace_of s turns h.gone (put h.began q (get_or t.words (clock_word s) 0)) (put h.was_gone q h.gone))
+          → GraceIsSound s.places (grace_of s turns dead (put began q (get_or t.words (clock_word s) 0)) (put was_dead q dead))
       begun reading says low =
-          grace_same s.places (begun_now reading) (grace_of s turns h.gone (put h.began q (get_or t.words (clock_word s) 0)) (put h.was_gone q h.gone))
-          turned_clock (λ c. refl) (turned_word (Some reading) says) (λ r. refl) (λ r c. refl) (λ j. refl)
+          grace_same s.places (begun_now reading) (grace_of s turns dead (put began q (get_or t.words (clock_word s) 0)) (put was_dead q dead))
+          turned_clock (λ c. refl) (turned_word (Some reading) says) (λ r. refl) (λ r c. refl)
+          (part_same t.views id k here knows (λ x. pending_by x.stamp) (ap pending_by stamp))
           (part_same t.views id k here knows (λ x. x.least) least)
           (λ j r. part_same t.views id k here knows (λ x. nat_lt r x.looked) (ap (nat_lt r) looked) j)
           (part_same t.views id k here knows (λ x. x.safe) safe)
-          (λ c. refl) (grace_goes_on s.places was (begun_now reading) h.sound (begins q reading below low refl))
+          turned_stamps (grace_goes_on s.places was (begun_now reading) h.sound (begins q reading below low refl))
 
-      ended : announced_by v ≡ None → GraceIsSound s.places (grace_of s turns h.gone h.began h.was_gone)
+      ended : announced_by v ≡ None → GraceIsSound s.places (grace_of s turns dead began was_dead)
       ended says =
-          grace_same s.places ended_now (grace_of s turns h.gone h.began h.was_gone)
-          turned_clock (λ c. refl) (turned_word None says) (λ r. refl) (λ r c. refl) (λ j. refl)
+          grace_same s.places ended_now (grace_of s turns dead began was_dead)
+          turned_clock (λ c. refl) (turned_word None says) (λ r. refl) (λ r c. refl)
+          (part_same t.views id k here knows (λ x. pending_by x.stamp) (ap pending_by stamp))
           (part_same t.views id k here knows (λ x. x.least) least)
           (λ j r. part_same t.views id k here knows (λ x. nat_lt r x.looked) (ap (nat_lt r) looked) j)
           (part_same t.views id k here knows (λ x. x.safe) safe)
-          (λ c. refl) (grace_goes_on s.places was ended_now h.sound (ends q refl))
+          turned_stamps (grace_goes_on s.places was ended_now h.sound (ends q refl))
 
   -- what the pass knows is so
   abbrev mine : PeriodHolds s t.words k
@@ -402,15 +409,16 @@ module _ (s : Slots) (t : WholeState) (id : ℕ) (k : Known) (here : get_elem? t
 
   -- a reading of the clock is announced at the place of the pass
   pub periods_announced : (q reading : ℕ) → k.period.place ≡ Some q → k.period.reading ≡ Some reading
-      → HasPeriods s (record { words = set t.words (place_word s q) (reading + 2); homes = t.homes; views = set t.views id (record { tree = k.tree; period = after_announce reading (get_or t.words (clock_word s) 0) k.period }) })
+      → PeriodsAreSound s (record { words = set t.words (place_word s q) (reading + 2); homes = t.homes; views = set t.views id (record { tree = k.tree; period = after_announce reading (get_or t.words (clock_word s) 0) k.period }) })
+      dead (put began q (get_or t.words (clock_word s) 0)) (put was_dead q dead)
   periods_announced q reading placed was =
-      periods_after s t id k here h (turned q (reading + 2) below) (after_announce reading (get_or t.words (clock_word s) 0) k.period) (turned_clock q (reading + 2) below) (others_have_none q (reading + 2) below (own placed)) gains
-      h.gone (put h.began q (get_or t.words (clock_word s) 0)) (put h.was_gone q h.gone)
+      periods_after s t id k here dead began was_dead h (turned q (reading + 2) below) (after_announce reading (get_or t.words (clock_word s) 0) k.period) (turned_clock q (reading + 2) below) (others_have_none q (reading + 2) below (own placed)) gains
+      dead (put began q (get_or t.words (clock_word s) 0)) (put was_dead q dead)
       (λ r a at an. (let e : r ≡ q = same_Some r q (sym at ∙ placed) in
-      ap (put h.began q (get_or t.words (clock_word s) 0)) e ∙ put_same h.began q (get_or t.words (clock_word s) 0)))
-      (λ j r a u other there at an. put_other h.began q (get_or t.words (clock_word s) 0) r
+      ap (put began q (get_or t.words (clock_word s) 0)) e ∙ put_same began q (get_or t.words (clock_word s) 0)))
+      (λ j r a u other there at an. put_other began q (get_or t.words (clock_word s) 0) r
       (λ e. other (h.apart j id q u k there here (own (at ∙ ap (λ x. Some x) e)) (own placed))) ∙ h.since j r a u there at an)
-      (begun q (reading + 2) below (after_announce reading (get_or t.words (clock_word s) 0) k.period) refl refl refl reading (announced_again reading) (mine.reading reading was))
+      (begun q (reading + 2) below (after_announce reading (get_or t.words (clock_word s) 0) k.period) refl refl refl refl reading (announced_again reading) (mine.reading reading was))
       record {
         place = λ r is. (let e : r ≡ q = same_Some r q (sym is ∙ placed) in let low = below in (omega arith, ap (λ x. get_or (turned q (reading + 2) below) (place_word s x) 0) e ∙ turned_here q (reading + 2) below));
         other = λ r is. (let at = mine.other r is in
@@ -430,12 +438,12 @@ module _ (s : Slots) (t : WholeState) (id : ℕ) (k : Known) (here : get_elem? t
 
   -- the announcement of a pass at rest is taken away
   pub periods_retracted : (q : ℕ) → k.period.place ≡ Some q → IsAtRest k.tree
-      → HasPeriods s (record { words = set t.words (place_word s q) 1; homes = t.homes; views = set t.views id (record { tree = k.tree; period = after_retract k.period }) })
+      → PeriodsAreSound s (record { words = set t.words (place_word s q) 1; homes = t.homes; views = set t.views id (record { tree = k.tree; period = after_retract k.period }) }) dead began was_dead
   periods_retracted q placed rest =
-      periods_after s t id k here h (turned q 1 below) (after_retract k.period) (turned_clock q 1 below) (others_have_none q 1 below (own placed)) gains
-      h.gone h.began h.was_gone
+      periods_after s t id k here dead began was_dead h (turned q 1 below) (after_retract k.period) (turned_clock q 1 below) (others_have_none q 1 below (own placed)) gains
+      dead began was_dead
       (λ r a at an. absurd (some_not_none an refl)) (λ j r a u other there at an. h.since j r a u there at an)
-      (ended q 1 below (after_retract k.period) refl refl refl refl)
+      (ended q 1 below (after_retract k.period) refl refl refl refl refl)
       record {
         place = λ r is. (let e : r ≡ q = same_Some r q (sym is ∙ placed) in let low = below in (omega arith, ap (λ x. get_or (turned q 1 below) (place_word s x) 0) e ∙ turned_here q 1 below));
         other = λ r is. (let at = mine.other r is in
@@ -455,13 +463,13 @@ module _ (s : Slots) (t : WholeState) (id : ℕ) (k : Known) (here : get_elem? t
 
   -- a place that no pass has is taken
   pub periods_taken : (q : ℕ) → q < s.places → get_or t.words (place_word s q) 0 ≡ 0
-      → HasPeriods s (record { words = set t.words (place_word s q) 1; homes = t.homes; views = set t.views id (record { tree = k.tree; period = after_take q 0 k.period }) })
+      → PeriodsAreSound s (record { words = set t.words (place_word s q) 1; homes = t.homes; views = set t.views id (record { tree = k.tree; period = after_take q 0 k.period }) }) dead began was_dead
   periods_taken q below empty =
-      periods_after s t id k here h (turned q 1 below) (after_take q 0 k.period) (turned_clock q 1 below)
+      periods_after s t id k here dead began was_dead h (turned q 1 below) (after_take q 0 k.period) (turned_clock q 1 below)
       (λ j u other at r has. place_else q 1 below j r u at has (λ e. nobody j u at (subst (HasPlace u.period) e has))) gains
-      h.gone h.began h.was_gone
+      dead began was_dead
       (λ r a at an. h.since id r a k here at an) (λ j r a u other there at an. h.since j r a u there at an)
-      (ended q 1 below (after_take q 0 k.period) refl refl refl refl)
+      (ended q 1 below (after_take q 0 k.period) refl refl refl refl refl)
       record {
         place = λ r is. (let at = mine.place r is in (at.0, place_else q 1 below id r k here (own is) (λ e. nobody id k here (subst (HasPlace k.period) e (own is))) ∙ at.1));
         other = λ r is. (let e : r ≡ q = sym (same_Some q r is) in (omega arith, ap (λ x. get_or (turned q 1 below) (place_word s x) 0) e ∙ turned_here q 1 below));
@@ -480,12 +488,12 @@ module _ (s : Slots) (t : WholeState) (id : ℕ) (k : Known) (here : get_elem? t
 
   -- the other place of the pass is given back
   pub periods_given : (q : ℕ) → k.period.other ≡ Some q
-      → HasPeriods s (record { words = set t.words (place_word s q) 0; homes = t.homes; views = set t.views id (record { tree = k.tree; period = after_give k.period }) })
+      → PeriodsAreSound s (record { words = set t.words (place_word s q) 0; homes = t.homes; views = set t.views id (record { tree = k.tree; period = after_give k.period }) }) dead began was_dead
   periods_given q has =
-      periods_after s t id k here h (turned q 0 below) (after_give k.period) (turned_clock q 0 below) (others_have_none q 0 below (spare has)) gains
-      h.gone h.began h.was_gone
+      periods_after s t id k here dead began was_dead h (turned q 0 below) (after_give k.period) (turned_clock q 0 below) (others_have_none q 0 below (spare has)) gains
+      dead began was_dead
       (λ r a at an. h.since id r a k here at an) (λ j r a u other there at an. h.since j r a u there at an)
-      (ended q 0 below (after_give k.period) refl refl refl refl)
+      (ended q 0 below (after_give k.period) refl refl refl refl refl)
       record {
         place = λ r is. (let at = mine.place r is in
             (at.0, turned_else q 0 below r at.0 (λ e. mine.two r is (has ∙ ap (λ x. Some x) (sym e))) ∙ at.1));
@@ -502,127 +510,3 @@ module _ (s : Slots) (t : WholeState) (id : ℕ) (k : Known) (here : get_elem? t
       gains : (r : ℕ) → HasPlace (after_give k.period) r → HasPlace k.period r ⊎ IsNobodys t r
       gains r (own is) = inl (own is)
       gains r (spare is) = absurd (some_not_none is refl)
-
--- a step on the words of the periods is one of the table
-module _ (plan : TablePlan) (s : Slots) (placed : plan.slots ≡ Some s) where
-  goes_on : (k : Known) (i : ℕ) (f : ℕ → ℕ) (told : ℕ → Period → Type 0) (p : WholeState → Period) → clock_word s ≤ i
-      → ((t : WholeState) (id : ℕ) → get_elem? t.views id ≡ some k → HasPeriods s t → length t.words ≡ slots_size s
-      → HasPeriods s (record { words = set t.words i (f (get_or t.words i 0)); homes = t.homes; views = set t.views id (record { tree = k.tree; period = p t }) })
-      × told (get_or t.words i 0) (p t))
-      → MayGoOn plan k i f told
-  goes_on k i f told p behind step id t h homes here small =
-      let has = subst (λ o. WordsAre plan o t.words h.tree.words) placed h.words in
-      let n = get_or t.words i 0 in
-      let now : Known = record { tree = k.tree; period = p t } in
-      let x = step t id here (subst (λ o. PeriodsAre o t) placed h.periods) has.0 in (
-        now,
-        keeps,
-        tt,
-        record {
-          tree = h.tree;
-          reached = h.reached;
-          views = map-set (λ (l : Known). l.tree) t.views id now ∙ (set_again (trees_of t.views) id k.tree (tree_at t.views id k here) ∙ h.views);
-          homes = h.homes;
-          words = subst (λ o. WordsAre plan o (set t.words i (f n)) h.tree.words) (sym placed)
-              (length-set t.words i (f n) ∙ has.0, λ j low. get_or-set_other t.words i j (f n) 0 (apart j low) ∙ has.1 j low);
-          periods = subst (λ o. PeriodsAre o (record { words = set t.words i (f n); homes = t.homes; views = set t.views id now })) (sym placed) x.0;
-        },
-        (x.1, refl, refl),
-      )
-    where
-      apart : (j : ℕ) → j < card_words plan → j ≢ i
-      apart j low e =
-          let all : card_words plan ≡ min (table_size s.last) (table_size plan.last_card) = ap (λ o. card_words_by o plan.last_card) placed in
-          let before = before_clock s j (omega arith) in omega arith
-
-  -- a pass reads the clock
-  pub read_clock_goes_on : (k : Known) → MayGoOn plan k (clock_word s) (λ n. n) (λ n p. (p ≡ after_clock n k.period) × (n ≤ last_reading))
-  read_clock_goes_on k =
-      goes_on k (clock_word s) (λ n. n) (λ n p. (p ≡ after_clock n k.period) × (n ≤ last_reading)) (λ t. after_clock (get_or t.words (clock_word s) 0) k.period) (omega arith)
-      (λ t id here h size. (periods_read s t id k here h size, (refl, h.low)))
-
-  -- it announces a reading of the clock
-  pub announces : (k : Known) (q reading : ℕ) → k.period.place ≡ Some q → k.period.reading ≡ Some reading
-      → MayGoOn plan k (place_word s q) (λ n. reading + 2) (λ n p. (clock : ℕ) × (reading ≤ clock) × (p ≡ after_announce reading clock k.period))
-  announces k q reading has was =
-      goes_on k (place_word s q) (λ n. reading + 2) (λ n p. (clock : ℕ) × (reading ≤ clock) × (p ≡ after_announce reading clock k.period))
-      (λ t. after_announce reading (get_or t.words (clock_word s) 0) k.period) (omega arith)
-      (λ t id here h size. (periods_announced s t id k here h size q reading has was, (get_or t.words (clock_word s) 0, (h.each id k here).reading reading was, refl)))
-
-  -- it takes its announcement away
-  pub retracts : (k : Known) (q : ℕ) → k.period.place ≡ Some q → IsAtRest k.tree
-      → MayGoOn plan k (place_word s q) (λ n. 1) (λ n p. p ≡ after_retract k.period)
-  retracts k q has rest =
-      goes_on k (place_word s q) (λ n. 1) (λ n p. p ≡ after_retract k.period) (λ t. after_retract k.period) (omega arith)
-      (λ t id here h size. (periods_retracted s t id k here h size q has rest, refl))
-
-  -- it takes a place, if no pass has it
-  pub takes : (k : Known) (q : ℕ) → q < s.places → MayGoOn plan k (place_word s q) (λ n. either (n == 0) 1 n) (λ n p. p ≡ after_take q n k.period)
-  takes k q below =
-      goes_on k (place_word s q) (λ n. either (n == 0) 1 n) (λ n p. p ≡ after_take q n k.period) (λ t. after_take q (get_or t.words (place_word s q) 0) k.period) (omega arith)
-      (λ t id here h size. (by t id here h size (get_or t.words (place_word s q) 0) refl, refl))
-    where
-      taken : (n : ℕ) → either (suc n == 0) 1 (suc n) ≡ suc n
-      taken n = ap (λ b. either b 1 (suc n)) (ne_eqb (suc n) 0 (λ z. omega arith))
-
-      by : (t : WholeState) (id : ℕ) → get_elem? t.views id ≡ some k → HasPeriods s t → length t.words ≡ slots_size s → (n : ℕ) → get_or t.words (place_word s q) 0 ≡ n
-          → HasPeriods s (record { words = set t.words (place_word s q) (either (n == 0) 1 n); homes = t.homes; views = set t.views id (record { tree = k.tree; period = after_take q n k.period }) })
-      by t id here h size zero e = periods_taken s t id k here h size q below e
-      by t id here h size (suc n) e =
-          subst (λ m. HasPeriods s (record { words = set t.words (place_word s q) m; homes = t.homes; views = set t.views id (record { tree = k.tree; period = k.period }) })) (e ∙ sym (taken n))
-          (periods_stay s t id k here h size (place_word s q) (omega arith))
-
-  -- whatever place of the table a word is of
-  pub takes_any : (k : Known) (q word : ℕ) → q < s.places → word ≡ place_word s q
-      → MayGoOn plan k word (λ n. either (n == 0) 1 n)
-      (λ n p. (o : Slots) (r : ℕ) → plan.slots ≡ Some o → r < o.places → word ≡ place_word o r → p ≡ after_take r n k.period)
-  takes_any k q word below is id t h homes here small =
-      let may = subst (λ i. MayGoOn plan k i (λ n. either (n == 0) 1 n) (λ n p. p ≡ after_take q n k.period)) (sym is) (takes k q below) in
-      let x = may id t h homes here small in
-      (x.0, x.1, x.2, x.3, (λ o r slots low at. x.4.0 ∙ ap (λ y. after_take y (get_or t.words word 0) k.period) (one o r slots low at), x.4.1, x.4.2))
-    where
-      one : (o : Slots) (r : ℕ) → plan.slots ≡ Some o → r < o.places → word ≡ place_word o r → q ≡ r
-      one o r slots low at =
-          let same : o ≡ s = same_Some o s (sym slots ∙ placed) in
-          let last : o.last ≡ s.last = ap (λ (x : Slots). x.last) same in
-          let places : o.places ≡ s.places = ap (λ (x : Slots). x.places) same in
-          let clock : clock_word o ≡ clock_word s = ap clock_word same in
-          omega arith
-
-  -- it gives its other place back
-  pub gives_back : (k : Known) (q : ℕ) → k.period.other ≡ Some q → MayGoOn plan k (place_word s q) (λ n. 0) (λ n p. p ≡ after_give k.period)
-  gives_back k q has =
-      goes_on k (place_word s q) (λ n. 0) (λ n p. p ≡ after_give k.period) (λ t. after_give k.period) (omega arith)
-      (λ t id here h size. (periods_given s t id k here h size q has, refl))
-
-  -- it lets the clock go on, if that is as it was read
-  pub tick_goes_on : (k : Known) (reading : ℕ) → reading < last_reading
-      → MayGoOn plan k (clock_word s) (λ n. either (n == reading) (reading + 1) n) (λ n p. p ≡ k.period)
-  tick_goes_on k reading low =
-      goes_on k (clock_word s) (λ n. either (n == reading) (reading + 1) n) (λ n p. p ≡ k.period) (λ t. k.period) (omega arith)
-      (λ t id here h size. (by t id here h size (cases_eq (get_or t.words (clock_word s) 0) reading), refl))
-    where
-      on : WholeState → ℕ → ℕ → Type 0
-      on t id n = HasPeriods s (record { words = set t.words (clock_word s) n; homes = t.homes; views = set t.views id (record { tree = k.tree; period = k.period }) })
-
-      by : (t : WholeState) (id : ℕ) → get_elem? t.views id ≡ some k → HasPeriods s t → length t.words ≡ slots_size s
-          → (get_or t.words (clock_word s) 0 ≡ reading) ⊎ (get_or t.words (clock_word s) 0 ≢ reading)
-          → on t id (either (get_or t.words (clock_word s) 0 == reading) (reading + 1) (get_or t.words (clock_word s) 0))
-      by t id here h size (inl is) =
-          subst (on t id)
-          (ap (λ n. n + 1) is ∙ sym (ap (λ n. either (n == reading) (reading + 1) n) is ∙ ap (λ b. either b (reading + 1) reading) (eq-eqb reading reading refl)))
-          (periods_ticked s t id k here h size (omega arith))
-      by t id here h size (inr other) =
-          subst (on t id)
-          (sym (ap (λ b. either b (reading + 1) (get_or t.words (clock_word s) 0)) (ne_eqb (get_or t.words (clock_word s) 0) reading other)))
-          (periods_stay s t id k here h size (clock_word s) (omega arith))
-
-  -- it looks at the next place
-  pub looks_at : (k : Known) (q : ℕ) → q ≡ k.period.looked → q < s.places
-      → MayGoOn plan k (place_word s q) (λ n. n) (λ n p. (o : Slots) → plan.slots ≡ Some o → p ≡ after_look_at o.places n k.period)
-  looks_at k q next below =
-      goes_on k (place_word s q) (λ n. n) (λ n p. (o : Slots) → plan.slots ≡ Some o → p ≡ after_look_at o.places n k.period) (λ t. after_look_at s.places (get_or t.words (place_word s q) 0) k.period) (omega arith)
-      (λ t id here h size. (
-        periods_seen s t id k here h size q next below,
-        λ o is. ap (λ (x : Slots). after_look_at x.places (get_or t.words (place_word s q) 0) k.period) (same_Some s o (sym placed ∙ is)),
-      ))

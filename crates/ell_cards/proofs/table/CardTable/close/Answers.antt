@@ -3,6 +3,7 @@ use Rattle.std.specs.List.{All}
 use Rattle.std.specs.Slots.{slots_items}
 use Rattle.ell_core.specs.state.Machine.{ledger_of}
 use Rattle.ell_cards.specs.Models.{TableModel, PassModel, IsFree, last_claim_of, whole_share}
+use Rattle.ell_cards.specs.Shown.{shown}
 use Rattle.ell_cards.specs.Whole.{WordsAre}
 use Rattle.ell_cards.proofs.lemmas.whole.Trees.{tree_here}
 use Rattle.ell_cards.specs.Closed.{ClosedModel, TableEnds}
@@ -30,5 +31,5 @@ returns-clause-ends g c none =
     let ended : ClosedModel = record { words = words; last_card = c.last_claim.result } in
     subst (λ (m : TableModel). TableEnds m.plan c.args.pass.view ended) c.self.view_is
     (subst (λ (p : PassModel). TableEnds plan p.view ended) c.pass.view_is
-    (subst (λ (n : ℕ). TableEnds plan v (record { words = words; last_card = n })) number
-    (subst (λ (l : List ℕ). TableEnds plan v (record { words = l; last_card = plan.last_card })) same there)))
+    (subst (λ (n : ℕ). TableEnds plan (shown v) (record { words = words; last_card = n })) number
+    (subst (λ (l : List ℕ). TableEnds plan (shown v) (record { words = l; last_card = plan.last_card })) same there)))

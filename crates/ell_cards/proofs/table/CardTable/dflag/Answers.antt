@@ -5,14 +5,12 @@ use Rattle.ell_cards.proofs.table.CardTable.dflag.Goals as goal
 pub pack-expected-requires : goal.pack-expected-requires
 pack-expected-requires g c =
     let may = c.requires.may in
-    let low = (c.names.ensures.named.grandparent may.leaf may.parent _ may.stands may.behind may.above).word in
+    let low = (c.names.ensures.words.grandparent may.leaf may.parent _ may.stands may.behind may.above).word in
     let same = card_again c.args.from in
-    let room = c.names.ensures.room in
     omega arith
 
 pub update_address-requires : goal.update_address-requires
 update_address-requires g c =
     let may = c.requires.may in
-    let low = (c.names.ensures.named.grandparent may.leaf may.parent _ may.stands may.behind may.above).node in
-    let room = c.names.ensures.room in
+    let low = (c.names.ensures.words.grandparent may.leaf may.parent _ may.stands may.behind may.above).node in
     omega arith

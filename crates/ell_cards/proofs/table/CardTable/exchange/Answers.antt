@@ -1,19 +1,13 @@
-use Rattle.std.proofs.Common.{ℕ, ◌<◌, sym, subst}
-use Rattle.ell_layout.specs.Layout.{table_size}
-use Rattle.ell_cards.proofs.lemmas.seats.Taken.{taken_keeps, word_fits, steps_by}
-use Rattle.ell_cards.proofs.lemmas.whole.Rests.{taken_rests, exchange_is_quiet}
-use Rattle.ell_cards.proofs.lemmas.runs.Reaching.{may_exchange}
+use Rattle.ell_cards.proofs.lemmas.seats.Taken.{taken_keeps, steps_by}
+use Rattle.ell_cards.proofs.lemmas.whole.Rests.{exchange_is_quiet}
+use Rattle.ell_cards.proofs.lemmas.runs.Reaching.{calls_tell}
 use Rattle.ell_cards.proofs.table.CardTable.exchange.Goals as goal
 
-pub exchange_as-requires-clause-word : goal.exchange_as-requires-clause-word
-exchange_as-requires-clause-word g c = λ last named. subst (λ (i : ℕ). i < table_size last) (sym c.requires.word)
-    (word_fits c.args.self.now.plan c.args.call c.args.pass.now.view c.requires.may last named)
+pub exchange_as-requires-clause-quiet : goal.exchange_as-requires-clause-quiet
+exchange_as-requires-clause-quiet g c = exchange_is_quiet c.args.call c.args.expected c.args.value c.requires.atomic
 
-pub exchange_as-requires-clause-rests : goal.exchange_as-requires-clause-rests
-exchange_as-requires-clause-rests g c = taken_rests c.args.self.now.plan c.args.call c.args.pass.now.view (exchange_is_quiet c.args.call c.args.expected c.args.value c.requires.atomic) c.requires.may
-
-pub exchange_as-requires-clause-rule : goal.exchange_as-requires-clause-rule
-exchange_as-requires-clause-rule g c = may_exchange c.args.self.now.plan c.args.call c.args.pass.now.view c.args.word c.args.expected c.args.value c.requires.word c.requires.atomic c.requires.may
+pub exchange_as-requires-clause-tells : goal.exchange_as-requires-clause-tells
+exchange_as-requires-clause-tells g c = calls_tell c.args.self.now.plan c.args.call c.args.pass.now.view
 
 pub exchange_as-requires-clause-keeps : goal.exchange_as-requires-clause-keeps
 exchange_as-requires-clause-keeps g c = taken_keeps c.args.self.now.plan c.args.call c.args.pass.now.view

@@ -1,7 +1,7 @@
 use Rattle.std.proofs.Common.{◌≡◌, is_some, if◌then◌else◌, sym, ap, ◌∙◌, subst}
 use Rattle.ell_cards.specs.Periods.{after_give}
 use Rattle.ell_cards.specs.Stepping.{MayGoOn}
-use Rattle.ell_cards.proofs.lemmas.whole.Steps.{gives_back}
+use Rattle.ell_cards.proofs.lemmas.whole.Going.{gives_back}
 use Rattle.ell_cards.proofs.lemmas.whole.Words.{kept_is}
 use Rattle.ell_cards.proofs.table.CardTable.give_back.Goals as goal
 

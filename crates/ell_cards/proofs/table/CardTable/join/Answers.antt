@@ -4,9 +4,9 @@ use Rattle.ell_cards.specs.declared.view.Known.{Known}
 use Rattle.ell_cards.specs.Models.{PassModel, IsFree}
 use Rattle.ell_cards.specs.Inside.{PassFits}
 use Rattle.ell_cards.specs.Changes.{joined_view}
+use Rattle.ell_cards.specs.Shown.{shown}
 use Rattle.ell_cards.specs.Periods.{after_give}
 use Rattle.ell_cards.proofs.lemmas.lifetimes.Joins.{joined_fits}
-use Rattle.ell_cards.proofs.lemmas.runs.Reaching.{joins}
 use Rattle.ell_cards.proofs.lemmas.seats.Opened.{of_table, own_size}
 use Rattle.ell_cards.proofs.lemmas.whole.Handovers.{whole_joins}
 use Rattle.ell_cards.proofs.lemmas.whole.Places.{joined_place_fits, size_some}
@@ -24,9 +24,8 @@ join_seat-requires g c =
       of_table _ _ _ _ c.self.view_is c.right.view_is c.requires.right size fit,
       c.right.invariant.1,
       omega arith,
-      whole_joins key k l (joins key k.tree l.tree
-          (subst (λ (p : PassModel). IsFree p.view) (sym c.left.view_is) c.requires.left_free)
-          (subst (λ (p : PassModel). IsFree p.view) (sym c.right.view_is) c.requires.right_free))
+      whole_joins key k l (subst (λ (p : PassModel). IsFree p.view) (sym c.left.view_is) c.requires.left_free)
+          (subst (λ (p : PassModel). IsFree p.view) (sym c.right.view_is) c.requires.right_free)
           c.left.inside.seat.id c.right.inside.seat.id,
     )
 
@@ -39,9 +38,9 @@ invariant_of-result g c =
     let left_words = ap (λ i. i.words) (back.seat.0 ∙ now.0) in
     let right_words = own_size _ _ _ _ c.self.view_is c.left.view_is c.requires.left size fit
     ∙ sym (own_size _ _ _ _ c.self.view_is c.right.view_is c.requires.right size fit) in
-    let tree = back.tree ∙ ap (λ (m : Me (Unit {0}) Known). m.0.tree) now.2 in (
+    let tree = ap shown (back.tree ∙ ap (λ (m : Me (Unit {0}) Known). m.0.tree) now.2) in (
       subst (PassFits c.in-Ok.keys.items c.joined.result c.give_back.new.seat.table_id.words) (sym tree)
-          (subst (λ s. PassFits c.in-Ok.keys.items s c.give_back.new.seat.table_id.words (joined_view c.left.inside.seat.me.0.tree c.right.inside.seat.me.0.tree)) (sym c.joined.ensures)
+          (subst (λ s. PassFits c.in-Ok.keys.items s c.give_back.new.seat.table_id.words (joined_view (shown c.left.inside.seat.me.0.tree) (shown c.right.inside.seat.me.0.tree))) (sym c.joined.ensures)
           (joined_fits _ _ _ _ _ _ _ _ _ _ _ _ c.left.invariant.0 c.right.invariant.0 left_words (left_words ∙ right_words)
           c.as_slice.ensures.value c.as_slice-2.ensures.value c.in-Ok.ensures)),
       back.seat.1,

@@ -2,7 +2,7 @@ use Rattle.std.proofs.Common.{◌≡◌, Some, sym, subst}
 use Rattle.ell_cards.specs.declared.view.Slots.{Slots}
 use Rattle.ell_cards.specs.Periods.{after_look_at}
 use Rattle.ell_cards.specs.Stepping.{MayGoOn}
-use Rattle.ell_cards.proofs.lemmas.whole.Steps.{looks_at}
+use Rattle.ell_cards.proofs.lemmas.whole.Going.{looks_at}
 use Rattle.ell_cards.proofs.table.CardTable.look_at.Goals as goal
 
 pub period_load-requires-clause-rule : goal.period_load-requires-clause-rule

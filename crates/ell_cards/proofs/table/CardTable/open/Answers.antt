@@ -1,4 +1,5 @@
-use Rattle.std.proofs.Common.{◌∙◌, false, ap, sym, subst, arith}
+use Rattle.std.proofs.Common.{◌≡◌, ◌+◌, ◌≤◌, ◌∙◌, None, false, ap, sym, subst, arith}
+use Rattle.ell_word.specs.Node.{greatest_card, greatest_number}
 use Rattle.ell_cards.specs.Depths.{deepest}
 use Rattle.ell_cards.proofs.lemmas.Ranks.{deepest_most}
 use Rattle.atomic_table.specs.Table.{Me}
@@ -9,6 +10,7 @@ use Rattle.ell_cards.specs.Models.{TablePlan, flat_from, whole_share}
 use Rattle.ell_cards.specs.Changes.{first_of}
 use Rattle.ell_cards.specs.Inside.{PassFits, PlaceFits}
 use Rattle.ell_cards.specs.Periods.{first_period, period_by, whole_size}
+use Rattle.ell_cards.specs.Shown.{shown}
 use Rattle.ell_cards.specs.Starts.{SlotsFit}
 use Rattle.ell_cards.proofs.lemmas.lifetimes.Openings.{first_fits}
 use Rattle.ell_cards.proofs.lemmas.whole.Places.{first_place_fits, size_some}
@@ -23,8 +25,8 @@ invariant_of-pass g c =
     let knows = table.knows in
     let size = ap (λ i. i.words) table.own ∙ table.words in
     let enough = size_some c.args.plan in
-    let stands = c.first.ensures ∙ ap (λ (p : TablePlan). record { place = (period_by p.slots).place; announces = false }) c.plan.view_is in (
-      subst (λ (m : Me (Unit {0}) Known). PassFits keys share words m.0.tree) (sym knows)
+    let stands = c.first.ensures ∙ ap (λ (p : TablePlan). record { place = (period_by p.slots).place; announces = false; found = 0 }) c.plan.view_is in (
+      subst (λ (m : Me (Unit {0}) Known). PassFits keys share words (shown m.0.tree)) (sym knows)
           (subst (λ (p : TablePlan). PassFits p.keys (record { units = whole_share; counts = p.shared }) words (first_of c.args.plan)) (sym c.plan.view_is)
           (first_fits c.args.plan words (omega arith) c.requires.may.ascending)),
       ap (λ (m : Me (Unit {0}) Known). m.1) knows,
@@ -43,7 +45,9 @@ invariant_of-table g c =
       ap (λ (p : TablePlan). p.last_card) c.plan.view_is ∙ sym last,
       ap (λ (p : TablePlan). p.shared) c.plan.view_is ∙ sym (ap (λ (p : TablePlan). p.shared) key),
       c.first_block-first_block.ensures ∙ ap flat_from (sym key),
-      (let most = deepest_most c.args.plan c.requires.cards c.requires.few in let same = ap deepest key in omega arith),
+      (let most = deepest_most c.args.plan greatest_number c.requires.cards (let few = c.requires.few in omega arith) in let same = ap deepest key in omega arith),
       ap (λ (p : TablePlan). p.slots) c.plan.view_is ∙ sym (ap (λ (p : TablePlan). p.slots) key),
       subst (λ (p : TablePlan). SlotsFit p p.slots) (sym key) c.requires.may.slots,
+      subst (λ (p : TablePlan). p.slots ≡ None → deepest p ≤ greatest_card + 64) (sym key)
+          (λ none. deepest_most c.args.plan greatest_card (subst (SlotsFit c.args.plan) none c.requires.may.slots) c.requires.few),
     )

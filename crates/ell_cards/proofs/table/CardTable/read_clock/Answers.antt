@@ -1,7 +1,7 @@
 use Rattle.std.proofs.Common.{◌≡◌, ◌≤◌, sym, subst}
 use Rattle.ell_cards.specs.Periods.{after_clock, last_reading}
 use Rattle.ell_cards.specs.Stepping.{MayGoOn}
-use Rattle.ell_cards.proofs.lemmas.whole.Steps.{read_clock_goes_on}
+use Rattle.ell_cards.proofs.lemmas.whole.Going.{read_clock_goes_on}
 use Rattle.ell_cards.proofs.table.CardTable.read_clock.Goals as goal
 
 pub period_load-requires-clause-rule : goal.period_load-requires-clause-rule

@@ -8,7 +8,7 @@ use Rattle.ell_cards.specs.Models.{TablePlan}
 use Rattle.ell_cards.specs.Starts.{MayStart, SlotsFit, IsSharedIn}
 use Rattle.ell_cards.proofs.lemmas.whole.Opens.{last_fits, slots_fit}
 use Rattle.ell_cards.proofs.table.CardTable.reserve.Goals as goal
-use Rattle.ell_word.specs.Node.{greatest_card}
+use Rattle.ell_word.specs.Node.{greatest_card, greatest_number}
 
 -- what is so of a list is so of a copy of it
 abbrev Given : TablePlan → List ℕ → List (ℕ × ℕ) → Type 0
@@ -26,7 +26,7 @@ given_there plan k (inr shared) = elim (cases_Bool (set_of plan.keys k)) [
 -- a table may open with copies of keys and start keys that are among them, or shared
 may_start : (plan : TablePlan) (keys : List ℕ) (start : List (ℕ × ℕ)) → plan.keys ≡ keys → plan.start ≡ start → IsStrictlyIncreasing keys
     → All (λ k. k ≤ greatest_key) keys → IsStrictlyIncreasing (keys_of start) → Given plan keys start
-    → length start ≤ plan.last_card → length start < greatest_card → plan.last_card ≤ greatest_card → SlotsFit plan plan.slots → MayStart plan
+    → length start ≤ plan.last_card → length start < greatest_card → plan.last_card ≤ greatest_number → SlotsFit plan plan.slots → MayStart plan
 may_start plan keys start copied started ascending real start_ascending given room few limit slots =
     let here = subst (λ pairs. Given plan plan.keys pairs) (sym started) (subst (λ ks. Given plan ks start) (sym copied) given) in record {
       ascending = subst IsStrictlyIncreasing (sym copied) ascending;
@@ -48,6 +48,6 @@ open-requires-clause-may g c =
     let room = last_fits last c.args.kind.places (length c.args.start.now) (omega arith) (omega arith) in
     may_start _ c.args.keys.now c.args.start.now c.in_ok-copied.ensures c.in_ok-copied-2.ensures
     asked.ascending asked.real asked.start_ascending asked.given
-    (subst (λ n. length c.args.start.now ≤ n) (sym c.last_for.ensures) room.0) (omega arith) (subst (λ n. n ≤ greatest_card) (sym c.last_for.ensures) room.1)
+    (subst (λ n. length c.args.start.now ≤ n) (sym c.last_for.ensures) room.0) (omega arith) (subst (λ n. n ≤ greatest_number) (sym c.last_for.ensures) room.1)
     (slots_fit (record { keys = c.in_ok-copied.field-0.items; start = start; last_card = c.last_for.result; shared = c.args.kind.shared; flat = c.args.kind.flat; slots = c.slots_for-slots.result })
     last c.args.kind.places c.slots_for-slots.ensures c.last_for.ensures asked.places (omega arith) (omega arith))

@@ -1,7 +1,7 @@
 use Rattle.std.proofs.Common.{◌≡◌, sym, subst}
 use Rattle.ell_cards.specs.Periods.{after_retract}
 use Rattle.ell_cards.specs.Stepping.{MayGoOn}
-use Rattle.ell_cards.proofs.lemmas.whole.Steps.{retracts}
+use Rattle.ell_cards.proofs.lemmas.whole.Going.{retracts}
 use Rattle.ell_cards.proofs.table.CardTable.retract.Goals as goal
 
 pub period_store-requires-clause-rule : goal.period_store-requires-clause-rule

@@ -1,19 +1,9 @@
-use Rattle.std.proofs.Common.{ℕ, ◌<◌, sym, subst}
-use Rattle.ell_layout.specs.Layout.{table_size}
-use Rattle.ell_cards.proofs.lemmas.seats.Taken.{taken_keeps, word_fits, sees_by}
-use Rattle.ell_cards.proofs.lemmas.whole.Rests.{taken_rests}
-use Rattle.ell_cards.proofs.lemmas.runs.Reaching.{may_load}
+use Rattle.ell_cards.proofs.lemmas.seats.Taken.{taken_keeps, sees_by}
+use Rattle.ell_cards.proofs.lemmas.runs.Reaching.{calls_tell}
 use Rattle.ell_cards.proofs.table.CardTable.see.Goals as goal
 
-pub load_as-requires-clause-word : goal.load_as-requires-clause-word
-load_as-requires-clause-word g c = λ last named. subst (λ (i : ℕ). i < table_size last) (sym c.requires.word)
-    (word_fits c.args.self.now.plan c.args.call c.args.pass.now.view c.requires.may last named)
-
-pub load_as-requires-clause-rests : goal.load_as-requires-clause-rests
-load_as-requires-clause-rests g c = taken_rests c.args.self.now.plan c.args.call c.args.pass.now.view c.requires.quiet c.requires.may
-
-pub load_as-requires-clause-rule : goal.load_as-requires-clause-rule
-load_as-requires-clause-rule g c = may_load c.args.self.now.plan c.args.call c.args.pass.now.view c.args.word c.requires.word c.requires.atomic c.requires.may
+pub load_as-requires-clause-tells : goal.load_as-requires-clause-tells
+load_as-requires-clause-tells g c = calls_tell c.args.self.now.plan c.args.call c.args.pass.now.view
 
 pub load_as-requires-clause-keeps : goal.load_as-requires-clause-keeps
 load_as-requires-clause-keeps g c = taken_keeps c.args.self.now.plan c.args.call c.args.pass.now.view

@@ -1,11 +1,9 @@
-use Rattle.std.proofs.Common.{ℕ, List, filter, not, refl, ap, ◌∙◌, sym, subst}
+use Rattle.std.proofs.Common.{ℕ, List, filter, not, ap, ◌∙◌, sym, subst}
 use Rattle.ell_cards.specs.Models.{PassModel}
 use Rattle.ell_ops.specs.KeySet.{set_of}
 use Rattle.ell_cards.specs.Changes.{ledger_keys, left_view, right_view}
 use Rattle.ell_cards.specs.Stepping.{MayHave}
 use Rattle.ell_cards.proofs.lemmas.lifetimes.Splits.{parts_share, owned_all, left_has, right_has}
-use Rattle.ell_cards.proofs.lemmas.runs.Reaching.{splits}
-use Rattle.ell_cards.proofs.lemmas.whole.Rests.{is_at_rest}
 use Rattle.ell_cards.proofs.table.CardTable.split.Goals as goal
 
 pub parted-requires-clause-among : goal.parted-requires-clause-among
@@ -13,11 +11,8 @@ parted-requires-clause-among g c =
     owned_all c.args.pass.view.worker.ledger c.as_slice.result.now c.args.left_keys.now
     (c.as_slice.ensures.value ∙ c.pass.invariant.0.owned ∙ ap (λ (m : PassModel). ledger_keys m.view.worker.ledger) c.pass.view_is) c.requires.owned
 
-pub split_as-requires-clause-rule : goal.split_as-requires-clause-rule
-split_as-requires-clause-rule g c = splits c.args.self.now.plan c.args.pass.view c.in-Ok.left.items c.requires.free (c.may_part.ensures.0 c.if-not-may_part.false)
-
-pub split_as-requires-clause-rests : goal.split_as-requires-clause-rests
-split_as-requires-clause-rests g c = (is_at_rest (left_view c.in-Ok.left.items c.args.pass.view) refl refl refl refl refl, is_at_rest (right_view c.in-Ok.left.items c.args.pass.view) refl refl refl refl refl)
+pub split_as-requires-clause-may : goal.split_as-requires-clause-may
+split_as-requires-clause-may g c = record { free = c.requires.free; may = c.may_part.ensures.0 c.if-not-may_part.false }
 
 pub split_as-requires-clause-shares : goal.split_as-requires-clause-shares
 split_as-requires-clause-shares g c = parts_share c.args.pass.view c.in-Ok.left.items

@@ -1,11 +1,13 @@
-use Rattle.std.proofs.Common.{◌≢◌, false, not, is_some, None, ap, ◌∙◌, sym, subst, arith}
+use Rattle.std.proofs.Common.{◌≢◌, ◌-◌, not, is_some, None, ap, ◌∙◌, sym, subst, arith}
 use Rattle.std.proofs.lemmas.Bool.{false≢true}
 use Rattle.atomic_table.specs.Table.{Me}
 use Rattle.ell_cards.specs.declared.view.Known.{Known}
 use Rattle.ell_cards.specs.Inside.{HasShare, PassFits, PlaceFits}
-use Rattle.ell_cards.specs.Models.{PassModel, TableModel}
+use Rattle.ell_cards.specs.Models.{PassModel, TableModel, given_share}
 use Rattle.ell_cards.specs.Periods.{whole_size}
-use Rattle.ell_cards.specs.Stepping.{MaySplit}
+use Rattle.ell_cards.specs.Changes.{left_view, right_view}
+use Rattle.ell_cards.specs.Shown.{shown}
+use Rattle.ell_cards.specs.Stepping.{MayHave, MaySplit}
 use Rattle.ell_cards.proofs.lemmas.seats.Opened.{of_table, own_size, part_fits}
 use Rattle.ell_cards.proofs.lemmas.whole.Handovers.{whole_splits}
 use Rattle.ell_cards.proofs.lemmas.whole.Places.{none_is, found_is, left_place_fits, right_place_fits, size_some}
@@ -18,36 +20,40 @@ split_seat-other-requires g c =
     let is = c.find_place-place.ensures in
     let key = c.self.inside.table.shared.key in
     let found = found_is _ _ _ _ c.pass.invariant.2.other is.taken is.lost in
-    let tree = is.tree ∙ ap (λ (m : PassModel). m.view) c.pass.view_is in
-    let rule = subst (λ (m : TableModel). MaySplit m.plan seat.me.0.tree g.J.SplitInto.left g.J.SplitInto.right) (sym c.self.view_is)
-    (subst (λ v. MaySplit c.args.self.now.plan v g.J.SplitInto.left g.J.SplitInto.right) (sym tree) c.requires.rule) in
+    let same = ap shown is.tree ∙ ap (λ (m : PassModel). m.view) c.pass.view_is in
+    let may = subst MaySplit (sym same) c.requires.may in
     let size = c.self.invariant.0 in
     let enough = size_some key in (
       is.seat.0 ∙ of_table _ _ _ _ c.self.view_is c.pass.view_is c.requires.own c.self.invariant.0 c.self.invariant.8,
       omega arith,
-      whole_splits key seat.me.0 g.J.SplitInto.left g.J.SplitInto.right c.requires.rests.0 c.requires.rests.1 found.quiet rule seat.id,
+      whole_splits key seat.me.0 g.J.SplitBy.keys found.quiet (record { free = may.free; may = may.may }) seat.id,
     )
 
 pub invariant_of-left : goal.invariant_of-left
 invariant_of-left g c =
     let is = c.find_place-place.ensures in
     let now = c.split_seat-other.ensures in
+    let tree = c.find_place-place.new.seat.me.0.tree in
+    let same = ap shown is.tree ∙ ap (λ (m : PassModel). m.view) c.pass.view_is in
     let words = ap (λ i. i.words) (now.0 ∙ is.seat.0) in
     let found = found_is _ _ _ _ c.pass.invariant.2.other is.taken is.lost in
     let shares = c.requires.shares c.pass.inside.share (subst (λ (p : PassModel). HasShare c.pass.inside.share p.view) c.pass.view_is c.pass.invariant.0.share) in (
-      subst (λ (m : Me (Unit {0}) Known). PassFits c.args.left.items c.parted.result.0 c.split_seat-other.new.seat.table_id.words m.0.tree) (sym now.2)
+      subst (λ (m : Me (Unit {0}) Known). PassFits c.args.left.items c.parted.result.0 c.split_seat-other.new.seat.table_id.words (shown m.0.tree)) (sym now.2)
           (part_fits _ _ _ _ c.self.view_is c.pass.view_is c.requires.own c.self.invariant.0 c.self.invariant.8 c.pass.inside.keys.items c.args.left.items c.pass.inside.share _ _
-          g.J.SplitInto.left c.pass.invariant.0 words
-          (subst (λ s. HasShare s g.J.SplitInto.left) (sym c.parted.ensures.left) (shares.0)) c.requires.left),
+          (shown (left_view g.J.SplitBy.keys tree)) c.pass.invariant.0 words
+          (subst (λ s. HasShare s (shown (left_view g.J.SplitBy.keys tree))) (sym c.parted.ensures.left) (subst (λ v. HasShare (record { units = c.pass.inside.share.units - given_share c.pass.inside.share.units; counts = c.pass.inside.share.counts }) (left_view g.J.SplitBy.keys v)) (sym same) shares.0))
+          (subst (λ v. MayHave c.args.pass.view c.args.left.items (left_view g.J.SplitBy.keys v)) (sym same) c.requires.left)),
       ap (λ (m : Me (Unit {0}) Known). m.1) now.2 ∙ is.seat.1,
-      subst (λ (m : Me (Unit {0}) Known). PlaceFits c.pass.inside.standing c.split_seat-other.new.seat.table_id.words m.0.period) (sym now.2)
-          (left_place_fits _ _ _ _ _ _ _ words found c.pass.invariant.2),
+      subst (λ (m : Me (Unit {0}) Known). PlaceFits c.parted-apart.new.self c.split_seat-other.new.seat.table_id.words m.0.period) (sym now.2)
+          (left_place_fits _ _ _ _ _ _ _ _ words found c.parted-apart.ensures.own c.pass.invariant.2),
     )
 
 pub invariant_of-right : goal.invariant_of-right
 invariant_of-right g c =
     let is = c.find_place-place.ensures in
     let now = c.split_seat-other.ensures in
+    let tree = c.find_place-place.new.seat.me.0.tree in
+    let same = ap shown is.tree ∙ ap (λ (m : PassModel). m.view) c.pass.view_is in
     let words = ap (λ i. i.words) (now.3 ∙ is.seat.0) in
     let found = found_is _ _ _ _ c.pass.invariant.2.other is.taken is.lost in
     let plan = c.args.self.now.plan in
@@ -58,11 +64,12 @@ invariant_of-right g c =
       | else-is_some-via-else-is_some w ↦ placed (sym (c.self.invariant.7 ∙ ap (λ (m : TableModel). m.plan.slots) c.self.view_is) ∙ none_is c.self.inside.slots (sym c.is_some.ensures ∙ w.if-is_some.false))
     ] in
     let shares = c.requires.shares c.pass.inside.share (subst (λ (p : PassModel). HasShare c.pass.inside.share p.view) c.pass.view_is c.pass.invariant.0.share) in (
-      subst (λ (m : Me (Unit {0}) Known). PassFits c.args.right.items c.parted.result.1 c.split_seat-other.result.table_id.words m.0.tree) (sym now.4)
+      subst (λ (m : Me (Unit {0}) Known). PassFits c.args.right.items c.parted.result.1 c.split_seat-other.result.table_id.words (shown m.0.tree)) (sym now.4)
           (part_fits _ _ _ _ c.self.view_is c.pass.view_is c.requires.own c.self.invariant.0 c.self.invariant.8 c.pass.inside.keys.items c.args.right.items c.pass.inside.share _ _
-          g.J.SplitInto.right c.pass.invariant.0 words
-          (subst (λ s. HasShare s g.J.SplitInto.right) (sym c.parted.ensures.right) (shares.1)) c.requires.right),
+          (shown (right_view g.J.SplitBy.keys tree)) c.pass.invariant.0 words
+          (subst (λ s. HasShare s (shown (right_view g.J.SplitBy.keys tree))) (sym c.parted.ensures.right) (subst (λ v. HasShare (record { units = given_share c.pass.inside.share.units; counts = c.pass.inside.share.counts }) (right_view g.J.SplitBy.keys v)) (sym same) shares.1))
+          (subst (λ v. MayHave c.args.pass.view c.args.right.items (right_view g.J.SplitBy.keys v)) (sym same) c.requires.right)),
       ap (λ (m : Me (Unit {0}) Known). m.1) now.4,
-      subst (λ (m : Me (Unit {0}) Known). PlaceFits (record { place = c.find_place-place.result; announces = false }) c.split_seat-other.result.table_id.words m.0.period) (sym now.4)
-          (right_place_fits plan.slots plan.last_card _ _ _ _ size found each),
+      subst (λ (m : Me (Unit {0}) Known). PlaceFits c.parted-apart.result c.split_seat-other.result.table_id.words m.0.period) (sym now.4)
+          (right_place_fits _ plan.slots plan.last_card _ _ _ _ size found each c.parted-apart.ensures.given),
     )

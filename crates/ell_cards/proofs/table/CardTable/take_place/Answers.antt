@@ -1,4 +1,5 @@
-use Rattle.ell_cards.proofs.lemmas.whole.Steps.{takes_any, found_free, found_taken}
+use Rattle.ell_cards.proofs.lemmas.whole.Going.{takes_any}
+use Rattle.ell_cards.proofs.lemmas.whole.Steps.{found_free, found_taken}
 use Rattle.ell_cards.proofs.table.CardTable.take_place.Goals as goal
 
 pub period_exchange-requires-clause-rule : goal.period_exchange-requires-clause-rule

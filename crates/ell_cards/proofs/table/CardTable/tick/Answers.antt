@@ -1,7 +1,7 @@
 use Rattle.std.proofs.Common.{◌≡◌, ◌+◌, ◌==◌, sym, subst}
 use prog.Atomic.{either}
 use Rattle.ell_cards.specs.Stepping.{MayGoOn}
-use Rattle.ell_cards.proofs.lemmas.whole.Steps.{tick_goes_on}
+use Rattle.ell_cards.proofs.lemmas.whole.Going.{tick_goes_on}
 use Rattle.ell_cards.proofs.table.CardTable.tick.Goals as goal
 
 pub period_exchange-requires-clause-rule : goal.period_exchange-requires-clause-rule

@@ -1,0 +1,28 @@
+-- words that are cut, and the links in them
+pub mod CutWords
+-- entries that were told
+pub mod ShownTold
+-- words of the card in hand
+pub mod ShownWords
+-- calls that begin, end, and read
+pub mod ShownSearches
+-- calls that claim, store and exchange
+pub mod ShownChanges
+-- all calls
+pub mod ShownSteps
+-- what calls ask
+pub mod ShownGuards
+-- calls that may be made
+pub mod ShownCalls
+-- what was stored of the card in hand
+pub mod ShownStores
+-- what calls tell
+pub mod ShownTellings
+-- what contracts say of passes
+pub mod ShownViews
+-- nodes that are dead by it
+pub mod ShownDead
+-- what calls do to the words of a table
+pub mod ShownActs
+-- which calls can be shown
+pub mod ShownKinds

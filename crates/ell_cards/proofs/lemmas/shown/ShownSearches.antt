@@ -1,0 +1,166 @@
+-- What is shown of what a pass knows after calls that begin, end, and read.
+use Rattle.std.proofs.Common.{◌≡◌, ℕ, ◌+◌, ◌++◌, if◌then◌else◌, map, Bool, true, Option, Some, None, List, [], ◌∷◌, refl, sym, ap, ◌∙◌, unwrap_or}
+use Rattle.std.specs.Option.{option_map}
+use Rattle.ell_ops.specs.declared.op.Op.{Op}
+use Rattle.ell_ops.specs.declared.op.Op.TheVariants.{Insert, Delete, Swap}
+use Rattle.ell_ops.specs.declared.reply.Reply.{Reply}
+use Rattle.ell_ops.specs.Meaning.{greatest_key}
+use Rattle.ell_word.specs.declared.update.State.{State}
+use Rattle.ell_word.specs.declared.update.State.TheVariants as state
+use Rattle.ell_word.specs.Word.{unpacked}
+use Rattle.ell_layout.specs.declared.field.Field.{Field}
+use Rattle.ell_layout.specs.declared.field.Field.TheVariants as field
+use Rattle.ell_core.specs.declared.view.Seen.{Seen}
+use Rattle.ell_core.specs.acts.Searching.{gone_down}
+use Rattle.ell_cards.specs.declared.call.Call.TheVariants as call
+use Rattle.ell_cards.specs.declared.glance.Glance.{Glance}
+use Rattle.ell_cards.specs.declared.glance.Stretch.{Stretch}
+use Rattle.ell_cards.specs.declared.view.Told.{Told}
+use Rattle.ell_cards.specs.declared.view.Told.TheVariants.{Info, Expects, Frozen}
+use Rattle.ell_cards.specs.declared.view.View.{View}
+use Rattle.ell_cards.specs.Depths.{met_at}
+use Rattle.ell_cards.specs.Changes.{counted, forgotten, way_now, in_the_way, read_in_way, first_in_way, was_hindered, tries_hindered, given_up, at_rest, answered_ledger, answered_so, with_answer, after_begin, after_again, after_leave, after_answer, after_upd, places_by, told_info, depth_there, knows_delete}
+use Rattle.ell_cards.specs.Calls.{after}
+use Rattle.ell_cards.specs.Shown.{IsWord, cut_word, shown_seen, shown_told, shown, FieldIsWhole}
+use Rattle.ell_cards.proofs.lemmas.shown.CutWords.{cut_node, cut_tag_in, cut_same}
+use Rattle.ell_cards.proofs.lemmas.shown.ShownTold.{depth_shown, under_shown, taken_shown}
+
+-- what a search has read in the way is shown as it is
+read_shown : (o : Option Seen) → read_in_way (option_map shown_seen o) ≡ read_in_way o
+read_shown None = refl
+read_shown (Some seen) = refl
+
+way_for : (op : Option Op) (node : Option ℕ) (parent above : Option Seen)
+    → in_the_way op node (option_map shown_seen parent) (option_map shown_seen above) ≡ in_the_way op node parent above
+way_for (Some (Insert k value)) (Some x) parent above = read_shown parent
+way_for (Some (Swap k was value)) (Some x) parent above = read_shown parent
+way_for (Some (Delete k)) (Some x) parent above = λ t. first_in_way (read_shown above t) (read_shown parent t)
+way_for _ _ parent above = refl
+
+pub way_shown : (v : View) → way_now (shown v) ≡ way_now v
+way_shown v = way_for v.worker.operation v.worker.search.node v.worker.search.parent v.worker.search.grandparent
+
+-- so is how many tries something hindered
+pub tries_shown : (v : View) → tries_hindered (shown v) ≡ tries_hindered v
+tries_shown v = ap (λ way. v.hindered + (if was_hindered v.worker.knows (way ++ v.met) then 1 else 0)) (way_shown v)
+
+given_up_shown : (v : View) → shown (given_up v) ≡ given_up (shown v)
+given_up_shown v =
+    ap (λ way. record (shown v) {
+      hindrances = way ++ v.hindrances;
+      hindered = v.hindered + (if was_hindered v.worker.knows (way ++ v.met) then 1 else 0);
+    }) (sym (way_shown v))
+
+-- again, leave and answer
+pub again_shown : (v : View) → shown (after_again v) ≡ after_again (shown v)
+again_shown v = ap (after_begin v.worker.operation) (given_up_shown v)
+
+pub leave_shown : (v : View) → shown (after_leave v) ≡ after_leave (shown v)
+leave_shown v =
+    ap (λ w. counted (record (at_rest v.worker.ledger w) { laid_down = v.worker.operation })) (given_up_shown v)
+
+pub answer_shown : (said : Reply) (v : View) → shown (after_answer said v) ≡ after_answer said (shown v)
+answer_shown said v =
+    ap (λ took. counted (record (at_rest (answered_ledger v.worker.operation said v.worker.ledger) (shown v)) {
+      answered = answered_so v.worker.operation v.worker.card said took;
+      answers = with_answer v.worker.operation said took v.answers;
+    })) (sym (taken_shown v.worker.operation v.worker.card said v.told))
+
+-- what an update tells has no tag
+pub places_shown : (x : ℕ) (s : State) (c : ℕ) (told : List Told)
+    → map shown_told (places_by x s c told) ≡ places_by x s c (map shown_told told)
+places_shown x state.IFlag c told = refl
+places_shown x state.DFlag c told = refl
+places_shown x state.Mark c told = refl
+places_shown x state.Clean c told = refl
+
+-- upd and down
+pub upd_shown : (x n : ℕ) (v : View) → IsWord n → shown (after (call.Upd x) n v) ≡ after (call.Upd x) (cut_word n) (shown v)
+upd_shown x n v whole =
+    ap (λ told. record (after_upd x (unpacked n) (shown v)) { told = told })
+    (places_shown x (unpacked n).state (unpacked n).card v.told)
+    ∙ ap (λ m. after_upd x (unpacked m) (shown v)) (sym (cut_same n whole))
+
+pub down_shown : (x : ℕ) (right : Bool) (n : ℕ) (v : View)
+    → shown (after (call.Down x right) n v) ≡ after (call.Down x right) (cut_word n) (shown v)
+down_shown x right n v = λ t. down_to (sym (cut_node n) t) (sym (cut_tag_in n) t) (sym (depth_shown v.told x) t)
+  where
+    down_to : ℕ → ℕ → ℕ → View
+    down_to node tag depth = counted (record (shown v) {
+      worker = record ((shown v).worker) {
+        search = gone_down (shown v).worker.search
+            (record { node = x; word = unwrap_or v.worker.search.read 0; tag = tag }) node;
+      };
+      told = met_at (depth + 1) node (shown v).told;
+      here = None;
+    })
+
+-- next, key_of and value_of
+pub next_shown : (n : ℕ) (v : View) → IsWord n → shown (after call.Next n v) ≡ after call.Next (cut_word n) (shown v)
+next_shown n v whole = ap (λ m. after call.Next m (shown v)) (sym (cut_same n whole))
+
+pub key_of_shown : (x n : ℕ) (v : View) → IsWord n
+    → shown (after (call.KeyOf x) n v) ≡ after (call.KeyOf x) (cut_word n) (shown v)
+key_of_shown x n v whole = ap (λ m. after (call.KeyOf x) m (shown v)) (sym (cut_same n whole))
+
+pub value_of_shown : (x n : ℕ) (v : View) → IsWord n
+    → shown (after (call.ValueOf x) n v) ≡ after (call.ValueOf x) (cut_word n) (shown v)
+value_of_shown x n v whole = ap (λ m. after (call.ValueOf x) m (shown v)) (sym (cut_same n whole))
+
+-- info
+depth_of_word : (v : View) (c : ℕ) (f : Field) → depth_there (shown v) c f ≡ depth_there v c f
+depth_of_word v c field.P = ap (λ d. if knows_delete v.worker.knows c then d else 0) (under_shown c v.told v.told)
+depth_of_word v c _ = refl
+
+info_told : (depth c : ℕ) (f : Field) (n : ℕ) (told : List Told) → FieldIsWhole f n
+    → map shown_told (told_info depth c f n told) ≡ told_info depth c f (cut_word n) (map shown_told told)
+info_told depth c field.L n told whole =
+    λ t. Info c field.L (sym (cut_node n) t) ∷ Expects c (sym (cut_tag_in n) t) ∷ map shown_told told
+info_told depth c field.Left n told whole = λ t. Info c field.Left (sym (cut_node n) t) ∷ map shown_told told
+info_told depth c field.Right n told whole = λ t. Info c field.Right (sym (cut_node n) t) ∷ map shown_told told
+info_told depth c field.Gp n told whole = λ t. told_info depth c field.Gp (sym (cut_same n whole) t) (map shown_told told)
+info_told depth c field.P n told whole = λ t. told_info depth c field.P (sym (cut_same n whole) t) (map shown_told told)
+info_told depth c field.Was n told whole = λ t. Info c field.Was (sym (cut_same n whole) t) ∷ map shown_told told
+info_told depth c field.Key n told whole = λ t. Info c field.Key (sym (cut_same n whole) t) ∷ map shown_told told
+info_told depth c field.Update n told whole = λ t. Info c field.Update (sym (cut_same n whole) t) ∷ map shown_told told
+info_told depth c field.LeftLeafKey n told whole = λ t. Info c field.LeftLeafKey (sym (cut_same n whole) t) ∷ map shown_told told
+info_told depth c field.RightLeafKey n told whole = λ t. Info c field.RightLeafKey (sym (cut_same n whole) t) ∷ map shown_told told
+info_told depth c field.LeftValue n told whole = λ t. Info c field.LeftValue (sym (cut_same n whole) t) ∷ map shown_told told
+info_told depth c field.RightValue n told whole = λ t. Info c field.RightValue (sym (cut_same n whole) t) ∷ map shown_told told
+
+pub info_shown : (c : ℕ) (f : Field) (n : ℕ) (v : View) → FieldIsWhole f n
+    → shown (after (call.Info c f) n v) ≡ after (call.Info c f) (cut_word n) (shown v)
+info_shown c f n v whole =
+    ap (λ told. record (shown v) { told = told; made = v.made + 1 })
+    (info_told (depth_there v c f) c f n v.told whole
+    ∙ ap (λ depth. told_info depth c f (cut_word n) (map shown_told v.told)) (sym (depth_of_word v c f)))
+
+-- frozen_child
+pub frozen_child_shown : (c p : ℕ) (right : Bool) (n : ℕ) (v : View)
+    → shown (after (call.FrozenChild c p right) n v) ≡ after (call.FrozenChild c p right) (cut_word n) (shown v)
+frozen_child_shown c p right n v = λ t. told_of (sym (cut_node n) t) (sym (depth_shown v.told p) t)
+  where
+    told_of : ℕ → ℕ → View
+    told_of node depth =
+        record (shown v) { told = Frozen c right node ∷ met_at (depth + 1) node (shown v).told; made = v.made + 1 }
+
+-- look and look_down
+pub look_shown : (n : ℕ) (v : View) → shown (after call.Look n v) ≡ after call.Look (cut_word n) (shown v)
+look_shown n v = ap at (sym (cut_node n))
+  where
+    at : ℕ → View
+    at node = counted (record (shown v) {
+      told = met_at 1 node forgotten;
+      glances = record { node = node; low = 0; high = greatest_key + 1; whole = true } ∷ [];
+      looks = v.looks + 1;
+    })
+
+pub look_down_shown : (from : Glance) (to : Stretch) (right : Bool) (n : ℕ) (v : View)
+    → shown (after (call.LookDown from to right) n v) ≡ after (call.LookDown from to right) (cut_word n) (shown v)
+look_down_shown from to right n v = λ t. at (sym (cut_node n) t) (sym (depth_shown v.told from.node) t)
+  where
+    at : ℕ → ℕ → View
+    at node depth = counted (record (shown v) {
+      told = met_at (depth + 1) node (shown v).told;
+      glances = record { node = node; low = to.low; high = to.high; whole = to.whole } ∷ v.glances;
+    })

@@ -1,0 +1,27 @@
+-- which cards have won their flag after a call
+pub mod Winning
+-- the words that calls touch
+pub mod Touched
+-- memory after a call
+pub mod Calls
+-- so a call keeps memory tied
+pub mod Keeping
+-- memory where passes know something else
+pub mod Views
+-- splits and joins
+pub mod Handovers
+-- memory as a table opens
+pub mod Opens
+-- memory after a step on the words of periods
+pub mod Periods
+-- and where a slot is taken
+pub mod Taking
+pub mod TakingSlots
+-- or a card lies in its slot already
+pub mod Owning
+-- cards that lie in their slots at once are few
+pub mod Few
+-- who wins a child exchange knows it, and some pass does from there on
+pub mod Known
+-- child exchanges expect links that are near those in the tree
+pub mod Near

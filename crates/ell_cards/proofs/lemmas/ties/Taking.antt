@@ -1,0 +1,129 @@
+-- Memory stays tied to its tree where a pass takes a slot for its card in hand, in which a card lies that is dead, and was dead for each
+-- pass that is in a period.
+use Rattle.std.proofs.Common.{◌≡◌, ◌≢◌, ◌*◌, ◌<◌, ◌≤◌, ℕ, inl, inr, Bool, true, false, Some, List, length, get_or, set, sym, ap, ◌∙◌, subst, ⊎_elim, arith, true≢false, get_or-set_same, get_or-set_other}
+use Rattle.std.proofs.lemmas.Bool.{cases_eq}
+use mathlib.Core.Option.{some, some-injective}
+use mathlib.Core.Option.{Option as Maybe}
+use lib.ListN.{get_elem?}
+use Rattle.atomic_table.proofs.Lists.{at_set}
+use Rattle.ell_layout.specs.declared.field.Field.{Field}
+use Rattle.ell_layout.specs.Layout.{address, table_size}
+use Rattle.ell_layout.proofs.lemmas.Listed.{address_in_table}
+use Rattle.ell_core.specs.history.Stages.{Stages}
+use Rattle.ell_cards.specs.declared.view.Known.{Known}
+use Rattle.ell_cards.specs.declared.view.Period.{Period}
+use Rattle.ell_cards.specs.declared.view.Slots.{Slots}
+use Rattle.ell_cards.specs.Periods.{WholeState, slot_word, card_in}
+use Rattle.ell_cards.specs.Shown.{cut_word}
+use Rattle.ell_cards.specs.SlotWords.{slot_of, turn_of, card_by}
+use Rattle.ell_cards.specs.States.{TableState}
+use Rattle.ell_cards.specs.Ties.{LiesThere, HasWon, HoldsWaiting, HasStored, IsKept, IsTied}
+use Rattle.ell_cards.specs.Ties.IsKept.{won, stored}
+use Rattle.ell_cards.proofs.lemmas.runs.Met.{some_same}
+use Rattle.ell_cards.proofs.lemmas.whole.Seats.{before_clock, clock_before_slots}
+use Rattle.ell_cards.proofs.lemmas.whole.Slots.{taken_turn}
+use Rattle.ell_cards.proofs.lemmas.ties.Periods.{kept_of_period}
+
+module _ (s : Slots) (low : s.last < 2097152) (tree : TableState) (t : WholeState) (stage : Stages) (dead : ℕ → Bool) (was_dead : ℕ → ℕ → Bool)
+    (tied : IsTied s tree t stage dead was_dead) (id : ℕ) (k : Known) (here : get_elem? t.views id ≡ some k)
+    (c : ℕ) (inside : slot_of c ≤ s.last) (small : turn_of c < 1048576) (waits : HoldsWaiting k.tree c) (unwon : ¬ HasWon stage c) (claimed : c < get_or t.words 0 0)
+    (p : Period) (place : p.place ≡ k.period.place) (announced : p.announced ≡ k.period.announced) (taken : p.slot ≡ Some c)
+    (room : slot_word s (slot_of c) < length t.words) (gone : dead (card_in s t.words (slot_of c)) ≡ true)
+    (was_gone : (seat q a : ℕ) (u : Known) → get_elem? t.views seat ≡ some u → u.period.place ≡ Some q → u.period.announced ≡ Some a
+    → was_dead q (card_in s t.words (slot_of c)) ≡ true)
+    (root : dead 0 ≡ false) (hands : (seat d : ℕ) (u : Known) → get_elem? t.views seat ≡ some u → HoldsWaiting u.tree d → dead d ≡ false)
+    (one : (seat : ℕ) (u : Known) → get_elem? t.views seat ≡ some u → u.tree.worker.card ≡ Some c → seat ≡ id) where
+  abbrev slot : ℕ
+  slot = slot_of c
+
+  abbrev old : ℕ
+  old = card_in s t.words slot
+
+  abbrev words : List ℕ
+  words = set t.words (slot_word s slot) (8 * turn_of c)
+
+  abbrev now : Known
+  now = record { tree = k.tree; period = p }
+
+  -- the words of slots beside the slot's own are as they were
+  slots_stay : (i : ℕ) → i < table_size s.last → get_or words i 0 ≡ get_or t.words i 0
+  slots_stay i below = get_or-set_other t.words (slot_word s slot) i (8 * turn_of c) 0
+      (λ e. (let before = before_clock s i below in let behind = clock_before_slots s slot in omega arith))
+
+  card_now : card_in s words slot ≡ c
+  card_now =
+      ap (card_by slot) (get_or-set_same t.words (slot_word s slot) (8 * turn_of c) 0 room) ∙ (let turn = taken_turn (turn_of c) small in omega arith)
+
+  card_else : (other : ℕ) → other ≢ slot → card_in s words other ≡ card_in s t.words other
+  card_else other apart = ap (card_by other) (get_or-set_other t.words (slot_word s slot) (slot_word s other) (8 * turn_of c) 0 (λ e. apart (omega arith)))
+
+  -- so each card lies where it lay, but for that which is dead
+  lies_on : (d : ℕ) → d ≢ old → LiesThere s t.words d → LiesThere s words d
+  lies_on d other lies = (lies.0, card_else (slot_of d) (λ e. other (sym lies.1 ∙ ap (card_in s t.words) e)) ∙ lies.1)
+
+  alive_not : (d : ℕ) → dead d ≡ false → d ≢ old
+  alive_not d lives e = true≢false (sym gone ∙ (ap dead (sym e) ∙ lives))
+
+  -- the pass had taken no slot for its card
+  untaken : k.period.slot ≢ Some c
+  untaken has = alive_not c (hands id c k here waits) (sym (tied.hand id c k here has waits).1)
+
+  -- so nothing of it is kept
+  none_kept : (f : Field) → IsKept stage (set t.views id now) c f → ⊥
+  none_kept f kept = by (kept_of_period stage t.views id k here p c f kept)
+    where
+      by : IsKept stage t.views c f → ⊥
+      by (won has) = unwon has
+      by (stored seat u at waits' has) =
+          let same = one seat u at waits'.0 in
+          untaken (own u (ap (get_elem? t.views) (sym same) ∙ at) waits' has)
+        where
+          own : (u : Known) → get_elem? t.views id ≡ some u → HoldsWaiting u.tree c → HasStored u.tree f → k.period.slot ≡ Some c
+          own u at waits' has = tied.stores id c f k here waits (subst (λ (x : Known). HasStored x.tree f) (some-injective u k (sym at ∙ here)) has)
+
+  at_slot : (other : ℕ) (f : Field) → other ≤ s.last → IsKept stage (set t.views id now) (card_in s words other) f
+      → get_or words (address other f) 0 ≡ cut_word (get_or tree.words (address (card_in s words other) f) 0)
+  at_slot other f below kept = elim (cases_eq other slot) [
+    | inl same ↦ absurd (none_kept f (subst (λ e. IsKept stage (set t.views id now) e f) (ap (card_in s words) same ∙ card_now) kept))
+    | inr apart ↦
+        let is = card_else other apart in
+        slots_stay (address other f) (address_in_table s.last other f below).1
+        ∙ (tied.at other f below (subst (λ e. IsKept stage t.views e f) is (kept_of_period stage t.views id k here p (card_in s words other) f kept))
+        ∙ ap (λ e. cut_word (get_or tree.words (address e f) 0)) (sym is))
+  ]
+
+  lives_not : (seat q a d : ℕ) (u : Known) → get_elem? t.views seat ≡ some u → u.period.place ≡ Some q → u.period.announced ≡ Some a → was_dead q d ≡ false → d ≢ old
+  lives_not seat q a d u at placed an lives e = true≢false (sym (was_gone seat q a u at placed an) ∙ (ap (was_dead q) (sym e) ∙ lives))
+
+  -- the card in hand lies in the slot
+  lies_now : LiesThere s words c
+  lies_now = (inside, card_now)
+
+  pub tie_of_taken : (homes : List (Maybe (Unit {0}))) → IsTied s tree (record { words = words; homes = homes; views = set t.views id now }) stage dead was_dead
+  tie_of_taken homes = record {
+    claim = slots_stay 0 (omega arith) ∙ tied.claim;
+    flat = slots_stay 1 (omega arith) ∙ tied.flat;
+    root = card_else 0 (λ e. alive_not 0 root (sym tied.root ∙ ap (card_in s t.words) e)) ∙ tied.root;
+    at = at_slot;
+    alive = λ d has lives. lies_on d (alive_not d lives) (tied.alive d has lives);
+    lives = λ seat q a d u at placed an has lives. ⊎_elim
+        (λ (e : (seat ≡ id) × (now ≡ u)).
+        let placed' = sym place ∙ (ap (λ (x : Known). x.period.place) e.1 ∙ placed) in
+        let an' = sym announced ∙ (ap (λ (x : Known). x.period.announced) e.1 ∙ an) in
+        lies_on d (lives_not id q a d k here placed' an' lives) (tied.lives id q a d k here placed' an' has lives))
+        (λ (e : (seat ≢ id) × (get_elem? t.views seat ≡ some u)). lies_on d (lives_not seat q a d u e.1 placed an lives) (tied.lives seat q a d u e.1 placed an has lives))
+        (at_set t.views id seat now u at);
+    hand = λ seat d u at slot waits. ⊎_elim
+        (λ (e : (seat ≡ id) × (now ≡ u)). subst (LiesThere s words) (some_same (sym taken ∙ (ap (λ (x : Known). x.period.slot) e.1 ∙ slot))) lies_now)
+        (λ (e : (seat ≢ id) × (get_elem? t.views seat ≡ some u)). lies_on d (alive_not d (hands seat d u e.1 waits)) (tied.hand seat d u e.1 slot waits))
+        (at_set t.views id seat now u at);
+    past = λ seat d u at slot. subst (λ n. d < n) (sym (slots_stay 0 (omega arith))) (⊎_elim
+        (λ (e : (seat ≡ id) × (now ≡ u)). subst (λ x. x < get_or t.words 0 0) (some_same (sym taken ∙ (ap (λ (x : Known). x.period.slot) e.1 ∙ slot))) claimed)
+        (λ (e : (seat ≢ id) × (get_elem? t.views seat ≡ some u)). tied.past seat d u e.1 slot)
+        (at_set t.views id seat now u at));
+    stores = λ seat d f u at waits' has. ⊎_elim
+        (λ (e : (seat ≡ id) × (now ≡ u)). sym (ap (λ (x : Known). x.period.slot) e.1) ∙ (taken
+        ∙ (sym waits.0 ∙ (ap (λ (x : Known). x.tree.worker.card) e.1 ∙ waits'.0))))
+        (λ (e : (seat ≢ id) × (get_elem? t.views seat ≡ some u)). tied.stores seat d f u e.1 waits' has)
+        (at_set t.views id seat now u at);
+  }

@@ -1,0 +1,128 @@
+-- A pass that takes a slot for its card in hand keeps memory tied: that card waits, so it is not dead, and nobody else has it in hand.
+use Rattle.std.proofs.Common.{◌≡◌, ◌+◌, ◌*◌, ◌<◌, ◌≤◌, ℕ, zero, suc, inl, inr, Bool, true, false, Some, None, List, get_or, set, refl, sym, ap, ◌∙◌, subst, arith, true≢false, get_or-set_same, get_or-set_other}
+use Rattle.std.proofs.lemmas.Bool.{cases_eq, false≢true}
+use mathlib.Core.Option.{some}
+use lib.ListN.{get_elem?}
+use Rattle.ell_core.proofs.lemmas.following.waiting.Cards.{hand_waits, one_hand}
+use Rattle.ell_core.proofs.lemmas.outcomes.Decide.{some_not_none}
+use Rattle.ell_core.proofs.lemmas.stages.Waiting.{waits-claimed}
+use Rattle.ell_core.specs.history.Stages.{Stage, is_start, waits}
+use Rattle.ell_core.specs.state.Machine.{Worker, worker_of}
+use Rattle.ell_core.specs.statements.Since.{has_ended}
+use Rattle.ell_core.specs.statements.Waiting.{IsUnflagged}
+use Rattle.ell_grace.specs.Dead.{IsDead}
+use Rattle.ell_grace.specs.Gone.{HasOuts}
+use Rattle.ell_cards.specs.Laws.{machine_of_table}
+use Rattle.ell_grace.proofs.lemmas.dead.Out.{dead_ended}
+use Rattle.ell_cards.specs.declared.view.Known.{Known}
+use Rattle.ell_cards.specs.declared.view.Period.{Period}
+use Rattle.ell_cards.specs.declared.view.View.{View}
+use Rattle.ell_cards.specs.Ages.{AreDead}
+use Rattle.ell_cards.specs.Machines.{HasMachine}
+use Rattle.ell_cards.specs.Models.{TablePlan}
+use Rattle.ell_cards.specs.Periods.{slot_word, card_in}
+use Rattle.ell_cards.specs.SlotWords.{slot_of, turn_of, card_by, is_noted}
+use Rattle.ell_cards.specs.States.{TableState, seat_worker}
+use Rattle.ell_cards.specs.Ties.{HoldsWaiting, TakesKeepTies}
+use Rattle.ell_cards.proofs.lemmas.seats.Seats.{machine, mine_is, mine_sound}
+use Rattle.ell_cards.proofs.lemmas.whole.Ages.{ages_of_period}
+use Rattle.ell_cards.proofs.lemmas.whole.Trees.{tree_at}
+use Rattle.ell_cards.proofs.lemmas.whole.Untouched.{root_lives}
+use Rattle.ell_cards.proofs.lemmas.ties.Taking.{tie_of_taken}
+
+waits_unended : (s : Stage) → waits s ≡ true → has_ended s ≡ false
+waits_unended s h = grind arith
+
+waits_unstarted : (s : Stage) → waits s ≡ true → is_start s ≡ false
+waits_unstarted s h = grind arith
+
+-- what is not true is false
+false_where_not : (b : Bool) → (b ≡ true → ⊥) → b ≡ false
+false_where_not true none = absurd (none refl)
+false_where_not false none = refl
+
+-- the word of a slot that was just taken notes nothing
+none_noted : (turn k : ℕ) → is_noted (8 * turn) k ≡ true → ⊥
+none_noted turn zero is = grind arith
+none_noted turn (suc zero) is = grind arith
+none_noted turn (suc (suc zero)) is = grind arith
+none_noted turn (suc (suc (suc k))) is = false≢true is
+
+-- a card in hand that is not flagged waits, and is not dead
+module _ (plan : TablePlan) (tree : TableState) (dead : ℕ → Bool) (now : AreDead plan tree dead) (seat : ℕ) (v : View) (there : get_elem? tree.views seat ≡ some v)
+    (d : ℕ) (h : HoldsWaiting v d) where
+  pub hand_is_waiting : waits (now.machine.stages d) ≡ true
+  hand_is_waiting = hand_waits now.machine.words now.machine.stages (worker_of v.worker) d (mine_sound plan tree now.machine seat v there) h.0 h.1
+
+  pub hand_is_alive : dead d ≡ false
+  hand_is_alive = false_where_not (dead d) (λ is. elim (dead_ended now.machine.words outs.stages outs.invariant.words now.uses.uses outs.outs d
+      (subst (IsDead now.machine.words outs.stages) (omega arith) (now.each d 0 (omega arith) is))) [
+        | inl start ↦ false≢true (sym (waits_unstarted (outs.stages d) waiting) ∙ start)
+        | inr ended ↦ false≢true (sym (waits_unended (outs.stages d) waiting) ∙ ended)
+      ])
+    where
+      outs : HasOuts (machine_of_table plan tree now.machine)
+      outs = now.uses.outs
+
+      waiting : waits (outs.stages d) ≡ true
+      waiting =
+          let me = mine_is plan tree now.machine seat v there in
+          hand_waits now.machine.words outs.stages ((machine plan tree now.machine seat v there).worker seat) d (outs.invariant.workers.each seat)
+          (ap (λ (u : Worker). u.card) me ∙ h.0) (ap (λ (u : Worker). u.flagged) me ∙ h.1)
+
+pub takes_keep_ties : TakesKeepTies
+takes_keep_ties plan s tree t dead was_dead low size h same id k here c hand inside gone was_gone = record {
+  ages = ages_of_period plan s tree t id k here (record { tree = k.tree; period = p }) refl words dead dead was_dead was_dead h.ages
+      h.ages.now.each h.ages.still (λ q a at an. h.ages.since id q a k here at an) (λ j q a u other at placed an. refl)
+      noted (λ r has. absurd (some_not_none has refl));
+  tied = tie_of_taken s low tree t r.stages dead was_dead h.tied id k here c inside small hand
+      (λ won. true≢false (sym (hand_is_waiting plan tree dead h.ages.now id k.tree (sits id k here) c hand) ∙ won.1)) claimed p refl refl refl
+      (omega arith) gone was_gone (false_where_not (dead 0) (root_lives plan tree dead h.ages.now))
+      (λ seat d u at holds. hand_is_alive plan tree dead h.ages.now seat u.tree (sits seat u at) d holds) one t.homes;
+}
+  where
+    r : HasMachine plan tree
+    r = h.ages.now.machine
+
+    p : Period
+    p = record k.period { read = None; slot = Some c }
+
+    words : List ℕ
+    words = set t.words (slot_word s (slot_of c)) (8 * turn_of c)
+
+    sits : (seat : ℕ) (u : Known) → get_elem? t.views seat ≡ some u → get_elem? tree.views seat ≡ some u.tree
+    sits seat u at = ap (λ l. get_elem? l seat) (sym same) ∙ tree_at t.views seat u at
+
+    below : c < r.words.next
+    below = (r.invariant.words.cards c).claimed.0 (waits-claimed (r.stages c) (hand_is_waiting plan tree dead h.ages.now id k.tree (sits id k here) c hand))
+
+    claimed : c < get_or t.words 0 0
+    claimed =
+        let next : get_or tree.words 0 0 ≡ r.words.next = r.next in
+        let tie : get_or t.words 0 0 ≡ get_or tree.words 0 0 = h.tied.claim in
+        let low = below in
+        omega arith
+
+    small : turn_of c < 1048576
+    small = let few = r.invariant.limit in let limit = r.limit in let low = below in omega arith
+
+    one : (seat : ℕ) (u : Known) → get_elem? t.views seat ≡ some u → u.tree.worker.card ≡ Some c → seat ≡ id
+    one seat u at has =
+        let me = mine_is plan tree r id k.tree (sits id k here) in
+        let mine : IsUnflagged (machine plan tree r id k.tree (sits id k here)) id c = record {
+          holds = ap (λ (z : Worker). z.card) me ∙ hand.0;
+          unflagged = ap (λ (z : Worker). z.flagged) me ∙ hand.1;
+        } in
+        sym (one_hand (machine plan tree r id k.tree (sits id k here)) r.stages r.invariant id seat c mine
+        (ap (λ (z : Worker). z.card) (ap seat_worker (sits seat u at)) ∙ has))
+
+    noted : (slot i : ℕ) → slot ≤ s.last → is_noted (get_or words (slot_word s slot) 0) i ≡ true
+        → IsDead r.words h.ages.now.uses.outs.stages (4 * card_in s words slot + i)
+    noted slot i low is = elim (cases_eq slot (slot_of c)) [
+      | inl e ↦ absurd (none_noted (turn_of c) i (subst (λ n. is_noted n i ≡ true)
+          (ap (λ x. get_or words (slot_word s x) 0) e ∙ get_or-set_same t.words (slot_word s (slot_of c)) (8 * turn_of c) 0 (omega arith)) is))
+      | inr apart ↦
+          let stays = get_or-set_other t.words (slot_word s (slot_of c)) (slot_word s slot) (8 * turn_of c) 0 (λ e. apart (omega arith)) in
+          subst (λ n. IsDead r.words h.ages.now.uses.outs.stages (4 * card_by slot n + i)) (sym stays)
+          (h.ages.noted slot i low (subst (λ n. is_noted n i ≡ true) stays is))
+    ]

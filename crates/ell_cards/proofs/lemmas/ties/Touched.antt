@@ -1,0 +1,225 @@
+-- The word that a call touches is tied: it is one of the slots, its card lies there, and memory has there what is cut of what
+-- the tree has.
+use Rattle.std.proofs.Common.{◌≡◌, ◌≢◌, ◌⊎◌, ℕ, ◌%◌, ◌^◌, ◌<◌, inl, inr, Bool, true, false, Some, get_or, refl, sym, ap, ◌∙◌, subst, arith}
+use mathlib.Core.Option.{some}
+use lib.ListN.{get_elem?}
+use Rattle.ell_word.specs.Node.{card}
+use Rattle.ell_layout.specs.declared.field.Field.{Field}
+use Rattle.ell_layout.specs.declared.field.Field.TheVariants as field
+use Rattle.ell_layout.specs.Layout.{address, table_size}
+use Rattle.ell_layout.specs.Words.{key_field, value_field, child_field}
+use Rattle.ell_layout.proofs.lemmas.Listed.{address_in_table}
+use Rattle.ell_core.specs.declared.fact.Fact.TheVariants as fact
+use Rattle.ell_core.specs.history.Stages.{Stages, Born, is_start}
+use Rattle.ell_core.specs.state.Machine.{Worker}
+use Rattle.ell_grace.specs.Dead.{IsDead}
+use Rattle.ell_cards.specs.declared.call.Call.{Call}
+use Rattle.ell_cards.specs.declared.call.Call.TheVariants as call
+use Rattle.ell_cards.specs.declared.view.Known.{Known}
+use Rattle.ell_cards.specs.declared.view.Slots.{Slots}
+use Rattle.ell_cards.specs.declared.view.Told.TheVariants.{Met}
+use Rattle.ell_cards.specs.declared.view.View.{View}
+use Rattle.ell_cards.specs.Ages.{ForgotWhen}
+use Rattle.ell_cards.specs.Calls.{word_of, May}
+use Rattle.ell_cards.specs.Machines.{HasMachine}
+use Rattle.ell_cards.specs.Models.{TablePlan, IsTold, KnowsCard}
+use Rattle.ell_cards.specs.Periods.{WholeState, IsAtRest}
+use Rattle.ell_cards.specs.Shown.{cut_word}
+use Rattle.ell_cards.specs.SlotWords.{slot_of}
+use Rattle.ell_cards.specs.States.{TableState}
+use Rattle.ell_cards.specs.Ties.{slot_address, place_of, LiesThere, HasWon, IsTied, MayInMemory, card_touched, FindsTied, TouchesTied}
+use Rattle.ell_cards.specs.Ties.IsKept.{won}
+use Rattle.ell_cards.specs.Touching.{Touched, AtNode, OfCard, AtRoot, touched_by, IsTheRoots}
+use Rattle.ell_cards.specs.Turns.{found_by}
+use Rattle.ell_cards.proofs.lemmas.seats.Seats.{mine_is, mine_sound, relies, stands_born}
+use Rattle.ell_cards.proofs.lemmas.shown.CutWords.{cut_same}
+use Rattle.ell_cards.proofs.lemmas.stepping.Exchanges.{told_is}
+use Rattle.ell_cards.proofs.lemmas.stepping.Known.{insert_flagged, insert_changed, known_delete, delete_cut, delete_unmarkable}
+use Rattle.ell_cards.proofs.lemmas.runs.Alive.{calls_touch_no_dead_card}
+use Rattle.ell_cards.proofs.lemmas.whole.Rests.{rest_touches_the_root}
+use Rattle.ell_cards.proofs.lemmas.ties.Winning.{start_won, born_won, insert_is_won, delete_is_won, marked_is_won}
+
+-- the word of a call in the tree, and in memory: the claim word, or a field of the card that it touches
+abbrev pub IsSpot : ℕ → ℕ → ℕ → Type 0
+IsSpot d word place = ((d ≡ 0) × (word ≡ 0) × (place ≡ 0)) ⊎ ((f : Field) × (word ≡ address d f) × (place ≡ slot_address d f))
+
+pub spots : (c : Call) → IsSpot (card_touched (touched_by c)) (word_of c) (place_of c)
+spots (call.Upd x) = inr (field.Update, refl, refl)
+spots (call.Down x right) = inr (child_field right, refl, refl)
+spots (call.KeyOf x) = inr (key_field (x % 4), refl, refl)
+spots (call.ValueOf x) = inr (value_field (x % 4), refl, refl)
+spots (call.Info c f) = inr (f, refl, refl)
+spots (call.FrozenChild c p right) = inr (child_field right, refl, refl)
+spots (call.LookDown from to right) = inr (child_field right, refl, refl)
+spots (call.Fill c f value) = inr (f, refl, refl)
+spots (call.IFlag c p from) = inr (field.Update, refl, refl)
+spots (call.IChild c p l q right) = inr (child_field right, refl, refl)
+spots (call.IUnflag c p) = inr (field.Update, refl, refl)
+spots (call.DFlag c gp from) = inr (field.Update, refl, refl)
+spots (call.Mark c p was) = inr (field.Update, refl, refl)
+spots (call.DChild c gp p s right) = inr (child_field right, refl, refl)
+spots (call.DUnflag c gp) = inr (field.Update, refl, refl)
+spots (call.Backtrack c gp) = inr (field.Update, refl, refl)
+spots call.Next = inl (refl, refl, refl)
+spots (call.Claim c q) = inl (refl, refl, refl)
+spots call.Look = inr (child_field false, refl, refl)
+spots call.Rest = inr (key_field 0, refl, refl)
+spots (call.Begin op) = inr (key_field 0, refl, refl)
+spots call.Again = inr (key_field 0, refl, refl)
+spots call.Leave = inr (key_field 0, refl, refl)
+spots (call.Answer said) = inr (key_field 0, refl, refl)
+
+-- no field has the address of the claim word, nor of the one behind it
+pub no_claim : (c : ℕ) (f : Field) → address c f ≢ 0
+no_claim c f e = absurd (omega arith)
+
+pub no_flat : (c : ℕ) (f : Field) → address c f ≢ 1
+no_flat c f e = absurd (omega arith)
+
+-- the card that a call touches has won its flag, unless it is filled
+abbrev pub WonUnlessFilled : Stages → Call → Type 0
+WonUnlessFilled stage (call.Fill c f value) = Unit {0}
+WonUnlessFilled stage c = HasWon stage (card_touched (touched_by c))
+
+module _ (plan : TablePlan) (s : TableState) (r : HasMachine plan s) (id : ℕ) (v : View) (here : get_elem? s.views id ≡ some v) where
+  -- a node that came into the tree is of such a card
+  of_node : (x y : ℕ) → x ≡ y → Born r.stages x → HasWon r.stages (card y)
+  of_node x y same born = subst (λ z. HasWon r.stages (card z)) same (born_won (r.stages (card x)) (x % 4) born)
+
+  -- a node that was met
+  met : (x : ℕ) → IsTold v (Met x) → HasWon r.stages (card x)
+  met x told = of_node x x refl ((r.views id v here).entries (Met x) told)
+
+  -- a card that is known flagged or marked
+  known : (c : ℕ) → KnowsCard v c → HasWon r.stages c
+  known c (inl k) = insert_is_won (r.stages c) ((mine_sound plan s r id v here).facts (fact.IFlagged c) k)
+  known c (inr (inl k)) = delete_is_won (r.stages c) ((mine_sound plan s r id v here).facts (fact.DFlagged c) k)
+  known c (inr (inr k)) = marked_is_won (r.stages c) ((mine_sound plan s r id v here).facts (fact.Marked c) k)
+
+  root : HasWon r.stages 0
+  root = start_won (r.stages 0) (ap (λ st. is_start st) r.invariant.words.opening)
+
+  pub touched_won : (c : Call) → May plan c v → WonUnlessFilled r.stages c
+  touched_won (call.Upd x) may = of_node x x refl (stands_born plan s r id v here x may.stands)
+  touched_won (call.Down x right) may = of_node x x refl (stands_born plan s r id v here x may.stands)
+  touched_won (call.KeyOf x) may = met x may
+  touched_won (call.ValueOf x) may = met x may.0
+  touched_won (call.Info c f) may = known c may.knows
+  touched_won (call.FrozenChild c p right) may =
+      of_node (r.words.p c) p (told_is plan s r id v here c field.P p may.place) (known_delete plan s r id v here c (inr may.knows)).parent.born
+  touched_won (call.LookDown from to right) may = met from.node may.met
+  touched_won (call.Fill c f value) may = tt
+  touched_won (call.IFlag c p from) may =
+      let same = mine_is plan s r id v here in
+      of_node may.parent.node p may.node
+      ((relies plan s r id v here).parent may.leaf may.parent (ap (λ (z : Worker). z.search.node) same ∙ may.stands)
+      (ap (λ (z : Worker). z.search.parent) same ∙ may.behind)).node.born
+  touched_won (call.DFlag c gp from) may =
+      let same = mine_is plan s r id v here in
+      of_node may.grandparent.node gp may.node
+      ((relies plan s r id v here).grandparent may.leaf may.parent may.grandparent (ap (λ (z : Worker). z.search.node) same ∙ may.stands)
+      (ap (λ (z : Worker). z.search.parent) same ∙ may.behind) (ap (λ (z : Worker). z.search.grandparent) same ∙ may.above)).node.born
+  touched_won (call.IChild c p l q right) may =
+      of_node (r.words.p c) p (told_is plan s r id v here c field.P p may.parent) (insert_flagged plan s r id v here c may.knows).parent.born
+  touched_won (call.IUnflag c p) may =
+      of_node (r.words.p c) p (told_is plan s r id v here c field.P p may.place) (insert_changed plan s r id v here c may.knows).parent.born
+  touched_won (call.Mark c p was) may =
+      of_node (r.words.p c) p (told_is plan s r id v here c field.P p may.0.place) (known_delete plan s r id v here c (inl may.0.knows)).parent.born
+  touched_won (call.DChild c gp p y right) may =
+      of_node (r.words.gp c) gp (told_is plan s r id v here c field.Gp gp may.grandparent) (known_delete plan s r id v here c (inr may.knows)).grandparent.born
+  touched_won (call.DUnflag c gp) may =
+      of_node (r.words.gp c) gp (told_is plan s r id v here c field.Gp gp may.place) (delete_cut plan s r id v here c may.knows).grandparent.born
+  touched_won (call.Backtrack c gp) may =
+      of_node (r.words.gp c) gp (told_is plan s r id v here c field.Gp gp may.place) (delete_unmarkable plan s r id v here c may.knows).grandparent.born
+  touched_won _ may = root
+
+-- the claim word of a tree is one that memory holds whole
+pub claim_is_word : (plan : TablePlan) (s : TableState) → HasMachine plan s → get_or s.words 0 0 < 2 ^ 64
+claim_is_word plan s r = let is = r.next in let low = r.invariant.limit in let limit = r.limit in omega (arith, is, low, limit)
+
+-- a pass is at rest, or it is in a period, and forgot what it was told when that was dead which was so when the period began
+abbrev pub IsReady : (plan : TablePlan) → TableState → ℕ → Known → (ℕ → ℕ → Bool) → Type 0
+IsReady plan tree id k was_dead =
+    IsAtRest k.tree
+    ⊎ ((q : ℕ) × (a : ℕ) × (k.period.place ≡ Some q) × (k.period.announced ≡ Some a) × ForgotWhen plan tree id (was_dead q))
+
+-- what a pass at rest touches is the root's
+at_root : (x : Touched) → IsTheRoots x → card_touched x ≡ 0
+at_root (AtNode x) is = omega arith
+at_root (OfCard c) is = absurd is
+at_root AtRoot is = refl
+
+module _ (plan : TablePlan) (s : Slots) (tree : TableState) (t : WholeState) (r : HasMachine plan tree) (dead : ℕ → Bool) (was_dead : ℕ → ℕ → Bool)
+    (tied : IsTied s tree t r.stages dead was_dead) (id : ℕ) (k : Known) (here : get_elem? t.views id ≡ some k) (there : get_elem? tree.views id ≡ some k.tree)
+    (ready : IsReady plan tree id k was_dead) (c : Call) (may : May plan c k.tree) where
+  abbrev d : ℕ
+  d = card_touched (touched_by c)
+
+  root_lies : d ≡ 0 → LiesThere s t.words d
+  root_lies e = subst (LiesThere s t.words) (sym e) (omega arith, tied.root)
+
+  -- it was not dead when the pass's period began
+  was_alive : (q : ℕ) → ForgotWhen plan tree id (was_dead q) → (f : Field) → word_of c ≡ address d f → was_dead q d ≡ false
+  was_alive q forgot f is = by (was_dead q d) refl
+    where
+      by : (b : Bool) → was_dead q d ≡ b → b ≡ false
+      by false e = refl
+      by true e = absurd (calls_touch_no_dead_card plan forgot.from forgot.reached id forgot.call forgot.begun forgot.made forgot.anew forgot.were.machine forgot.were.uses
+          forgot.turns tree forgot.run k.tree there c may d f is (
+            subst (IsDead forgot.were.machine.words forgot.were.uses.outs.stages) (omega arith) (forgot.were.each d 0 (omega arith) e),
+            forgot.were.each d 1 (omega arith) e,
+            forgot.were.each d 2 (omega arith) e,
+          ))
+
+  -- so a card that has won its flag lies there
+  lies_won : HasWon r.stages d → LiesThere s t.words d
+  lies_won has = elim (spots c) [
+    | inl claim ↦ root_lies claim.0
+    | inr spot ↦ elim ready [
+      | inl rest ↦ root_lies (at_root (touched_by c) (rest_touches_the_root plan k.tree rest c may))
+      | inr in_period ↦ tied.lives id in_period.0 in_period.1 d k here in_period.2 in_period.3 has (was_alive in_period.0 in_period.4 spot.0 spot.1)
+    ]
+  ]
+
+  -- and what it says is there
+  finds_won : HasWon r.stages d → get_or t.words (place_of c) 0 ≡ cut_word (found_by tree c)
+  finds_won has = elim (spots c) [
+    | inl claim ↦ ap (λ i. get_or t.words i 0) claim.2 ∙ (tied.claim ∙ (sym (cut_same (get_or tree.words 0 0) (claim_is_word plan tree r))
+        ∙ ap (λ i. cut_word (get_or tree.words i 0)) (sym claim.1)))
+    | inr spot ↦
+        let lies = lies_won has in
+        ap (λ i. get_or t.words i 0) spot.2
+        ∙ (tied.at (slot_of d) spot.0 lies.0 (won (subst (HasWon r.stages) (sym lies.1) has))
+        ∙ (ap (λ e. cut_word (get_or tree.words (address e spot.0) 0)) lies.1 ∙ ap (λ i. cut_word (get_or tree.words i 0)) (sym spot.1)))
+  ]
+
+  inside : LiesThere s t.words d → place_of c < table_size s.last
+  inside lies = elim (spots c) [
+    | inl claim ↦ (let at = claim.2 in omega arith)
+    | inr spot ↦ subst (λ i. i < table_size s.last) (sym spot.2) (address_in_table s.last (slot_of d) spot.0 lies.0).1
+  ]
+
+pub touched_lies : (plan : TablePlan) (s : Slots) (tree : TableState) (t : WholeState) (r : HasMachine plan tree) (dead : ℕ → Bool) (was_dead : ℕ → ℕ → Bool)
+    → IsTied s tree t r.stages dead was_dead → (id : ℕ) (k : Known) → get_elem? t.views id ≡ some k → get_elem? tree.views id ≡ some k.tree
+    → IsReady plan tree id k was_dead → (c : Call) → May plan c k.tree → MayInMemory k c → LiesThere s t.words (card_touched (touched_by c))
+touched_lies plan s tree t r dead was_dead tied id k here there ready (call.Fill c f value) may mem = tied.hand id c k here mem (may.holds, may.unflagged)
+touched_lies plan s tree t r dead was_dead tied id k here there ready c may mem =
+    lies_won plan s tree t r dead was_dead tied id k here there ready c may (touched_won plan tree r id k.tree there c may)
+
+touched_finds : (plan : TablePlan) (s : Slots) (tree : TableState) (t : WholeState) (r : HasMachine plan tree) (dead : ℕ → Bool) (was_dead : ℕ → ℕ → Bool)
+    → IsTied s tree t r.stages dead was_dead → (id : ℕ) (k : Known) → get_elem? t.views id ≡ some k → get_elem? tree.views id ≡ some k.tree
+    → IsReady plan tree id k was_dead → (c : Call) → May plan c k.tree → FindsTied t.words tree c
+touched_finds plan s tree t r dead was_dead tied id k here there ready (call.Fill c f value) may = tt
+touched_finds plan s tree t r dead was_dead tied id k here there ready c may =
+    finds_won plan s tree t r dead was_dead tied id k here there ready c may (touched_won plan tree r id k.tree there c may)
+
+-- the word that a call touches is tied
+pub touched_tied : (plan : TablePlan) (s : Slots) (tree : TableState) (t : WholeState) (r : HasMachine plan tree) (dead : ℕ → Bool) (was_dead : ℕ → ℕ → Bool)
+    → IsTied s tree t r.stages dead was_dead → (id : ℕ) (k : Known) → get_elem? t.views id ≡ some k → get_elem? tree.views id ≡ some k.tree
+    → IsReady plan tree id k was_dead → (c : Call) → May plan c k.tree → MayInMemory k c → TouchesTied s t.words tree c
+touched_tied plan s tree t r dead was_dead tied id k here there ready c may mem =
+    let lies = touched_lies plan s tree t r dead was_dead tied id k here there ready c may mem in record {
+      inside = inside plan s tree t r dead was_dead tied id k here there ready c may lies;
+      lies = lies;
+      finds = touched_finds plan s tree t r dead was_dead tied id k here there ready c may;
+    }

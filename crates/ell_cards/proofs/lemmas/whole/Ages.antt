@@ -1,0 +1,197 @@
+use Rattle.std.proofs.Common.{◌≡◌, ◌≢◌, ℕ, ◌+◌, ◌*◌, ◌<◌, ◌≤◌, Bool, true, false, Some, List, [], ◌∷◌, ◌++◌, get_or, set, inl, inr, ◌⊎◌, refl, sym, subst, ⊎_elim}
+use mathlib.Core.Option.{some}
+use mathlib.Core.Option.{Option as Maybe}
+use lib.ListN.{get_elem?}
+use Rattle.atomic_table.proofs.Lists.{at_set}
+use Rattle.ell_core.specs.history.Later.{StagesLater, wins_of}
+use Rattle.ell_grace.specs.Dead.{IsDead, HasUses}
+use Rattle.ell_cards.specs.declared.call.Call.{Call}
+use Rattle.ell_cards.specs.declared.call.Call.TheVariants as call
+use Rattle.ell_cards.specs.declared.view.Known.{Known}
+use Rattle.ell_cards.specs.declared.view.SlotRead.{SlotRead}
+use Rattle.ell_cards.specs.declared.view.Slots.{Slots}
+use Rattle.ell_cards.specs.declared.view.View.{View}
+use Rattle.ell_cards.specs.Ages.{AreDead, ForgotWhen, AgesAreSound}
+use Rattle.ell_cards.specs.Calls.{May}
+use Rattle.ell_cards.specs.Laws.{machine_of_table}
+use Rattle.ell_cards.specs.Machines.{HasMachine}
+use Rattle.ell_cards.specs.Models.{TablePlan}
+use Rattle.ell_cards.specs.Periods.{WholeState, IsAtRest, slot_word, card_in}
+use Rattle.ell_cards.specs.SlotWords.{card_by, is_noted}
+use Rattle.ell_cards.specs.Starts.{IsReached}
+use Rattle.ell_cards.specs.States.{TableState}
+use Rattle.ell_cards.specs.Stepping.{IsQuiet}
+use Rattle.ell_cards.specs.Touching.{forgets}
+use Rattle.ell_cards.specs.TurnEffects.{turn_wins}
+use Rattle.ell_cards.specs.Turns.{Turn, Makes, TableTurns, found_by, view_after, state_after}
+use Rattle.ell_cards.proofs.lemmas.runs.Alive.{turn_keeps_dead}
+use Rattle.ell_cards.proofs.lemmas.runs.TurnsOfRuns.{one_more_turn, turn_lawful}
+use Rattle.ell_cards.proofs.lemmas.whole.Rests.{stays_at_rest}
+
+-- a call that forgets nothing begins nothing
+keeps_quiet : (c : Call) → forgets c ≡ false → IsQuiet c
+keeps_quiet (call.Begin op) e = cc
+keeps_quiet call.Look e = cc
+keeps_quiet _ e = tt
+
+module _ (plan : TablePlan) where
+  -- a state to which a turn leads from another one, in which what was dead is so, and each card has won what the turn wins for it
+  pub record Onward (s : TableState) (machine : HasMachine plan s) (uses : HasUses (machine_of_table plan s machine)) (t : Turn) (s' : TableState) : Type 0 where
+    pub next : HasMachine plan s'
+    pub used : HasUses (machine_of_table plan s' next)
+    pub stays : (x : ℕ) → IsDead machine.words uses.outs.stages x → IsDead next.words used.outs.stages x
+    pub later : StagesLater machine.stages next.stages
+    pub wins : (d : ℕ) → wins_of (next.stages d) ≡ wins_of (machine.stages d) ++ turn_wins s t d
+
+  pub onward : (s : TableState) (machine : HasMachine plan s) (uses : HasUses (machine_of_table plan s machine)) (t : Turn) (s' : TableState) → TableTurns plan s t s'
+      → Onward s machine uses t s'
+  onward s machine uses t s' turn =
+      let lawful = turn_lawful plan s machine t s' turn in
+      let on = turn_keeps_dead plan s machine uses t s' lawful.0 lawful.1.machine in
+      record { next = lawful.0; used = on.0; stays = on.1; later = lawful.1.later; wins = lawful.1.wins }
+
+  -- what is dead is dead after it
+  abbrev pub dead_on : (s : TableState) (dead : ℕ → Bool) (h : AreDead plan s dead) (t : Turn) (s' : TableState) → Onward s h.machine h.uses t s' → AreDead plan s' dead
+  dead_on s dead h t s' on = record { machine = on.next; uses = on.used; each = λ c k low is. on.stays (4 * c + k) (h.each c k low is) }
+
+  -- and a pass that forgot when something was dead did so before the turn
+  pub forgot_on : (s : TableState) (seat : ℕ) (dead : ℕ → Bool) → ForgotWhen plan s seat dead → (t : Turn) (s' : TableState) → TableTurns plan s t s'
+      → ForgotWhen plan s' seat dead
+  forgot_on s seat dead h t s' turn = record {
+    from = h.from;
+    reached = h.reached;
+    were = h.were;
+    call = h.call;
+    begun = h.begun;
+    made = h.made;
+    anew = h.anew;
+    turns = h.turns ++ t ∷ [];
+    run = one_more_turn plan h.begun h.turns s t s' h.run turn;
+  }
+
+  -- so of the two one is still so of another pass after a turn
+  pub still_since : (s : TableState) (seat : ℕ) (dead : ℕ → Bool) (v : View) (t : Turn) (s' : TableState) → TableTurns plan s t s'
+      → IsAtRest v ⊎ ForgotWhen plan s seat dead → IsAtRest v ⊎ ForgotWhen plan s' seat dead
+  still_since s seat dead v t s' turn (inl rest) = inl rest
+  still_since s seat dead v t s' turn (inr forgot) = inr (forgot_on s seat dead forgot t s' turn)
+
+  -- a pass that makes a call by which it forgets does so now
+  pub forgot_now : (s : TableState) → IsReached plan s → (seat : ℕ) (v : View) → get_elem? s.views seat ≡ some v → (dead was : ℕ → Bool)
+      → AreDead plan s dead → ((d : ℕ) → was d ≡ true → dead d ≡ true) → (c : Call) → May plan c v → forgets c ≡ true
+      → ForgotWhen plan (state_after s seat v c) seat was
+  forgot_now s reached seat v here dead was now still c may anew = record {
+    from = s;
+    reached = reached;
+    were = record { machine = now.machine; uses = now.uses; each = λ d k low is. now.each d k low (still d is) };
+    call = c;
+    begun = state_after s seat v c;
+    made = record { view = v; there = here; may = may; gives = refl };
+    anew = anew;
+    turns = [];
+    run = refl;
+  }
+
+  -- what the words of slots note as dead, and what passes have read of them, is so after a turn, if those words are as they were
+  module _ (s : Slots) (tree tree' : TableState) (t : WholeState) (dead : ℕ → Bool) (was_dead : ℕ → ℕ → Bool) (h : AgesAreSound plan s tree t dead was_dead)
+      (by : Turn) (on : Onward tree h.now.machine h.now.uses by tree') where
+    pub noted_on : (words : List ℕ) → ((slot : ℕ) → slot ≤ s.last → get_or words (slot_word s slot) 0 ≡ get_or t.words (slot_word s slot) 0)
+        → (slot k : ℕ) → slot ≤ s.last → is_noted (get_or words (slot_word s slot) 0) k ≡ true → IsDead on.next.words on.used.outs.stages (4 * card_in s words slot + k)
+    noted_on words same slot k low is =
+        subst (λ n. IsDead on.next.words on.used.outs.stages (4 * card_by slot n + k)) (sym (same slot low))
+        (on.stays (4 * card_in s t.words slot + k) (h.noted slot k low (subst (λ n. is_noted n k ≡ true) (same slot low) is)))
+
+    pub read_on : (seat : ℕ) (k : Known) (r : SlotRead) → get_elem? t.views seat ≡ some k → k.period.read ≡ Some r → (i : ℕ) → is_noted r.word i ≡ true
+        → IsDead on.next.words on.used.outs.stages (4 * card_by r.slot r.word + i)
+    read_on seat k r at has i is = on.stays (4 * card_by r.slot r.word + i) (h.read seat k r at has i is)
+
+  -- the ages after a turn, with what each card has won
+  pub record AgesOn (s : Slots) (tree : TableState) (t : WholeState) (dead : ℕ → Bool) (was_dead : ℕ → ℕ → Bool) (h : AgesAreSound plan s tree t dead was_dead) (turn : Turn)
+      (tree' : TableState) (t' : WholeState) : Type 0 where
+    pub ages : AgesAreSound plan s tree' t' dead was_dead
+    pub later : StagesLater h.now.machine.stages ages.now.machine.stages
+    pub wins : (d : ℕ) → wins_of (ages.now.machine.stages d) ≡ wins_of (h.now.machine.stages d) ++ turn_wins tree turn d
+
+  -- the ages after a step call
+  module _ (s : Slots) (tree : TableState) (reached : IsReached plan tree) (t : WholeState) (id : ℕ) (k : Known) (here : get_elem? t.views id ≡ some k)
+      (there : get_elem? tree.views id ≡ some k.tree) (dead : ℕ → Bool) (was_dead : ℕ → ℕ → Bool) (c : Call) (may : May plan c k.tree)
+      (words : List ℕ) (homes : List (Maybe (Unit {0}))) (same : (slot : ℕ) → slot ≤ s.last → get_or words (slot_word s slot) 0 ≡ get_or t.words (slot_word s slot) 0) where
+    abbrev after : TableState
+    after = state_after tree id k.tree c
+
+    abbrev knows : Known
+    knows = record { tree = view_after tree k.tree c; period = k.period }
+
+    turn : TableTurns plan tree (Makes id c) after
+    turn = record { view = k.tree; there = there; may = may; gives = refl }
+
+    pub ages_after_call : (h : AgesAreSound plan s tree t dead was_dead)
+        → AgesOn s tree t dead was_dead h (Makes id c) after (record { words = words; homes = homes; views = set t.views id knows })
+    ages_after_call h = record {
+      ages = record {
+        now = dead_on tree dead h.now (Makes id c) after on;
+        still = h.still;
+        since = λ seat q a u at placed an. ⊎_elim
+            (λ (e : (seat ≡ id) × (knows ≡ u)). mine seat q a u e.0 e.1 placed an)
+            (λ (e : (seat ≢ id) × (get_elem? t.views seat ≡ some u)).
+            still_since tree seat (was_dead q) u.tree (Makes id c) after turn (h.since seat q a u e.1 placed an))
+            (at_set t.views id seat knows u at);
+        noted = noted_on s tree after t dead was_dead h (Makes id c) on words same;
+        read = λ seat u r at has. ⊎_elim
+            (λ (e : (seat ≡ id) × (knows ≡ u)). read_on s tree after t dead was_dead h (Makes id c) on id k r here (subst (λ (x : Known). x.period.read ≡ Some r) (sym e.1) has))
+            (λ (e : (seat ≢ id) × (get_elem? t.views seat ≡ some u)). read_on s tree after t dead was_dead h (Makes id c) on seat u r e.1 has)
+            (at_set t.views id seat knows u at);
+      };
+      later = on.later;
+      wins = on.wins;
+    }
+      where
+        on : Onward tree h.now.machine h.now.uses (Makes id c) after
+        on = onward tree h.now.machine h.now.uses (Makes id c) after turn
+
+        by : (b : Bool) → forgets c ≡ b → (q a : ℕ) → k.period.place ≡ Some q → k.period.announced ≡ Some a → IsAtRest knows.tree ⊎ ForgotWhen plan after id (was_dead q)
+        by true anew q a placed an = inr (forgot_now tree reached id k.tree there dead (was_dead q) h.now (h.still q) c may anew)
+        by false keeps q a placed an = elim (h.since id q a k here placed an) [
+          | inl rest ↦ inl (stays_at_rest k.tree rest plan c (found_by tree c) (keeps_quiet c keeps) may)
+          | inr forgot ↦ inr (forgot_on tree id (was_dead q) forgot (Makes id c) after turn)
+        ]
+
+        mine : (seat q a : ℕ) (u : Known) → seat ≡ id → knows ≡ u → u.period.place ≡ Some q → u.period.announced ≡ Some a
+            → IsAtRest u.tree ⊎ ForgotWhen plan after seat (was_dead q)
+        mine seat q a u e is =
+            subst (λ (i : ℕ). u.period.place ≡ Some q → u.period.announced ≡ Some a → IsAtRest u.tree ⊎ ForgotWhen plan after i (was_dead q)) (sym e)
+            (subst (λ (x : Known). x.period.place ≡ Some q → x.period.announced ≡ Some a → IsAtRest x.tree ⊎ ForgotWhen plan after id (was_dead q)) is (by (forgets c) refl q a))
+
+  -- The ages where a pass knows something else of periods, and words became other ones: by what is dead now, what was dead when
+  -- the pass's period began, and what slots and the pass note.
+  module _ (s : Slots) (tree : TableState) (t : WholeState) (id : ℕ) (k : Known) (here : get_elem? t.views id ≡ some k) (now : Known) (same : now.tree ≡ k.tree)
+      (words : List ℕ) (dead dead' : ℕ → Bool) (was_dead was_dead' : ℕ → ℕ → Bool) (h : AgesAreSound plan s tree t dead was_dead) where
+    abbrev DeadNow : ℕ → Type 0
+    DeadNow x = IsDead h.now.machine.words h.now.uses.outs.stages x
+
+    abbrev pub ages_of_period : ((c i : ℕ) → i < 3 → dead' c ≡ true → DeadNow (4 * c + i)) → ((q c : ℕ) → was_dead' q c ≡ true → dead' c ≡ true)
+        → ((q a : ℕ) → now.period.place ≡ Some q → now.period.announced ≡ Some a → IsAtRest k.tree ⊎ ForgotWhen plan tree id (was_dead' q))
+        → ((j q a : ℕ) (u : Known) → j ≢ id → get_elem? t.views j ≡ some u → u.period.place ≡ Some q → u.period.announced ≡ Some a → was_dead' q ≡ was_dead q)
+        → ((slot i : ℕ) → slot ≤ s.last → is_noted (get_or words (slot_word s slot) 0) i ≡ true → DeadNow (4 * card_in s words slot + i))
+        → ((r : SlotRead) → now.period.read ≡ Some r → (i : ℕ) → is_noted r.word i ≡ true → DeadNow (4 * card_by r.slot r.word + i))
+        → AgesAreSound plan s tree (record { words = words; homes = t.homes; views = set t.views id now }) dead' was_dead'
+    ages_of_period each still mine others noted read = record {
+      now = record { machine = h.now.machine; uses = h.now.uses; each = each };
+      still = still;
+      since = λ seat q a u at placed an. ⊎_elim
+          (λ (e : (seat ≡ id) × (now ≡ u)). own seat q a u e.0 e.1 placed an)
+          (λ (e : (seat ≢ id) × (get_elem? t.views seat ≡ some u)).
+          subst (λ d. IsAtRest u.tree ⊎ ForgotWhen plan tree seat d) (sym (others seat q a u e.0 e.1 placed an)) (h.since seat q a u e.1 placed an))
+          (at_set t.views id seat now u at);
+      noted = noted;
+      read = λ seat u r at has. ⊎_elim
+          (λ (e : (seat ≡ id) × (now ≡ u)). read r (subst (λ (x : Known). x.period.read ≡ Some r) (sym e.1) has))
+          (λ (e : (seat ≢ id) × (get_elem? t.views seat ≡ some u)). h.read seat u r e.1 has)
+          (at_set t.views id seat now u at);
+    }
+      where
+        own : (seat q a : ℕ) (u : Known) → seat ≡ id → now ≡ u → u.period.place ≡ Some q → u.period.announced ≡ Some a
+            → IsAtRest u.tree ⊎ ForgotWhen plan tree seat (was_dead' q)
+        own seat q a u e is =
+            subst (λ (i : ℕ). u.period.place ≡ Some q → u.period.announced ≡ Some a → IsAtRest u.tree ⊎ ForgotWhen plan tree i (was_dead' q)) (sym e)
+            (subst (λ (x : Known). x.period.place ≡ Some q → x.period.announced ≡ Some a → IsAtRest x.tree ⊎ ForgotWhen plan tree id (was_dead' q)) is
+            (λ placed an. subst (λ v. IsAtRest v ⊎ ForgotWhen plan tree id (was_dead' q)) (sym same) (mine q a placed an)))

@@ -1,0 +1,255 @@
+use Rattle.std.proofs.Common.{◌≡◌, ◌≢◌, ℕ, zero, suc, ◌+◌, ◌*◌, ◌%◌, ◌<◌, ◌≤◌, ◌==◌, true, false, Some, length, get_or, set, inl, inr, ◌⊎◌, refl, sym, ap, ◌∙◌, subst, arith, eq-eqb, ne_eqb, get_or-set_same, get_or-set_other}
+use Rattle.std.proofs.lemmas.Bool.{cases_eq, false≢true}
+use Rattle.std.proofs.lemmas.Bool.Decides.{nat_tests}
+use Rattle.std.proofs.lemmas.Option.{same_Some}
+use mathlib.Core.Option.{some}
+use lib.ListN.{get_elem?}
+use prog.Atomic.{either}
+use Rattle.ell_grace.specs.Dead.{IsDead}
+use Rattle.ell_layout.specs.Words.{put}
+use Rattle.ell_layout.proofs.lemmas.Writes.{put_same, put_other}
+use Rattle.ell_cards.specs.declared.view.Known.{Known}
+use Rattle.ell_cards.specs.declared.view.Period.{Period}
+use Rattle.ell_cards.specs.declared.view.SlotRead.{SlotRead}
+use Rattle.ell_cards.specs.declared.view.Slots.{Slots}
+use Rattle.ell_cards.specs.Ages.{HasPeriods, KnowsDeadNode, KnowsDeadCard}
+use Rattle.ell_cards.specs.Models.{TablePlan}
+use Rattle.ell_cards.specs.Periods.{WholeState, clock_word, slot_word, slots_size, last_reading, card_in, pending_by, after_read, after_stamp, PeriodsAreSound}
+use Rattle.ell_cards.specs.SlotWords.{card_by, turn_in, free_word, is_noted, bit_of}
+use Rattle.ell_cards.specs.States.{TableState}
+use Rattle.ell_cards.specs.Stepping.{MayGoOn}
+use Rattle.ell_cards.proofs.lemmas.runs.Alive.{known_dead_is_dead}
+use Rattle.ell_cards.proofs.lemmas.whole.Ages.{ages_of_period}
+use Rattle.ell_cards.proofs.lemmas.whole.Going.{turned_to, same_noted, same_again, stays, goes_on_there}
+use Rattle.ell_cards.proofs.lemmas.whole.Seats.{period_was}
+use Rattle.ell_cards.proofs.lemmas.whole.Slots.{slot_read, card_stamped, slot_noted, slot_freed, freed_card}
+
+-- a bit more is noted, and the turn is as it was
+pub noted_turn : (n k : ℕ) → k < 3 → is_noted n k ≡ false → turn_in (n + bit_of k) ≡ turn_in n
+noted_turn n zero low lacks = grind (arith, nat_tests)
+noted_turn n (suc zero) low lacks = grind (arith, nat_tests)
+noted_turn n (suc (suc zero)) low lacks = grind (arith, nat_tests)
+noted_turn n (suc (suc (suc k))) low lacks = omega arith
+
+noted_or : (n k i : ℕ) → k < 3 → is_noted n k ≡ false → is_noted (n + bit_of k) i ≡ true → (is_noted n i ≡ true) ⊎ (i ≡ k)
+noted_or n zero zero low lacks is = inr refl
+noted_or n zero (suc zero) low lacks is = inl (grind (arith, nat_tests))
+noted_or n zero (suc (suc zero)) low lacks is = inl (grind (arith, nat_tests))
+noted_or n (suc zero) zero low lacks is = inl (grind (arith, nat_tests))
+noted_or n (suc zero) (suc zero) low lacks is = inr refl
+noted_or n (suc zero) (suc (suc zero)) low lacks is = inl (grind (arith, nat_tests))
+noted_or n (suc (suc zero)) zero low lacks is = inl (grind (arith, nat_tests))
+noted_or n (suc (suc zero)) (suc zero) low lacks is = inl (grind (arith, nat_tests))
+noted_or n (suc (suc zero)) (suc (suc zero)) low lacks is = inr refl
+noted_or n (suc (suc (suc k))) i low lacks is = absurd (omega arith)
+noted_or n zero (suc (suc (suc i))) low lacks is = absurd (false≢true is)
+noted_or n (suc zero) (suc (suc (suc i))) low lacks is = absurd (false≢true is)
+noted_or n (suc (suc zero)) (suc (suc (suc i))) low lacks is = absurd (false≢true is)
+
+-- all nodes but one are noted, if the last bit makes the word one that notes all
+pub all_noted : (n k i : ℕ) → k < 3 → i < 3 → is_noted n k ≡ false → (n + bit_of k) % 8 ≡ 7 → (is_noted n i ≡ true) ⊎ (i ≡ k)
+all_noted n zero zero low few lacks all = inr refl
+all_noted n zero (suc zero) low few lacks all = inl (grind (arith, nat_tests))
+all_noted n zero (suc (suc zero)) low few lacks all = inl (grind (arith, nat_tests))
+all_noted n (suc zero) zero low few lacks all = inl (grind (arith, nat_tests))
+all_noted n (suc zero) (suc zero) low few lacks all = inr refl
+all_noted n (suc zero) (suc (suc zero)) low few lacks all = inl (grind (arith, nat_tests))
+all_noted n (suc (suc zero)) zero low few lacks all = inl (grind (arith, nat_tests))
+all_noted n (suc (suc zero)) (suc zero) low few lacks all = inl (grind (arith, nat_tests))
+all_noted n (suc (suc zero)) (suc (suc zero)) low few lacks all = inr refl
+all_noted n (suc (suc (suc k))) i low few lacks all = absurd (omega arith)
+all_noted n zero (suc (suc (suc i))) low few lacks all = absurd (omega arith)
+all_noted n (suc zero) (suc (suc (suc i))) low few lacks all = absurd (omega arith)
+all_noted n (suc (suc zero)) (suc (suc (suc i))) low few lacks all = absurd (omega arith)
+
+-- a word that lacks a node sets nothing free
+pub lacks_some : (n k : ℕ) → k < 3 → is_noted n k ≡ false → n % 8 ≢ 7
+lacks_some n zero low lacks e = grind (arith, nat_tests)
+lacks_some n (suc zero) low lacks e = grind (arith, nat_tests)
+lacks_some n (suc (suc zero)) low lacks e = grind (arith, nat_tests)
+lacks_some n (suc (suc (suc k))) low lacks e = omega arith
+
+-- the steps of a pass on the words of slots, as those of a whole table
+module _ (plan : TablePlan) (s : Slots) (tree : TableState) (t : WholeState) (id : ℕ) (k : Known) (here : get_elem? t.views id ≡ some k)
+    (there : get_elem? tree.views id ≡ some k.tree) (h : HasPeriods plan s tree t) (size : length t.words ≡ slots_size s) where
+  abbrev DeadNow : ℕ → Type 0
+  DeadNow x = IsDead h.ages.now.machine.words h.ages.now.uses.outs.stages x
+
+  -- what the pass knows to be dead is so
+  dead_by : (x : ℕ) → KnowsDeadNode k.tree x → DeadNow x
+  dead_by x knows = known_dead_is_dead plan tree id k.tree there knows.0 x knows.1 h.ages.now.machine h.ages.now.uses.outs
+
+  -- it reads the word of a slot
+  pub reads_now : (slot : ℕ) → slot ≤ s.last
+      → HasPeriods plan s tree (turned_to t id k (after_read slot (get_or t.words (slot_word s slot) 0) k.period) (slot_word s slot) (get_or t.words (slot_word s slot) 0))
+  reads_now slot inside =
+      let n = get_or t.words (slot_word s slot) 0 in record {
+        dead = h.dead;
+        began = h.began;
+        was_dead = h.was_dead;
+        periods = slot_read s t id k here h.dead h.began h.was_dead h.periods size slot inside;
+        ages = ages_of_period plan s tree t id k here (record { tree = k.tree; period = after_read slot n k.period }) refl (set t.words (slot_word s slot) n) h.dead h.dead h.was_dead h.was_dead h.ages
+            h.ages.now.each h.ages.still (λ q a at an. h.ages.since id q a k here at an) (λ j q a u other at placed an. refl)
+            (same_noted plan s tree t id k here h (set t.words (slot_word s slot) n) (same_again plan s tree t id k here h size (slot_word s slot) (omega arith)))
+            (λ r has i is. subst (λ (x : SlotRead). is_noted x.word i ≡ true → DeadNow (4 * card_by x.slot x.word + i)) (same_Some _ r has) (h.ages.noted slot i inside) is);
+      }
+
+  -- it reads the clock for a card whose nodes it knows dead
+  pub stamps_now : (c : ℕ) → KnowsDeadCard k c
+      → HasPeriods plan s tree (turned_to t id k (after_stamp c (get_or t.words (clock_word s) 0) k.period) (clock_word s) (get_or t.words (clock_word s) 0))
+  stamps_now c knows =
+      let n = get_or t.words (clock_word s) 0 in record {
+        dead = put h.dead c true;
+        began = h.began;
+        was_dead = h.was_dead;
+        periods = card_stamped s t id k here h.dead h.began h.was_dead h.periods size c;
+        ages = ages_of_period plan s tree t id k here (record { tree = k.tree; period = after_stamp c n k.period }) refl (set t.words (clock_word s) n) h.dead (put h.dead c true) h.was_dead h.was_dead h.ages
+            each (λ q d was. still d (h.ages.still q d was)) (λ q a at an. h.ages.since id q a k here at an) (λ j q a u other at placed an. refl)
+            (same_noted plan s tree t id k here h (set t.words (clock_word s) n) (same_again plan s tree t id k here h size (clock_word s) (omega arith)))
+            (λ r has. h.ages.read id k r here has);
+      }
+    where
+      mine : (i : ℕ) → i < 3 → DeadNow (4 * c + i)
+      mine i low = elim (knows.each i low) [
+        | inl noted ↦ subst (λ d. DeadNow (4 * d + i)) knows.lies (h.ages.read id k knows.read here knows.has i noted)
+        | inr node ↦ dead_by (4 * c + i) node
+      ]
+
+      each : (d i : ℕ) → i < 3 → put h.dead c true d ≡ true → DeadNow (4 * d + i)
+      each d i low is = elim (cases_eq d c) [
+        | inl e ↦ subst (λ x. DeadNow (4 * x + i)) (sym e) (mine i low)
+        | inr n ↦ h.ages.now.each d i low (sym (put_other h.dead c true d n) ∙ is)
+      ]
+
+      still : (d : ℕ) → h.dead d ≡ true → put h.dead c true d ≡ true
+      still d is = elim (cases_eq d c) [
+        | inl e ↦ ap (put h.dead c true) e ∙ put_same h.dead c true
+        | inr n ↦ put_other h.dead c true d n ∙ is
+      ]
+
+  -- a slot's word becomes another one, by which what it notes is dead
+  turns_now : (slot n : ℕ) → slot ≤ s.last → PeriodsAreSound s (turned_to t id k k.period (slot_word s slot) n) h.dead h.began h.was_dead
+      → ((i : ℕ) → is_noted n i ≡ true → DeadNow (4 * card_by slot n + i))
+      → HasPeriods plan s tree (turned_to t id k k.period (slot_word s slot) n)
+  turns_now slot n inside sound notes = record {
+    dead = h.dead;
+    began = h.began;
+    was_dead = h.was_dead;
+    periods = sound;
+    ages = ages_of_period plan s tree t id k here k refl (set t.words (slot_word s slot) n) h.dead h.dead h.was_dead h.was_dead h.ages
+        h.ages.now.each h.ages.still (λ q a at an. h.ages.since id q a k here at an) (λ j q a u other at placed an. refl)
+        noted
+        (λ r has. h.ages.read id k r here has);
+  }
+    where
+      at : (other i m : ℕ) → get_or (set t.words (slot_word s slot) n) (slot_word s other) 0 ≡ m → ((is_noted m i ≡ true) → DeadNow (4 * card_by other m + i))
+          → is_noted (get_or (set t.words (slot_word s slot) n) (slot_word s other) 0) i ≡ true → DeadNow (4 * card_in s (set t.words (slot_word s slot) n) other + i)
+      at other i m same dead is = subst (λ x. DeadNow (4 * card_by other x + i)) (sym same) (dead (subst (λ x. is_noted x i ≡ true) same is))
+
+      noted : (other i : ℕ) → other ≤ s.last → is_noted (get_or (set t.words (slot_word s slot) n) (slot_word s other) 0) i ≡ true
+          → DeadNow (4 * card_in s (set t.words (slot_word s slot) n) other + i)
+      noted other i low is = elim (cases_eq other slot) [
+        | inl e ↦ at other i n (ap (λ x. get_or (set t.words (slot_word s slot) n) (slot_word s x) 0) e ∙ get_or-set_same t.words (slot_word s slot) n 0 (omega arith))
+            (λ is. subst (λ x. DeadNow (4 * card_by x n + i)) (sym e) (notes i is)) is
+        | inr apart ↦ at other i (get_or t.words (slot_word s other) 0) (get_or-set_other t.words (slot_word s slot) (slot_word s other) n 0 (λ e. apart (omega arith)))
+            (h.ages.noted other i low) is
+      ]
+
+  -- one more node of the card that lies in a slot is noted as dead
+  pub notes_now : (slot i : ℕ) → slot ≤ s.last → i < 3 → (n : ℕ) → get_or t.words (slot_word s slot) 0 ≡ n → is_noted n i ≡ false → n % 8 ≢ 7 → (n + bit_of i) % 8 ≢ 7
+      → KnowsDeadNode k.tree (4 * card_by slot n + i)
+      → HasPeriods plan s tree (turned_to t id k k.period (slot_word s slot) (n + bit_of i))
+  notes_now slot i inside low n is lacks some_bit some_bit' knows =
+      turns_now slot (n + bit_of i) inside
+      (slot_noted s t id k here h.dead h.began h.was_dead h.periods size slot inside (n + bit_of i) (λ e. some_bit (ap (λ x. x % 8) (sym is) ∙ e)) some_bit')
+      (λ j noted. subst (λ turn. DeadNow (4 * (2097152 * turn + slot) + j)) (sym (noted_turn n i low lacks)) (elim (noted_or n i j low lacks noted) [
+        | inl was ↦ subst (λ x. is_noted x j ≡ true → DeadNow (4 * card_by slot x + j)) is (h.ages.noted slot j inside) was
+        | inr e ↦ subst (λ x. DeadNow (4 * card_by slot n + x)) (sym e) (dead_by (4 * card_by slot n + i) knows)
+      ]))
+
+  -- or the slot is set free, if all nodes of the card are dead
+  pub frees_now : (slot reading : ℕ) → slot ≤ s.last → slot < 2097152 → (n : ℕ) → get_or t.words (slot_word s slot) 0 ≡ n → n % 8 ≢ 7
+      → k.period.stamp ≡ Some (record { card = card_by slot n; reading = reading })
+      → HasPeriods plan s tree (turned_to t id k k.period (slot_word s slot) (free_word (turn_in n) reading))
+  frees_now slot reading inside low n is some_bit has =
+      turns_now slot (free_word (turn_in n) reading) inside
+      (subst (λ m. PeriodsAreSound s (turned_to t id k k.period (slot_word s slot) (free_word (turn_in m) reading)) h.dead h.began h.was_dead) is
+      (slot_freed s t id k here h.dead h.began h.was_dead h.periods size slot inside reading low (λ e. some_bit (ap (λ x. x % 8) (sym is) ∙ e))
+      (has ∙ ap (λ m. Some (record { card = card_by slot m; reading = reading })) (sym is))))
+      (λ i noted. subst (λ c. DeadNow (4 * c + i)) (sym (freed_card slot n reading)) (h.ages.now.each (card_by slot n) i (few (free_word (turn_in n) reading) i noted) dead))
+    where
+      few : (m i : ℕ) → is_noted m i ≡ true → i < 3
+      few m zero is = omega arith
+      few m (suc zero) is = omega arith
+      few m (suc (suc zero)) is = omega arith
+      few m (suc (suc (suc i))) is = absurd (false≢true is)
+
+      dead : h.dead (card_by slot n) ≡ true
+      dead = (h.periods.sound.pending id (card_by slot n) reading (ap (λ (p : Period). pending_by p.stamp) (period_was t.views id k here k) ∙ ap pending_by has)).gone
+
+-- these steps are steps of the table
+module _ (plan : TablePlan) (s : Slots) (placed : plan.slots ≡ Some s) (slot : ℕ) (inside : slot ≤ s.last) where
+  -- a pass reads the word of a slot
+  pub reads_slot : (k : Known) → MayGoOn plan k (slot_word s slot) (λ n. n) (λ n p. p ≡ after_read slot n k.period)
+  reads_slot k =
+      goes_on_there plan s placed k (slot_word s slot) (λ n. n) (λ n p. p ≡ after_read slot n k.period) (λ t. after_read slot (get_or t.words (slot_word s slot) 0) k.period) (omega arith)
+      (λ tree t id here there h size. (reads_now plan s tree t id k here there h size slot inside, refl))
+
+  -- whatever slot a word is of
+  pub reads_any : (k : Known) (word : ℕ) → word ≡ slot_word s slot
+      → MayGoOn plan k word (λ n. n) (λ n p. (o : Slots) (r : ℕ) → plan.slots ≡ Some o → word ≡ slot_word o r → p ≡ after_read r n k.period)
+  reads_any k word is id t h homes here small =
+      let may = subst (λ i. MayGoOn plan k i (λ n. n) (λ n p. p ≡ after_read slot n k.period)) (sym is) (reads_slot k) in
+      let x = may id t h homes here small in
+      (x.0, x.1, x.2, x.3, (λ o r slots at. x.4.0 ∙ ap (λ y. after_read y (get_or t.words word 0) k.period) (one o r slots at), x.4.1, x.4.2))
+    where
+      one : (o : Slots) (r : ℕ) → plan.slots ≡ Some o → word ≡ slot_word o r → slot ≡ r
+      one o r slots at =
+          let same : o ≡ s = same_Some o s (sym slots ∙ placed) in
+          let word : slot_word o r ≡ slot_word s r = ap (λ x. slot_word x r) same in
+          omega arith
+
+  -- it notes one more node as dead, if the word is as it was
+  pub notes_node : (k : Known) (i n : ℕ) → i < 3 → is_noted n i ≡ false → n % 8 ≢ 7 → (n + bit_of i) % 8 ≢ 7 → KnowsDeadNode k.tree (4 * card_by slot n + i)
+      → MayGoOn plan k (slot_word s slot) (λ m. either (m == n) (n + bit_of i) m) (λ m p. p ≡ k.period)
+  notes_node k i n low lacks some_bit some_bit' knows =
+      goes_on_there plan s placed k (slot_word s slot) (λ m. either (m == n) (n + bit_of i) m) (λ m p. p ≡ k.period) (λ t. k.period) (omega arith)
+      (λ tree t id here there h size. (by tree t id here there h size (cases_eq (get_or t.words (slot_word s slot) 0) n), refl))
+    where
+      by : (tree : TableState) (t : WholeState) (id : ℕ) → get_elem? t.views id ≡ some k → get_elem? tree.views id ≡ some k.tree → HasPeriods plan s tree t → length t.words ≡ slots_size s
+          → (get_or t.words (slot_word s slot) 0 ≡ n) ⊎ (get_or t.words (slot_word s slot) 0 ≢ n)
+          → HasPeriods plan s tree (turned_to t id k k.period (slot_word s slot) (either (get_or t.words (slot_word s slot) 0 == n) (n + bit_of i) (get_or t.words (slot_word s slot) 0)))
+      by tree t id here there h size (inl is) =
+          subst (λ m. HasPeriods plan s tree (turned_to t id k k.period (slot_word s slot) m))
+          (sym (ap (λ b. either b (n + bit_of i) (get_or t.words (slot_word s slot) 0)) (eq-eqb (get_or t.words (slot_word s slot) 0) n is)))
+          (notes_now plan s tree t id k here there h size slot i inside low n is lacks some_bit some_bit' knows)
+      by tree t id here there h size (inr other) =
+          subst (λ m. HasPeriods plan s tree (turned_to t id k k.period (slot_word s slot) m))
+          (sym (ap (λ b. either b (n + bit_of i) (get_or t.words (slot_word s slot) 0)) (ne_eqb (get_or t.words (slot_word s slot) 0) n other)))
+          (stays plan s tree t id k here h size (slot_word s slot) (omega arith))
+
+  -- or it sets the slot free, if all nodes of its card are dead
+  pub frees_slot : (k : Known) (reading n : ℕ) → slot < 2097152 → n % 8 ≢ 7 → k.period.stamp ≡ Some (record { card = card_by slot n; reading = reading })
+      → MayGoOn plan k (slot_word s slot) (λ m. either (m == n) (free_word (turn_in n) reading) m) (λ m p. p ≡ k.period)
+  frees_slot k reading n low some_bit has =
+      goes_on_there plan s placed k (slot_word s slot) (λ m. either (m == n) (free_word (turn_in n) reading) m) (λ m p. p ≡ k.period) (λ t. k.period) (omega arith)
+      (λ tree t id here there h size. (by tree t id here there h size (cases_eq (get_or t.words (slot_word s slot) 0) n), refl))
+    where
+      by : (tree : TableState) (t : WholeState) (id : ℕ) → get_elem? t.views id ≡ some k → get_elem? tree.views id ≡ some k.tree → HasPeriods plan s tree t → length t.words ≡ slots_size s
+          → (get_or t.words (slot_word s slot) 0 ≡ n) ⊎ (get_or t.words (slot_word s slot) 0 ≢ n)
+          → HasPeriods plan s tree (turned_to t id k k.period (slot_word s slot) (either (get_or t.words (slot_word s slot) 0 == n) (free_word (turn_in n) reading) (get_or t.words (slot_word s slot) 0)))
+      by tree t id here there h size (inl is) =
+          subst (λ m. HasPeriods plan s tree (turned_to t id k k.period (slot_word s slot) m))
+          (sym (ap (λ b. either b (free_word (turn_in n) reading) (get_or t.words (slot_word s slot) 0)) (eq-eqb (get_or t.words (slot_word s slot) 0) n is)))
+          (frees_now plan s tree t id k here there h size slot reading inside low n is some_bit has)
+      by tree t id here there h size (inr other) =
+          subst (λ m. HasPeriods plan s tree (turned_to t id k k.period (slot_word s slot) m))
+          (sym (ap (λ b. either b (free_word (turn_in n) reading) (get_or t.words (slot_word s slot) 0)) (ne_eqb (get_or t.words (slot_word s slot) 0) n other)))
+          (stays plan s tree t id k here h size (slot_word s slot) (omega arith))
+
+-- a pass reads the clock for a card whose nodes it knows dead
+pub stamps_card : (plan : TablePlan) (s : Slots) → plan.slots ≡ Some s → (k : Known) (c : ℕ) → KnowsDeadCard k c
+    → MayGoOn plan k (clock_word s) (λ n. n) (λ n p. (p ≡ after_stamp c n k.period) × (n ≤ last_reading))
+stamps_card plan s placed k c knows =
+    goes_on_there plan s placed k (clock_word s) (λ n. n) (λ n p. (p ≡ after_stamp c n k.period) × (n ≤ last_reading)) (λ t. after_stamp c (get_or t.words (clock_word s) 0) k.period) (omega arith)
+    (λ tree t id here there h size. (stamps_now plan s tree t id k here there h size c knows, (refl, h.periods.low)))

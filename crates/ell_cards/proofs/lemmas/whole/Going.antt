@@ -1,0 +1,232 @@
+use Rattle.std.proofs.Common.{◌≡◌, ◌≢◌, ℕ, zero, suc, ◌+◌, ◌*◌, ◌<◌, ◌≤◌, ◌==◌, min, true, Some, None, List, length, get_or, set, inl, inr, ◌⊎◌, refl, sym, ap, ◌∙◌, subst, arith, eq-eqb, ne_eqb, length-set, get_or-set_other}
+use Rattle.std.proofs.lemmas.Bool.{cases_eq}
+use Rattle.std.proofs.lemmas.List.{map-set}
+use Rattle.std.proofs.lemmas.Option.{same_Some}
+use mathlib.Core.Option.{some}
+use lib.ListN.{get_elem?}
+use prog.Atomic.{either}
+use Rattle.atomic_table.specs.Table.{keeps}
+use Rattle.atomic_table.proofs.Lists.{set_again}
+use Rattle.ell_core.proofs.lemmas.outcomes.Decide.{some_not_none}
+use Rattle.ell_layout.specs.Layout.{table_size}
+use Rattle.ell_layout.specs.Words.{put}
+use Rattle.ell_layout.proofs.lemmas.Writes.{put_same, put_other}
+use Rattle.ell_cards.specs.declared.view.Known.{Known}
+use Rattle.ell_cards.specs.declared.view.Period.{Period}
+use Rattle.ell_cards.specs.declared.view.Slots.{Slots}
+use Rattle.ell_cards.specs.Ages.{HasPeriods}
+use Rattle.ell_cards.specs.Models.{TablePlan}
+use Rattle.ell_cards.specs.Periods.{WholeState, clock_word, place_word, slot_word, slots_size, card_in, last_reading, card_words, card_words_by, after_clock, after_announce, after_retract, after_look_at, after_take, after_give, own, IsAtRest, PeriodsAreSound}
+use Rattle.ell_cards.specs.SlotWords.{card_by, is_noted}
+use Rattle.ell_cards.specs.States.{TableState}
+use Rattle.ell_grace.specs.Dead.{IsDead}
+use Rattle.ell_cards.specs.Stepping.{MayGoOn}
+use Rattle.ell_cards.specs.Whole.{trees_of, WordsAre, PeriodsAre}
+use Rattle.ell_cards.proofs.lemmas.whole.Ages.{ages_of_period}
+use Rattle.ell_cards.proofs.lemmas.whole.Seats.{before_clock}
+use Rattle.ell_cards.proofs.lemmas.whole.Steps.{word_again, periods_stay, periods_read, periods_ticked, periods_seen, periods_announced, periods_retracted, periods_taken, periods_given}
+use Rattle.ell_cards.proofs.lemmas.whole.Trees.{tree_at}
+
+-- the table where a pass knows something else of periods, and a word became another one
+abbrev pub turned_to : WholeState → ℕ → Known → Period → ℕ → ℕ → WholeState
+turned_to t id k p i n = record { words = set t.words i n; homes = t.homes; views = set t.views id (record { tree = k.tree; period = p }) }
+
+-- what a pass knows announced at its place was that before
+abbrev AnnouncesNoMore : Period → Period → Type 0
+AnnouncesNoMore old new = (q a : ℕ) → new.place ≡ Some q → new.announced ≡ Some a → (old.place ≡ Some q) × (old.announced ≡ Some a)
+
+module _ (plan : TablePlan) (s : Slots) (tree : TableState) (t : WholeState) (id : ℕ) (k : Known) (here : get_elem? t.views id ≡ some k) (h : HasPeriods plan s tree t) where
+  -- what the words of slots note where they are as they were
+  pub same_noted : (words : List ℕ) → ((slot : ℕ) → get_or words (slot_word s slot) 0 ≡ get_or t.words (slot_word s slot) 0)
+      → (slot i : ℕ) → slot ≤ s.last → is_noted (get_or words (slot_word s slot) 0) i ≡ true
+      → IsDead h.ages.now.machine.words h.ages.now.uses.outs.stages (4 * card_in s words slot + i)
+  same_noted words same slot i low is =
+      subst (λ n. IsDead h.ages.now.machine.words h.ages.now.uses.outs.stages (4 * card_by slot n + i)) (sym (same slot))
+      (h.ages.noted slot i low (subst (λ n. is_noted n i ≡ true) (same slot) is))
+
+  -- the periods of a table after a step by which no pass begins one
+  pub going : (p : Period) (i n : ℕ) → AnnouncesNoMore k.period p → p.read ≡ k.period.read
+      → ((slot : ℕ) → get_or (set t.words i n) (slot_word s slot) 0 ≡ get_or t.words (slot_word s slot) 0)
+      → PeriodsAreSound s (turned_to t id k p i n) h.dead h.began h.was_dead → HasPeriods plan s tree (turned_to t id k p i n)
+  going p i n was read same sound = record {
+    dead = h.dead;
+    began = h.began;
+    was_dead = h.was_dead;
+    periods = sound;
+    ages = ages_of_period plan s tree t id k here (record { tree = k.tree; period = p }) refl (set t.words i n) h.dead h.dead h.was_dead h.was_dead h.ages
+        h.ages.now.each h.ages.still
+        (λ q a at an. let old = was q a at an in h.ages.since id q a k here old.0 old.1)
+        (λ j q a u other there at an. refl)
+        (same_noted (set t.words i n) same)
+        (λ r has. h.ages.read id k r here (sym read ∙ has));
+  }
+
+  -- a word is stored again
+  pub same_again : length t.words ≡ slots_size s → (i : ℕ) → i < slots_size s → (slot : ℕ)
+      → get_or (set t.words i (get_or t.words i 0)) (slot_word s slot) 0 ≡ get_or t.words (slot_word s slot) 0
+  same_again size i inside slot = word_again t.words i (omega arith) (slot_word s slot)
+
+  pub stays : length t.words ≡ slots_size s → (i : ℕ) → i < slots_size s → HasPeriods plan s tree (turned_to t id k k.period i (get_or t.words i 0))
+  stays size i inside =
+      going k.period i (get_or t.words i 0) (λ q a at an. (at, an)) refl (same_again size i inside)
+      (periods_stay s t id k here h.dead h.began h.was_dead h.periods size i inside)
+
+  -- and after one begins
+  pub begins_now : (q reading : ℕ) → k.period.place ≡ Some q → k.period.announced ≡ None → k.period.reading ≡ Some reading → length t.words ≡ slots_size s
+      → HasPeriods plan s tree (turned_to t id k (after_announce reading (get_or t.words (clock_word s) 0) k.period) (place_word s q) (reading + 2))
+  begins_now q reading placed quiet was size = record {
+    dead = h.dead;
+    began = put h.began q (get_or t.words (clock_word s) 0);
+    was_dead = put h.was_dead q h.dead;
+    periods = periods_announced s t id k here h.dead h.began h.was_dead h.periods size q reading placed was;
+    ages = ages_of_period plan s tree t id k here (record { tree = k.tree; period = after_announce reading (get_or t.words (clock_word s) 0) k.period }) refl
+        (set t.words (place_word s q) (reading + 2)) h.dead h.dead h.was_dead (put h.was_dead q h.dead) h.ages h.ages.now.each still
+        (λ r a at an. inl ((h.periods.each id k here).rests quiet))
+        (λ j r a u other there at an. put_other h.was_dead q h.dead r
+        (λ e. other (h.periods.apart j id q u k there here (own (at ∙ ap (λ x. Some x) e)) (own placed))))
+        (same_noted (set t.words (place_word s q) (reading + 2)) (λ slot. get_or-set_other t.words (place_word s q) (slot_word s slot) (reading + 2) 0 (λ e. omega arith)))
+        (λ r has. h.ages.read id k r here has);
+  }
+    where
+      still : (r x : ℕ) → put h.was_dead q h.dead r x ≡ true → h.dead x ≡ true
+      still r x is = elim (cases_eq r q) [
+        | inl e ↦ sym (ap (λ f. f x) (ap (put h.was_dead q h.dead) e ∙ put_same h.was_dead q h.dead)) ∙ is
+        | inr n ↦ h.ages.still r x (sym (ap (λ f. f x) (put_other h.was_dead q h.dead r n)) ∙ is)
+      ]
+
+-- a step on the words of the periods is one of the table
+module _ (plan : TablePlan) (s : Slots) (placed : plan.slots ≡ Some s) where
+  pub goes_on_there : (k : Known) (i : ℕ) (f : ℕ → ℕ) (told : ℕ → Period → Type 0) (p : WholeState → Period) → clock_word s ≤ i
+      → ((tree : TableState) (t : WholeState) (id : ℕ) → get_elem? t.views id ≡ some k → get_elem? tree.views id ≡ some k.tree → HasPeriods plan s tree t → length t.words ≡ slots_size s
+      → HasPeriods plan s tree (turned_to t id k (p t) i (f (get_or t.words i 0))) × told (get_or t.words i 0) (p t))
+      → MayGoOn plan k i f told
+  goes_on_there k i f told p behind step id t h homes here small =
+      let has = subst (λ o. WordsAre plan o t.words h.tree.words) placed h.words in
+      let n = get_or t.words i 0 in
+      let now : Known = record { tree = k.tree; period = p t } in
+      let x = step h.tree t id here (ap (λ l. get_elem? l id) (sym h.views) ∙ tree_at t.views id k here) (subst (λ o. PeriodsAre plan o h.tree t) placed h.periods) has.0 in (
+        now,
+        keeps,
+        tt,
+        record {
+          tree = h.tree;
+          reached = h.reached;
+          views = map-set (λ (l : Known). l.tree) t.views id now ∙ (set_again (trees_of t.views) id k.tree (tree_at t.views id k here) ∙ h.views);
+          homes = h.homes;
+          stores = h.stores;
+          words = subst (λ o. WordsAre plan o (set t.words i (f n)) h.tree.words) (sym placed)
+              (length-set t.words i (f n) ∙ has.0, λ j low. get_or-set_other t.words i j (f n) 0 (apart j low) ∙ has.1 j low);
+          periods = subst (λ o. PeriodsAre plan o h.tree (turned_to t id k (p t) i (f n))) (sym placed) x.0;
+        },
+        (x.1, refl, refl),
+      )
+    where
+      apart : (j : ℕ) → j < card_words plan → j ≢ i
+      apart j low e =
+          let all : card_words plan ≡ min (table_size s.last) (table_size plan.last_card) = ap (λ o. card_words_by o plan.last_card) placed in
+          let before = before_clock s j (omega arith) in omega arith
+
+  -- where nothing is asked of the tree
+  goes_on : (k : Known) (i : ℕ) (f : ℕ → ℕ) (told : ℕ → Period → Type 0) (p : WholeState → Period) → clock_word s ≤ i
+      → ((tree : TableState) (t : WholeState) (id : ℕ) → get_elem? t.views id ≡ some k → HasPeriods plan s tree t → length t.words ≡ slots_size s
+      → HasPeriods plan s tree (turned_to t id k (p t) i (f (get_or t.words i 0))) × told (get_or t.words i 0) (p t))
+      → MayGoOn plan k i f told
+  goes_on k i f told p behind step = goes_on_there k i f told p behind (λ tree t id here there. step tree t id here)
+
+  -- a pass reads the clock
+  pub read_clock_goes_on : (k : Known) → MayGoOn plan k (clock_word s) (λ n. n) (λ n p. (p ≡ after_clock n k.period) × (n ≤ last_reading))
+  read_clock_goes_on k =
+      goes_on k (clock_word s) (λ n. n) (λ n p. (p ≡ after_clock n k.period) × (n ≤ last_reading)) (λ t. after_clock (get_or t.words (clock_word s) 0) k.period) (omega arith)
+      (λ tree t id here h size. (going plan s tree t id k here h (after_clock (get_or t.words (clock_word s) 0) k.period) (clock_word s) (get_or t.words (clock_word s) 0) (λ q a at an. (at, an)) refl (λ slot. get_or-set_other t.words (clock_word s) (slot_word s slot) (get_or t.words (clock_word s) 0) 0 (λ e. omega arith)) (periods_read s t id k here h.dead h.began h.was_dead h.periods size), (refl, h.periods.low)))
+
+  -- it announces a reading of the clock, if it announces nothing
+  pub announces : (k : Known) (q reading : ℕ) → k.period.place ≡ Some q → k.period.announced ≡ None → k.period.reading ≡ Some reading
+      → MayGoOn plan k (place_word s q) (λ n. reading + 2) (λ n p. (clock : ℕ) × (reading ≤ clock) × (p ≡ after_announce reading clock k.period))
+  announces k q reading has quiet was =
+      goes_on k (place_word s q) (λ n. reading + 2) (λ n p. (clock : ℕ) × (reading ≤ clock) × (p ≡ after_announce reading clock k.period))
+      (λ t. after_announce reading (get_or t.words (clock_word s) 0) k.period) (omega arith)
+      (λ tree t id here h size. (
+        begins_now plan s tree t id k here h q reading has quiet was size,
+        (get_or t.words (clock_word s) 0, (h.periods.each id k here).reading reading was, refl),
+      ))
+
+  -- it takes its announcement away
+  pub retracts : (k : Known) (q : ℕ) → k.period.place ≡ Some q → IsAtRest k.tree
+      → MayGoOn plan k (place_word s q) (λ n. 1) (λ n p. p ≡ after_retract k.period)
+  retracts k q has rest =
+      goes_on k (place_word s q) (λ n. 1) (λ n p. p ≡ after_retract k.period) (λ t. after_retract k.period) (omega arith)
+      (λ tree t id here h size. (going plan s tree t id k here h (after_retract k.period) (place_word s q) 1 (λ r a at an. absurd (some_not_none an refl)) refl (λ slot. get_or-set_other t.words (place_word s q) (slot_word s slot) 1 0 (λ e. omega arith)) (periods_retracted s t id k here h.dead h.began h.was_dead h.periods size q has rest), refl))
+
+  -- it takes a place, if no pass has it
+  pub takes : (k : Known) (q : ℕ) → q < s.places → MayGoOn plan k (place_word s q) (λ n. either (n == 0) 1 n) (λ n p. p ≡ after_take q n k.period)
+  takes k q below =
+      goes_on k (place_word s q) (λ n. either (n == 0) 1 n) (λ n p. p ≡ after_take q n k.period) (λ t. after_take q (get_or t.words (place_word s q) 0) k.period) (omega arith)
+      (λ tree t id here h size. (by tree t id here h size (get_or t.words (place_word s q) 0) refl, refl))
+    where
+      taken : (n : ℕ) → either (suc n == 0) 1 (suc n) ≡ suc n
+      taken n = ap (λ b. either b 1 (suc n)) (ne_eqb (suc n) 0 (λ z. omega arith))
+
+      by : (tree : TableState) (t : WholeState) (id : ℕ) → get_elem? t.views id ≡ some k → HasPeriods plan s tree t → length t.words ≡ slots_size s → (n : ℕ) → get_or t.words (place_word s q) 0 ≡ n
+          → HasPeriods plan s tree (turned_to t id k (after_take q n k.period) (place_word s q) (either (n == 0) 1 n))
+      by tree t id here h size zero e = going plan s tree t id k here h (after_take q 0 k.period) (place_word s q) 1 (λ r a at an. (at, an)) refl (λ slot. get_or-set_other t.words (place_word s q) (slot_word s slot) 1 0 (λ e. omega arith))
+          (periods_taken s t id k here h.dead h.began h.was_dead h.periods size q below e)
+      by tree t id here h size (suc n) e =
+          subst (λ m. HasPeriods plan s tree (turned_to t id k k.period (place_word s q) m)) (e ∙ sym (taken n))
+          (stays plan s tree t id k here h size (place_word s q) (omega arith))
+
+  -- whatever place of the table a word is of
+  pub takes_any : (k : Known) (q word : ℕ) → q < s.places → word ≡ place_word s q
+      → MayGoOn plan k word (λ n. either (n == 0) 1 n)
+      (λ n p. (o : Slots) (r : ℕ) → plan.slots ≡ Some o → r < o.places → word ≡ place_word o r → p ≡ after_take r n k.period)
+  takes_any k q word below is id t h homes here small =
+      let may = subst (λ i. MayGoOn plan k i (λ n. either (n == 0) 1 n) (λ n p. p ≡ after_take q n k.period)) (sym is) (takes k q below) in
+      let x = may id t h homes here small in
+      (x.0, x.1, x.2, x.3, (λ o r slots low at. x.4.0 ∙ ap (λ y. after_take y (get_or t.words word 0) k.period) (one o r slots low at), x.4.1, x.4.2))
+    where
+      one : (o : Slots) (r : ℕ) → plan.slots ≡ Some o → r < o.places → word ≡ place_word o r → q ≡ r
+      one o r slots low at =
+          let same : o ≡ s = same_Some o s (sym slots ∙ placed) in
+          let last : o.last ≡ s.last = ap (λ (x : Slots). x.last) same in
+          let places : o.places ≡ s.places = ap (λ (x : Slots). x.places) same in
+          let clock : clock_word o ≡ clock_word s = ap clock_word same in
+          omega arith
+
+  -- it gives its other place back
+  pub gives_back : (k : Known) (q : ℕ) → k.period.other ≡ Some q → MayGoOn plan k (place_word s q) (λ n. 0) (λ n p. p ≡ after_give k.period)
+  gives_back k q has =
+      goes_on k (place_word s q) (λ n. 0) (λ n p. p ≡ after_give k.period) (λ t. after_give k.period) (omega arith)
+      (λ tree t id here h size. (going plan s tree t id k here h (after_give k.period) (place_word s q) 0 (λ r a at an. (at, an)) refl (λ slot. get_or-set_other t.words (place_word s q) (slot_word s slot) 0 0 (λ e. omega arith)) (periods_given s t id k here h.dead h.began h.was_dead h.periods size q has), refl))
+
+  -- it lets the clock go on, if that is as it was read
+  pub tick_goes_on : (k : Known) (reading : ℕ) → reading < last_reading
+      → MayGoOn plan k (clock_word s) (λ n. either (n == reading) (reading + 1) n) (λ n p. p ≡ k.period)
+  tick_goes_on k reading low =
+      goes_on k (clock_word s) (λ n. either (n == reading) (reading + 1) n) (λ n p. p ≡ k.period) (λ t. k.period) (omega arith)
+      (λ tree t id here h size. (by tree t id here h size (cases_eq (get_or t.words (clock_word s) 0) reading), refl))
+    where
+      on : TableState → WholeState → ℕ → ℕ → Type 0
+      on tree t id n = HasPeriods plan s tree (turned_to t id k k.period (clock_word s) n)
+
+      by : (tree : TableState) (t : WholeState) (id : ℕ) → get_elem? t.views id ≡ some k → HasPeriods plan s tree t → length t.words ≡ slots_size s
+          → (get_or t.words (clock_word s) 0 ≡ reading) ⊎ (get_or t.words (clock_word s) 0 ≢ reading)
+          → on tree t id (either (get_or t.words (clock_word s) 0 == reading) (reading + 1) (get_or t.words (clock_word s) 0))
+      by tree t id here h size (inl is) =
+          subst (on tree t id)
+          (ap (λ n. n + 1) is ∙ sym (ap (λ n. either (n == reading) (reading + 1) n) is ∙ ap (λ b. either b (reading + 1) reading) (eq-eqb reading reading refl)))
+          (going plan s tree t id k here h k.period (clock_word s) (get_or t.words (clock_word s) 0 + 1) (λ q a at an. (at, an)) refl (λ slot. get_or-set_other t.words (clock_word s) (slot_word s slot) (get_or t.words (clock_word s) 0 + 1) 0 (λ e. omega arith))
+          (periods_ticked s t id k here h.dead h.began h.was_dead h.periods size (omega arith)))
+      by tree t id here h size (inr other) =
+          subst (on tree t id)
+          (sym (ap (λ b. either b (reading + 1) (get_or t.words (clock_word s) 0)) (ne_eqb (get_or t.words (clock_word s) 0) reading other)))
+          (stays plan s tree t id k here h size (clock_word s) (omega arith))
+
+  -- it looks at the next place
+  pub looks_at : (k : Known) (q : ℕ) → q ≡ k.period.looked → q < s.places
+      → MayGoOn plan k (place_word s q) (λ n. n) (λ n p. (o : Slots) → plan.slots ≡ Some o → p ≡ after_look_at o.places n k.period)
+  looks_at k q next below =
+      goes_on k (place_word s q) (λ n. n) (λ n p. (o : Slots) → plan.slots ≡ Some o → p ≡ after_look_at o.places n k.period) (λ t. after_look_at s.places (get_or t.words (place_word s q) 0) k.period) (omega arith)
+      (λ tree t id here h size. (
+        going plan s tree t id k here h (after_look_at s.places (get_or t.words (place_word s q) 0) k.period) (place_word s q) (get_or t.words (place_word s q) 0)
+            (λ r a at an. (at, an)) refl (λ slot. get_or-set_other t.words (place_word s q) (slot_word s slot) (get_or t.words (place_word s q) 0) 0 (λ e. omega arith)) (periods_seen s t id k here h.dead h.began h.was_dead h.periods size q next below),
+        λ o is. ap (λ (x : Slots). after_look_at x.places (get_or t.words (place_word s q) 0) k.period) (same_Some s o (sym placed ∙ is)),
+      ))

@@ -1,0 +1,91 @@
+use Rattle.std.proofs.Common.{◌≡◌, ◌≢◌, ℕ, ◌<◌, Bool, true, Option, Some, None, [], length, inl, inr, refl, sym, ap, ◌∙◌, subst, arith, ⊎_elim}
+use mathlib.Core.Option.{some}
+use lib.ListN.{get_elem?}
+use Rattle.ell_core.proofs.lemmas.outcomes.Decide.{some_not_none}
+use Rattle.ell_core.specs.tree.Tree.{Reached}
+use Rattle.ell_grace.specs.Dead.{IsDead}
+use Rattle.ell_grace.proofs.lemmas.dead.Runs.{never_comes_stays_out}
+use Rattle.ell_layout.specs.declared.field.Field.{Field}
+use Rattle.ell_layout.specs.Layout.{address}
+use Rattle.ell_layout.proofs.lemmas.Listed.{same_card}
+use Rattle.ell_cards.specs.declared.call.Call.{Call}
+use Rattle.ell_cards.specs.declared.view.Known.{Known}
+use Rattle.ell_cards.specs.declared.view.Slots.{Slots}
+use Rattle.ell_cards.specs.Ages.{AreDead, ForgotWhen, HasPeriods}
+use Rattle.ell_cards.specs.Calls.{May, word_of}
+use Rattle.ell_cards.specs.Laws.{machine_of_table}
+use Rattle.ell_cards.specs.Models.{TablePlan}
+use Rattle.ell_cards.specs.PeriodLaws.{IsSafelyFree, FreeSlotsAreUntouched}
+use Rattle.ell_cards.specs.Periods.{WholeState, IsAtRest, slots_size, card_in}
+use Rattle.ell_cards.specs.Starts.{SlotsFit}
+use Rattle.ell_cards.specs.States.{TableState}
+use Rattle.ell_cards.specs.Touching.{Touched, AtNode, OfCard, AtRoot, touched_by, IsWordOf, IsTheRoots}
+use Rattle.ell_cards.specs.Whole.{WordsAre, PeriodsAre}
+use Rattle.ell_cards.proofs.lemmas.runs.Alive.{calls_touch_no_dead_card}
+use Rattle.ell_cards.proofs.lemmas.runs.Touching.{calls_touch_their_words}
+use Rattle.ell_cards.proofs.lemmas.whole.Rests.{rest_touches_the_root}
+use Rattle.ell_cards.proofs.lemmas.whole.Slots.{taken_is_dead, taken_was_dead_for}
+use Rattle.ell_cards.proofs.lemmas.whole.Trees.{tree_at}
+
+-- the root is not dead
+pub root_lives : (plan : TablePlan) (tree : TableState) (dead : ℕ → Bool) → AreDead plan tree dead → dead 0 ≡ true → ⊥
+root_lives plan tree dead h is = elim (h.each 0 0 (omega arith) is) [
+  | inl gone ↦ h.uses.outs.outs.out gone.taker 0 gone.takes root
+  | inr never ↦ (never_comes_stays_out (machine_of_table plan tree h.machine) h.uses 0 never).out root
+]
+  where
+    root : Reached h.machine.words 0
+    root = record { path = []; leads = refl }
+
+-- a word of card 0 is all that a pass at rest may touch, beside the claim word
+rest_word : (plan : TablePlan) (k : Known) → IsAtRest k.tree → (c : Call) → May plan c k.tree → (d : ℕ) (f : Field) → word_of c ≡ address d f → d ≡ 0
+rest_word plan k rest c may d f is = by (touched_by c) (calls_touch_their_words c) (rest_touches_the_root plan k.tree rest c may)
+  where
+    by : (x : Touched) → IsWordOf x (word_of c) → IsTheRoots x → d ≡ 0
+    by (AtNode x) word root = same_card d f _ word.0 (sym is ∙ word.1) ∙ (omega arith)
+    by (OfCard e) word root = absurd root
+    by AtRoot (inl zero) root = absurd (omega arith)
+    by AtRoot (inr word) root = same_card d f 0 word.0 (sym is ∙ word.1)
+
+module _ (plan : TablePlan) (s : Slots) (tree : TableState) (t : WholeState) (h : HasPeriods plan s tree t) (size : length t.words ≡ slots_size s) (low : s.last < 2097152)
+    (slot : ℕ) (free : IsSafelyFree s t slot) where
+  -- the card that lies there is not the root's
+  not_root : card_in s t.words slot ≢ 0
+  not_root e = root_lives plan tree h.dead h.ages.now (ap h.dead (sym e) ∙ taken_is_dead s t free.pass free.knows free.sits h.dead h.began h.was_dead h.periods size slot free.there (omega arith) free.free free.safe)
+
+  -- whoever is in a period began that when the card was dead, and whoever is in none is at rest
+  untouched : (seat : ℕ) (k : Known) → get_elem? t.views seat ≡ some k → get_elem? tree.views seat ≡ some k.tree → (c : Call) → May plan c k.tree
+      → (f : Field) → word_of c ≢ address (card_in s t.words slot) f
+  untouched seat k here there c may f is = by k.period.announced refl
+    where
+      at_rest : IsAtRest k.tree → ⊥
+      at_rest rest = not_root (rest_word plan k rest c may (card_in s t.words slot) f is)
+
+      begun : (q : ℕ) → ForgotWhen plan tree seat (h.was_dead q) → h.was_dead q (card_in s t.words slot) ≡ true → ⊥
+      begun q forgot was =
+          let d = card_in s t.words slot in
+          calls_touch_no_dead_card plan forgot.from forgot.reached seat forgot.call forgot.begun forgot.made forgot.anew forgot.were.machine forgot.were.uses forgot.turns tree forgot.run
+          k.tree there c may d f is (
+            subst (IsDead forgot.were.machine.words forgot.were.uses.outs.stages) (omega arith) (forgot.were.each d 0 (omega arith) was),
+            forgot.were.each d 1 (omega arith) was,
+            forgot.were.each d 2 (omega arith) was,
+          )
+
+      by : (a : Option ℕ) → k.period.announced ≡ a → ⊥
+      by None quiet = at_rest ((h.periods.each seat k here).rests quiet)
+      by (Some a) says = by_place k.period.place refl
+        where
+          by_place : (o : Option ℕ) → k.period.place ≡ o → ⊥
+          by_place None none = some_not_none says ((h.periods.each seat k here).none none)
+          by_place (Some q) placed =
+              ⊎_elim at_rest
+              (λ forgot. begun q forgot (taken_was_dead_for s t free.pass free.knows free.sits h.dead h.began h.was_dead h.periods size slot free.there (omega arith) free.free free.safe seat q a k here placed says))
+              (h.ages.since seat q a k here placed says)
+
+pub free_slots_are_untouched : FreeSlotsAreUntouched
+free_slots_are_untouched plan s t placed h slot free seat k here c may =
+    let fit = subst (SlotsFit plan) placed h.reached.starts.may.slots in
+    let low : s.last < 2097152 = let last = fit.4 in omega arith in
+    let has = subst (λ o. WordsAre plan o t.words h.tree.words) placed h.words in
+    untouched plan s h.tree t (subst (λ o. PeriodsAre plan o h.tree t) placed h.periods) has.0 low slot free seat k here
+    (ap (λ l. get_elem? l seat) (sym h.views) ∙ tree_at t.views seat k here) c may

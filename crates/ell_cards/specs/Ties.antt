@@ -1,0 +1,285 @@
+use Rattle.std.specs.Prelude.{◌≡◌, ◌≢◌, ℕ, ◌*◌, ◌%◌, ◌<◌, ◌≤◌, ◌⊎◌, Bool, true, false, Some, None, List, [], ◌∷◌, ◌++◌, length, slice_index, slice_set, ◌+◌, ◌==◌}
+use Rattle.std.specs.List.{IsDistinct, AllByRecursion}
+use mathlib.Core.Option.{some}
+use mathlib.Core.Option.{Option as Maybe}
+use lib.ListN.{get_elem?}
+use Rattle.atomic_table.specs.Table.{opening}
+use Rattle.ell_layout.specs.Start.{words_at_start}
+use Rattle.ell_layout.specs.Words.{words_of}
+use Rattle.ell_layout.specs.declared.field.Field.{Field}
+use Rattle.ell_layout.specs.declared.field.Field.TheVariants as field
+use Rattle.ell_layout.specs.Layout.{address, table_size}
+use Rattle.ell_layout.specs.Words.{key_field, value_field, child_field}
+use Rattle.ell_word.specs.Node.{card}
+use Rattle.ell_core.specs.history.Stages.{Stages, is_claimed, waits}
+use Rattle.ell_cards.specs.declared.call.Call.{Call}
+use Rattle.ell_cards.specs.declared.call.Call.TheVariants as call
+use Rattle.ell_cards.specs.declared.view.Known.{Known}
+use Rattle.ell_cards.specs.declared.view.Period.{Period}
+use Rattle.ell_cards.specs.declared.view.Slots.{Slots}
+use Rattle.ell_cards.specs.declared.view.View.{View}
+use Rattle.ell_cards.specs.Ages.{AgesAreSound}
+use Rattle.ell_cards.specs.Changes.{left_view, right_view}
+use Rattle.ell_cards.specs.Calls.{May, atomic_of, left_by}
+use Rattle.ell_cards.specs.Models.{TablePlan, Has, IsFree, MayPart}
+use Rattle.ell_cards.specs.PeriodLaws.{IsInPeriod}
+use Rattle.ell_cards.specs.Periods.{WholeState, IsAtRest, slot_word, slots_size, opening_words, card_in, after_give, given_period}
+use Rattle.ell_cards.specs.Shown.{IsWord, cut_word, IsNear}
+use Rattle.ell_cards.specs.SlotWords.{slot_of, turn_of}
+use Rattle.ell_cards.specs.Starts.{MayStart, IsReached}
+use Rattle.ell_cards.specs.States.{TableState}
+use Rattle.ell_cards.specs.Touching.{Touched, AtNode, OfCard, AtRoot, touched_by}
+use Rattle.ell_cards.specs.Turns.{found_by, view_after, state_after, state_split, state_joined}
+use Rattle.ell_cards.specs.Whole.{trees_of, first_known, joined_known, spent_known}
+
+-- The memory of a table with places has words for slots alone. A field of a card stands at that field of the card's slot.
+abbrev pub slot_address : ℕ → Field → ℕ
+slot_address c f = address (slot_of c) f
+
+-- so the word that a call touches stands here
+abbrev pub place_of : Call → ℕ
+place_of (call.Upd x) = slot_address (card x) field.Update
+place_of (call.Down x right) = slot_address (card x) (child_field right)
+place_of call.Next = 0
+place_of (call.KeyOf x) = slot_address (card x) (key_field (x % 4))
+place_of (call.ValueOf x) = slot_address (card x) (value_field (x % 4))
+place_of (call.Info c f) = slot_address c f
+place_of (call.FrozenChild c p right) = slot_address (card p) (child_field right)
+place_of call.Look = slot_address 0 (child_field false)
+place_of (call.LookDown from to right) = slot_address (card from.node) (child_field right)
+place_of (call.Claim c node_key) = 0
+place_of (call.Fill c f value) = slot_address c f
+place_of (call.IFlag c p from) = slot_address (card p) field.Update
+place_of (call.IChild c p l q right) = slot_address (card p) (child_field right)
+place_of (call.IUnflag c p) = slot_address (card p) field.Update
+place_of (call.DFlag c gp from) = slot_address (card gp) field.Update
+place_of (call.Mark c p was) = slot_address (card p) field.Update
+place_of (call.DChild c gp p s right) = slot_address (card gp) (child_field right)
+place_of (call.DUnflag c gp) = slot_address (card gp) field.Update
+place_of (call.Backtrack c gp) = slot_address (card gp) field.Update
+place_of _ = slot_address 0 (key_field 0)
+
+-- a card lies in its slot, by the words of a table
+abbrev pub LiesThere : Slots → List ℕ → ℕ → Type 0
+LiesThere s words c = (slot_of c ≤ s.last) × (card_in s words (slot_of c) ≡ c)
+
+-- a card was given out, and has won its flag, or it is of the opening tree
+abbrev pub HasWon : Stages → ℕ → Type 0
+HasWon stage c = (is_claimed (stage c) ≡ true) × (waits (stage c) ≡ false)
+
+-- a pass has a card in hand that is not flagged
+abbrev pub HoldsWaiting : View → ℕ → Type 0
+HoldsWaiting v c = (v.worker.card ≡ Some c) × (v.worker.flagged ≡ false)
+
+-- a pass has stored this field of its card in hand
+abbrev pub HasStored : View → Field → Type 0
+HasStored v f = (x : ℕ) × Has v.stores (f, x)
+
+-- a field of a card that is kept in memory: of a card that has won its flag each, and of one in hand those that were stored
+pub data IsKept (stage : Stages) (views : List Known) (c : ℕ) (f : Field) : Type 0 where
+  won : HasWon stage c → IsKept stage views c f
+  stored : (seat : ℕ) (k : Known) → get_elem? views seat ≡ some k → HoldsWaiting k.tree c → HasStored k.tree f
+      → IsKept stage views c f
+
+-- What the memory of a table with places has of its tree: the claim word, and the word from which the tree is flat; and at
+-- each slot, of the card that lies there, what is kept, with tags cut. The card of the root lies in slot 0, and so does
+-- each card in its slot that has won its flag and is not dead; for a pass that is in a period, each that was not dead when the
+-- period began; and the card in hand whose slot the pass has taken. The card for which a pass took a slot last was claimed,
+-- and what a pass has stored of its card in hand it stored once it had taken that one's slot.
+pub record IsTied (s : Slots) (tree : TableState) (t : WholeState) (stage : Stages) (dead : ℕ → Bool) (was_dead : ℕ → ℕ → Bool)
+    : Type 0 where
+  pub claim : slice_index t.words 0 ≡ slice_index tree.words 0
+  pub flat : slice_index t.words 1 ≡ slice_index tree.words 1
+  pub root : card_in s t.words 0 ≡ 0
+  pub at : (slot : ℕ) (f : Field) → slot ≤ s.last → IsKept stage t.views (card_in s t.words slot) f
+      → slice_index t.words (address slot f) ≡ cut_word (slice_index tree.words (address (card_in s t.words slot) f))
+  pub alive : (c : ℕ) → HasWon stage c → dead c ≡ false → LiesThere s t.words c
+  pub lives : (seat q a c : ℕ) (k : Known) → get_elem? t.views seat ≡ some k → k.period.place ≡ Some q
+      → k.period.announced ≡ Some a → HasWon stage c → was_dead q c ≡ false → LiesThere s t.words c
+  pub hand : (seat c : ℕ) (k : Known) → get_elem? t.views seat ≡ some k → k.period.slot ≡ Some c → HoldsWaiting k.tree c
+      → LiesThere s t.words c
+  pub past : (seat c : ℕ) (k : Known) → get_elem? t.views seat ≡ some k → k.period.slot ≡ Some c
+      → c < slice_index t.words 0
+  pub stores : (seat c : ℕ) (f : Field) (k : Known) → get_elem? t.views seat ≡ some k → HoldsWaiting k.tree c
+      → HasStored k.tree f → k.period.slot ≡ Some c
+
+-- what a call asks beside what it asks of the tree: what is stored goes to a slot that the pass has taken, and a card is
+-- flagged whose fields were all stored there
+abbrev pub MayInMemory : Known → Call → Type 0
+MayInMemory k (call.Fill c f value) = k.period.slot ≡ Some c
+MayInMemory k (call.IFlag c p from) = (k.period.slot ≡ Some c) × ((f : Field) → HasStored k.tree f)
+MayInMemory k (call.DFlag c gp from) = (k.period.slot ≡ Some c) × ((f : Field) → HasStored k.tree f)
+MayInMemory k _ = Unit {0}
+
+-- the card whose word a call touches; the claim word is taken for one of card 0
+abbrev pub card_touched : Touched → ℕ
+card_touched (AtNode x) = card x
+card_touched (OfCard c) = c
+card_touched AtRoot = 0
+
+-- a call finds in memory what is cut of what it finds in the tree; a store finds nothing that matters
+abbrev pub FindsTied : List ℕ → TableState → Call → Type 0
+FindsTied words tree (call.Fill c f value) = Unit {0}
+FindsTied words tree c = slice_index words (place_of c) ≡ cut_word (found_by tree c)
+
+-- the word that a call touches is one of the slots, and the card to which it belongs lies in its slot
+pub record TouchesTied (s : Slots) (words : List ℕ) (tree : TableState) (c : Call) : Type 0 where
+  pub inside : place_of c < table_size s.last
+  pub lies : LiesThere s words (card_touched (touched_by c))
+  pub finds : FindsTied words tree c
+
+-- the memory after a step call of the pass in a seat: at the call's place is what is cut of what the call leaves in the
+-- tree
+abbrev pub memory_after : TableState → WholeState → List (Maybe (Unit {0})) → ℕ → Known → Call → WholeState
+memory_after tree t homes id k c = record {
+  words = slice_set t.words (place_of c) (cut_word (left_by (atomic_of c) (found_by tree c)));
+  homes = homes;
+  views = slice_set t.views id (record { tree = view_after tree k.tree c; period = k.period });
+}
+
+-- memory is tied to the tree by the stages of the tree's machine, by what is dead there
+pub record IsTiedByAges (plan : TablePlan) (s : Slots) (tree : TableState) (t : WholeState) (dead : ℕ → Bool)
+    (was_dead : ℕ → ℕ → Bool) : Type 0 where
+  pub ages : AgesAreSound plan s tree t dead was_dead
+  pub tied : IsTied s tree t ages.now.machine.stages dead was_dead
+
+-- A step call that a pass may make by what it knows, and by the slot that it has taken, touches a word that is tied, and
+-- memory is tied after it, whatever is noted of the homes.
+abbrev pub CallsKeepTies : Type 0
+CallsKeepTies = (plan : TablePlan) (s : Slots) (tree : TableState) (t : WholeState) (dead : ℕ → Bool)
+    (was_dead : ℕ → ℕ → Bool) → IsReached plan tree → s.last < 2097152 → table_size s.last ≤ length t.words
+    → IsTiedByAges plan s tree t dead was_dead
+    → (id : ℕ) (k : Known) → get_elem? t.views id ≡ some k → get_elem? tree.views id ≡ some k.tree
+    → IsAtRest k.tree ⊎ IsInPeriod t id k → (c : Call) → May plan c k.tree → MayInMemory k c
+    → TouchesTied s t.words tree c
+    × ((homes : List (Maybe (Unit {0})))
+    → IsTiedByAges plan s (state_after tree id k.tree c) (memory_after tree t homes id k c) dead was_dead)
+
+-- the parts of a pass that is split, of which the right one gets the other place
+abbrev pub left_known : List ℕ → Known → Known
+left_known keys k = record { tree = left_view keys k.tree; period = after_give k.period }
+
+abbrev pub right_known : List ℕ → Known → Known
+right_known keys k = record { tree = right_view keys k.tree; period = given_period k.period }
+
+-- A split of a pass with nothing in hand keeps memory tied, and so does a join of two.
+abbrev pub SplitsKeepTies : Type 0
+SplitsKeepTies = (plan : TablePlan) (s : Slots) (tree : TableState) (t : WholeState) (dead : ℕ → Bool)
+    (was_dead : ℕ → ℕ → Bool) → s.last < 2097152 → IsTiedByAges plan s tree t dead was_dead
+    → (id : ℕ) (k : Known) → get_elem? t.views id ≡ some k → get_elem? tree.views id ≡ some k.tree
+    → (keys : List ℕ) → IsFree k.tree → MayPart k.tree
+    → IsTiedByAges plan s (state_split tree id k.tree keys)
+    (record {
+      words = t.words;
+      homes = t.homes;
+      views = slice_set t.views id (left_known keys k) ++ right_known keys k ∷ [];
+    })
+    dead was_dead
+
+abbrev pub JoinsKeepTies : Type 0
+JoinsKeepTies = (plan : TablePlan) (s : Slots) (tree : TableState) (t : WholeState) (dead : ℕ → Bool)
+    (was_dead : ℕ → ℕ → Bool) → s.last < 2097152 → IsTiedByAges plan s tree t dead was_dead
+    → (id other : ℕ) (k l : Known) → get_elem? t.views id ≡ some k → get_elem? t.views other ≡ some l
+    → get_elem? tree.views id ≡ some k.tree → get_elem? tree.views other ≡ some l.tree
+    → id ≢ other → IsFree k.tree → IsFree l.tree
+    → IsTiedByAges plan s (state_joined tree id other k.tree l.tree)
+    (record {
+      words = t.words;
+      homes = t.homes;
+      views = slice_set (slice_set t.views id (joined_known k l)) other spent_known;
+    })
+    dead was_dead
+
+-- the memory of a table with places, as it opens with these words of cards, is tied to a tree that turns may start from
+pub record OpensTied (plan : TablePlan) (s : Slots) (cards : List ℕ) : Type 0 where
+  pub tree : TableState
+  pub reached : IsReached plan tree
+  pub views : trees_of (first_known plan ∷ []) ≡ tree.views
+  pub dead : ℕ → Bool
+  pub was_dead : ℕ → ℕ → Bool
+  pub tied : IsTiedByAges plan s tree (opening (opening_words s cards) [] (first_known plan)) dead was_dead
+
+abbrev pub OpeningsAreTied : Type 0
+OpeningsAreTied = (plan : TablePlan) (s : Slots) (cards : List ℕ) → plan.slots ≡ Some s → MayStart plan
+    → length cards ≡ table_size s.last → words_of cards ≡ words_at_start plan.flat plan.start
+    → ((i : ℕ) → IsWord (slice_index cards i)) → OpensTied plan s cards
+
+-- A step of a pass on the words of periods leaves the words of cards as they are, and which card lies in each slot. The pass
+-- has for its card in hand the slot that it had, and nothing that was dead lives. If it begins a period, what was dead then
+-- is what was dead before the step at least.
+pub record GoesBeside (s : Slots) (t : WholeState) (id : ℕ) (k : Known) (p : Period) (words : List ℕ)
+    (dead dead' : ℕ → Bool) (was_dead was_dead' : ℕ → ℕ → Bool) : Type 0 where
+  pub taken : p.slot ≡ k.period.slot
+  pub cards : (i : ℕ) → i < table_size s.last → slice_index words i ≡ slice_index t.words i
+  pub lie : (slot : ℕ) → slot ≤ s.last → card_in s words slot ≡ card_in s t.words slot
+  pub less : (c : ℕ) → dead' c ≡ false → dead c ≡ false
+  pub mine : (q a : ℕ) → p.place ≡ Some q → p.announced ≡ Some a
+      → ((k.period.place ≡ Some q) × (k.period.announced ≡ Some a)
+      × ((c : ℕ) → was_dead' q c ≡ false → was_dead q c ≡ false))
+      ⊎ ((c : ℕ) → was_dead' q c ≡ false → dead c ≡ false)
+  pub others : (seat q a : ℕ) (u : Known) → seat ≢ id → get_elem? t.views seat ≡ some u → u.period.place ≡ Some q
+      → u.period.announced ≡ Some a → (c : ℕ) → was_dead' q c ≡ false → was_dead q c ≡ false
+
+-- such a step keeps memory tied
+abbrev pub PeriodsKeepTies : Type 0
+PeriodsKeepTies = (s : Slots) (tree : TableState) (t : WholeState) (stage : Stages) (dead dead' : ℕ → Bool)
+    (was_dead was_dead' : ℕ → ℕ → Bool) → IsTied s tree t stage dead was_dead
+    → (id : ℕ) (k : Known) → get_elem? t.views id ≡ some k
+    → (p : Period) (words : List ℕ) → GoesBeside s t id k p words dead dead' was_dead was_dead'
+    → IsTied s tree
+    (record { words = words; homes = t.homes; views = slice_set t.views id (record { tree = k.tree; period = p }) })
+    stage dead' was_dead'
+
+-- the memory where a pass has taken the slot of its card in hand
+abbrev pub memory_taken : Slots → WholeState → ℕ → Known → ℕ → WholeState
+memory_taken s t id k c = record {
+  words = slice_set t.words (slot_word s (slot_of c)) (8 * turn_of c);
+  homes = t.homes;
+  views = slice_set t.views id (record { tree = k.tree; period = record k.period { read = None; slot = Some c } });
+}
+
+-- A pass takes the slot of its card in hand, which is not flagged, where a card lies that is dead, and was dead for each
+-- pass that is in a period: that keeps memory tied too.
+abbrev pub TakesKeepTies : Type 0
+TakesKeepTies = (plan : TablePlan) (s : Slots) (tree : TableState) (t : WholeState) (dead : ℕ → Bool)
+    (was_dead : ℕ → ℕ → Bool) → s.last < 2097152 → length t.words ≡ slots_size s
+    → IsTiedByAges plan s tree t dead was_dead → trees_of t.views ≡ tree.views
+    → (id : ℕ) (k : Known) → get_elem? t.views id ≡ some k → (c : ℕ) → HoldsWaiting k.tree c → slot_of c ≤ s.last
+    → dead (card_in s t.words (slot_of c)) ≡ true
+    → ((seat q a : ℕ) (u : Known) → get_elem? t.views seat ≡ some u → u.period.place ≡ Some q → u.period.announced ≡ Some a
+    → was_dead q (card_in s t.words (slot_of c)) ≡ true)
+    → IsTiedByAges plan s tree (memory_taken s t id k c) dead was_dead
+
+-- Where that card lies in its slot already, as each of the first turn does, its pass takes the slot with its word as it
+-- is.
+abbrev pub OwnSlotsKeepTies : Type 0
+OwnSlotsKeepTies = (plan : TablePlan) (s : Slots) (tree : TableState) (t : WholeState) (dead : ℕ → Bool)
+    (was_dead : ℕ → ℕ → Bool) → length t.words ≡ slots_size s
+    → IsTiedByAges plan s tree t dead was_dead → trees_of t.views ≡ tree.views
+    → (id : ℕ) (k : Known) → get_elem? t.views id ≡ some k → (c : ℕ) → HoldsWaiting k.tree c → LiesThere s t.words c
+    → IsTiedByAges plan s tree
+    (record {
+      words = slice_set t.words (slot_word s (slot_of c)) (slice_index t.words (slot_word s (slot_of c)));
+      homes = t.homes;
+      views = slice_set t.views id (record { tree = k.tree; period = record k.period { read = None; slot = Some c } });
+    })
+    dead was_dead
+
+-- Cards that all lie in their slots, none of them twice in a list, are at most as many as there are slots.
+abbrev pub CardsInSlotsAreFew : Type 0
+CardsInSlotsAreFew = (s : Slots) (words cards : List ℕ) → IsDistinct (λ c d. c == d) cards
+    → AllByRecursion (LiesThere s words) cards → length cards ≤ s.last + 1
+
+-- the link that a child exchange expects is near the word that it found
+abbrev pub ExpectsNear : Call → ℕ → Type 0
+ExpectsNear (call.IChild c p l q right) n = IsNear l n
+ExpectsNear (call.DChild c gp p y right) n = IsNear p n
+ExpectsNear _ n = Unit {0}
+
+-- So it is of each child exchange that a pass in a period may make: the cards that have changed that word since the pass forgot
+-- what it was told lie in their slots, and so they are few.
+abbrev pub ExchangesAreNear : Type 0
+ExchangesAreNear = (plan : TablePlan) (s : Slots) (tree : TableState) (t : WholeState) (dead : ℕ → Bool)
+    (was_dead : ℕ → ℕ → Bool) → IsTiedByAges plan s tree t dead was_dead → IsReached plan tree → s.last ≤ 2000000
+    → (id : ℕ) (k : Known) → get_elem? t.views id ≡ some k → get_elem? tree.views id ≡ some k.tree → IsInPeriod t id k
+    → (c : Call) → May plan c k.tree → ExpectsNear c (found_by tree c)

@@ -1,0 +1,241 @@
+//! Slots: a card lies in one, at one of the turns there. The word of a slot notes which of the three nodes of its card are dead.
+//! Once all three are, the slot is set free, with a reading of the clock as its stamp. The steps are not counted.
+ghost use Rattle.std.specs.Prelude.{◌≡◌, ◌≢◌, ◌+◌, ◌*◌, ◌<◌, ◌≤◌, ◌%◌, None, Some, [], false};
+ghost use Rattle.ell_word.specs.Node.{greatest_card, card};
+ghost use Rattle.ell_cards.specs.Ages.{KnowsDeadCard, KnowsDeadNode};
+ghost use Rattle.ell_cards.specs.Periods.{StandsAs, after_read, after_stamp, last_reading, slot_word};
+ghost use Rattle.ell_cards.specs.SlotWords.{bit_of, card_by, is_noted, slot_of, turn_in, turn_of};
+
+use crate::pass::Pass;
+use crate::table::CardTable;
+use crate::view::{Known, Slots};
+use atomic_table::Seat;
+use ell_word::card_of;
+use std::alloc::Allocator;
+use std::marker::Brand;
+
+/// How many numbers of cards a turn has. Each slot has one of them.
+const NUMBERS_PER_TURN: u64 = 2_097_152;
+
+/// How many turns there are.
+const TURNS: u64 = 1_048_576;
+
+/// Returns the slot in which a card lies.
+#[inline(always)]
+pub(crate) fn slot_of(card: u64) -> u64
+    ensures { result ≡ slot_of card }
+{
+    card % NUMBERS_PER_TURN
+}
+
+/// Returns the turn at which a card lies in its slot.
+#[inline(always)]
+pub(crate) fn turn_of(card: u64) -> u64
+    ensures { result ≡ turn_of card }
+{
+    card / NUMBERS_PER_TURN
+}
+
+// Returns the turn of the card in a slot, by the slot's word.
+#[inline(always)]
+fn turn_in(word: u64) -> u64
+    ensures { result ≡ turn_in word }
+{
+    word / 8 % TURNS
+}
+
+// Returns the bit that notes a node as dead, by the node's place on its card.
+#[inline(always)]
+fn bit_of(place: u64) -> u64
+    requires { place < 3 }
+    ensures { result ≡ bit_of place }
+{
+    1 << place
+}
+
+// Returns `true` if a word notes a node as dead, by the node's place on its card.
+#[inline(always)]
+fn is_noted(word: u64, place: u64) -> bool
+    requires { place < 3 }
+    ensures { result ≡ is_noted word place }
+{
+    word / bit_of(place) % 2 == 1
+}
+
+impl Slots {
+    /// Returns the address of the word of a slot: behind the places.
+    #[inline(always)]
+    pub(crate) fn slot_word(self, slot: u64) -> usize
+        requires last { self.last ≤ greatest_card }
+        requires few { self.places ≤ greatest_card }
+        requires slot { slot ≤ self.last }
+        ensures { result ≡ slot_word self slot }
+    {
+        self.clock_word() + 9 + 8 * self.places as usize + slot as usize
+    }
+}
+
+impl<A: Allocator + Copy> CardTable<A> {
+    // Returns the address of the word of a slot, which is one of the table.
+    #[inline(always)]
+    fn slot_address(&self, slots: Slots, slot: u64) -> usize
+        requires slots { self.now.plan.slots ≡ Some slots }
+        requires slot { slot ≤ slots.last }
+        ensures word { result ≡ slot_word slots slot }
+        ensures inside { result < self.now.id.words }
+    {
+        let _ = &self.table;
+        slots.slot_word(slot)
+    }
+
+    // Reads the word of a slot.
+    fn read_slot(&self, seat: &mut Seat<(), Known>, slots: Slots, slot: u64) -> u64
+        requires own { seat.old.table_id ≡ self.now.id }
+        requires empty { seat.old.me.1 ≡ [] }
+        requires slots { self.now.plan.slots ≡ Some slots }
+        requires slot { slot ≤ slots.last }
+        ensures read { seat.new.me.0.period ≡ after_read slot result seat.old.me.0.period }
+        ensures tree { seat.new.me.0.tree ≡ seat.old.me.0.tree }
+        ensures seat { (seat.new.table_id ≡ seat.old.table_id) × (seat.new.me.1 ≡ []) }
+    {
+        self.period_load::<Brand>(seat, self.slot_address(slots, slot))
+    }
+
+    // Reads the clock for the card that lay in a slot when the pass read its word, and whose nodes it knows to be dead.
+    fn stamp(&self, seat: &mut Seat<(), Known>, slots: Slots, slot: u64, word: u64) -> u64
+        requires own { seat.old.table_id ≡ self.now.id }
+        requires empty { seat.old.me.1 ≡ [] }
+        requires slots { self.now.plan.slots ≡ Some slots }
+        requires read { seat.old.me.0.period.read ≡ Some (record { slot = slot; word = word }) }
+        requires dead { KnowsDeadCard seat.old.me.0 (card_by slot word) }
+        ensures stamp { seat.new.me.0.period ≡ after_stamp (card_by slot word) result seat.old.me.0.period }
+        ensures low { result ≤ last_reading }
+        ensures tree { seat.new.me.0.tree ≡ seat.old.me.0.tree }
+        ensures seat { (seat.new.table_id ≡ seat.old.table_id) × (seat.new.me.1 ≡ []) }
+    {
+        let _ = (slot, word);
+        self.period_load::<Brand>(seat, self.clock_address(slots))
+    }
+
+    // Notes one more node of the card in a slot as dead, by its place on the card, if the slot's word is this still. Returns
+    // `true` if it was.
+    fn note_one(
+        &self,
+        seat: &mut Seat<(), Known>,
+        slots: Slots,
+        slot: u64,
+        place: u64,
+        word: u64,
+    ) -> bool
+        requires own { seat.old.table_id ≡ self.now.id }
+        requires empty { seat.old.me.1 ≡ [] }
+        requires slots { self.now.plan.slots ≡ Some slots }
+        requires slot { slot ≤ slots.last }
+        requires place { place < 3 }
+        requires lacks { is_noted word place ≡ false }
+        requires taken { word % 8 ≢ 7 }
+        requires others { (word + bit_of place) % 8 ≢ 7 }
+        requires dead { KnowsDeadNode seat.old.me.0.tree (4 * card_by slot word + place) }
+        ensures period { seat.new.me.0.period ≡ seat.old.me.0.period }
+        ensures tree { seat.new.me.0.tree ≡ seat.old.me.0.tree }
+        ensures seat { (seat.new.table_id ≡ seat.old.table_id) × (seat.new.me.1 ≡ []) }
+    {
+        let noted = word + bit_of(place);
+        self.period_exchange::<Brand>(seat, self.slot_address(slots, slot), word, noted) == word
+    }
+
+    // Sets a slot free, all nodes of whose card the pass knows to be dead, if the slot's word is this still. Returns `true` if
+    // it was.
+    fn set_free(&self, seat: &mut Seat<(), Known>, slots: Slots, slot: u64, word: u64) -> bool
+        requires own { seat.old.table_id ≡ self.now.id }
+        requires empty { seat.old.me.1 ≡ [] }
+        requires slots { self.now.plan.slots ≡ Some slots }
+        requires slot { slot ≤ slots.last }
+        requires low { slots.last < 2097152 }
+        requires taken { word % 8 ≢ 7 }
+        requires read { seat.old.me.0.period.read ≡ Some (record { slot = slot; word = word }) }
+        requires dead { KnowsDeadCard seat.old.me.0 (card_by slot word) }
+        ensures stands { StandsAs seat.old.me.0.period seat.new.me.0.period }
+        ensures safe { seat.new.me.0.period.safe ≡ seat.old.me.0.period.safe }
+        ensures tree { seat.new.me.0.tree ≡ seat.old.me.0.tree }
+        ensures seat { (seat.new.table_id ≡ seat.old.table_id) × (seat.new.me.1 ≡ []) }
+    {
+        let turn = turn_in(word);
+        let reading = self.stamp(seat, slots, slot, word);
+        let free = 8_388_608 * reading + 8 * turn + 7;
+        self.period_exchange::<Brand>(seat, self.slot_address(slots, slot), word, free) == word
+    }
+
+    // Notes a node that the pass knows to be dead in the word of its slot, unless that does so already, or another card lies
+    // there by now. Returns whether it set the slot free by that, or `None` if the word changed meanwhile.
+    fn note_dead(&self, seat: &mut Seat<(), Known>, slots: Slots, node: u64) -> Option<bool>
+        requires own { seat.old.table_id ≡ self.now.id }
+        requires empty { seat.old.me.1 ≡ [] }
+        requires slots { self.now.plan.slots ≡ Some slots }
+        requires slot { slot_of (card node) ≤ slots.last }
+        requires low { slots.last < 2097152 }
+        requires place { node % 4 < 3 }
+        requires dead { KnowsDeadNode seat.old.me.0.tree node }
+        ensures stands { StandsAs seat.old.me.0.period seat.new.me.0.period }
+        ensures safe { seat.new.me.0.period.safe ≡ seat.old.me.0.period.safe }
+        ensures tree { seat.new.me.0.tree ≡ seat.old.me.0.tree }
+        ensures seat { (seat.new.table_id ≡ seat.old.table_id) × (seat.new.me.1 ≡ []) }
+    {
+        let card = card_of(node);
+        let slot = slot_of(card);
+        let place = node % 4;
+        let word = self.read_slot(seat, slots, slot);
+        if turn_in(word) != turn_of(card) || is_noted(word, place) {
+            return Some(false);
+        }
+        if (word + bit_of(place)) % 8 == 7 {
+            self.set_free(seat, slots, slot, word).then_some(true)
+        } else {
+            self.note_one(seat, slots, slot, place, word)
+                .then_some(false)
+        }
+    }
+
+    // Notes such a node, even if the word changes meanwhile: it does so at most twice, as the two other nodes of the card are
+    // noted. Returns whether it set the slot free.
+    fn note_surely(&self, seat: &mut Seat<(), Known>, slots: Slots, node: u64) -> bool
+        requires own { seat.old.table_id ≡ self.now.id }
+        requires empty { seat.old.me.1 ≡ [] }
+        requires slots { self.now.plan.slots ≡ Some slots }
+        requires slot { slot_of (card node) ≤ slots.last }
+        requires low { slots.last < 2097152 }
+        requires place { node % 4 < 3 }
+        requires dead { KnowsDeadNode seat.old.me.0.tree node }
+        ensures stands { StandsAs seat.old.me.0.period seat.new.me.0.period }
+        ensures safe { seat.new.me.0.period.safe ≡ seat.old.me.0.period.safe }
+        ensures tree { seat.new.me.0.tree ≡ seat.old.me.0.tree }
+        ensures seat { (seat.new.table_id ≡ seat.old.table_id) × (seat.new.me.1 ≡ []) }
+    {
+        for _ in 0..3 {
+            if let Some(freed) = self.note_dead(seat, slots, node) {
+                return freed;
+            }
+        }
+        false
+    }
+
+    /// Notes a node that the pass knows to be dead: one that its card, which is over, has taken out of the tree, or one of that
+    /// card which never comes into it. Once all three nodes of a card are noted, its slot is free. Returns `true` if it became
+    /// free by this call. It does nothing if the table has no places. Its steps are not counted.
+    pub fn retire(&self, pass: &mut Pass<A>, node: u64) -> bool
+        requires own { pass.old.table ≡ self.now.id }
+        requires dead { KnowsDeadNode pass.old.view node }
+        // What the pass knows of the tree is as it was, and it has made no step that is counted.
+        ensures same { pass.new ≡ pass.old }
+        // A table without places has no slots that become free.
+        ensures none { self.now.plan.slots ≡ None → result ≡ false }
+    {
+        let Some(slots) = self.slots else {
+            return false;
+        };
+        if slot_of(card_of(node)) > slots.last || node % 4 == 3 {
+            return false;
+        }
+        self.note_surely(&mut pass.seat, slots, node)
+    }
+}
