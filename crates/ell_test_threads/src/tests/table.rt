@@ -1,6 +1,7 @@
 //! A table of cards from its begin to its end, and texts of faults.
-ghost use Rattle.std.specs.Prelude.{◌≡◌};
+ghost use Rattle.std.specs.Prelude.{◌≡◌, ◌≤◌};
 ghost use Rattle.ell_cards.specs.Models.{IsFree};
+ghost use Rattle.ell_cards.specs.Starts.{most_places};
 
 use ell_cards::{CardFault, CardTable, Closed, Pass, TableKind};
 use ell_layout::Field;
@@ -98,21 +99,25 @@ fn refused(rt: &impl Abort, table: &CardTable<Global>, pass: Pass<Global>) -> Pa
     pass
 }
 
-// A table whose keys are shared, with places for three passes, and its first pass.
-fn with_places(rt: &(impl Abort + AllocGlobal)) -> (CardTable<Global>, Pass<Global>)
+// A table whose keys are shared, with places for this many passes, and its first pass.
+fn with_places(
+    rt: &(impl Abort + AllocGlobal),
+    places: u64,
+) -> (CardTable<Global>, Pass<Global>)
+    requires { places ≤ most_places }
     ensures { (result.1.table ≡ result.0.id) × IsFree result.1.view }
 {
     let kind = TableKind {
         shared: true,
         flat: true,
-        places: 3,
+        places,
     };
     CardTable::reserve(rt.alloc(), &START, &[], 1, kind).expect(rt, "table")
 }
 
 #[test]
 fn each_pass_has_a_place_where_there_are_places(rt: HostRuntime) {
-    let (table, pass) = with_places(&rt);
+    let (table, pass) = with_places(&rt, 3);
     let (one, two) = parted(&rt, &table, pass);
     let (one, three) = parted(&rt, &table, one);
     let two = refused(&rt, &table, two);
@@ -123,9 +128,43 @@ fn each_pass_has_a_place_where_there_are_places(rt: HostRuntime) {
     assert!(rt; all.has_whole_share());
 }
 
+// Splits a pass in a row, this often at most or until each place has a pass, and joins all parts to it again, the last one
+// first. Returns how many there were.
+fn parted_in_a_row(
+    rt: &impl Abort,
+    table: &CardTable<Global>,
+    pass: Pass<Global>,
+    most: u64,
+) -> (Pass<Global>, u64)
+    requires { (pass.table ≡ table.now.id) × IsFree pass.view }
+    ensures whole { (result.0.table ≡ table.now.id) × IsFree result.0.view }
+    ensures few { result.1 ≤ most }
+{
+    if most == 0 {
+        return (pass, 0);
+    }
+    match table.split(pass, &[]) {
+        Ok((one, other)) => {
+            let (one, count) = parted_in_a_row(rt, table, one, most - 1);
+            (joined(rt, table, one, other), count + 1)
+        }
+        Err((pass, _)) => (pass, 0),
+    }
+}
+
+#[test]
+fn all_places_are_found_in_a_row_and_again(rt: HostRuntime) {
+    let (table, pass) = with_places(&rt, 200);
+    let (pass, first) = parted_in_a_row(&rt, &table, pass, 1000);
+    let (pass, few) = parted_in_a_row(&rt, &table, pass, 70);
+    let (pass, second) = parted_in_a_row(&rt, &table, pass, 1000);
+    assert!(rt; first == 199 && few == 70 && second == 199);
+    assert!(rt; pass.has_whole_share());
+}
+
 #[test]
 fn a_look_that_goes_on_holds_safe_numbers_down(rt: HostRuntime) {
-    let (table, pass) = with_places(&rt);
+    let (table, pass) = with_places(&rt, 3);
     let (mut one, mut two) = parted(&rt, &table, pass);
     assert!(rt; table.safe_number(&mut one) == 1);
     assert!(rt; table.look(&mut two).node == 4);
