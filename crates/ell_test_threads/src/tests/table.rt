@@ -100,10 +100,7 @@ fn refused(rt: &impl Abort, table: &CardTable<Global>, pass: Pass<Global>) -> Pa
 }
 
 // A table whose keys are shared, with places for this many passes, and its first pass.
-fn with_places(
-    rt: &(impl Abort + AllocGlobal),
-    places: u64,
-) -> (CardTable<Global>, Pass<Global>)
+fn with_places(rt: &(impl Abort + AllocGlobal), places: u64) -> (CardTable<Global>, Pass<Global>)
     requires { places ≤ most_places }
     ensures { (result.1.table ≡ result.0.id) × IsFree result.1.view }
 {
