@@ -24,8 +24,8 @@ pub record AreDead (plan : TablePlan) (tree : TableState) (dead : ℕ → Bool) 
   pub uses : HasUses (machine_of_table plan tree machine)
   pub each : (c k : ℕ) → k < 3 → dead c ≡ true → IsDead machine.words uses.outs.stages (4 * c + k)
 
--- the pass in a seat made a call by which it forgot what it was told, when these cards were dead; turns have led the tree
--- here since
+-- the pass in a seat made a call by which it forgot what it was told, when these cards were dead; turns have led
+-- the tree here since
 pub record ForgotWhen (plan : TablePlan) (tree : TableState) (seat : ℕ) (dead : ℕ → Bool) : Type 0 where
   pub from : TableState
   pub reached : IsReached plan from
@@ -37,9 +37,9 @@ pub record ForgotWhen (plan : TablePlan) (tree : TableState) (seat : ℕ) (dead 
   pub turns : List Turn
   pub run : TableRun plan begun turns tree
 
--- What the grace periods of a table take for dead is so in its tree, and what was dead when a period began is dead still. The
--- pass of each period is at rest, or it has forgotten what it was told since that was dead. And the nodes that a slot's word
--- notes as dead are so, and so are those that a word noted which a pass has read.
+-- What the grace periods of a table take for dead is so in its tree, and what was dead when a period began is dead
+-- still. The pass of each period is at rest, or it has forgotten what it was told since that was dead. And the
+-- nodes that a slot's word notes as dead are so, and so are those that a word noted which a pass has read.
 pub record AgesAreSound (plan : TablePlan) (s : Slots) (tree : TableState) (t : WholeState) (dead : ℕ → Bool)
     (was_dead : ℕ → ℕ → Bool) : Type 0 where
   pub now : AreDead plan tree dead
@@ -52,8 +52,8 @@ pub record AgesAreSound (plan : TablePlan) (s : Slots) (tree : TableState) (t : 
       → (i : ℕ) → is_noted r.word i ≡ true
       → IsDead now.machine.words now.uses.outs.stages (4 * card_by r.slot r.word + i)
 
--- The periods of a table are sound, by which cards are dead in its tree, what the clock was when each period began, and which
--- were dead then.
+-- The periods of a table are sound, by which cards are dead in its tree, what the clock was when each period began,
+-- and which were dead then.
 pub record HasPeriods (plan : TablePlan) (s : Slots) (tree : TableState) (t : WholeState) : Type 0 where
   pub dead : ℕ → Bool
   pub began : ℕ → ℕ
@@ -65,8 +65,8 @@ pub record HasPeriods (plan : TablePlan) (s : Slots) (tree : TableState) (t : Wh
 abbrev pub KnowsDeadNode : View → ℕ → Type 0
 KnowsDeadNode v x = (c : ℕ) × KnowsDead v c x
 
--- By what a pass knows, all three nodes of a card are dead: each is noted in the word of the card's slot, which it has read,
--- or it knows it of the node itself.
+-- By what a pass knows, all three nodes of a card are dead: each is noted in the word of the card's slot, which it
+-- has read, or it knows it of the node itself.
 pub record KnowsDeadCard (k : Known) (c : ℕ) : Type 0 where
   pub read : SlotRead
   pub has : k.period.read ≡ Some read

@@ -42,8 +42,9 @@ TurnsKeepDead = (plan : TablePlan) (s : TableState) (r : HasMachine plan s) (has
     → (r' : HasMachine plan s') × (has' : HasUses (machine_of_table plan s' r'))
     × ((x : ℕ) → IsDead r.words has.outs.stages x → IsDead r'.words has'.outs.stages x)
 
--- From where a pass makes a call by which it forgets, as where it begins an operation or a look, on through any turns
--- of any passes: each step call that it may make touches nothing that was dead in the state in which it made that call.
+-- From where a pass makes a call by which it forgets, as where it begins an operation or a look, on through any
+-- turns of any passes: each step call that it may make touches nothing that was dead in the state in which it made
+-- that call.
 abbrev pub CallsTouchNothingDead : Type 0
 CallsTouchNothingDead = (plan : TablePlan) (s : TableState) → IsReached plan s
     → (seat : ℕ) (c : Call) (begun : TableState) → CallIsMade plan s seat c begun → forgets c ≡ true
@@ -77,8 +78,8 @@ pub record KnowsReplaced (v : View) (c x : ℕ) : Type 0 where
   pub right : IsTold v (Info c field.RightLeafKey key)
   pub other : x ≢ right_leaf c
 
--- By what a pass knows, nobody uses a leaf of its own card, which is flagged: the card goes above an internal node, and
--- the leaf's key is not the operation's.
+-- By what a pass knows, nobody uses a leaf of its own card, which is flagged: the card goes above an internal node,
+-- and the leaf's key is not the operation's.
 pub record KnowsUnused (v : View) (c x : ℕ) : Type 0 where
   pub op : Op
   pub below : ℕ

@@ -34,8 +34,8 @@ abbrev pub act_wins : Option Act → Option ℕ → Stepped → ℕ → List Exc
 act_wins None hand said d = []
 act_wins (Some a) hand said d = wins_by a hand said d
 
--- the state after a call has a machine again: the one to which the call's event leads, or the same one; the wins of each
--- card grow by what the event wins for it; and what the call tells is so
+-- the state after a call has a machine again: the one to which the call's event leads, or the same one; the wins of
+-- each card grow by what the event wins for it; and what the call tells is so
 pub record IsEvent (plan : TablePlan) (s : TableState) (r : HasMachine plan s) (id : ℕ) (v : View)
     (c : Call) : Type 0 where
   pub kept : HasMachine plan (state_after s id v c)
@@ -87,10 +87,10 @@ abbrev pub MachineIsSound : Type 0
 MachineIsSound =
     (plan : TablePlan) (s : TableState) (r : HasMachine plan s) → IsSound (machine_of_table plan s r)
 
--- where the machine's words are the table's own: the claim word, and each card that does not wait for its flag. That is
--- each card of a node that is reached from the root, each that a flag or a mark of such a node names, and each that a
--- pass knows flagged or marked, or has in hand, flagged. The same nodes are reached in both, and the trees have the
--- same keys with the same values
+-- where the machine's words are the table's own: the claim word, and each card that does not wait for its flag.
+-- That is each card of a node that is reached from the root, each that a flag or a mark of such a node names, and
+-- each that a pass knows flagged or marked, or has in hand, flagged. The same nodes are reached in both, and the
+-- trees have the same keys with the same values
 pub record WordsAreOwn (plan : TablePlan) (s : TableState) (r : HasMachine plan s) : Type 0 where
   pub next : r.words.next ≡ (own_words s).next
   pub settled : (c : ℕ) → waits (r.stages c) ≡ false → SaysTheSame (own_words s) r.words c

@@ -20,8 +20,9 @@ use Rattle.ell_cards.specs.declared.view.Told.{Told}
 use Rattle.ell_cards.specs.declared.view.View.{View}
 use Rattle.ell_cards.specs.declared.view.Slots.{Slots}
 
--- what a table opens with: the keys that may have owners, the start pairs, the last card, if all other keys are shared,
--- and if the tree is flat; and, if passes have places in it, how many cards have words and how many places there are
+-- what a table opens with: the keys that may have owners, the start pairs, the last card, if all other keys are
+-- shared, and if the tree is flat; and, if passes have places in it, how many cards have words and how many places
+-- there are
 pub record TablePlan : Type 0 where
   pub keys : List ℕ
   pub start : List (ℕ × ℕ)
@@ -47,8 +48,8 @@ pub record TableModel : Type 0 where
   pub id : TableId
   pub plan : TablePlan
 
--- the table that a pass belongs to, what is shown of what it knows, the atomic steps made through it, its label, and its
--- safe number: every pass that is in a period began it when the clock was that at least
+-- the table that a pass belongs to, what is shown of what it knows, the atomic steps made through it, its label,
+-- and its safe number: every pass that is in a period began it when the clock was that at least
 pub record PassModel : Type 0 where
   pub table : TableId
   pub view : View

@@ -20,8 +20,8 @@ pub record IsInPeriod (t : WholeState) (seat : ℕ) (k : Known) : Type 0 where
   pub reading : ℕ
   pub announces : k.period.announced ≡ Some reading
 
--- It began that no sooner than any pass's safe number says, when the clock was the reading that it announces at least,
--- and no more than it is now.
+-- It began that no sooner than any pass's safe number says, when the clock was the reading that it announces at
+-- least, and no more than it is now.
 pub record BeganSafely (s : Slots) (t : WholeState) (k : Known) (reading : ℕ) : Type 0 where
   pub safe : (i : ℕ) (other : Known) → get_elem? t.views i ≡ some other → other.period.safe ≤ k.period.began
   pub announced : reading ≤ k.period.began
@@ -41,8 +41,8 @@ pub record IsSafelyFree (s : Slots) (t : WholeState) (slot : ℕ) : Type 0 where
   pub sits : get_elem? t.views pass ≡ some knows
   pub safe : stamp_in (slice_index t.words (slot_word s slot)) < knows.period.safe
 
--- So it is wherever the steps of passes have led a table with places: no pass may touch a word of the card that lies there,
--- whatever it knows.
+-- So it is wherever the steps of passes have led a table with places: no pass may touch a word of the card that
+-- lies there, whatever it knows.
 abbrev pub FreeSlotsAreUntouched : Type 0
 FreeSlotsAreUntouched = (plan : TablePlan) (s : Slots) (t : WholeState) → plan.slots ≡ Some s
     → IsWhole plan t → (slot : ℕ) → IsSafelyFree s t slot

@@ -21,9 +21,9 @@ use Rattle.ell_cards.specs.SlotWords.{slot_of, card_by, freed_by}
 abbrev pub WholeState : Type 0
 WholeState = State (Unit {0}) Known
 
--- The clock of a table with places is the first word of the group behind the last card's, and the places follow it, the
--- first one at the end. Each has eight words, of which it uses one, so that no two of them are in one line of the
--- cache.
+-- The clock of a table with places is the first word of the group behind the last card's, and the places follow it,
+-- the first one at the end. Each has eight words, of which it uses one, so that no two of them are in one line of
+-- the cache.
 abbrev pub clock_word : Slots → ℕ
 clock_word s = 774 + 768 * (s.last / 64)
 
@@ -34,8 +34,8 @@ place_word s q = clock_word s + 1 + 8 * (s.places - q)
 abbrev pub slot_word : Slots → ℕ → ℕ
 slot_word s slot = clock_word s + 9 + 8 * s.places + slot
 
--- How many words such a table has. A table without places never has so many, since this number is odd: there are words for
--- four slots, or eight, and so on.
+-- How many words such a table has. A table without places never has so many, since this number is odd: there are
+-- words for four slots, or eight, and so on.
 abbrev pub slots_size : Slots → ℕ
 slots_size s = clock_word s + 9 + 8 * s.places + 4 * (s.last / 4 + 1)
 
@@ -62,8 +62,8 @@ abbrev pub whole_words : Option Slots → List ℕ → List ℕ
 whole_words None words = words
 whole_words (Some s) words = opening_words s words
 
--- the cards and the places of a table of cards up to a last one, none for no places, and the number of the last card to
--- which its claims may come, if each card could have words
+-- the cards and the places of a table of cards up to a last one, none for no places, and the number of the last
+-- card to which its claims may come, if each card could have words
 abbrev pub slots_of : ℕ → ℕ → Option Slots
 slots_of last places = if places == 0 then None else Some (record { last = last; places = places })
 
@@ -86,8 +86,8 @@ card_words_by (Some s) last = min (table_size s.last) (table_size last)
 abbrev pub card_words : TablePlan → ℕ
 card_words plan = card_words_by plan.slots plan.last_card
 
--- The word of a place is 0 if no pass has it, 1 if its pass is in no period, and else the reading of the clock that its
--- pass announces, and 2.
+-- The word of a place is 0 if no pass has it, 1 if its pass is in no period, and else the reading of the clock that
+-- its pass announces, and 2.
 abbrev pub place_says : Option ℕ → ℕ
 place_says None = 1
 place_says (Some reading) = reading + 2
@@ -228,8 +228,9 @@ period_in views i = period_of (get_elem? views i)
 abbrev pub word_at_place : Slots → List ℕ → ℕ → Option ℕ
 word_at_place s words q = if nat_lt q s.places then announced_by (slice_index words (place_word s q)) else None
 
--- The grace periods of a table: the clock and what is announced are its words, and what each pass has seen is what it
--- knows. Nobody reads which cards are dead, what the clock was when a pass began its period, and which were dead then.
+-- The grace periods of a table: the clock and what is announced are its words, and what each pass has seen is what
+-- it knows. Nobody reads which cards are dead, what the clock was when a pass began its period, and which were dead
+-- then.
 abbrev pub grace_of : Slots → WholeState → (ℕ → Bool) → (ℕ → ℕ) → (ℕ → ℕ → Bool) → Grace
 grace_of s t dead began was_dead = record {
   clock = slice_index t.words (clock_word s);
@@ -244,9 +245,9 @@ grace_of s t dead began was_dead = record {
   free = stamp_at s t.words;
 }
 
--- The periods of a table are sound, by what is dead, what the clock was when each began, and what was dead then: they are
--- such grace periods, what each pass knows of them is so, those of passes that are in one began when the passes know it, and
--- no two passes have one place.
+-- The periods of a table are sound, by what is dead, what the clock was when each began, and what was dead then:
+-- they are such grace periods, what each pass knows of them is so, those of passes that are in one began when the
+-- passes know it, and no two passes have one place.
 pub record PeriodsAreSound (s : Slots) (t : WholeState) (dead : ℕ → Bool) (began : ℕ → ℕ) (was_dead : ℕ → ℕ → Bool)
     : Type 0 where
   pub sound : GraceIsSound s.places (grace_of s t dead began was_dead)

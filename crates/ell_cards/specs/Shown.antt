@@ -194,8 +194,8 @@ abbrev pub TellingsAreShown : Type 0
 TellingsAreShown = (plan : TablePlan) (c : Call) (n : ℕ) (v : View) → ReadsWhole c n → Tells plan c v n
     → Tells plan (shown_call c) (shown v) (cut_word n)
 
--- a call that is shown touches the word that the call touches, and leaves there what is cut to the same; and it is the
--- same act of the machine, with the same answer
+-- a call that is shown touches the word that the call touches, and leaves there what is cut to the same; and it is
+-- the same act of the machine, with the same answer
 pub record ActsAlike (c : Call) (n : ℕ) : Type 0 where
   pub word : word_of (shown_call c) ≡ word_of c
   pub leaves : cut_word (left_by (atomic_of (shown_call c)) (cut_word n)) ≡ cut_word (left_by (atomic_of c) n)
@@ -205,10 +205,10 @@ pub record ActsAlike (c : Call) (n : ℕ) : Type 0 where
 abbrev pub CallsActAlike : Type 0
 CallsActAlike = (c : Call) (n : ℕ) (v : View) → CanBeShown c n v → ActsAlike c n
 
--- the first pass of a table is shown as it is, and so is what is left of one that was joined to another; what is shown
--- of the parts of a pass, and of two that are one, are the parts of what is shown, and what two that are shown make as
--- one; a pass with no card in hand has stored what is planned, which is nothing; and a pass is at rest exactly if it is
--- by what is shown
+-- the first pass of a table is shown as it is, and so is what is left of one that was joined to another; what is
+-- shown of the parts of a pass, and of two that are one, are the parts of what is shown, and what two that are
+-- shown make as one; a pass with no card in hand has stored what is planned, which is nothing; and a pass is at
+-- rest exactly if it is by what is shown
 pub record HandoversAreShown : Type 0 where
   pub first : (plan : TablePlan) → shown (first_of plan) ≡ first_of plan
   pub spent : shown spent_view ≡ spent_view

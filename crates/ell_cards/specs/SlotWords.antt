@@ -7,8 +7,8 @@ slot_of c = c % 2097152
 abbrev pub turn_of : ℕ → ℕ
 turn_of c = c / 2097152
 
--- The word of a slot says which of the three nodes of its card are known to be dead, a bit each; at which turn that card is;
--- and once all three are dead, the reading of the clock with which the slot was set free.
+-- The word of a slot says which of the three nodes of its card are known to be dead, a bit each; at which turn that
+-- card is; and once all three are dead, the reading of the clock with which the slot was set free.
 abbrev pub turn_in : ℕ → ℕ
 turn_in n = n / 8 % 1048576
 

@@ -22,9 +22,9 @@ use Rattle.ell_cards.specs.declared.share.Share.{Share}
 use Rattle.ell_cards.specs.Whole.{IsWhole}
 use Rattle.ell_cards.specs.Inside.{HasShare}
 
--- Wherever turns have led the table, and whatever a pass knows of which this is shown: each call of which that one is
--- shown, if the pass may make it, finds a word, and this holds of what is shown of the word and of what the pass knows
--- after the call.
+-- Wherever turns have led the table, and whatever a pass knows of which this is shown: each call of which that one
+-- is shown, if the pass may make it, finds a word, and this holds of what is shown of the word and of what the pass
+-- knows after the call.
 abbrev pub MayTell : TablePlan → Call → View → (ℕ → View → Type 0) → Type 0
 MayTell plan c v then =
     (s : TableState) → IsReached plan s → (id : ℕ) (w : View) → get_elem? s.views id ≡ some w → shown w ≡ v
@@ -89,10 +89,11 @@ pub record StepsBy (old new : PassModel) : Type 0 where
   pub label : new.label ≡ old.label
   pub safe : new.safe ≡ old.safe
 
--- what a step call that found this word leaves of a pass: what it knows is as the call says, and what the call tells is
--- so; what a look has found of its own keys is what its ledger has; it was told no two keys of one node, nor, before
--- the call, two values of one leaf; the pass owns the keys and has the share that it did, names what is in its table
--- and what may be claimed there, and was told no greater depth of a node than a node of the table may have
+-- what a step call that found this word leaves of a pass: what it knows is as the call says, and what the call
+-- tells is so; what a look has found of its own keys is what its ledger has; it was told no two keys of one node,
+-- nor, before the call, two values of one leaf; the pass owns the keys and has the share that it did, names what is
+-- in its table and what may be claimed there, and was told no greater depth of a node than a node of the table may
+-- have
 pub record IsTaken (plan : TablePlan) (c : Call) (v : View) (n : ℕ) (w : View) : Type 0 where
   pub view : w ≡ after c n v
   pub tells : Tells plan c v n

@@ -32,7 +32,8 @@ use Rattle.ell_cards.specs.Touching.{Touched, AtNode, OfCard, AtRoot, touched_by
 use Rattle.ell_cards.specs.Turns.{found_by, view_after, state_after, state_split, state_joined}
 use Rattle.ell_cards.specs.Whole.{trees_of, first_known, joined_known, spent_known}
 
--- The memory of a table with places has words for slots alone. A field of a card stands at that field of the card's slot.
+-- The memory of a table with places has words for slots alone. A field of a card stands at that field of the card's
+-- slot.
 abbrev pub slot_address : ℕ → Field → ℕ
 slot_address c f = address (slot_of c) f
 
@@ -75,19 +76,21 @@ HoldsWaiting v c = (v.worker.card ≡ Some c) × (v.worker.flagged ≡ false)
 abbrev pub HasStored : View → Field → Type 0
 HasStored v f = (x : ℕ) × Has v.stores (f, x)
 
--- a field of a card that is kept in memory: of a card that has won its flag each, and of one in hand those that were stored
+-- a field of a card that is kept in memory: of a card that has won its flag each, and of one in hand those that
+-- were stored
 pub data IsKept (stage : Stages) (views : List Known) (c : ℕ) (f : Field) : Type 0 where
   won : HasWon stage c → IsKept stage views c f
   stored : (seat : ℕ) (k : Known) → get_elem? views seat ≡ some k → HoldsWaiting k.tree c → HasStored k.tree f
       → IsKept stage views c f
 
--- What the memory of a table with places has of its tree: the claim word, and the word from which the tree is flat; and at
--- each slot, of the card that lies there, what is kept, with tags cut. The card of the root lies in slot 0, and so does
--- each card in its slot that has won its flag and is not dead; for a pass that is in a period, each that was not dead when the
--- period began; and the card in hand whose slot the pass has taken. The card for which a pass took a slot last was claimed,
--- and what a pass has stored of its card in hand it stored once it had taken that one's slot.
-pub record IsTied (s : Slots) (tree : TableState) (t : WholeState) (stage : Stages) (dead : ℕ → Bool) (was_dead : ℕ → ℕ → Bool)
-    : Type 0 where
+-- What the memory of a table with places has of its tree: the claim word, and the word from which the tree is flat;
+-- and at each slot, of the card that lies there, what is kept, with tags cut. The card of the root lies in slot 0,
+-- and so does each card in its slot that has won its flag and is not dead; for a pass that is in a period, each
+-- that was not dead when the period began; and the card in hand whose slot the pass has taken. The card for which a
+-- pass took a slot last was claimed, and what a pass has stored of its card in hand it stored once it had taken
+-- that one's slot.
+pub record IsTied (s : Slots) (tree : TableState) (t : WholeState) (stage : Stages) (dead : ℕ → Bool)
+    (was_dead : ℕ → ℕ → Bool) : Type 0 where
   pub claim : slice_index t.words 0 ≡ slice_index tree.words 0
   pub flat : slice_index t.words 1 ≡ slice_index tree.words 1
   pub root : card_in s t.words 0 ≡ 0
@@ -103,8 +106,8 @@ pub record IsTied (s : Slots) (tree : TableState) (t : WholeState) (stage : Stag
   pub stores : (seat c : ℕ) (f : Field) (k : Known) → get_elem? t.views seat ≡ some k → HoldsWaiting k.tree c
       → HasStored k.tree f → k.period.slot ≡ Some c
 
--- what a call asks beside what it asks of the tree: what is stored goes to a slot that the pass has taken, and a card is
--- flagged whose fields were all stored there
+-- what a call asks beside what it asks of the tree: what is stored goes to a slot that the pass has taken, and a
+-- card is flagged whose fields were all stored there
 abbrev pub MayInMemory : Known → Call → Type 0
 MayInMemory k (call.Fill c f value) = k.period.slot ≡ Some c
 MayInMemory k (call.IFlag c p from) = (k.period.slot ≡ Some c) × ((f : Field) → HasStored k.tree f)
@@ -128,8 +131,8 @@ pub record TouchesTied (s : Slots) (words : List ℕ) (tree : TableState) (c : C
   pub lies : LiesThere s words (card_touched (touched_by c))
   pub finds : FindsTied words tree c
 
--- the memory after a step call of the pass in a seat: at the call's place is what is cut of what the call leaves in the
--- tree
+-- the memory after a step call of the pass in a seat: at the call's place is what is cut of what the call leaves in
+-- the tree
 abbrev pub memory_after : TableState → WholeState → List (Maybe (Unit {0})) → ℕ → Known → Call → WholeState
 memory_after tree t homes id k c = record {
   words = slice_set t.words (place_of c) (cut_word (left_by (atomic_of c) (found_by tree c)));
@@ -143,8 +146,8 @@ pub record IsTiedByAges (plan : TablePlan) (s : Slots) (tree : TableState) (t : 
   pub ages : AgesAreSound plan s tree t dead was_dead
   pub tied : IsTied s tree t ages.now.machine.stages dead was_dead
 
--- A step call that a pass may make by what it knows, and by the slot that it has taken, touches a word that is tied, and
--- memory is tied after it, whatever is noted of the homes.
+-- A step call that a pass may make by what it knows, and by the slot that it has taken, touches a word that is
+-- tied, and memory is tied after it, whatever is noted of the homes.
 abbrev pub CallsKeepTies : Type 0
 CallsKeepTies = (plan : TablePlan) (s : Slots) (tree : TableState) (t : WholeState) (dead : ℕ → Bool)
     (was_dead : ℕ → ℕ → Bool) → IsReached plan tree → s.last < 2097152 → table_size s.last ≤ length t.words
@@ -190,7 +193,8 @@ JoinsKeepTies = (plan : TablePlan) (s : Slots) (tree : TableState) (t : WholeSta
     })
     dead was_dead
 
--- the memory of a table with places, as it opens with these words of cards, is tied to a tree that turns may start from
+-- the memory of a table with places, as it opens with these words of cards, is tied to a tree that turns may start
+-- from
 pub record OpensTied (plan : TablePlan) (s : Slots) (cards : List ℕ) : Type 0 where
   pub tree : TableState
   pub reached : IsReached plan tree
@@ -204,9 +208,9 @@ OpeningsAreTied = (plan : TablePlan) (s : Slots) (cards : List ℕ) → plan.slo
     → length cards ≡ table_size s.last → words_of cards ≡ words_at_start plan.flat plan.start
     → ((i : ℕ) → IsWord (slice_index cards i)) → OpensTied plan s cards
 
--- A step of a pass on the words of periods leaves the words of cards as they are, and which card lies in each slot. The pass
--- has for its card in hand the slot that it had, and nothing that was dead lives. If it begins a period, what was dead then
--- is what was dead before the step at least.
+-- A step of a pass on the words of periods leaves the words of cards as they are, and which card lies in each slot.
+-- The pass has for its card in hand the slot that it had, and nothing that was dead lives. If it begins a period,
+-- what was dead then is what was dead before the step at least.
 pub record GoesBeside (s : Slots) (t : WholeState) (id : ℕ) (k : Known) (p : Period) (words : List ℕ)
     (dead dead' : ℕ → Bool) (was_dead was_dead' : ℕ → ℕ → Bool) : Type 0 where
   pub taken : p.slot ≡ k.period.slot
@@ -238,20 +242,21 @@ memory_taken s t id k c = record {
   views = slice_set t.views id (record { tree = k.tree; period = record k.period { read = None; slot = Some c } });
 }
 
--- A pass takes the slot of its card in hand, which is not flagged, where a card lies that is dead, and was dead for each
--- pass that is in a period: that keeps memory tied too.
+-- A pass takes the slot of its card in hand, which is not flagged, where a card lies that is dead, and was dead for
+-- each pass that is in a period: that keeps memory tied too.
 abbrev pub TakesKeepTies : Type 0
 TakesKeepTies = (plan : TablePlan) (s : Slots) (tree : TableState) (t : WholeState) (dead : ℕ → Bool)
     (was_dead : ℕ → ℕ → Bool) → s.last < 2097152 → length t.words ≡ slots_size s
     → IsTiedByAges plan s tree t dead was_dead → trees_of t.views ≡ tree.views
     → (id : ℕ) (k : Known) → get_elem? t.views id ≡ some k → (c : ℕ) → HoldsWaiting k.tree c → slot_of c ≤ s.last
     → dead (card_in s t.words (slot_of c)) ≡ true
-    → ((seat q a : ℕ) (u : Known) → get_elem? t.views seat ≡ some u → u.period.place ≡ Some q → u.period.announced ≡ Some a
+    → ((seat q a : ℕ) (u : Known) → get_elem? t.views seat ≡ some u → u.period.place ≡ Some q
+    → u.period.announced ≡ Some a
     → was_dead q (card_in s t.words (slot_of c)) ≡ true)
     → IsTiedByAges plan s tree (memory_taken s t id k c) dead was_dead
 
--- Where that card lies in its slot already, as each of the first turn does, its pass takes the slot with its word as it
--- is.
+-- Where that card lies in its slot already, as each of the first turn does, its pass takes the slot with its word
+-- as it is.
 abbrev pub OwnSlotsKeepTies : Type 0
 OwnSlotsKeepTies = (plan : TablePlan) (s : Slots) (tree : TableState) (t : WholeState) (dead : ℕ → Bool)
     (was_dead : ℕ → ℕ → Bool) → length t.words ≡ slots_size s
@@ -276,8 +281,8 @@ ExpectsNear (call.IChild c p l q right) n = IsNear l n
 ExpectsNear (call.DChild c gp p y right) n = IsNear p n
 ExpectsNear _ n = Unit {0}
 
--- So it is of each child exchange that a pass in a period may make: the cards that have changed that word since the pass forgot
--- what it was told lie in their slots, and so they are few.
+-- So it is of each child exchange that a pass in a period may make: the cards that have changed that word since the
+-- pass forgot what it was told lie in their slots, and so they are few.
 abbrev pub ExchangesAreNear : Type 0
 ExchangesAreNear = (plan : TablePlan) (s : Slots) (tree : TableState) (t : WholeState) (dead : ℕ → Bool)
     (was_dead : ℕ → ℕ → Bool) → IsTiedByAges plan s tree t dead was_dead → IsReached plan tree → s.last ≤ 2000000

@@ -362,9 +362,9 @@ pub fn safe_numbers_are_safe()
     ensures free { FreeSlotsAreUntouched }
 {}
 
-/// The memory of a table with places has words for slots alone, in each of which a card lies, while its tree has words for each
-/// card number. Memory is tied to the tree: at a slot it has what the tree has of the card that lies there, cut to 64 bits, as far
-/// as that is kept. A step call touches words that are tied so, and keeps memory tied.
+/// How slots can be used anew; no table goes by it yet. Memory that has words for slots alone, in each of which a card lies, is tied
+/// to a tree that has words for each card number: at a slot it has what the tree has of the card that lies there, cut to 64
+/// bits, as far as that is kept. A step call touches words that are tied so, and keeps memory tied.
 pub fn ties_are_kept()
     // A step call finds in memory what is cut of what it finds in the tree, and memory is tied to the tree after it.
     ensures calls { CallsKeepTies }
