@@ -25,9 +25,10 @@ use Rattle.ell_cards.specs.declared.call.Call.TheVariants as call
 use Rattle.ell_cards.specs.declared.view.Told.TheVariants.{Met, Key, Value, Frozen}
 use Rattle.ell_cards.specs.declared.view.View.{View}
 use Rattle.ell_cards.specs.Changes.{counted, forgotten, with_fact, if_won, exchanged, after_begin, after_again, after_leave, after_rest, after_answer, after_upd, after_claim, after_flag, after_mark, is_this, told_info, depth_there, after_fill}
-use Rattle.ell_cards.specs.Models.{TablePlan, flat_from, last_claim, IsTold, IsFree, Does, StandsAt, InTable, EndWasUnknown}
+use Rattle.ell_cards.specs.Models.{TablePlan, flat_from, IsTold, IsFree, Does, StandsAt, InTable, EndWasUnknown}
 use Rattle.ell_cards.specs.Guards.{MayBegin, MayAnswer, MayRead, MayGoDown, MayAsk, KnowsPlace, MayLookDown, MayClaim, MayFill, MayIFlag, MayDFlag, MayIChild, MayMark, MayDChild}
 use Rattle.ell_cards.specs.Depths.{met_at, depth_told}
+use Rattle.ell_cards.specs.SlotWords.{slot_of}
 use Rattle.ell_word.specs.declared.link.Link.{Link}
 use Rattle.ell_word.specs.Link.{linked, link_in}
 use Rattle.ell_core.specs.declared.view.Seen.{Seen}
@@ -70,6 +71,34 @@ word_of (call.DChild c gp p s right) = child_address gp right
 word_of (call.DUnflag c gp) = update_address gp
 word_of (call.Backtrack c gp) = update_address gp
 word_of _ = key_address 0
+
+-- The memory of a table has words for slots. A field of a card stands at that field of the card's slot; without places
+-- each card has a slot of its own.
+abbrev pub slot_address : ℕ → Field → ℕ
+slot_address c f = address (slot_of c) f
+
+-- so the word that a call touches stands here
+abbrev pub place_of : Call → ℕ
+place_of (call.Upd x) = slot_address (card x) field.Update
+place_of (call.Down x right) = slot_address (card x) (child_field right)
+place_of call.Next = 0
+place_of (call.KeyOf x) = slot_address (card x) (key_field (x % 4))
+place_of (call.ValueOf x) = slot_address (card x) (value_field (x % 4))
+place_of (call.Info c f) = slot_address c f
+place_of (call.FrozenChild c p right) = slot_address (card p) (child_field right)
+place_of call.Look = slot_address 0 (child_field false)
+place_of (call.LookDown from to right) = slot_address (card from.node) (child_field right)
+place_of (call.Claim c node_key) = 0
+place_of (call.Fill c f value) = slot_address c f
+place_of (call.IFlag c p from) = slot_address (card p) field.Update
+place_of (call.IChild c p l q right) = slot_address (card p) (child_field right)
+place_of (call.IUnflag c p) = slot_address (card p) field.Update
+place_of (call.DFlag c gp from) = slot_address (card gp) field.Update
+place_of (call.Mark c p was) = slot_address (card p) field.Update
+place_of (call.DChild c gp p s right) = slot_address (card gp) (child_field right)
+place_of (call.DUnflag c gp) = slot_address (card gp) field.Update
+place_of (call.Backtrack c gp) = slot_address (card gp) field.Update
+place_of _ = slot_address 0 (key_field 0)
 
 -- what an atomic step does to its word: it loads it, stores a value, or exchanges an expected value for another
 pub data Atomic : Type 0 where
@@ -178,7 +207,7 @@ May plan (call.FrozenChild c p right) v = KnowsPlace v (fact.Marked c) c field.P
 May plan call.Look v = IsFree v
 May plan (call.LookDown from to right) v = MayLookDown (flat_from plan) v from to right
 May plan call.Rest v = IsFree v
-May plan (call.Claim c node_key) v = MayClaim (flat_from plan) v c node_key × (c ≤ last_claim plan)
+May plan (call.Claim c node_key) v = MayClaim (flat_from plan) v c node_key × (c ≤ plan.last_card)
 May plan (call.Fill c f value) v = MayFill v c
 May plan (call.IFlag c p from) v = MayIFlag v c p from
 May plan (call.IChild c p l q right) v = MayIChild v c p l q right

@@ -1,4 +1,4 @@
-use Rattle.std.specs.Prelude.{◌≡◌, ◌≢◌, ◌↔◌, ℕ, ◌≤◌, List, [], None, true, is_some}
+use Rattle.std.specs.Prelude.{◌≡◌, ◌≢◌, ◌↔◌, ℕ, ◌≤◌, List, [], None, true, is_some, Some}
 use Rattle.std.specs.List.Sorted.{IsStrictlyIncreasing}
 use Rattle.atomic_table.specs.Seated.{TableId}
 use Rattle.atomic_table.specs.Table.{Me}
@@ -12,21 +12,29 @@ use Rattle.ell_cards.specs.declared.view.Period.{Period}
 use Rattle.ell_cards.specs.declared.view.Slots.{Slots}
 use Rattle.ell_cards.specs.declared.view.View.{View}
 use Rattle.ell_cards.specs.Changes.{ledger_keys}
-use Rattle.ell_cards.specs.Naming.{IsNamed}
+use Rattle.ell_cards.specs.Naming.{IsNamed, IsPlaced}
 use Rattle.ell_cards.specs.Periods.{slots_size}
 use Rattle.ell_cards.specs.Shown.{shown}
+use Rattle.ell_cards.specs.SlotWords.{slot_of}
 
 -- the share of a pass as its code keeps it is that of its view, and it counts where some keys are shared
 pub record HasShare (share : Share) (v : View) : Type 0 where
   pub units : v.share ≡ share.units
   pub counts : (share.counts ≡ true) ↔ (v.worker.shared ≢ None)
 
--- all that a pass names is of cards that have words in a table of so many
+-- all that a pass names lies in slots that have words in a table of so many
 pub record HasWords (words : ℕ) (v : View) : Type 0 where
   pub last : ℕ
   pub low : last ≤ greatest_card
   pub few : table_size last ≤ words
-  pub named : IsNamed last v
+  pub placed : IsPlaced last v
+
+-- a card has a slot that has words there
+pub record HasSlotThere (words c : ℕ) : Type 0 where
+  pub last : ℕ
+  pub low : last ≤ greatest_card
+  pub few : table_size last ≤ words
+  pub inside : slot_of c ≤ last
 
 -- the keys of a pass as its code keeps them are those of its ledger, ascending; so is its share; and what it names is
 -- in its table
@@ -39,14 +47,17 @@ pub record PassFits (keys : List ℕ) (kept : Share) (words : ℕ) (v : View) : 
   pub inside : HasWords words v
 
 -- the place of a pass as its code keeps it is the one that it knows, and it has one in a table with places, and no
--- other one; it announces there what its code says; and without places it has no safe number but 0
+-- other one; it announces there what its code says; its safe number is the one that its code keeps, and without
+-- places 0; and the slot that it has taken is one of the table
 pub record PlaceFits (standing : Standing) (words : ℕ) (p : Period) : Type 0 where
   pub place : p.place ≡ standing.place
   pub other : p.other ≡ None
   pub announces : standing.announces ≡ is_some p.announced
+  pub safe : p.safe ≡ standing.safe
   pub none : (last : ℕ) → words ≡ table_size last → standing.place ≡ None
   pub unsafe : (last : ℕ) → words ≡ table_size last → p.safe ≡ 0
   pub some : (s : Slots) → words ≡ slots_size s → standing.place ≢ None
+  pub slot : (c : ℕ) → p.slot ≡ Some c → HasSlotThere words c
 
 -- a pass fits by what is shown of what its seat knows, and its seat holds no slot
 abbrev pub IsPass : {A : Type 0} → Inside A → Type 0

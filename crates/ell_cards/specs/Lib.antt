@@ -25,6 +25,8 @@ pub mod Starts
 pub mod SlotWords
 -- the places of passes and the clock: where their words stand, and what passes know of grace periods
 pub mod Periods
+-- cards that were laid aside
+pub mod Aside
 -- what is dead in a table's tree, and was when periods began
 pub mod Ages
 -- the rule of a table: its tree, and its periods
@@ -55,6 +57,8 @@ pub mod Naming
 pub mod Inside
 -- what the generic step asks and tells
 pub mod Stepping
+-- the numbers of a turn that have no slots
+pub mod Skipping
 -- the machine that a table has, wherever turns lead, and what the invariant has to keep of what passes know
 pub mod Machines
 -- step calls, splits and joins as the machine's
@@ -103,3 +107,4 @@ pub use Rattle.ell_core.specs.statements.Effects
 pub use Rattle.ell_core.specs.statements.Readers
 -- what the memory of a table with places has of its tree
 pub mod Ties
+pub mod Tied

@@ -31,13 +31,13 @@ pub record TablePlan : Type 0 where
   pub flat : Bool
   pub slots : Option Slots
 
--- the last card that may be claimed: the last one, or the last one that has words
-abbrev pub last_claim_of : Option Slots → ℕ → ℕ
-last_claim_of None last = last
-last_claim_of (Some s) last = min s.last last
+-- the last slot: each card lies in one, and without places in one of its own
+abbrev pub last_slot_of : Option Slots → ℕ → ℕ
+last_slot_of None last = last
+last_slot_of (Some s) last = s.last
 
-abbrev pub last_claim : TablePlan → ℕ
-last_claim plan = last_claim_of plan.slots plan.last_card
+abbrev pub last_slot : TablePlan → ℕ
+last_slot plan = last_slot_of plan.slots plan.last_card
 
 -- the first card that is not of the opening tree, if the tree of a table is flat, else 0
 abbrev pub flat_from : TablePlan → ℕ
@@ -49,13 +49,15 @@ pub record TableModel : Type 0 where
   pub plan : TablePlan
 
 -- the table that a pass belongs to, what is shown of what it knows, the atomic steps made through it, its label,
--- and its safe number: every pass that is in a period began it when the clock was that at least
+-- its safe number: every pass that is in a period began it when the clock was that at least; and the card whose slot
+-- it has taken last, if the table has places
 pub record PassModel : Type 0 where
   pub table : TableId
   pub view : View
   pub steps : ℕ
   pub label : ℕ
   pub safe : ℕ
+  pub slot : Option ℕ
 
 -- the ledger of a pass: each key of its own with whether it is present, and with which value
 abbrev pub ledger : PassModel → Ledger
@@ -88,7 +90,14 @@ some_more n steps = min (steps + n) 18446744073709551615
 -- the pass made one step that it has not counted yet, and knows this now
 abbrev pub Sees : PassModel → PassModel → View → Type 0
 Sees old new v =
-    new ≡ record { table = old.table; view = v; steps = old.steps; label = old.label; safe = old.safe }
+    new ≡ record {
+      table = old.table;
+      view = v;
+      steps = old.steps;
+      label = old.label;
+      safe = old.safe;
+      slot = old.slot;
+    }
 
 -- the pass counted so many steps, and made none
 abbrev pub Counts : PassModel → PassModel → ℕ → Type 0
@@ -97,12 +106,27 @@ Counts old new n = new ≡ record old { steps = some_more n old.steps }
 -- the pass made one step, and knows this now
 abbrev pub Steps : PassModel → PassModel → View → Type 0
 Steps old new v =
-    new ≡ record { table = old.table; view = v; steps = one_more old.steps; label = old.label; safe = old.safe }
+    new ≡ record {
+      table = old.table;
+      view = v;
+      steps = one_more old.steps;
+      label = old.label;
+      safe = old.safe;
+      slot = old.slot;
+    }
 
--- the pass came from another one by a step that both count, and knows this; it has looked at no place yet
+-- the pass came from another one by a step that both count, and knows this; it has looked at no place yet, and has
+-- taken no slot
 abbrev pub StepsOut : PassModel → PassModel → View → Type 0
 StepsOut old new v =
-    new ≡ record { table = old.table; view = v; steps = one_more old.steps; label = old.label; safe = 0 }
+    new ≡ record {
+      table = old.table;
+      view = v;
+      steps = one_more old.steps;
+      label = old.label;
+      safe = 0;
+      slot = None;
+    }
 
 -- of a list, the last first, one is this
 pub data Has {A : Type 0} : List A → A → Type 0 where

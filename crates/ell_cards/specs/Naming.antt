@@ -9,7 +9,8 @@ use Rattle.ell_core.specs.state.Facts.{card_of_fact}
 use Rattle.ell_cards.specs.declared.view.Told.{Told}
 use Rattle.ell_cards.specs.declared.view.Told.TheVariants.{Met, Depth, Key, Value, Info, Frozen, Expects}
 use Rattle.ell_cards.specs.declared.view.View.{View}
-use Rattle.ell_cards.specs.Models.{IsTold, Knows}
+use Rattle.ell_cards.specs.Models.{IsTold, Knows, KnowsCard}
+use Rattle.ell_cards.specs.SlotWords.{slot_of}
 
 -- a word of a card that is a node is one of the table
 abbrev pub InfoIsNamed : ℕ → Field → ℕ → Type 0
@@ -46,3 +47,21 @@ pub record IsNamed (last : ℕ) (v : View) : Type 0 where
   pub facts : (fact : Fact) → Knows v fact → card_of_fact fact ≤ last
   pub entries : (e : Told) → IsTold v e → EntryIsNamed last e
   pub next : v.next_at_least ≤ last + 1
+
+-- what was told names nodes whose cards have slots up to a last one, where a call may touch them
+abbrev pub EntryIsPlaced : ℕ → Told → Type 0
+EntryIsPlaced last (Met x) = slot_of (card x) ≤ last
+EntryIsPlaced last (Info c Gp x) = slot_of (card x) ≤ last
+EntryIsPlaced last (Info c P x) = slot_of (card x) ≤ last
+EntryIsPlaced last _ = Unit {0}
+
+-- each node where a pass stands or stood, or that it has met, is of a card that has a slot up to a last one, and so is
+-- each card that it knows flagged or marked
+pub record IsPlaced (last : ℕ) (v : View) : Type 0 where
+  pub node : (x : ℕ) → v.worker.search.node ≡ Some x → slot_of (card x) ≤ last
+  pub parent : (x : ℕ) (seen : Seen) → v.worker.search.node ≡ Some x → v.worker.search.parent ≡ Some seen
+      → slot_of (card seen.node) ≤ last
+  pub grandparent : (x : ℕ) (seen above : Seen) → v.worker.search.node ≡ Some x → v.worker.search.parent ≡ Some seen
+      → v.worker.search.grandparent ≡ Some above → slot_of (card above.node) ≤ last
+  pub facts : (c : ℕ) → KnowsCard v c → slot_of c ≤ last
+  pub entries : (e : Told) → IsTold v e → EntryIsPlaced last e

@@ -1,4 +1,4 @@
-use Rattle.std.specs.Prelude.{◌≡◌, ◌≢◌, ℕ, zero, suc, ◌+◌, ◌-◌, ◌*◌, ◌/◌, ◌<◌, ◌≤◌, ◌==◌, ◌++◌, ◌&&◌, nat_lt, nat_le, if◌then◌else◌, Bool, Option, Some, None, List, [], length, replicate, slice_index, slice_set, min}
+use Rattle.std.specs.Prelude.{◌≡◌, ◌≢◌, ℕ, zero, suc, ◌+◌, ◌-◌, ◌*◌, ◌/◌, ◌<◌, ◌≤◌, ◌==◌, ◌++◌, ◌&&◌, nat_lt, nat_le, if◌then◌else◌, Bool, Option, Some, None, List, [], length, replicate, slice_index, slice_set, true, false}
 use mathlib.Core.Option.{some, none}
 use mathlib.Core.Option.{Option as Maybe}
 use lib.ListN.{get_elem?}
@@ -15,7 +15,7 @@ use Rattle.ell_cards.specs.declared.view.Told.{Told}
 use Rattle.ell_cards.specs.declared.view.Told.TheVariants.{Met, Key}
 use Rattle.ell_cards.specs.declared.view.View.{View}
 use Rattle.ell_cards.specs.Models.{TablePlan, IsFree, IsTold}
-use Rattle.ell_cards.specs.SlotWords.{slot_of, card_by, freed_by}
+use Rattle.ell_cards.specs.SlotWords.{slot_of, turn_of, turn_in, card_by, freed_by}
 
 -- the state of a table, with all that its passes know
 abbrev pub WholeState : Type 0
@@ -78,13 +78,16 @@ size_by (Some s) last = slots_size s
 abbrev pub whole_size : TablePlan → ℕ
 whole_size plan = size_by plan.slots plan.last_card
 
--- and how many of them are words of cards
-abbrev pub card_words_by : Option Slots → ℕ → ℕ
-card_words_by None last = table_size last
-card_words_by (Some s) last = min (table_size s.last) (table_size last)
+-- how many cards a pass claims at most until it comes to one whose slot it may take: once around all slots, and the
+-- cards that a turn has no slots for
+abbrev pub most_claims : Option Slots → ℕ
+most_claims None = 1
+most_claims (Some s) = s.last + 2
 
-abbrev pub card_words : TablePlan → ℕ
-card_words plan = card_words_by plan.slots plan.last_card
+-- whether a card has a slot
+abbrev pub has_slot : Option Slots → ℕ → Bool
+has_slot None c = true
+has_slot (Some s) c = nat_le (slot_of c) s.last
 
 -- The word of a place is 0 if no pass has it, 1 if its pass is in no period, and else the reading of the clock that
 -- its pass announces, and 2.
@@ -116,6 +119,7 @@ no_period = record {
   read = None;
   stamp = None;
   slot = None;
+  lost = None;
 }
 
 -- the first pass of a table has the first place, if there is one
@@ -161,9 +165,22 @@ pub record StandsAs (old new : Period) : Type 0 where
 abbrev pub after_read : ℕ → ℕ → Period → Period
 after_read slot n p = record p { read = Some (record { slot = slot; word = n }) }
 
+-- the slot of a card was taken
+abbrev pub after_taking : ℕ → Period → Period
+after_taking c p = record p { read = None; slot = Some c }
+
+-- the word of a card's slot was read, and so the slot was taken if that card lies there already
+abbrev pub after_own : ℕ → ℕ → Period → Period
+after_own c n p = if turn_in n == turn_of c then after_taking c p else after_read (slot_of c) n p
+
 -- the clock was read for a card whose nodes are dead
 abbrev pub after_stamp : ℕ → ℕ → Period → Period
 after_stamp card n p = record p { stamp = Some (record { card = card; reading = n }) }
+
+-- a flag was set, or it was lost, and the card was laid aside by that
+abbrev pub after_flagging : Bool → ℕ → Period → Period
+after_flagging true c p = p
+after_flagging false c p = record p { lost = Some c }
 
 -- a place was taken that no pass had, if its word was 0
 abbrev pub after_take : ℕ → ℕ → Period → Period

@@ -1,20 +1,22 @@
-use Rattle.std.specs.Prelude.{◌≡◌, ℕ, List, [], ◌-◌}
+use Rattle.std.specs.Prelude.{◌≡◌, ◌≢◌, ℕ, None, Some, List, [], ◌-◌}
 use mathlib.Core.Option.{some}
 use lib.ListN.{get_elem?}
 use Rattle.std.specs.List.Sorted.{IsStrictlyIncreasing}
 use Rattle.atomic_table.specs.Table.{Allows}
+use Rattle.ell_layout.specs.declared.field.Field.{Field}
 use Rattle.ell_cards.specs.declared.call.Call.{Call}
 use Rattle.ell_cards.specs.declared.call.Call.TheVariants as call
 use Rattle.ell_cards.specs.declared.view.Known.{Known}
 use Rattle.ell_cards.specs.declared.view.Period.{Period}
 use Rattle.ell_cards.specs.declared.view.View.{View}
-use Rattle.ell_cards.specs.Models.{flat_from, last_claim, TablePlan, PassModel, IsFree, MayPart, one_more, given_share}
+use Rattle.ell_cards.specs.Models.{flat_from, last_slot, TablePlan, PassModel, IsFree, MayPart, one_more, given_share}
 use Rattle.ell_cards.specs.Changes.{ledger_keys}
 use Rattle.ell_cards.specs.Depths.{deepest, IsShallow}
-use Rattle.ell_cards.specs.Naming.{IsNamed}
-use Rattle.ell_cards.specs.Calls.{after, May, Tells}
+use Rattle.ell_cards.specs.Naming.{IsNamed, IsPlaced}
+use Rattle.ell_cards.specs.Calls.{Exchange, atomic_of, after, May, Tells}
 use Rattle.ell_cards.specs.Shown.{cut_word, shown, shown_call, CanBeShown}
 use Rattle.ell_cards.specs.States.{TableState}
+use Rattle.ell_cards.specs.Tied.{HasStored, MayInMemory}
 use Rattle.ell_cards.specs.Turns.{found_by, view_after}
 use Rattle.ell_cards.specs.Starts.{IsReached}
 use Rattle.ell_cards.specs.Looking.{KeysAreFixed, ValuesAreFixed, ReadsItsOwn, MissesItsOwn}
@@ -29,7 +31,14 @@ abbrev pub MayTell : TablePlan → Call → View → (ℕ → View → Type 0) �
 MayTell plan c v then =
     (s : TableState) → IsReached plan s → (id : ℕ) (w : View) → get_elem? s.views id ≡ some w → shown w ≡ v
     → (whole : Call) → shown_call whole ≡ c → May plan whole w → CanBeShown whole (found_by s whole) w
-    → then (cut_word (found_by s whole)) (shown (view_after s w whole))
+    → IsPlaced (last_slot plan) (view_after s w whole) → then (cut_word (found_by s whole)) (shown (view_after s w whole))
+
+-- a call exchanges an expected word for another one, of which a word of 64 bits has this: without places, all of it
+pub record Exchanges (plan : TablePlan) (c : Call) (expected value : ℕ) : Type 0 where
+  pub whole : ℕ
+  pub is : atomic_of c ≡ Exchange expected whole
+  pub cut : value ≡ cut_word whole
+  pub all : plan.slots ≡ None → value ≡ whole
 
 -- a step call that begins no operation and no look
 abbrev pub IsQuiet : Call → Type 0
@@ -58,6 +67,7 @@ pub record MayHave (old : View) (keys : List ℕ) (v : View) : Type 0 where
   pub owned : keys ≡ ledger_keys v.worker.ledger
   pub ascending : IsStrictlyIncreasing keys
   pub named : (last : ℕ) → IsNamed last old → IsNamed last v
+  pub placed : (last : ℕ) → IsPlaced last old → IsPlaced last v
 
 -- the shares of two parts are those that the code of a pass has after a split, whatever it has before
 abbrev pub PartsShare : View → View → View → Type 0
@@ -65,9 +75,17 @@ PartsShare old left right = (share : Share) → HasShare share old
     → HasShare (record { units = share.units - given_share share.units; counts = share.counts }) left
     × HasShare (record { units = given_share share.units; counts = share.counts }) right
 
--- what a pass names is in a table: all that is claimed there, and all that may be
+-- what a pass names is in a table, and lies in its slots
 abbrev pub IsInside : TablePlan → View → Type 0
-IsInside plan v = IsNamed plan.last_card v × IsNamed (last_claim plan) v
+IsInside plan v = IsNamed plan.last_card v × IsPlaced (last_slot plan) v
+
+-- a pass has taken the slot of a card, and has stored each word of it
+abbrev pub IsWholeIn : PassModel → ℕ → Type 0
+IsWholeIn p c = (p.slot ≡ Some c) × ((f : Field) → HasStored p.view f)
+
+-- a call asks this of the slots, if the table has places
+abbrev pub MayInTable : TablePlan → PassModel → Call → Type 0
+MayInTable plan p c = plan.slots ≢ None → MayInMemory p.slot p.view c
 
 -- what a step tells says that the pass owns the keys and has the share that it did, and names what is in the table
 abbrev pub KeepsPass : TablePlan → View → (ℕ → View → Type 0) → Type 0
@@ -75,19 +93,23 @@ KeepsPass plan v then =
     (n : ℕ) (w : View) → then n w → (ledger_keys w.worker.ledger ≡ ledger_keys v.worker.ledger) × SameShare v w
     × IsInside plan w
 
--- a pass made one step that it has not counted yet: its table, its label and its safe number are as they were
+-- a pass made one step that it has not counted yet: its table, its label, its safe number and its
+-- slot are as they were
 pub record SeesBy (old new : PassModel) : Type 0 where
   pub table : new.table ≡ old.table
   pub steps : new.steps ≡ old.steps
   pub label : new.label ≡ old.label
   pub safe : new.safe ≡ old.safe
+  pub slot : new.slot ≡ old.slot
 
--- a pass made one step: its table, its label and its safe number are as they were
+-- a pass made one step: its table, its label, its safe number and its
+-- slot are as they were
 pub record StepsBy (old new : PassModel) : Type 0 where
   pub table : new.table ≡ old.table
   pub steps : new.steps ≡ one_more old.steps
   pub label : new.label ≡ old.label
   pub safe : new.safe ≡ old.safe
+  pub slot : new.slot ≡ old.slot
 
 -- what a step call that found this word leaves of a pass: what it knows is as the call says, and what the call
 -- tells is so; what a look has found of its own keys is what its ledger has; it was told no two keys of one node,
@@ -104,5 +126,5 @@ pub record IsTaken (plan : TablePlan) (c : Call) (v : View) (n : ℕ) (w : View)
   pub keys : ledger_keys w.worker.ledger ≡ ledger_keys v.worker.ledger
   pub share : SameShare v w
   pub named : IsNamed plan.last_card w
-  pub inside : IsNamed (last_claim plan) w
+  pub inside : IsPlaced (last_slot plan) w
   pub shallow : (x : ℕ) → IsShallow (deepest plan) w x

@@ -1,4 +1,4 @@
-use Rattle.std.specs.Prelude.{◌≡◌, ◌≢◌, ℕ, ◌*◌, ◌%◌, ◌<◌, ◌≤◌, ◌⊎◌, Bool, true, false, Some, None, List, [], ◌∷◌, ◌++◌, length, slice_index, slice_set, ◌+◌, ◌==◌}
+use Rattle.std.specs.Prelude.{◌≡◌, ◌≢◌, ℕ, ◌*◌, ◌<◌, ◌≤◌, ◌⊎◌, Bool, true, false, Some, None, List, [], ◌∷◌, ◌++◌, length, slice_index, slice_set, ◌+◌, ◌==◌}
 use Rattle.std.specs.List.{IsDistinct, AllByRecursion}
 use mathlib.Core.Option.{some}
 use mathlib.Core.Option.{Option as Maybe}
@@ -6,113 +6,28 @@ use lib.ListN.{get_elem?}
 use Rattle.atomic_table.specs.Table.{opening}
 use Rattle.ell_layout.specs.Start.{words_at_start}
 use Rattle.ell_layout.specs.Words.{words_of}
-use Rattle.ell_layout.specs.declared.field.Field.{Field}
-use Rattle.ell_layout.specs.declared.field.Field.TheVariants as field
-use Rattle.ell_layout.specs.Layout.{address, table_size}
-use Rattle.ell_layout.specs.Words.{key_field, value_field, child_field}
+use Rattle.ell_layout.specs.Layout.{table_size}
 use Rattle.ell_word.specs.Node.{card}
-use Rattle.ell_core.specs.history.Stages.{Stages, is_claimed, waits}
+use Rattle.ell_core.specs.history.Stages.{Stages}
 use Rattle.ell_cards.specs.declared.call.Call.{Call}
 use Rattle.ell_cards.specs.declared.call.Call.TheVariants as call
 use Rattle.ell_cards.specs.declared.view.Known.{Known}
 use Rattle.ell_cards.specs.declared.view.Period.{Period}
 use Rattle.ell_cards.specs.declared.view.Slots.{Slots}
-use Rattle.ell_cards.specs.declared.view.View.{View}
 use Rattle.ell_cards.specs.Ages.{AgesAreSound}
 use Rattle.ell_cards.specs.Changes.{left_view, right_view}
-use Rattle.ell_cards.specs.Calls.{May, atomic_of, left_by}
-use Rattle.ell_cards.specs.Models.{TablePlan, Has, IsFree, MayPart}
+use Rattle.ell_cards.specs.Calls.{May, place_of, atomic_of, left_by}
+use Rattle.ell_cards.specs.Models.{TablePlan, IsFree, MayPart}
 use Rattle.ell_cards.specs.PeriodLaws.{IsInPeriod}
 use Rattle.ell_cards.specs.Periods.{WholeState, IsAtRest, slot_word, slots_size, opening_words, card_in, after_give, given_period}
 use Rattle.ell_cards.specs.Shown.{IsWord, cut_word, IsNear}
 use Rattle.ell_cards.specs.SlotWords.{slot_of, turn_of}
 use Rattle.ell_cards.specs.Starts.{MayStart, IsReached}
 use Rattle.ell_cards.specs.States.{TableState}
+use Rattle.ell_cards.specs.Tied.{LiesThere, HoldsWaiting, IsTied, MayInMemory}
 use Rattle.ell_cards.specs.Touching.{Touched, AtNode, OfCard, AtRoot, touched_by}
 use Rattle.ell_cards.specs.Turns.{found_by, view_after, state_after, state_split, state_joined}
 use Rattle.ell_cards.specs.Whole.{trees_of, first_known, joined_known, spent_known}
-
--- The memory of a table with places has words for slots alone. A field of a card stands at that field of the card's
--- slot.
-abbrev pub slot_address : ℕ → Field → ℕ
-slot_address c f = address (slot_of c) f
-
--- so the word that a call touches stands here
-abbrev pub place_of : Call → ℕ
-place_of (call.Upd x) = slot_address (card x) field.Update
-place_of (call.Down x right) = slot_address (card x) (child_field right)
-place_of call.Next = 0
-place_of (call.KeyOf x) = slot_address (card x) (key_field (x % 4))
-place_of (call.ValueOf x) = slot_address (card x) (value_field (x % 4))
-place_of (call.Info c f) = slot_address c f
-place_of (call.FrozenChild c p right) = slot_address (card p) (child_field right)
-place_of call.Look = slot_address 0 (child_field false)
-place_of (call.LookDown from to right) = slot_address (card from.node) (child_field right)
-place_of (call.Claim c node_key) = 0
-place_of (call.Fill c f value) = slot_address c f
-place_of (call.IFlag c p from) = slot_address (card p) field.Update
-place_of (call.IChild c p l q right) = slot_address (card p) (child_field right)
-place_of (call.IUnflag c p) = slot_address (card p) field.Update
-place_of (call.DFlag c gp from) = slot_address (card gp) field.Update
-place_of (call.Mark c p was) = slot_address (card p) field.Update
-place_of (call.DChild c gp p s right) = slot_address (card gp) (child_field right)
-place_of (call.DUnflag c gp) = slot_address (card gp) field.Update
-place_of (call.Backtrack c gp) = slot_address (card gp) field.Update
-place_of _ = slot_address 0 (key_field 0)
-
--- a card lies in its slot, by the words of a table
-abbrev pub LiesThere : Slots → List ℕ → ℕ → Type 0
-LiesThere s words c = (slot_of c ≤ s.last) × (card_in s words (slot_of c) ≡ c)
-
--- a card was given out, and has won its flag, or it is of the opening tree
-abbrev pub HasWon : Stages → ℕ → Type 0
-HasWon stage c = (is_claimed (stage c) ≡ true) × (waits (stage c) ≡ false)
-
--- a pass has a card in hand that is not flagged
-abbrev pub HoldsWaiting : View → ℕ → Type 0
-HoldsWaiting v c = (v.worker.card ≡ Some c) × (v.worker.flagged ≡ false)
-
--- a pass has stored this field of its card in hand
-abbrev pub HasStored : View → Field → Type 0
-HasStored v f = (x : ℕ) × Has v.stores (f, x)
-
--- a field of a card that is kept in memory: of a card that has won its flag each, and of one in hand those that
--- were stored
-pub data IsKept (stage : Stages) (views : List Known) (c : ℕ) (f : Field) : Type 0 where
-  won : HasWon stage c → IsKept stage views c f
-  stored : (seat : ℕ) (k : Known) → get_elem? views seat ≡ some k → HoldsWaiting k.tree c → HasStored k.tree f
-      → IsKept stage views c f
-
--- What the memory of a table with places has of its tree: the claim word, and the word from which the tree is flat;
--- and at each slot, of the card that lies there, what is kept, with tags cut. The card of the root lies in slot 0,
--- and so does each card in its slot that has won its flag and is not dead; for a pass that is in a period, each
--- that was not dead when the period began; and the card in hand whose slot the pass has taken. The card for which a
--- pass took a slot last was claimed, and what a pass has stored of its card in hand it stored once it had taken
--- that one's slot.
-pub record IsTied (s : Slots) (tree : TableState) (t : WholeState) (stage : Stages) (dead : ℕ → Bool)
-    (was_dead : ℕ → ℕ → Bool) : Type 0 where
-  pub claim : slice_index t.words 0 ≡ slice_index tree.words 0
-  pub flat : slice_index t.words 1 ≡ slice_index tree.words 1
-  pub root : card_in s t.words 0 ≡ 0
-  pub at : (slot : ℕ) (f : Field) → slot ≤ s.last → IsKept stage t.views (card_in s t.words slot) f
-      → slice_index t.words (address slot f) ≡ cut_word (slice_index tree.words (address (card_in s t.words slot) f))
-  pub alive : (c : ℕ) → HasWon stage c → dead c ≡ false → LiesThere s t.words c
-  pub lives : (seat q a c : ℕ) (k : Known) → get_elem? t.views seat ≡ some k → k.period.place ≡ Some q
-      → k.period.announced ≡ Some a → HasWon stage c → was_dead q c ≡ false → LiesThere s t.words c
-  pub hand : (seat c : ℕ) (k : Known) → get_elem? t.views seat ≡ some k → k.period.slot ≡ Some c → HoldsWaiting k.tree c
-      → LiesThere s t.words c
-  pub past : (seat c : ℕ) (k : Known) → get_elem? t.views seat ≡ some k → k.period.slot ≡ Some c
-      → c < slice_index t.words 0
-  pub stores : (seat c : ℕ) (f : Field) (k : Known) → get_elem? t.views seat ≡ some k → HoldsWaiting k.tree c
-      → HasStored k.tree f → k.period.slot ≡ Some c
-
--- what a call asks beside what it asks of the tree: what is stored goes to a slot that the pass has taken, and a
--- card is flagged whose fields were all stored there
-abbrev pub MayInMemory : Known → Call → Type 0
-MayInMemory k (call.Fill c f value) = k.period.slot ≡ Some c
-MayInMemory k (call.IFlag c p from) = (k.period.slot ≡ Some c) × ((f : Field) → HasStored k.tree f)
-MayInMemory k (call.DFlag c gp from) = (k.period.slot ≡ Some c) × ((f : Field) → HasStored k.tree f)
-MayInMemory k _ = Unit {0}
 
 -- the card whose word a call touches; the claim word is taken for one of card 0
 abbrev pub card_touched : Touched → ℕ
@@ -153,7 +68,7 @@ CallsKeepTies = (plan : TablePlan) (s : Slots) (tree : TableState) (t : WholeSta
     (was_dead : ℕ → ℕ → Bool) → IsReached plan tree → s.last < 2097152 → table_size s.last ≤ length t.words
     → IsTiedByAges plan s tree t dead was_dead
     → (id : ℕ) (k : Known) → get_elem? t.views id ≡ some k → get_elem? tree.views id ≡ some k.tree
-    → IsAtRest k.tree ⊎ IsInPeriod t id k → (c : Call) → May plan c k.tree → MayInMemory k c
+    → IsAtRest k.tree ⊎ IsInPeriod t id k → (c : Call) → May plan c k.tree → MayInMemory k.period.slot k.tree c
     → TouchesTied s t.words tree c
     × ((homes : List (Maybe (Unit {0})))
     → IsTiedByAges plan s (state_after tree id k.tree c) (memory_after tree t homes id k c) dead was_dead)

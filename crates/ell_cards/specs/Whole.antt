@@ -1,14 +1,16 @@
-use Rattle.std.specs.Prelude.{◌≡◌, ℕ, ◌<◌, Option, Some, None, List, length, map, slice_index}
+use Rattle.std.specs.Prelude.{◌≡◌, ℕ, Option, Some, None, List, length, map, slice_index}
 use mathlib.Core.Option.{some}
 use lib.ListN.{get_elem?}
+use Rattle.ell_layout.specs.declared.field.Field.{Field}
+use Rattle.ell_layout.specs.Layout.{address}
 use Rattle.ell_cards.specs.declared.view.Known.{Known}
 use Rattle.ell_cards.specs.declared.view.Slots.{Slots}
 use Rattle.ell_cards.specs.declared.view.View.{View}
 use Rattle.ell_cards.specs.Models.{TablePlan}
 use Rattle.ell_cards.specs.Changes.{first_of, joined_view, spent_view}
-use Rattle.ell_cards.specs.Periods.{WholeState, slots_size, card_words, no_period, first_period, joined_period}
+use Rattle.ell_cards.specs.Periods.{WholeState, slots_size, no_period, first_period, joined_period}
 use Rattle.ell_cards.specs.Ages.{HasPeriods}
-use Rattle.ell_cards.specs.Shown.{StoresAreWhole}
+use Rattle.ell_cards.specs.Shown.{FieldIsWhole, StoresAreWhole}
 use Rattle.ell_cards.specs.Starts.{IsReached}
 use Rattle.ell_cards.specs.States.{TableState}
 
@@ -27,14 +29,17 @@ joined_known k l = record { tree = joined_view k.tree l.tree; period = joined_pe
 abbrev pub spent_known : Known
 spent_known = record { tree = spent_view; period = no_period }
 
--- The words of a table are those of a state that turns have led to: all of them, or, in a table with places, those of
--- the cards that have words.
-abbrev pub WordsAre : (plan : TablePlan) → Option Slots → List ℕ → List ℕ → Type 0
-WordsAre plan None words tree = words ≡ tree
-WordsAre plan (Some s) words tree =
-    (length words ≡ slots_size s) × ((i : ℕ) → i < card_words plan → slice_index words i ≡ slice_index tree i)
+-- what a tree has in a field of a card that is no child word a word of 64 bits holds
+abbrev pub FieldsAreWhole : List ℕ → Type 0
+FieldsAreWhole words = (c : ℕ) (f : Field) → FieldIsWhole f (slice_index words (address c f))
 
--- its periods are sound, if there are places
+-- The words of a table without places are those of a state that turns have led to. A table with places has words for its
+-- slots, and what they have to do with its tree is said with its periods.
+abbrev pub WordsAre : Option Slots → List ℕ → List ℕ → Type 0
+WordsAre None words tree = words ≡ tree
+WordsAre (Some s) words tree = (length words ≡ slots_size s) × FieldsAreWhole tree
+
+-- its periods are sound, and its memory is tied to its tree, if there are places
 abbrev pub PeriodsAre : (plan : TablePlan) → Option Slots → TableState → WholeState → Type 0
 PeriodsAre plan None tree t = Unit {0}
 PeriodsAre plan (Some s) tree t = HasPeriods plan s tree t
@@ -44,12 +49,12 @@ abbrev pub AllStoresAreWhole : TableState → Type 0
 AllStoresAreWhole tree = (seat : ℕ) (v : View) → get_elem? tree.views seat ≡ some v → StoresAreWhole v
 
 -- The rule of a table: turns of its passes have led its tree where it is, what each of them stored is whole, and its
--- grace periods are sound.
+-- grace periods are sound, by which its memory is tied to that tree.
 pub record IsWhole (plan : TablePlan) (t : WholeState) : Type 0 where
   pub tree : TableState
   pub reached : IsReached plan tree
   pub views : trees_of t.views ≡ tree.views
   pub homes : tree.homes ≡ t.homes
-  pub words : WordsAre plan plan.slots t.words tree.words
+  pub words : WordsAre plan.slots t.words tree.words
   pub stores : AllStoresAreWhole tree
   pub periods : PeriodsAre plan plan.slots tree t

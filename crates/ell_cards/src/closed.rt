@@ -6,11 +6,11 @@ ghost use Rattle.ell_word.specs.Node.{card, greatest_card, IsNode};
 ghost use Rattle.ell_layout.specs.Layout.{table_size};
 ghost use Rattle.ell_layout.specs.Words.{word, words_of};
 ghost use Rattle.ell_core.specs.state.Machine.{ledger_of};
-ghost use Rattle.ell_cards.specs.Models.{IsFree, last_claim, whole_share};
+ghost use Rattle.ell_cards.specs.Models.{IsFree, last_slot, whole_share};
 ghost use Rattle.ell_cards.specs.Closed.{ClosedModel, TableEnds};
 
 use crate::pass::Pass;
-use crate::period::last_claim;
+use crate::period::last_slot;
 use crate::table::CardTable;
 use ell_core::TreeWords;
 use ell_layout::{Field, child_field, key_field, value_field};
@@ -48,7 +48,7 @@ impl<A: Allocator + Copy> CardTable<A> {
         // pass has present, with their values; its other keys are shared.
         ensures ends { self.plan.slots ≡ None → TableEnds self.plan pass.view result }
         // The number of the last card stays the same; in a table with places it is the last one that has words.
-        ensures cards { result.last_card ≡ last_claim self.plan }
+        ensures cards { result.last_card ≡ last_slot self.plan }
     {
         let CardTable {
             table,
@@ -68,7 +68,7 @@ impl<A: Allocator + Copy> CardTable<A> {
         } = pass;
         Closed {
             closed: table.close_with(seat),
-            last_card: last_claim(slots, last_card),
+            last_card: last_slot(slots, last_card),
         }
     }
 }

@@ -4,7 +4,6 @@ ghost use Rattle.std.specs.Prelude.{◌≡◌, ◌≢◌, ◌≤◌, ◌<◌, is
 ghost use Rattle.ell_word.specs.Word.{packed, unpacked};
 ghost use Rattle.ell_word.specs.Link.{linked};
 ghost use Rattle.ell_word.specs.declared.link.Link.{Link};
-ghost use Rattle.ell_word.specs.Node.{greatest_card};
 ghost use Rattle.ell_core.specs.declared.exchange.Exchange.TheVariants as exchange;
 ghost use Rattle.ell_core.specs.declared.fact.Fact.TheVariants.{IChanged, IOver, Marked, Unmarkable, Cut, DOver, Backed};
 ghost use Rattle.ell_cards.specs.Depths.{IsShallow, deepest};
@@ -14,28 +13,16 @@ ghost use Rattle.ell_cards.specs.Models.{Steps, InTable};
 ghost use Rattle.ell_cards.specs.Changes.{after_mark, with_fact, if_won, exchanged, found_update, found_word, child_found};
 ghost use Rattle.ell_cards.specs.declared.call.Call.TheVariants as call;
 ghost use Rattle.ell_cards.specs.Guards.{KnowsPlace, MayAsk, MayDChild, MayIChild, MayMark};
-ghost use Rattle.ell_cards.specs.Calls.{after, next_link, TellsNode};
+ghost use Rattle.ell_cards.specs.Calls.{after, TellsNode};
 
 use crate::call::Call;
 use crate::outcomes::{child_outcome, update_outcome};
 use crate::pass::Pass;
-use crate::places::{child_address, update_address};
+use crate::places::{child_address, field_address, update_address};
 use crate::table::CardTable;
 use ell_layout::{Field, update_word};
 use ell_word::{Link, State, Update};
 use std::alloc::Allocator;
-
-// The child word that follows one: another node, and the next tag.
-#[inline(always)]
-fn next_link(old: Link, node: u64) -> Link
-    requires { old.tag ≤ greatest_card }
-    ensures { result ≡ next_link old node }
-{
-    Link {
-        node,
-        tag: old.tag + 1,
-    }
-}
 
 impl<A: Allocator + Copy> CardTable<A> {
     /// Reads a word of a card that the pass knows flagged or marked: grandparent, parent, leaf, the word that was read, or key.
@@ -53,7 +40,7 @@ impl<A: Allocator + Copy> CardTable<A> {
         ensures shallow { IsShallow (deepest self.now.plan) pass.new.view (says_by field result) }
     {
         self.names(pass);
-        self.load(pass, Call::Info(card, field), field.address(card))
+        self.load(pass, Call::Info(card, field), field_address(card, field))
     }
 
     /// Reads a child of the parent of a card that the pass knows marked. It never changes.
@@ -95,10 +82,8 @@ impl<A: Allocator + Copy> CardTable<A> {
     {
         self.names(pass);
         let call = Call::IChild(card, parent, leaf, node, right);
-        let expected = leaf.word();
-        let new = next_link(leaf, node).word();
-        let found = self.exchange(pass, call, child_address(parent, right), expected, new);
-        child_outcome(expected, found)
+        let found = self.exchange_child(pass, call, child_address(parent, right), leaf, node);
+        child_outcome(leaf.word(), found)
     }
 
     /// Takes an insert's flag away. If that fails, the error is the update that was found. Either way, the pass then
@@ -166,10 +151,9 @@ impl<A: Allocator + Copy> CardTable<A> {
     {
         self.names(pass);
         let call = Call::DChild(card, grandparent, parent, sibling, right);
-        let expected = parent.word();
-        let new = next_link(parent, sibling).word();
-        let found = self.exchange(pass, call, child_address(grandparent, right), expected, new);
-        child_outcome(expected, found)
+        let word = child_address(grandparent, right);
+        let found = self.exchange_child(pass, call, word, parent, sibling);
+        child_outcome(parent.word(), found)
     }
 
     /// Takes a delete's flag away after its child exchange. If that fails, the error is the update that was found.

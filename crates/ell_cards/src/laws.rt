@@ -5,6 +5,7 @@
 //! of its passes, each a step call, a split or a join, have led from the table's start to the state. `HasMachine`
 //! follows from it: the state is that of a machine of `ell_core` for which the invariant holds.
 //! `runs_from_starts_are_lawful` is the law of all such runs, and says nothing of machines.
+ghost use Rattle.ell_cards.specs.Aside.{CallsTouchNoCardAside};
 ghost use Rattle.ell_cards.specs.OwnWords.{OwnWordsAreSound, StepsStayInside, TablePairsChangeAtWins, TableChangesAreOperations, TableAnswersAreTheMaps, LedgersTellTheTree, TreeKeysAreOwned, TableNodesGoOn};
 ghost use Rattle.ell_cards.specs.Starts.{TablesStart, StartsHaveTheirKeys, FirstPassMayBegin, RunsFromStarts};
 ghost use Rattle.ell_cards.specs.SmallRun.{SmallRunIsMade, LookBeginsWhenGone, DeadIsKnown};
@@ -322,7 +323,7 @@ pub fn steps_tell_what_is_there()
 /// What a pass was told it has forgotten where it begins an operation or a look, and again where that ends. So from there on,
 /// in every run, each step call of the pass touches only what was not gone then: the word of a node that no card had taken
 /// out of the tree for good, or that of a card that had not come to its end. Nor does it touch what was dead then: the word of
-/// a node that was gone or never comes into the tree, or that of a card whose internal node was.
+/// a node that was gone or never comes into the tree, or that of a card whose internal node was, or that was laid aside.
 pub fn calls_touch_nothing_gone()
     // Each step call touches a word of the node or of the card that it is said to touch.
     ensures words { CallsTouchTheirWords }
@@ -351,6 +352,8 @@ pub fn calls_touch_nothing_gone()
     ensures once { OneCardTells }
     // There is a run in which a pass knows that no node of its card comes into the tree.
     ensures known { DeadIsKnown }
+    // Nor do they touch a word of a card that had been laid aside then.
+    ensures aside { CallsTouchNoCardAside }
 {}
 
 /// Where a table has places, and wherever the steps of its passes have led it: a pass that is in a period, which it announces at
@@ -362,7 +365,7 @@ pub fn safe_numbers_are_safe()
     ensures free { FreeSlotsAreUntouched }
 {}
 
-/// How slots can be used anew; no table goes by it yet. Memory that has words for slots alone, in each of which a card lies, is tied
+/// How a table with places uses slots anew. Its memory, which has words for slots alone, in each of which a card lies, is tied
 /// to a tree that has words for each card number: at a slot it has what the tree has of the card that lies there, cut to 64
 /// bits, as far as that is kept. A step call touches words that are tied so, and keeps memory tied.
 pub fn ties_are_kept()

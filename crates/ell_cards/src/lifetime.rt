@@ -1,5 +1,5 @@
 //! How a table begins, and how its passes part and come together.
-ghost use Rattle.std.specs.Prelude.{◌≡◌, ◌≢◌, ◌⊎◌, ◌≤◌, ◌<◌, ◌+◌, ◌*◌, ◌↔◌, if◌then◌else◌, IsTrue, [], filter, not, max, true, length, None, IfOk, IfErr, OnOk, IfSome, replicate, vec_len};
+ghost use Rattle.std.specs.Prelude.{is_some, ℕ, slice_index, ◌≡◌, ◌≢◌, ◌⊎◌, ◌≤◌, ◌<◌, ◌+◌, ◌*◌, ◌↔◌, if◌then◌else◌, IsTrue, [], filter, not, max, true, length, None, IfOk, IfErr, OnOk, IfSome, replicate, vec_len};
 ghost use Rattle.std.specs.List.{All};
 ghost use Rattle.std.specs.List.Sorted.{IsStrictlyIncreasing};
 ghost use Rattle.std.specs.Map.{keys_of};
@@ -15,16 +15,18 @@ ghost use Rattle.ell_cards.specs.Models.{flat_from, Steps, StepsOut, IsFree, IsC
 ghost use Rattle.ell_cards.specs.Changes.{left_view, right_view, joined_view};
 ghost use Rattle.ell_cards.specs.Inside.{IsNewTable};
 ghost use Rattle.ell_cards.specs.Stepping.{MaySplit, MayHave, PartsShare};
-ghost use Rattle.ell_cards.specs.Periods.{last_for, slots_of, whole_size, whole_words};
+ghost use Rattle.ell_cards.specs.Periods.{has_slot, most_claims, last_for, slots_of, whole_size, whole_words};
+ghost use Rattle.ell_cards.specs.Shown.{IsWord};
 ghost use Rattle.ell_cards.specs.Starts.{MayStart, OpensBy, most_places};
 ghost use Rattle.ell_cards.specs.Whole.{IsWhole, first_known};
 ghost use Rattle.atomic_table.specs.Table.{opening};
 
 use crate::fault::{CardFault, SplitFault};
 use crate::pass::{Pass, Standing};
-use crate::period::last_claim;
+use crate::period::last_slot;
 use crate::rule::{CardRule, Joined, PartedBy, SplitBy};
 use crate::share::{Share, WHOLE_SHARE};
+use crate::slots::slot_of;
 use crate::table::CardTable;
 use crate::view::{Known, Plan, Slots, TableKind};
 use atomic_table::{Seat, Table};
@@ -140,6 +142,39 @@ impl<A: Allocator + Copy> CardTable<A> {
         self.last_card
     }
 
+    /// Returns `true` if the table has places, so that cards lie in slots.
+    #[inline(always)]
+    pub fn has_places(&self) -> bool
+        // Returns `true` exactly if there are places.
+        ensures { result ≡ is_some self.now.plan.slots }
+    {
+        self.slots.is_some()
+    }
+
+    /// Returns `true` if a card has a slot: without places each has one of its own, and with places those that lie in one of the
+    /// table's slots, as the numbers at the end of each turn do not.
+    #[inline(always)]
+    pub fn has_slot(&self, card: u64) -> bool
+        // Returns `true` exactly if the card has a slot.
+        ensures { result ≡ has_slot self.now.plan.slots card }
+    {
+        match self.slots {
+            None => true,
+            Some(slots) => slot_of(card) <= slots.last,
+        }
+    }
+
+    /// Returns how many cards to claim at most until the slot of one may be taken: one, if there are no places.
+    pub fn most_claims(&self) -> u64
+        // Returns one without places, and otherwise two more than the number of the last slot.
+        ensures { result ≡ most_claims self.now.plan.slots }
+    {
+        match self.slots {
+            None => 1,
+            Some(slots) => slots.last + 2,
+        }
+    }
+
     /// Returns `true` if the tree is flat.
     #[inline(always)]
     pub fn is_flat(&self) -> bool
@@ -187,9 +222,9 @@ impl<A: Allocator + Copy> CardTable<A> {
         requires free { IsFree pass.view }
         requires ascending { IsStrictlyIncreasing left_keys.now }
         requires owned { All (λ k. ledger_of pass.view.worker.ledger k ≢ None) left_keys.now }
-        // The left part gets these keys, as they were, and keeps the safe number.
+        // The left part gets these keys, as they were, and keeps the safe number and the slot.
         ensures left { IfOk result (λ parts. Steps pass parts.0 (left_view left_keys.now pass.view)) }
-        // The right part gets the other keys, and a piece of the share, and has the safe number 0.
+        // The right part gets the other keys, and a piece of the share, and has the safe number 0, and no slot.
         ensures right { IfOk result (λ parts. StepsOut pass parts.1 (right_view left_keys.now pass.view)) }
         // Without places, `TooManyPasses` is returned exactly if the tree shares keys and the share is the least one; the
         // only other error is `NoMemory`. The pass is then returned as it was.
@@ -279,7 +314,7 @@ impl<A: Allocator + Copy> CardTable<A> {
         requires right { right.table ≡ self.now.id }
         requires left_free { IsFree left.view }
         requires right_free { IsFree right.view }
-        // The pass has the keys and the shares of both, and the left one's safe number. Its count of steps in a row is
+        // The pass has the keys and the shares of both, and the left one's safe number and slot. Its count of steps in a row is
         // one more than the greater of the two counts.
         ensures joined { IfOk result (λ both. both ≡ record {
           table = left.table;
@@ -287,6 +322,7 @@ impl<A: Allocator + Copy> CardTable<A> {
           steps = one_more (max left.steps right.steps);
           label = left.label;
           safe = left.safe;
+          slot = left.slot;
         }) }
         // If an allocation fails, both passes are returned as they were.
         ensures refused { IfErr result (λ refused. (refused.0 ≡ left) × (refused.1 ≡ right)) }
@@ -380,10 +416,20 @@ fn first_words<A: Allocator + Copy>(alloc: A, plan: &Plan<A>) -> Result<Vec<u64,
     ensures whole { IfOk result (λ words. IsWhole plan.now (opening words.items [] (first_known plan.now))) }
     ensures size { IfOk result (λ words. length words.items ≡ whole_size plan.now) }
 {
-    let last = last_claim(plan.slots, plan.last_card);
+    let last = last_slot(plan.slots, plan.last_card);
     let cards = card_words(alloc, plan, last)?;
+    are_words(cards.as_slice());
     let words = with_places(cards, plan.slots)?;
     Ok(words)
+}
+
+// A law, the contract of a function that does nothing with what it reads: what memory has is a word.
+fn are_words(words: &[u64])
+    ensures { (i : ℕ) → IsWord (slice_index words.now i) }
+{
+    for word in words {
+        let _word = *word;
+    }
 }
 
 // The words of the cards of an opening table, up to this card.

@@ -1,20 +1,24 @@
 //! The step calls by which a pass takes a card, fills it and sets its flag. Each is one atomic step.
-ghost use Rattle.std.specs.Prelude.{◌≡◌, ◌≢◌, ◌≤◌, is_ok, IfErr};
+ghost use Rattle.std.specs.Prelude.{◌≡◌, ◌≢◌, ◌≤◌, true, is_ok, IfErr, None, Some};
 ghost use Rattle.ell_core.specs.declared.fact.Fact.TheVariants.{IFlagged, DFlagged};
 ghost use Rattle.ell_word.specs.Word.{packed};
 ghost use Rattle.ell_core.specs.declared.exchange.Exchange.TheVariants as exchange;
-ghost use Rattle.ell_cards.specs.Models.{Steps, flat_from, last_claim};
+ghost use Rattle.ell_cards.specs.Models.{Steps, flat_from};
 ghost use Rattle.ell_cards.specs.Changes.{after_claim, after_fill, after_flag, if_won, exchanged, found_update, found_word};
+ghost use Rattle.ell_cards.specs.Skipping.{after_skip};
+ghost use Rattle.ell_cards.specs.Stepping.{IsWholeIn};
 ghost use Rattle.ell_cards.specs.Guards.{MayClaim, MayFill, MayIFlag, MayDFlag};
 
 use crate::call::Call;
 use crate::outcomes::update_outcome;
 use crate::pass::Pass;
-use crate::places::update_address;
+use crate::places::{field_address, update_address};
+use crate::slots::first_behind_turn;
 use crate::table::CardTable;
 use ell_layout::{Field, update_word};
 use ell_word::{State, Update, pack};
 use std::alloc::Allocator;
+use std::marker::Brand;
 
 impl<A: Allocator + Copy> CardTable<A> {
     /// Takes the card that `next` read in this try, if it is still the next one. Returns `true` if it did. The node
@@ -24,7 +28,7 @@ impl<A: Allocator + Copy> CardTable<A> {
     pub fn claim(&self, pass: &mut Pass<A>, card: u64, node_key: u64) -> bool
         requires own { pass.old.table ≡ self.now.id }
         requires may { MayClaim (flat_from self.now.plan) pass.old.view card node_key }
-        requires room { card ≤ last_claim self.now.plan }
+        requires room { card ≤ self.now.plan.last_card }
         // It makes one step and counts it. The pass then knows exactly what this call tells.
         ensures step { Steps pass.old pass.new (after_claim result card node_key pass.old.view) }
     {
@@ -32,20 +36,43 @@ impl<A: Allocator + Copy> CardTable<A> {
         self.exchange(pass, Call::Claim(card, node_key), 0, card, card + 1) == card
     }
 
-    /// Stores a word of the card in hand, which is not flagged.
+    /// Takes all numbers from the card that `next` read in this try to the last one of the card's turn at once, if the card
+    /// is still the next one. Returns `true` if it did: then each of them was laid aside but the last one, which is in
+    /// hand, as after so many claims in a row with `next` between two of them. With that, the next card is the first
+    /// one of the turn behind, which lies in slot 0. A pass may have a card in hand, as for `claim`.
+    #[inline(always)]
+    pub fn skip_turn(&self, pass: &mut Pass<A>, card: u64, node_key: u64) -> bool
+        requires own { pass.old.table ≡ self.now.id }
+        requires may { MayClaim (flat_from self.now.plan) pass.old.view card node_key }
+        requires flat { self.now.plan.flat ≡ true }
+        requires places { self.now.plan.slots ≢ None }
+        requires room { card ≤ self.now.plan.last_card }
+        // It makes one step and counts it. The pass then knows exactly what these claims tell.
+        ensures step { Steps pass.old pass.new (after_skip result card node_key pass.old.view) }
+    {
+        let _ = &self.table;
+        let next = first_behind_turn(card);
+        self.exchange_claim::<Brand>(pass, card, node_key, next) == card
+    }
+
+    /// Stores a word of the card in hand, which is not flagged. If the table has places, the pass has taken the card's
+    /// slot.
     #[inline(always)]
     pub fn fill(&self, pass: &mut Pass<A>, card: u64, field: Field, value: u64)
         requires own { pass.old.table ≡ self.now.id }
         requires may { MayFill pass.old.view card }
+        requires slot { self.now.plan.slots ≢ None → pass.old.slot ≡ Some card }
         // It makes one step and counts it. The pass then knows exactly what this call tells.
         ensures step { Steps pass.old pass.new (after_fill field value pass.old.view) }
     {
         self.names(pass);
-        self.store(pass, card, field, field.address(card), value);
+        self.store(pass, card, field, field_address(card, field), value);
     }
 
     /// Flags the parent for the insert whose card is in hand, filled: exchanges the update that was read there for the
-    /// card's flag. If that fails, the error is the update that was found, and the card is laid aside.
+    /// card's flag. If that fails, the error is the update that was found, and the card is laid aside. If the table has
+    /// places, each word of the card was stored; and if the flag fails, the card's slot is set free, by steps that are not
+    /// counted.
     #[inline(always)]
     pub fn iflag(
         &self,
@@ -56,6 +83,7 @@ impl<A: Allocator + Copy> CardTable<A> {
     ) -> Result<(), Update>
         requires own { pass.old.table ≡ self.now.id }
         requires may { MayIFlag pass.old.view card parent from }
+        requires whole { self.now.plan.slots ≢ None → IsWholeIn pass.old card }
         // It makes one step and counts it. The pass then knows exactly what this call tells.
         ensures step { Steps pass.old pass.new (exchanged (if_won (is_ok result) exchange.IFlag card)
             (found_word (packed from) result) (after_flag (is_ok result) (IFlagged card) parent
@@ -68,12 +96,15 @@ impl<A: Allocator + Copy> CardTable<A> {
         let expected = pack(from);
         let flag = update_word(State::IFlag, card);
         let call = Call::IFlag(card, parent, from);
-        let found = self.exchange(pass, call, update_address(parent), expected, flag);
+        let word = update_address(parent);
+        let found = self.flag(pass, card, call, word, expected, flag);
         update_outcome(expected, found)
     }
 
     /// Flags the grandparent for the delete whose card is in hand, filled: exchanges the update that was read there for
-    /// the card's flag. If that fails, the error is the update that was found, and the card is laid aside.
+    /// the card's flag. If that fails, the error is the update that was found, and the card is laid aside. If the table
+    /// has places, each word of the card was stored; and if the flag fails, the card's slot is set free, by steps that are
+    /// not counted.
     #[inline(always)]
     pub fn dflag(
         &self,
@@ -84,6 +115,7 @@ impl<A: Allocator + Copy> CardTable<A> {
     ) -> Result<(), Update>
         requires own { pass.old.table ≡ self.now.id }
         requires may { MayDFlag pass.old.view card grandparent from }
+        requires whole { self.now.plan.slots ≢ None → IsWholeIn pass.old card }
         // It makes one step and counts it. The pass then knows exactly what this call tells.
         ensures step { Steps pass.old pass.new (exchanged (if_won (is_ok result) exchange.DFlag card)
             (found_word (packed from) result) (after_flag (is_ok result) (DFlagged card) grandparent
@@ -96,7 +128,8 @@ impl<A: Allocator + Copy> CardTable<A> {
         let expected = pack(from);
         let flag = update_word(State::DFlag, card);
         let call = Call::DFlag(card, grandparent, from);
-        let found = self.exchange(pass, call, update_address(grandparent), expected, flag);
+        let word = update_address(grandparent);
+        let found = self.flag(pass, card, call, word, expected, flag);
         update_outcome(expected, found)
     }
 }

@@ -23,7 +23,7 @@ pub struct Pass<A: Allocator + Copy> {
     pub(crate) seat: Seat<(), Known>,
 }
 
-/// The place that a pass has in a table with places, and whether it announces there that it is in a period.
+/// The place that a pass has in a table with places, whether it announces there that it is in a period, and its safe number.
 #[derive(Clone, Copy)]
 pub(crate) struct Standing {
     pub place: Option<u64>,
@@ -31,25 +31,31 @@ pub(crate) struct Standing {
     /// The place that it found last for a part of it, at first its own: behind it, it looks for the next one. It may be any
     /// number.
     pub found: u64,
+    /// The safe number that it has found last, at first 0.
+    pub safe: u64,
+    /// How many slots it was to take since it looked at all places. It may be any number.
+    pub takings: u64,
 }
 
 impl Standing {
     /// Returns where the first pass of a table stands: at the first place, if there is one.
     pub(crate) fn first(slots: Option<Slots>) -> Standing
-        ensures { result ≡ record { place = (period_by slots).place; announces = false; found = 0 } }
+        ensures { result ≡ record { place = (period_by slots).place; announces = false; found = 0; safe = 0; takings = 0 } }
     {
         Standing {
             place: slots.map(|_| 0),
             announces: false,
             found: 0,
+            safe: 0,
+            takings: 0,
         }
     }
 
     /// Returns where a part stands that gets this place, if there is one, and leaves the number of the place with the pass, so
     /// that both look behind it for the next one.
     pub(crate) fn parted(&mut self, place: Option<u64>) -> Standing
-        ensures own { (self.new.place ≡ self.old.place) × (self.new.announces ≡ self.old.announces) }
-        ensures given { (result.place ≡ place) × (result.announces ≡ false) }
+        ensures own { (self.new.place ≡ self.old.place) × (self.new.announces ≡ self.old.announces) × (self.new.safe ≡ self.old.safe) }
+        ensures given { (result.place ≡ place) × (result.announces ≡ false) × (result.safe ≡ 0) }
     {
         let found = place.unwrap_or(self.found);
         self.found = found;
@@ -57,6 +63,8 @@ impl Standing {
             place,
             announces: false,
             found,
+            safe: 0,
+            takings: 0,
         }
     }
 }
@@ -76,7 +84,7 @@ impl<A: Allocator + Copy> Model for Pass<A> {
 
     ghost Value = { PassModel };
 
-    ghost view = { λ p. record { table = p.seat.table_id; view = shown p.seat.me.0.tree; steps = p.steps; label = p.label; safe = p.seat.me.0.period.safe } };
+    ghost view = { λ p. record { table = p.seat.table_id; view = shown p.seat.me.0.tree; steps = p.steps; label = p.label; safe = p.seat.me.0.period.safe; slot = p.seat.me.0.period.slot } };
 
     ghost invariant = { IsPass };
 }

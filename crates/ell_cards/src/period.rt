@@ -5,7 +5,7 @@ ghost use Rattle.std.specs.Prelude.{◌≡◌, ℕ, ◌≢◌, ◌⊎◌, ◌≤
 ghost use prog.Atomic.{either};
 ghost use Rattle.ell_word.specs.Node.{greatest_card};
 ghost use Rattle.ell_grace.specs.Grace.{least_with};
-ghost use Rattle.ell_cards.specs.Models.{last_claim_of};
+ghost use Rattle.ell_cards.specs.Models.{last_slot_of};
 ghost use Rattle.ell_cards.specs.Inside.{PlaceFits};
 ghost use Rattle.ell_cards.specs.Periods.{IsAtRest, StandsAs, after_announce, after_retract, after_clock, after_give, after_look_at, after_take, announced_by, clock_word, last_reading, place_word, slots_size};
 ghost use Rattle.ell_cards.specs.Stepping.{MayGoOn};
@@ -63,13 +63,13 @@ impl Slots {
     }
 }
 
-/// Returns the number of the last card that may be claimed: the last one, or the last one that has words.
-pub(crate) fn last_claim(slots: Option<Slots>, last_card: u64) -> u64
-    ensures { result ≡ last_claim_of slots last_card }
+/// Returns the last slot: without places each card has one of its own.
+pub(crate) fn last_slot(slots: Option<Slots>, last_card: u64) -> u64
+    ensures { result ≡ last_slot_of slots last_card }
 {
     match slots {
         None => last_card,
-        Some(slots) => slots.last.min(last_card),
+        Some(slots) => slots.last,
     }
 }
 
@@ -209,6 +209,7 @@ impl<A: Allocator + Copy> CardTable<A> {
         ensures open { (self.now.plan.slots ≡ None) ⊎ (seat.new.me.0.period.announced ≢ None) }
         ensures fits { PlaceFits standing.new seat.new.table_id.words seat.new.me.0.period }
         ensures safe { seat.new.me.0.period.safe ≡ seat.old.me.0.period.safe }
+        ensures slot { seat.new.me.0.period.slot ≡ seat.old.me.0.period.slot }
         ensures tree { seat.new.me.0.tree ≡ seat.old.me.0.tree }
         ensures seat { (seat.new.table_id ≡ seat.old.table_id) × (seat.new.me.1 ≡ []) }
     {
@@ -312,6 +313,7 @@ impl<A: Allocator + Copy> CardTable<A> {
         requires empty { seat.old.me.1 ≡ [] }
         requires slots { self.now.plan.slots ≡ Some slots }
         ensures stands { StandsAs seat.old.me.0.period seat.new.me.0.period }
+        ensures slot { seat.new.me.0.period.slot ≡ seat.old.me.0.period.slot }
         ensures tree { seat.new.me.0.tree ≡ seat.old.me.0.tree }
         ensures seat { (seat.new.table_id ≡ seat.old.table_id) × (seat.new.me.1 ≡ []) }
     {
@@ -343,6 +345,7 @@ impl<A: Allocator + Copy> CardTable<A> {
         requires slots { self.now.plan.slots ≡ Some slots }
         ensures safe { result ≡ seat.new.me.0.period.safe }
         ensures stands { StandsAs seat.old.me.0.period seat.new.me.0.period }
+        ensures slot { seat.new.me.0.period.slot ≡ seat.old.me.0.period.slot }
         ensures tree { seat.new.me.0.tree ≡ seat.old.me.0.tree }
         ensures seat { (seat.new.table_id ≡ seat.old.table_id) × (seat.new.me.1 ≡ []) }
     {
@@ -371,6 +374,8 @@ impl<A: Allocator + Copy> CardTable<A> {
             return 0;
         };
         self.advance(&mut pass.seat, slots);
-        self.scan(&mut pass.seat, slots)
+        let safe = self.scan(&mut pass.seat, slots);
+        pass.standing.safe = safe;
+        safe
     }
 }

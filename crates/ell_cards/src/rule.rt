@@ -42,6 +42,38 @@ impl<J: Telling> Play<(), Known> for By<J> {
     ghost then = { λ step old found new. J.then found (shown new.0.tree) × (new.0.period ≡ old.0.period) × (new.1 ≡ old.1) };
 }
 
+/// What a step tells of the word that it found and of what is shown of what the pass knows of the tree after it, and what the pass
+/// notes of periods by that word. The caller of the step picks both.
+pub(crate) trait Noting {
+    ghost use Rattle.std.specs.Prelude.{ℕ};
+    ghost use Rattle.ell_cards.specs.declared.view.Period.{Period};
+    ghost use Rattle.ell_cards.specs.declared.view.View.{View};
+
+    ghost then: { ℕ → View → Type 0 };
+
+    ghost notes: { ℕ → Period → Period };
+}
+
+impl Noting for Brand {
+    ghost use Rattle.std.specs.Prelude.{⊤};
+
+    ghost then = { λ found v. ⊤ };
+
+    ghost notes = { λ found p. p };
+}
+
+/// A step that tells and notes what its caller picked, and takes no slot.
+pub(crate) struct Noted<J> {
+    told: PhantomData<J>,
+}
+
+impl<J: Noting> Play<(), Known> for Noted<J> {
+    ghost use Rattle.std.specs.Prelude.{◌≡◌};
+    ghost use Rattle.ell_cards.specs.Shown.{shown};
+
+    ghost then = { λ step old found new. J.then found (shown new.0.tree) × (new.0.period ≡ J.notes found old.0.period) × (new.1 ≡ old.1) };
+}
+
 /// What a step tells of the word that it found and of what the pass knows of periods after it. The caller of the step picks
 /// it.
 pub(crate) trait PeriodTelling {

@@ -1,10 +1,13 @@
 //! Slots: a card lies in one, at one of the turns there. The word of a slot notes which of the three nodes of its card are dead.
-//! Once all three are, the slot is set free, with a reading of the clock as its stamp. The steps are not counted.
-ghost use Rattle.std.specs.Prelude.{◌≡◌, ◌≢◌, ◌+◌, ◌*◌, ◌<◌, ◌≤◌, ◌%◌, None, Some, [], false};
-ghost use Rattle.ell_word.specs.Node.{greatest_card, card};
-ghost use Rattle.ell_cards.specs.Ages.{KnowsDeadCard, KnowsDeadNode};
-ghost use Rattle.ell_cards.specs.Periods.{StandsAs, after_read, after_stamp, last_reading, slot_word};
-ghost use Rattle.ell_cards.specs.SlotWords.{bit_of, card_by, is_noted, slot_of, turn_in, turn_of};
+//! Once all three are, the slot is set free, with a reading of the clock as its stamp, and a pass takes it for the card of a later
+//! turn once that stamp is safe. The steps are not counted.
+ghost use Rattle.std.specs.Prelude.{◌≡◌, ◌≢◌, ◌+◌, ◌*◌, ◌<◌, ◌≤◌, ◌%◌, None, Some, [], true, false};
+ghost use Rattle.ell_word.specs.Node.{greatest_card, greatest_number, card};
+ghost use Rattle.ell_cards.specs.Ages.{KnowsDeadNode, MayStamp};
+ghost use Rattle.ell_cards.specs.Guards.{MayFill};
+ghost use Rattle.ell_cards.specs.Periods.{StandsAs, after_own, after_read, after_stamp, after_taking, last_reading, slot_word};
+ghost use Rattle.ell_cards.specs.SlotWords.{bit_of, card_by, is_noted, slot_of, stamp_in, turn_in, turn_of};
+ghost use Rattle.ell_cards.specs.Tied.{HoldsWaiting};
 
 use crate::pass::Pass;
 use crate::table::CardTable;
@@ -36,12 +39,29 @@ pub(crate) fn turn_of(card: u64) -> u64
     card / NUMBERS_PER_TURN
 }
 
+/// Returns the first number of the turn behind that of a card.
+#[inline(always)]
+pub(crate) fn first_behind_turn(card: u64) -> u64
+    requires { card ≤ greatest_number }
+    ensures { result ≡ 2097152 * (turn_of card + 1) }
+{
+    NUMBERS_PER_TURN * (turn_of(card) + 1)
+}
+
 // Returns the turn of the card in a slot, by the slot's word.
 #[inline(always)]
 fn turn_in(word: u64) -> u64
     ensures { result ≡ turn_in word }
 {
     word / 8 % TURNS
+}
+
+// Returns the stamp with which a word sets its slot free, if it does.
+#[inline(always)]
+fn stamp_in(word: u64) -> u64
+    ensures { result ≡ stamp_in word }
+{
+    word / 8_388_608
 }
 
 // Returns the bit that notes a node as dead, by the node's place on its card.
@@ -63,6 +83,13 @@ fn is_noted(word: u64, place: u64) -> bool
 }
 
 impl Slots {
+    /// Returns how many slots a pass takes until it looks at all places again: few enough that the clock goes on several times while
+    /// all slots are taken once, and at most 64, so that a look at a place is seldom.
+    #[inline(always)]
+    fn takings_per_look(self) -> u64 {
+        (self.last / 8).clamp(1, 64)
+    }
+
     /// Returns the address of the word of a slot: behind the places.
     #[inline(always)]
     pub(crate) fn slot_word(self, slot: u64) -> usize
@@ -101,13 +128,14 @@ impl<A: Allocator + Copy> CardTable<A> {
         self.period_load::<Brand>(seat, self.slot_address(slots, slot))
     }
 
-    // Reads the clock for the card that lay in a slot when the pass read its word, and whose nodes it knows to be dead.
+    // Reads the clock for the card that lay in a slot when the pass read its word, and whose nodes it knows to be dead, or which
+    // it has laid aside.
     fn stamp(&self, seat: &mut Seat<(), Known>, slots: Slots, slot: u64, word: u64) -> u64
         requires own { seat.old.table_id ≡ self.now.id }
         requires empty { seat.old.me.1 ≡ [] }
         requires slots { self.now.plan.slots ≡ Some slots }
         requires read { seat.old.me.0.period.read ≡ Some (record { slot = slot; word = word }) }
-        requires dead { KnowsDeadCard seat.old.me.0 (card_by slot word) }
+        requires dead { MayStamp seat.old.me.0 (card_by slot word) }
         ensures stamp { seat.new.me.0.period ≡ after_stamp (card_by slot word) result seat.old.me.0.period }
         ensures low { result ≤ last_reading }
         ensures tree { seat.new.me.0.tree ≡ seat.old.me.0.tree }
@@ -144,8 +172,8 @@ impl<A: Allocator + Copy> CardTable<A> {
         self.period_exchange::<Brand>(seat, self.slot_address(slots, slot), word, noted) == word
     }
 
-    // Sets a slot free, all nodes of whose card the pass knows to be dead, if the slot's word is this still. Returns `true` if
-    // it was.
+    // Sets a slot free, all nodes of whose card the pass knows to be dead, or whose card it has laid aside, if the slot's word
+    // is this still. Returns `true` if it was.
     fn set_free(&self, seat: &mut Seat<(), Known>, slots: Slots, slot: u64, word: u64) -> bool
         requires own { seat.old.table_id ≡ self.now.id }
         requires empty { seat.old.me.1 ≡ [] }
@@ -154,8 +182,9 @@ impl<A: Allocator + Copy> CardTable<A> {
         requires low { slots.last < 2097152 }
         requires taken { word % 8 ≢ 7 }
         requires read { seat.old.me.0.period.read ≡ Some (record { slot = slot; word = word }) }
-        requires dead { KnowsDeadCard seat.old.me.0 (card_by slot word) }
+        requires may { MayStamp seat.old.me.0 (card_by slot word) }
         ensures stands { StandsAs seat.old.me.0.period seat.new.me.0.period }
+        ensures slot { seat.new.me.0.period.slot ≡ seat.old.me.0.period.slot }
         ensures safe { seat.new.me.0.period.safe ≡ seat.old.me.0.period.safe }
         ensures tree { seat.new.me.0.tree ≡ seat.old.me.0.tree }
         ensures seat { (seat.new.table_id ≡ seat.old.table_id) × (seat.new.me.1 ≡ []) }
@@ -177,6 +206,7 @@ impl<A: Allocator + Copy> CardTable<A> {
         requires place { node % 4 < 3 }
         requires dead { KnowsDeadNode seat.old.me.0.tree node }
         ensures stands { StandsAs seat.old.me.0.period seat.new.me.0.period }
+        ensures slot { seat.new.me.0.period.slot ≡ seat.old.me.0.period.slot }
         ensures safe { seat.new.me.0.period.safe ≡ seat.old.me.0.period.safe }
         ensures tree { seat.new.me.0.tree ≡ seat.old.me.0.tree }
         ensures seat { (seat.new.table_id ≡ seat.old.table_id) × (seat.new.me.1 ≡ []) }
@@ -207,6 +237,7 @@ impl<A: Allocator + Copy> CardTable<A> {
         requires place { node % 4 < 3 }
         requires dead { KnowsDeadNode seat.old.me.0.tree node }
         ensures stands { StandsAs seat.old.me.0.period seat.new.me.0.period }
+        ensures slot { seat.new.me.0.period.slot ≡ seat.old.me.0.period.slot }
         ensures safe { seat.new.me.0.period.safe ≡ seat.old.me.0.period.safe }
         ensures tree { seat.new.me.0.tree ≡ seat.old.me.0.tree }
         ensures seat { (seat.new.table_id ≡ seat.old.table_id) × (seat.new.me.1 ≡ []) }
@@ -217,6 +248,31 @@ impl<A: Allocator + Copy> CardTable<A> {
             }
         }
         false
+    }
+
+    /// Sets the slot of a card free if the pass has laid the card aside, as it lost the card's flag: nobody else knows of the
+    /// card. It does nothing if the table has no places.
+    pub(crate) fn free_aside(&self, seat: &mut Seat<(), Known>, card: u64, lost: bool)
+        requires own { seat.old.table_id ≡ self.now.id }
+        requires empty { seat.old.me.1 ≡ [] }
+        requires lost { lost ≡ true → seat.old.me.0.period.lost ≡ Some card }
+        ensures stands { StandsAs seat.old.me.0.period seat.new.me.0.period }
+        ensures slot { seat.new.me.0.period.slot ≡ seat.old.me.0.period.slot }
+        ensures safe { seat.new.me.0.period.safe ≡ seat.old.me.0.period.safe }
+        ensures tree { seat.new.me.0.tree ≡ seat.old.me.0.tree }
+        ensures seat { (seat.new.table_id ≡ seat.old.table_id) × (seat.new.me.1 ≡ []) }
+    {
+        let Some(slots) = self.slots else {
+            return;
+        };
+        let slot = slot_of(card);
+        if !lost || slot > slots.last {
+            return;
+        }
+        let word = self.read_slot(seat, slots, slot);
+        if turn_in(word) == turn_of(card) && word % 8 == 0 {
+            self.set_free(seat, slots, slot, word);
+        }
     }
 
     /// Notes a node that the pass knows to be dead: one that its card, which is over, has taken out of the tree, or one of that
@@ -237,5 +293,84 @@ impl<A: Allocator + Copy> CardTable<A> {
             return false;
         }
         self.note_surely(&mut pass.seat, slots, node)
+    }
+
+    // Reads the word of the slot of a card in hand, and so takes the slot if that card lies there already.
+    fn own_slot(&self, seat: &mut Seat<(), Known>, slots: Slots, card: u64) -> u64
+        requires own { seat.old.table_id ≡ self.now.id }
+        requires empty { seat.old.me.1 ≡ [] }
+        requires slots { self.now.plan.slots ≡ Some slots }
+        requires slot { slot_of card ≤ slots.last }
+        requires hand { HoldsWaiting seat.old.me.0.tree card }
+        ensures read { seat.new.me.0.period ≡ after_own card result seat.old.me.0.period }
+        ensures tree { seat.new.me.0.tree ≡ seat.old.me.0.tree }
+        ensures seat { (seat.new.table_id ≡ seat.old.table_id) × (seat.new.me.1 ≡ []) }
+    {
+        self.period_load::<Brand>(seat, self.slot_address(slots, slot_of(card)))
+    }
+
+    // Takes the slot of a card in hand that was set free with a stamp below the pass's safe number, if the slot's word is this
+    // still. Returns `true` if it was.
+    fn take_free(&self, seat: &mut Seat<(), Known>, slots: Slots, card: u64, word: u64) -> bool
+        requires own { seat.old.table_id ≡ self.now.id }
+        requires empty { seat.old.me.1 ≡ [] }
+        requires slots { self.now.plan.slots ≡ Some slots }
+        requires slot { slot_of card ≤ slots.last }
+        requires low { slots.last < 2097152 }
+        requires hand { HoldsWaiting seat.old.me.0.tree card }
+        requires free { word % 8 ≡ 7 }
+        requires safe { stamp_in word < seat.old.me.0.period.safe }
+        ensures taken { result ≡ true → seat.new.me.0.period ≡ after_taking card seat.old.me.0.period }
+        ensures lost { result ≡ false → seat.new.me.0.period ≡ seat.old.me.0.period }
+        ensures tree { seat.new.me.0.tree ≡ seat.old.me.0.tree }
+        ensures seat { (seat.new.table_id ≡ seat.old.table_id) × (seat.new.me.1 ≡ []) }
+    {
+        let address = self.slot_address(slots, slot_of(card));
+        self.period_exchange::<Brand>(seat, address, word, 8 * turn_of(card)) == word
+    }
+
+    // Counts a slot that the pass is to take, and lets the clock go on and looks at all places once in so many.
+    fn look_now_and_then(&self, pass: &mut Pass<A>, slots: Slots)
+        requires own { pass.old.table ≡ self.now.id }
+        ensures { pass.new ≡ record (pass.old) { safe = pass.new.safe } }
+    {
+        pass.standing.takings = pass.standing.takings.saturating_add(1);
+        if slots.takings_per_look() <= pass.standing.takings {
+            pass.standing.takings = 0;
+            self.safe_number(pass);
+        }
+    }
+
+    /// Takes the slot of the card in hand, if that card lies there already, as each one of the first turn does, or if the slot was
+    /// set free with a stamp below the pass's safe number. Returns `true` if it did: in a table without places always, and never
+    /// where the card has no slot. Its steps are not counted.
+    pub fn take_slot(&self, pass: &mut Pass<A>, card: u64) -> bool
+        requires own { pass.old.table ≡ self.now.id }
+        requires may { MayFill pass.old.view card }
+        // The pass has taken the slot of its card, if the table has places.
+        ensures took { result ≡ true → self.now.plan.slots ≢ None → pass.new.slot ≡ Some card }
+        // What the pass knows of the tree is as it was, and it has made no step that is counted.
+        ensures same { pass.new ≡ record (pass.old) { slot = pass.new.slot; safe = pass.new.safe } }
+        // If it did not take the slot, it has the slot that it had.
+        ensures kept { result ≡ false → pass.new ≡ record (pass.old) { safe = pass.new.safe } }
+        // A table without places has no slots to be taken.
+        ensures none { self.now.plan.slots ≡ None → (result ≡ true) × (pass.new ≡ pass.old) }
+    {
+        let Some(slots) = self.slots else {
+            return true;
+        };
+        if slot_of(card) > slots.last {
+            return false;
+        }
+        self.look_now_and_then(pass, slots);
+        let word = self.own_slot(&mut pass.seat, slots, card);
+        if turn_in(word) == turn_of(card) {
+            return true;
+        }
+        if word % 8 == 7 && stamp_in(word) < pass.standing.safe {
+            self.take_free(&mut pass.seat, slots, card, word)
+        } else {
+            false
+        }
     }
 }

@@ -1,26 +1,34 @@
 //! The table, and its one atomic step of each kind.
-ghost use Rattle.std.specs.Prelude.{◌≡◌, ℕ, ◌<◌, ◌≤◌, ◌+◌, None};
+ghost use Rattle.std.specs.Prelude.{◌==◌, ◌≡◌, ◌≢◌, ℕ, ◌<◌, ◌≤◌, ◌+◌, ◌%◌, None, Some};
+ghost use prog.Atomic.{either};
 ghost use Rattle.ell_core.specs.declared.fact.Fact.{Fact};
 ghost use Rattle.ell_core.specs.state.Facts.{card_of_fact};
 ghost use Rattle.ell_word.specs.Node.{greatest_card, greatest_number};
-ghost use Rattle.ell_layout.specs.Layout.{address};
-ghost use Rattle.ell_cards.specs.Models.{flat_from, Knows, Sees, TableModel, Steps};
+ghost use Rattle.ell_word.specs.Link.{IsLink, greatest_tag, linked, tag_unit};
+ghost use Rattle.ell_cards.specs.declared.view.Told.TheVariants.{Expects};
+ghost use Rattle.ell_cards.specs.Models.{flat_from, IsTold, Knows, Sees, TableModel, Steps};
 ghost use Rattle.ell_cards.specs.Changes.{after_fill};
-ghost use Rattle.ell_cards.specs.Naming.{IsNamed};
+ghost use Rattle.ell_cards.specs.Naming.{IsNamed, IsPlaced};
 ghost use Rattle.ell_cards.specs.Guards.{MayFill};
 ghost use Rattle.ell_cards.specs.Depths.{IsShallow, deepest};
-ghost use Rattle.ell_cards.specs.Calls.{word_of, atomic_of, Load, Store, Exchange, after, May, Tells};
+ghost use Rattle.ell_cards.specs.Calls.{place_of, slot_address, atomic_of, next_link, Load, Store, Exchange, after, May, Tells};
 ghost use Rattle.ell_cards.specs.Looking.{KeysAreFixed, ValuesAreFixed, ReadsItsOwn, MissesItsOwn};
-ghost use Rattle.ell_cards.specs.Periods.{whole_size};
+ghost use Rattle.ell_cards.specs.declared.view.Period.{Period};
+ghost use Rattle.ell_cards.specs.Periods.{after_flagging, whole_size};
+ghost use Rattle.ell_cards.specs.Tied.{FlagsCard};
 ghost use Rattle.ell_cards.specs.Starts.{SlotsFit};
-ghost use Rattle.ell_cards.specs.Stepping.{IsQuiet, MayTell, KeepsPass, SeesBy, StepsBy};
+ghost use Rattle.ell_cards.specs.Shown.{cut_word};
+ghost use Rattle.ell_cards.specs.Skipping.{MayStepOn};
+ghost use Rattle.ell_cards.specs.SlotWords.{slot_of};
+ghost use Rattle.ell_cards.specs.Stepping.{Exchanges, IsQuiet, MayInTable, MayTell, KeepsPass, SeesBy, StepsBy};
 
 use crate::call::Call;
 use crate::pass::{Pass, one_more};
-use crate::rule::{By, CardRule, Telling};
+use crate::rule::{By, CardRule, Noted, Noting, Telling};
 use crate::view::{Known, Plan, Slots};
 use atomic_table::Table;
 use ell_layout::Field;
+use ell_word::Link;
 use std::alloc::Allocator;
 use std::marker::{Brand, Model};
 
@@ -80,12 +88,14 @@ impl<A: Allocator + Copy> CardTable<A> {
         self.names(pass);
     }
 
-    // What the pass names is in the table, and is of cards that have words.
+    // What the pass names is in the table, and lies in slots that have words; and each tag that it was told has a word.
     #[inline(always)]
     pub(crate) fn names(&self, pass: &Pass<A>)
         requires own { pass.now.table ≡ self.now.id }
         ensures named { IsNamed self.now.plan.last_card pass.now.view }
-        ensures words { IsNamed greatest_card pass.now.view }
+        ensures placed { IsPlaced greatest_card pass.now.view }
+        ensures slot { (c : ℕ) → pass.now.slot ≡ Some c → slot_of c ≤ greatest_card }
+        ensures tags { (c tag : ℕ) → IsTold pass.now.view (Expects c tag) → tag ≤ greatest_tag }
         ensures room { self.now.plan.last_card ≤ greatest_number }
         ensures deep { deepest self.now.plan ≤ greatest_number + 64 }
         ensures few { self.now.plan.slots ≡ None → self.now.plan.last_card ≤ greatest_card }
@@ -101,7 +111,7 @@ impl<A: Allocator + Copy> CardTable<A> {
         requires own { pass.old.table ≡ self.now.id }
         requires may { May self.now.plan call pass.old.view }
         requires quiet { IsQuiet call }
-        requires word { word ≡ word_of call }
+        requires word { word ≡ place_of call }
         requires atomic { atomic_of call ≡ Load }
         requires tells { MayTell self.now.plan call pass.old.view J.then }
         requires keeps { KeepsPass self.now.plan pass.old.view J.then }
@@ -118,7 +128,7 @@ impl<A: Allocator + Copy> CardTable<A> {
         requires own { pass.old.table ≡ self.now.id }
         requires may { May self.now.plan call pass.old.view }
         requires quiet { IsQuiet call }
-        requires word { word ≡ word_of call }
+        requires word { word ≡ place_of call }
         requires atomic { atomic_of call ≡ Load }
         ensures step { Sees pass.old pass.new (after call result pass.old.view) }
         ensures tells { Tells self.now.plan call pass.old.view result }
@@ -138,7 +148,7 @@ impl<A: Allocator + Copy> CardTable<A> {
         requires own { pass.old.table ≡ self.now.id }
         requires may { May self.now.plan call pass.old.view }
         requires quiet { IsQuiet call }
-        requires word { word ≡ word_of call }
+        requires word { word ≡ place_of call }
         requires atomic { atomic_of call ≡ Load }
         ensures step { Steps pass.old pass.new (after call result pass.old.view) }
         ensures tells { Tells self.now.plan call pass.old.view result }
@@ -156,7 +166,7 @@ impl<A: Allocator + Copy> CardTable<A> {
     fn load_entered_as<J: Telling>(&self, pass: &mut Pass<A>, call: Call, word: usize) -> u64
         requires own { pass.old.table ≡ self.now.id }
         requires may { May self.now.plan call pass.old.view }
-        requires word { word ≡ word_of call }
+        requires word { word ≡ place_of call }
         requires atomic { atomic_of call ≡ Load }
         requires tells { MayTell self.now.plan call pass.old.view J.then }
         requires keeps { KeepsPass self.now.plan pass.old.view J.then }
@@ -174,7 +184,7 @@ impl<A: Allocator + Copy> CardTable<A> {
     pub(crate) fn see_entered(&self, pass: &mut Pass<A>, call: Call, word: usize) -> u64
         requires own { pass.old.table ≡ self.now.id }
         requires may { May self.now.plan call pass.old.view }
-        requires word { word ≡ word_of call }
+        requires word { word ≡ place_of call }
         requires atomic { atomic_of call ≡ Load }
         ensures step { Sees pass.old pass.new (after call result pass.old.view) }
         ensures tells { Tells self.now.plan call pass.old.view result }
@@ -189,7 +199,8 @@ impl<A: Allocator + Copy> CardTable<A> {
         requires own { pass.old.table ≡ self.now.id }
         requires may { May self.now.plan call pass.old.view }
         requires quiet { IsQuiet call }
-        requires word { word ≡ word_of call }
+        requires word { word ≡ place_of call }
+        requires kept { MayInTable self.now.plan pass.old call }
         requires atomic { atomic_of call ≡ Store value }
         requires tells { MayTell self.now.plan call pass.old.view (λ n. J.then value) }
         requires keeps { KeepsPass self.now.plan pass.old.view J.then }
@@ -208,7 +219,8 @@ impl<A: Allocator + Copy> CardTable<A> {
     pub(crate) fn store(&self, pass: &mut Pass<A>, card: u64, field: Field, word: usize, value: u64)
         requires own { pass.old.table ≡ self.now.id }
         requires may { MayFill pass.old.view card }
-        requires word { word ≡ address card field }
+        requires slot { self.now.plan.slots ≢ None → pass.old.slot ≡ Some card }
+        requires word { word ≡ slot_address card field }
         ensures step { Steps pass.old pass.new (after_fill field value pass.old.view) }
     {
         self.store_as::<Brand>(pass, Call::Fill(card, field, value), word, value)
@@ -227,8 +239,9 @@ impl<A: Allocator + Copy> CardTable<A> {
         requires own { pass.old.table ≡ self.now.id }
         requires may { May self.now.plan call pass.old.view }
         requires quiet { IsQuiet call }
-        requires word { word ≡ word_of call }
-        requires atomic { atomic_of call ≡ Exchange expected value }
+        requires word { word ≡ place_of call }
+        requires kept { MayInTable self.now.plan pass.old call }
+        requires exchanges { Exchanges self.now.plan call expected value }
         requires tells { MayTell self.now.plan call pass.old.view J.then }
         requires keeps { KeepsPass self.now.plan pass.old.view J.then }
         ensures told { J.then result pass.new.view }
@@ -255,11 +268,136 @@ impl<A: Allocator + Copy> CardTable<A> {
     ) -> u64
         requires own { pass.old.table ≡ self.now.id }
         requires may { May self.now.plan call pass.old.view }
-        requires word { word ≡ word_of call }
+        requires word { word ≡ place_of call }
+        requires kept { MayInTable self.now.plan pass.old call }
         requires atomic { atomic_of call ≡ Exchange expected value }
         ensures step { Steps pass.old pass.new (after call result pass.old.view) }
         ensures tells { Tells self.now.plan call pass.old.view result }
     {
         self.exchange_as::<Brand>(pass, call, word, expected, value)
     }
+
+    // Sets the flag of the card in hand, and sets its slot free if the flag is lost, as the card is laid aside then.
+    #[inline(always)]
+    fn flag_as<J: Noting>(
+        &self,
+        pass: &mut Pass<A>,
+        card: u64,
+        call: Call,
+        word: usize,
+        expected: u64,
+        value: u64,
+    ) -> u64
+        requires own { pass.old.table ≡ self.now.id }
+        requires may { May self.now.plan call pass.old.view }
+        requires quiet { IsQuiet call }
+        requires word { word ≡ place_of call }
+        requires kept { MayInTable self.now.plan pass.old call }
+        requires flags { FlagsCard call card }
+        requires atomic { atomic_of call ≡ Exchange expected value }
+        requires tells { MayTell self.now.plan call pass.old.view J.then }
+        requires keeps { KeepsPass self.now.plan pass.old.view J.then }
+        requires notes { (n : ℕ) (p : Period) → J.notes n p ≡ after_flagging (n == expected) card p }
+        ensures told { J.then result pass.new.view }
+        ensures step { StepsBy pass.old pass.new }
+    {
+        let _ = call;
+        let found = self
+            .table
+            .shared
+            .compare_exchange::<Noted<J>>(&mut pass.seat, word, expected, value);
+        pass.steps = one_more(pass.steps);
+        self.free_aside(&mut pass.seat, card, found != expected);
+        found
+    }
+
+    /// A step call that sets the flag of the card in hand, if the word has the expected value, and returns what it found. If
+    /// that fails, the card is laid aside, and in a table with places its slot is set free, by steps that are not counted.
+    #[inline(always)]
+    pub(crate) fn flag(
+        &self,
+        pass: &mut Pass<A>,
+        card: u64,
+        call: Call,
+        word: usize,
+        expected: u64,
+        value: u64,
+    ) -> u64
+        requires own { pass.old.table ≡ self.now.id }
+        requires may { May self.now.plan call pass.old.view }
+        requires word { word ≡ place_of call }
+        requires kept { MayInTable self.now.plan pass.old call }
+        requires flags { FlagsCard call card }
+        requires atomic { atomic_of call ≡ Exchange expected value }
+        ensures step { Steps pass.old pass.new (after call result pass.old.view) }
+        ensures tells { Tells self.now.plan call pass.old.view result }
+    {
+        self.flag_as::<Brand>(pass, card, call, word, expected, value)
+    }
+
+    // Exchanges the claim word, if a card is still the next one, for the number of a later one: a step that the rule allows,
+    // though it may be that of many step calls. The key of the card's node is there for what the step tells alone.
+    #[inline(always)]
+    pub(crate) fn exchange_claim<J: Telling>(
+        &self,
+        pass: &mut Pass<A>,
+        card: u64,
+        node_key: u64,
+        next: u64,
+    ) -> u64
+        requires own { pass.old.table ≡ self.now.id }
+        requires rule { MayStepOn self.now.plan pass.old.view 0 (λ n. either (n == card) next n) J.then }
+        requires keeps { KeepsPass self.now.plan pass.old.view J.then }
+        ensures told { J.then result pass.new.view }
+        ensures step { StepsBy pass.old pass.new }
+    {
+        let _ = node_key;
+        let found = self
+            .table
+            .shared
+            .compare_exchange::<By<J>>(&mut pass.seat, 0, card, next);
+        pass.steps = one_more(pass.steps);
+        found
+    }
+
+    /// A step call that exchanges the child word of a link, if it has that still, for that of another node with the next tag,
+    /// and returns what it found.
+    #[inline(always)]
+    pub(crate) fn exchange_child(
+        &self,
+        pass: &mut Pass<A>,
+        call: Call,
+        word: usize,
+        old: Link,
+        node: u64,
+    ) -> u64
+        requires own { pass.old.table ≡ self.now.id }
+        requires may { May self.now.plan call pass.old.view }
+        requires word { word ≡ place_of call }
+        requires kept { MayInTable self.now.plan pass.old call }
+        requires link { IsLink old }
+        requires node { node < tag_unit }
+        requires few { self.now.plan.slots ≡ None → old.tag ≤ greatest_card }
+        requires atomic { atomic_of call ≡ Exchange (linked old) (linked (next_link old node)) }
+        ensures step { Steps pass.old pass.new (after call result pass.old.view) }
+    {
+        self.exchange_as::<Brand>(pass, call, word, old.word(), next_word(old, node))
+    }
+}
+
+/// How many tags a child word tells apart.
+const TAGS: u64 = 2_097_152;
+
+// The word of the child word that follows one: another node, and the next tag, after the last one the first.
+#[inline(always)]
+fn next_word(old: Link, node: u64) -> u64
+    requires old { IsLink old }
+    requires node { node < tag_unit }
+    ensures { result ≡ cut_word (linked (next_link old node)) }
+{
+    let next = Link {
+        node,
+        tag: (old.tag + 1) % TAGS,
+    };
+    next.word()
 }

@@ -132,10 +132,12 @@ pub struct Period {
     pub safe: u64,
     /// The word of a slot that it read last.
     pub read: Option<SlotRead>,
-    /// The card that it is about to set free, as its nodes are dead.
+    /// The card that it is about to set free, as its nodes are dead, or it was laid aside.
     pub stamp: Option<Stamp>,
     /// The card whose slot it has taken last.
     pub slot: Option<u64>,
+    /// The card whose flag it lost last, which was laid aside.
+    pub lost: Option<u64>,
 }
 
 /// The word of a slot as a pass has read it.
@@ -145,7 +147,7 @@ pub struct SlotRead {
     pub word: u64,
 }
 
-/// A card whose nodes are dead, and a reading of the clock since they were.
+/// A card whose nodes are dead, or which was laid aside, and a reading of the clock since that was so.
 #[derive(Clone, Copy)]
 pub struct Stamp {
     pub card: u64,

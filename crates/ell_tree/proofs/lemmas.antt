@@ -48,6 +48,8 @@ pub mod Hindrances
 pub mod Milestones
 -- an insert or a swap where its search ended, and once it is done
 pub mod Putting
+-- nodes that a card took out, or that never come
+pub mod Retiring
 -- calls that are made of several operations
 pub mod Computing
 -- a call that removes a key if it has a value

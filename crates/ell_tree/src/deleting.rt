@@ -21,6 +21,7 @@ ghost use Rattle.ell_cards.specs.Depths.{deepest};
 
 use crate::gate::{Kind, StepGate};
 use crate::helping::{DeleteFlag, Ending, finish_delete, help, help_delete};
+use crate::retiring::{retire_deleted, retire_own};
 use crate::searching::{Passed, Place, node_with, search};
 use crate::steps::answer;
 use crate::trying::{Claimed, Tried, fill, take_card};
@@ -101,8 +102,10 @@ pub(crate) fn delete_at<A: Allocator + Copy, G: StepGate>(
         return Tried::Hindered;
     }
     if !finish_own(table, pass, card, above.node, place.parent, gate) {
+        retire_own(table, pass, card);
         return Tried::Hindered;
     }
+    retire_deleted(table, pass, card, parent.node, place.node);
     answer(table, pass, Reply::Yes, gate);
     Tried::Answered(Some(place.value))
 }
@@ -116,6 +119,7 @@ fn flag_delete<A: Allocator + Copy, G: StepGate>(
     place: Place,
     gate: &G,
 ) -> Result<(), Update>
+    requires plain { table.now.plan.slots ≡ None }
     requires own { pass.old.table ≡ table.now.id }
     requires above { place.grandparent ≡ Some above }
     requires limit { place.parent.update.card ≤ greatest_number }
@@ -142,6 +146,7 @@ fn fill_delete<A: Allocator + Copy, G: StepGate>(
     place: Place,
     gate: &G,
 )
+    requires plain { table.now.plan.slots ≡ None }
     requires own { pass.old.table ≡ table.now.id }
     requires limit { place.parent.update.card ≤ greatest_number }
     requires link { IsLink (node_with place above.tag) }

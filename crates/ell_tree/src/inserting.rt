@@ -15,6 +15,7 @@ ghost use Rattle.ell_cards.specs.Depths.{deepest};
 
 use crate::gate::{Kind, StepGate};
 use crate::helping::{finish_insert, help};
+use crate::retiring::retire_put;
 use crate::searching::{Place, node_with, search};
 use crate::steps::answer;
 use crate::trying::{Claimed, Tried, fill, take_card};
@@ -67,6 +68,7 @@ pub(crate) fn try_put<A: Allocator + Copy, G: StepGate>(
             let (left_key, right_key) = (what.key.min(place.key), what.key.max(place.key));
             let below = node_with(place, place.parent.tag);
             finish_insert(table, pass, card, parent, below, right_key, left_key, gate);
+            retire_put(table, pass, card, what, place);
             answer(table, pass, reply_once_done(what), gate);
             Tried::Answered(Some(what.was.unwrap_or(what.value)))
         }
@@ -119,6 +121,7 @@ fn flag_insert<A: Allocator + Copy, G: StepGate>(
     node_key: u64,
     gate: &G,
 ) -> Result<(), Update>
+    requires plain { table.now.plan.slots ≡ None }
     requires own { pass.old.table ≡ table.now.id }
     requires limit { card ≤ greatest_number }
     requires link { IsLink (node_with place place.parent.tag) }
@@ -145,6 +148,7 @@ fn fill_insert<A: Allocator + Copy, G: StepGate>(
     node_key: u64,
     gate: &G,
 )
+    requires plain { table.now.plan.slots ≡ None }
     requires own { pass.old.table ≡ table.now.id }
     requires limit { card ≤ greatest_number }
     requires link { IsLink (node_with place place.parent.tag) }

@@ -14,6 +14,7 @@ mod opening;
 mod operations;
 mod reading;
 mod removing;
+mod retiring;
 mod scanning;
 mod searching;
 mod steps;

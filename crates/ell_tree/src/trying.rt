@@ -84,6 +84,7 @@ pub(crate) fn fill<A: Allocator + Copy, G: StepGate>(
     value: u64,
     gate: &G,
 )
+    requires plain { table.now.plan.slots ≡ None }
     requires own { pass.old.table ≡ table.now.id }
     requires may { MayFill pass.old.view card }
     ensures { Steps pass.old pass.new (after_fill field value pass.old.view) }

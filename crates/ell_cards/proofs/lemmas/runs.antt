@@ -34,8 +34,6 @@ pub mod Sharing
 pub mod Shares
 -- how a table ends
 pub mod Ending
--- the cards that a run claims may be claimed
-pub mod Rooms
 -- where turns lead a table, and what they make its steps, splits and joins owe
 pub mod Reaching
 -- laws of each table that turns have led to
@@ -122,3 +120,5 @@ pub mod Touching
 pub mod Alive
 -- how far the tags of child words have come since an earlier state
 pub mod TagsOfRuns
+-- cards that were laid aside
+pub mod Aside

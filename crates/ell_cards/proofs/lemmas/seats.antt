@@ -10,6 +10,8 @@ pub mod Frames
 pub mod LedgersStay
 -- what a pass names is in its table
 pub mod Named
+-- and in slots that have words
+pub mod Placed
 -- a step of a pass, as the generic step owes it
 pub mod Taken
 -- the insides of a table and a pass, where the generic step opens them

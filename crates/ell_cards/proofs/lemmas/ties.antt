@@ -17,6 +17,8 @@ pub mod Periods
 -- and where a slot is taken
 pub mod Taking
 pub mod TakingSlots
+-- and so does all that a pass names
+pub mod Placed
 -- or a card lies in its slot already
 pub mod Owning
 -- cards that lie in their slots at once are few

@@ -12,3 +12,5 @@ pub mod Steps
 pub mod Searches
 -- What a delete takes, by what its pass was told.
 pub mod TakenValues
+-- the view after a row of claims
+pub mod Rows

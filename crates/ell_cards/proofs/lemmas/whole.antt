@@ -8,10 +8,15 @@ pub mod Places
 pub mod Ages
 -- calls that pass by what is shown, and by what is known
 pub mod Lifts
--- steps of the tree as those of a whole table
+-- the trees of a table, and its periods where a word of a card changes
 pub mod Trees
+-- words of fields that are no child words
+pub mod Fields
+-- steps of the tree as those of a whole table
+pub mod Calling
 -- splits and joins
 pub mod Handovers
+pub mod Parting
 -- the words of the clock and of places
 pub mod Words
 -- the steps of grace periods
@@ -22,7 +27,15 @@ pub mod Slots
 pub mod Going
 -- and those on the words of slots
 pub mod Freeing
--- a whole table as it opens
+-- the words and the periods of a table as it opens
 pub mod Opens
+-- so it starts whole
+pub mod Starting
 -- what nobody may touch any more
 pub mod Untouched
+-- the card whose flag a pass has lost
+pub mod Losing
+-- slots that passes take for their cards in hand
+pub mod TakingSlots
+-- the numbers of a turn that have no slots
+pub mod Skipping

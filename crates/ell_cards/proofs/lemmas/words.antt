@@ -6,5 +6,3 @@ pub mod Fields
 pub mod Keys
 -- lists of numbers that rise
 pub mod Ascending
--- the last card that may be claimed
-pub mod Claims

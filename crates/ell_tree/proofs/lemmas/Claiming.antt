@@ -142,7 +142,7 @@ module _ (a b d : PassModel) (c node_key : ℕ) (read : Steps a b (after_next c 
       → HasNone a d × Meets a.view d.view × (length a.view.hindrances + 1 ≤ length d.view.hindrances)
   lost_claims s none =
       subst (λ (p : PassModel). HasNone a p × Meets a.view p.view × (length a.view.hindrances + 1 ≤ length p.view.hindrances))
-      (sym (s ∙ ap (λ (p : PassModel). record { table = p.table; view = after_claim false c node_key p.view; steps = one_step_more p.steps; label = p.label; safe = p.safe }) read)) (
+      (sym (s ∙ ap (λ (p : PassModel). record { table = p.table; view = after_claim false c node_key p.view; steps = one_step_more p.steps; label = p.label; safe = p.safe; slot = p.slot }) read)) (
         record { no_card = none; search = refl },
         record { met = Claim c ∷ []; list = refl; over = (tt, tt); knows = λ f h. h },
         omega arith,

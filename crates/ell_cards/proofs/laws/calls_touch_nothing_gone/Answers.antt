@@ -2,6 +2,7 @@
 use Rattle.ell_cards.proofs.lemmas.runs.Touching.{calls_touch_their_words, tables_have_outs, calls_touch_nothing_gone, known_taken_out_is_gone}
 use Rattle.ell_cards.proofs.lemmas.runs.Alive.{tables_have_uses, turns_keep_dead, calls_touch_nothing_dead, calls_touch_no_dead_card, known_never_comes, known_dead_is_dead, one_card_tells}
 use Rattle.ell_cards.proofs.lemmas.runs.SmallRun.{look_begins_when_gone, dead_is_known}
+use Rattle.ell_cards.proofs.lemmas.ties.Touched.{calls_touch_no_card_aside}
 use Rattle.ell_cards.proofs.lemmas.whole.Rests.{rest_touches_the_root}
 use Rattle.ell_cards.proofs.laws.calls_touch_nothing_gone.Goals as goal
 
@@ -21,4 +22,5 @@ returns c = record {
   dead = known_dead_is_dead;
   once = one_card_tells;
   known = dead_is_known;
+  aside = calls_touch_no_card_aside;
 }

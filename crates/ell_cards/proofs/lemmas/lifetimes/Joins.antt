@@ -6,6 +6,7 @@ use mathlib.Core.Option.{some}
 use lib.ListN.{get_elem?}
 use Rattle.atomic_table.proofs.Lists.{at_set, set_else}
 use Rattle.ell_core.specs.declared.fact.Fact.{Fact}
+use Rattle.ell_core.specs.declared.fact.Fact.TheVariants as fact
 use Rattle.ell_layout.specs.Words.{put}
 use Rattle.ell_core.specs.state.Facts.{known_of, same_fact}
 use Rattle.ell_core.specs.state.Machine.{Worker, nobody, worker_of, ledger_of, shared_of}
@@ -16,14 +17,13 @@ use Rattle.ell_core.proofs.lemmas.outcomes.Decide.{some_not_none}
 use Rattle.ell_cards.specs.declared.view.View.{View}
 use Rattle.ell_cards.specs.Changes.{united_ledgers, later_reading, joined_view, spent_view}
 use Rattle.std.specs.Option.{option_or}
-use Rattle.ell_cards.specs.Naming.{IsNamed}
+use Rattle.ell_cards.specs.Naming.{IsNamed, IsPlaced}
 use Rattle.ell_cards.specs.States.{seat_worker, seated}
 use Rattle.ell_cards.specs.Machines.{ViewHolds}
 use Rattle.ell_cards.specs.Inside.{PassFits}
 use Rattle.ell_cards.specs.Laws.{JoinsAreHandovers}
 use Rattle.ell_cards.proofs.lemmas.seats.Seats.{inside, seated_put, mine_is, mine_sound}
 use Rattle.ell_word.specs.Node.{greatest_number}
-use Rattle.ell_cards.proofs.lemmas.seats.Named.{named_more}
 use Rattle.ell_cards.proofs.lemmas.lifetimes.Idle.{rest_holds, rest_named}
 use Rattle.ell_ops.specs.KeySet.{Lists, set_of, union}
 use Rattle.ell_ops.proofs.lemmas.Merges.{keys_united, lists_united}
@@ -32,6 +32,9 @@ use Rattle.ell_cards.proofs.lemmas.lifetimes.Unions.{keys_of_united, ledger_unit
 use Rattle.ell_core.specs.declared.view.Entry.{Entry}
 use Rattle.ell_cards.specs.declared.share.Share.{Share}
 use Rattle.std.proofs.lemmas.Bool.{false≢true}
+use Rattle.ell_cards.proofs.lemmas.seats.Placed.{rest_placed, placed_more}
+use Rattle.ell_cards.specs.Models.{Knows, KnowsCard}
+use Rattle.ell_cards.specs.SlotWords.{slot_of}
 
 -- what one of two lists of facts has, both together have
 known_either : (a b : List Fact) (f : Fact) → known_of (a ++ b) f ≡ true → (known_of a f ≡ true) ⊎ (known_of b f ≡ true)
@@ -194,6 +197,21 @@ joined_named cards v w h g = rest_named cards (joined_view v w) refl
     (λ f k. elim (known_either v.worker.knows w.worker.knows f k) [ inl a ↦ h.facts f a | inr b ↦ g.facts f b ])
     refl refl (let a = h.next in let b = g.next in omega arith)
 
+-- and it is placed where they were
+joined_placed : (last : ℕ) (v w : View) → IsPlaced last v → IsPlaced last w → IsPlaced last (joined_view v w)
+joined_placed last v w h g = rest_placed last (joined_view v w) refl known refl
+  where
+    either : (f : Fact) (c : ℕ) → (Knows v f → KnowsCard v c) → (Knows w f → KnowsCard w c) → Knows (joined_view v w) f → slot_of c ≤ last
+    either f c mine yours knows = elim (known_either v.worker.knows w.worker.knows f knows) [
+      | inl a ↦ h.facts c (mine a)
+      | inr b ↦ g.facts c (yours b)
+    ]
+
+    known : (c : ℕ) → KnowsCard (joined_view v w) c → slot_of c ≤ last
+    known c (inl k) = either (fact.IFlagged c) c (λ x. inl x) (λ x. inl x) k
+    known c (inr (inl k)) = either (fact.DFlagged c) c (λ x. inr (inl x)) (λ x. inr (inl x)) k
+    known c (inr (inr k)) = either (fact.Marked c) c (λ x. inr (inr x)) (λ x. inr (inr x)) k
+
 -- the share of both counts where one of the two does
 either_counts : (a b : Bool) (l m : Option (List ℕ)) → (a ≡ true) ↔ (l ≢ None) → (b ≡ true) ↔ (m ≢ None) → ((a || b) ≡ true) ↔ (option_or l m ≢ None)
 either_counts a b None m h g = by a (λ is. h.0 is refl)
@@ -231,6 +249,6 @@ joined_fits words left right ours theirs one other keys mine yours v w h g same_
             last = last;
             low = let low = h.inside.low in let low' = g.inside.low in omega arith;
             few = omega arith;
-            named = joined_named last v w (named_more h.inside.last last (omega arith) v h.inside.named) (named_more g.inside.last last (omega arith) w g.inside.named);
+            placed = joined_placed last v w (placed_more h.inside.last last (omega arith) v h.inside.placed) (placed_more g.inside.last last (omega arith) w g.inside.placed);
           };
     }

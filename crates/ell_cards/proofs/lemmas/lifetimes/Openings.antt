@@ -35,6 +35,7 @@ use Rattle.ell_ops.specs.KeySet.{set_of}
 use Rattle.ell_ops.specs.Meaning.{greatest_key}
 use Rattle.ell_cards.specs.Models.{TablePlan, whole_share}
 use Rattle.std.proofs.lemmas.List.Elements.{All-contains}
+use Rattle.ell_cards.proofs.lemmas.seats.Placed.{named_placed}
 
 -- from where on the tree is flat in the words at the start, and their claim word
 start_shape : (flat : Bool) (start : List (ℕ × ℕ)) → (words_at_start flat start).flat_from ≡ (if flat then length start + 1 else 0)
@@ -147,7 +148,7 @@ first_fits plan words room rising = record {
   share = record { units = refl; counts = mode plan.shared };
   named = λ cards size. first_named cards;
   most = first_named greatest_number;
-  inside = record { last = 0; low = omega arith; few = room; named = first_named 0 };
+  inside = record { last = 0; low = omega arith; few = room; placed = named_placed 0 (first_of plan) (first_named 0) };
 }
   where
     first_named : (cards : ℕ) → IsNamed cards (first_of plan)

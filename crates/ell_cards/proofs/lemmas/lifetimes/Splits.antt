@@ -29,6 +29,7 @@ use Rattle.ell_cards.proofs.lemmas.words.Keys.{owned_among}
 use Rattle.ell_cards.proofs.lemmas.lifetimes.Parts.{keys_on, keys_off, ascending_parts, ledger_parts, part_owns}
 use Rattle.ell_core.specs.declared.view.Entry.{Entry}
 use Rattle.ell_cards.specs.Models.{given_share}
+use Rattle.ell_cards.proofs.lemmas.seats.Placed.{rest_placed}
 
 -- a place before the last one
 pub before_last : {A : Type 0} (l : List A) (a : A) (n : ℕ) → n ≢ length l → get_elem? (l ++ a ∷ []) n ≡ get_elem? l n
@@ -148,6 +149,7 @@ module _ (v : View) (keys chosen : List ℕ) (are : keys ≡ ledger_keys v.worke
         ∙ (ascending_parts keys chosen rising rise (owned_all v.worker.ledger keys chosen are all)).taken));
     ascending = rise;
     named = λ cards named. rest_named cards (left_view chosen v) refl named.facts refl refl named.next;
+    placed = λ last placed. rest_placed last (left_view chosen v) refl placed.facts refl;
   }
 
   -- the right part has the rest
@@ -156,4 +158,5 @@ module _ (v : View) (keys chosen : List ℕ) (are : keys ≡ ledger_keys v.worke
     owned = is ∙ (ap (filter (λ k. not (set_of chosen k))) are ∙ sym (keys_off chosen v.worker.ledger));
     ascending = subst IsStrictlyIncreasing (sym is) (IsStrictlyIncreasing-filter (λ k. not (set_of chosen k)) keys rising);
     named = λ cards named. rest_named cards (right_view chosen v) refl named.facts refl refl named.next;
+    placed = λ last placed. rest_placed last (right_view chosen v) refl placed.facts refl;
   }

@@ -1,4 +1,4 @@
-use Rattle.std.proofs.Common.{◌≡◌, ℕ, List, [], ◌∷◌, ◌++◌, ◌+◌, ◌≤◌, length, refl, sym, ◌∙◌, subst, arith}
+use Rattle.std.proofs.Common.{◌≡◌, ℕ, List, [], ◌∷◌, ◌++◌, length, refl, sym, ◌∙◌, subst}
 use lib.ListN.{get_elem?}
 use mathlib.Core.Option.{some}
 use Rattle.atomic_table.specs.Table.{opening}
@@ -11,7 +11,7 @@ use Rattle.ell_cards.specs.declared.call.Call.TheVariants as call
 use Rattle.ell_layout.specs.declared.field.Field.{Field}
 use Rattle.ell_cards.specs.declared.view.Told.TheVariants.{Key, Value, Info}
 use Rattle.ell_cards.specs.declared.view.View.{View}
-use Rattle.ell_cards.specs.Models.{TablePlan, last_claim}
+use Rattle.ell_cards.specs.Models.{TablePlan, last_slot}
 use Rattle.ell_cards.specs.Changes.{first_of}
 use Rattle.ell_cards.specs.Calls.{May}
 use Rattle.ell_cards.specs.States.{TableState}
@@ -20,16 +20,16 @@ use Rattle.ell_cards.specs.Turns.{Turn, Makes, TableTurns, TableRun, found_by, v
 use Rattle.ell_cards.specs.Starts.{MayStart, Starts, IsReached, RunFromStart}
 use Rattle.ell_cards.specs.Looking.{KeysAreFixed, ValuesAreFixed}
 use Rattle.ell_cards.specs.Shown.{cut_word, shown, shown_call}
+use Rattle.ell_cards.specs.Naming.{IsPlaced}
 use Rattle.ell_cards.specs.Stepping.{MayTell, IsTaken}
 use Rattle.ell_cards.proofs.lemmas.seats.Seats.{set_there}
-use Rattle.ell_cards.proofs.lemmas.seats.Named.{kept_named, named_to, kept_shallow}
+use Rattle.ell_cards.proofs.lemmas.seats.Named.{kept_named, kept_shallow}
 use Rattle.ell_cards.proofs.lemmas.seats.Taken.{keys_stay, same_share}
 use Rattle.ell_cards.proofs.lemmas.stepping.AllCalls.{steps_are_events}
 use Rattle.ell_cards.proofs.lemmas.runs.Starting.{starts_are_kept, runs_from_starts}
 use Rattle.ell_cards.proofs.lemmas.runs.TurnsOfRuns.{one_more_turn, runs_are_lawful}
 use Rattle.ell_cards.proofs.lemmas.shown.ShownViews.{takings_are_shown}
 use Rattle.ell_cards.proofs.lemmas.runs.OwnLooks.{looks_read_their_own}
-use Rattle.ell_cards.proofs.lemmas.runs.Rooms.{claims_within}
 
 -- a new table is where no turn has led
 pub reached_first : (plan : TablePlan) (words : List ℕ) → MayStart plan → length words ≡ table_size plan.last_card
@@ -82,10 +82,6 @@ module _ (plan : TablePlan) where
         value = λ leaf value other told told'. sym (entries (Value leaf value) told).1 ∙ (entries (Value leaf other) told').1;
       }
 
-  -- the claim word of the machine is no more than one past the last card that may be claimed
-  pub claims_to : (s : TableState) (h : IsReached plan s) → (reached_kept s h).words.next ≤ last_claim plan + 1
-  claims_to s h = let word = claims_within plan s h in let next = (reached_kept s h).next in omega arith
-
   -- a step call is a turn
   pub call_on : (s : TableState) → IsReached plan s → (id : ℕ) (c : Call) (v : View) → get_elem? s.views id ≡ some v → May plan c v
       → IsReached plan (state_after s id v c)
@@ -94,8 +90,8 @@ module _ (plan : TablePlan) where
 
   -- and leaves of its pass what the call says
   calls_leave : (c : Call) (v : View) → May plan c v → (s : TableState) → IsReached plan s → (id : ℕ) → get_elem? s.views id ≡ some v
-      → IsTaken plan c v (found_by s c) (view_after s v c)
-  calls_leave c v may s h id here =
+      → IsPlaced (last_slot plan) (view_after s v c) → IsTaken plan c v (found_by s c) (view_after s v c)
+  calls_leave c v may s h id here placed =
       let n = found_by s c in
       let w = view_after s v c in
       let s' = state_after s id v c in
@@ -110,24 +106,24 @@ module _ (plan : TablePlan) where
         keys = keys_stay c n v;
         share = same_share c n v;
         named = kept_named plan s' (reached_kept s' on) id w there;
-        inside = named_to plan s' (reached_kept s' on) id w there (last_claim plan) (claims_to s' on);
+        inside = placed;
         shallow = kept_shallow plan s' (reached_kept s' on) id w there;
       }
 
   -- so it is of what is shown of the pass
   pub calls_tell : (c : Call) (v : View) → MayTell plan c v (IsTaken plan c v)
-  calls_tell c v s h id w here is whole same may can =
+  calls_tell c v s h id w here is whole same may can placed =
       let n = found_by s whole in
       let now = view_after s w whole in
       subst (λ (d : Call). IsTaken plan d v (cut_word n) (shown now)) same
       (subst (λ (u : View). IsTaken plan (shown_call whole) u (cut_word n) (shown now)) is
-      (takings_are_shown plan whole w n now can (calls_leave whole w may s h id here)))
+      (takings_are_shown plan whole w n now can (calls_leave whole w may s h id here placed)))
 
   -- a fill tells nothing of what it found
   pub fill_tells : (c : ℕ) (f : Field) (value : ℕ) (v : View)
       → MayTell plan (call.Fill c f value) v (λ n. IsTaken plan (call.Fill c f value) v value)
-  fill_tells c f value v s h id w here is whole same may can =
-      let t = calls_tell (call.Fill c f value) v s h id w here is whole same may can in record {
+  fill_tells c f value v s h id w here is whole same may can placed =
+      let t = calls_tell (call.Fill c f value) v s h id w here is whole same may can placed in record {
         view = t.view;
         tells = tt;
         own = t.own;

@@ -1,28 +1,36 @@
-use Rattle.std.proofs.Common.{◌≡◌, ◌≢◌, ℕ, ◌<◌, ◌≤◌, Option, Some, None, List, [], ap, sym, ◌∙◌, subst, arith}
+use Rattle.std.proofs.Common.{◌≡◌, ◌≢◌, ℕ, ◌<◌, ◌≤◌, Option, Some, None, List, [], ap, sym, ◌∙◌, subst, arith, refl}
 use Rattle.atomic_table.specs.Table.{Me, Allows}
 use Rattle.ell_word.specs.Node.{greatest_card, greatest_number}
 use Rattle.ell_layout.specs.Layout.{table_size}
+use Rattle.ell_cards.specs.declared.pass.Standing.{Standing}
 use Rattle.ell_cards.specs.declared.share.Share.{Share}
 use Rattle.ell_cards.specs.declared.view.Known.{Known}
 use Rattle.ell_cards.specs.declared.view.Period.{Period}
 use Rattle.ell_cards.specs.declared.view.Slots.{Slots}
 use Rattle.ell_cards.specs.declared.view.View.{View}
-use Rattle.ell_cards.specs.Models.{TablePlan, TableModel, PassModel, last_claim, last_claim_of}
+use Rattle.ell_cards.specs.Models.{TablePlan, TableModel, PassModel, IsTold, last_slot, last_slot_of}
+use Rattle.ell_cards.specs.SlotWords.{slot_of}
+use Rattle.ell_cards.specs.Tied.{MayInMemory}
+use Rattle.ell_word.specs.Link.{greatest_tag}
+use Rattle.ell_layout.proofs.lemmas.Listed.{address_in_table}
+use Rattle.ell_core.proofs.lemmas.outcomes.Decide.{some_not_none}
 use Rattle.ell_cards.specs.Changes.{ledger_keys}
-use Rattle.ell_cards.specs.Naming.{IsNamed}
-use Rattle.ell_cards.specs.Inside.{HasShare, PassFits}
+use Rattle.ell_cards.specs.Naming.{IsNamed, IsPlaced}
+use Rattle.ell_cards.specs.Inside.{HasShare, HasSlotThere, PassFits, PlaceFits}
 use Rattle.ell_cards.specs.declared.call.Call.{Call}
-use Rattle.ell_cards.specs.Calls.{word_of, atomic_of, left_by, May}
+use Rattle.ell_cards.specs.declared.call.Call.TheVariants as call
+use Rattle.ell_cards.specs.declared.view.Told.TheVariants.{Expects}
+use Rattle.ell_cards.specs.Calls.{place_of, May}
 use Rattle.ell_cards.specs.Periods.{size_by, whole_size}
 use Rattle.ell_cards.specs.Starts.{SlotsFit}
-use Rattle.ell_cards.specs.Shown.{shown, StoresWord}
+use Rattle.ell_cards.specs.Shown.{IsWord, shown, StoresWord}
 use Rattle.ell_cards.specs.Stepping.{IsInside, IsQuiet, MayHave, MayTell, KeepsPass, SameShare}
 use Rattle.ell_cards.specs.Whole.{IsWhole}
 use Rattle.ell_cards.proofs.lemmas.seats.Named.{named_more}
-use Rattle.ell_cards.proofs.lemmas.seats.Taken.{word_fits}
-use Rattle.ell_cards.proofs.lemmas.whole.Lifts.{claims_few}
+use Rattle.ell_cards.proofs.lemmas.seats.Placed.{placed_more, place_fits}
+use Rattle.ell_cards.proofs.lemmas.shown.ShownTold.{was_expected}
 use Rattle.ell_cards.proofs.lemmas.whole.Places.{no_places}
-use Rattle.ell_cards.proofs.lemmas.whole.Trees.{tree_step}
+use Rattle.ell_cards.proofs.lemmas.whole.Calling.{IsFill, Does, Notes, tree_step}
 
 -- what the rule of a table allows a seat that holds no slot, of a table that has none
 pub allowed : (plan : TablePlan) (slots id : ℕ) (me : Me (Unit {0}) Known) (word : ℕ) (f : ℕ → ℕ) (told : ℕ → Me (Unit {0}) Known → List (ℕ × Unit {0}) → Type 0)
@@ -49,10 +57,10 @@ module _ (plan : TablePlan) (words : ℕ) (size : words ≡ whole_size plan) (fi
   named_by None is v named last e = subst (λ n. IsNamed n v) (same_cards words plan.last_card last is e) named
   named_by (Some s) is v named last e = absurd (no_places words last s is e)
 
-  -- the cards that may be claimed have words
-  claims_fit : (o : Option Slots) → words ≡ size_by o plan.last_card → table_size (last_claim_of o plan.last_card) ≤ words
-  claims_fit None is = omega arith
-  claims_fit (Some s) is = omega arith
+  -- the slots have words
+  slots_fit : (o : Option Slots) → words ≡ size_by o plan.last_card → SlotsFit plan o → (last_slot_of o plan.last_card ≤ greatest_card) × (table_size (last_slot_of o plan.last_card) ≤ words)
+  slots_fit None is fit = (fit, omega arith)
+  slots_fit (Some s) is fit = (fit.4, omega arith)
 
   -- a pass names what is in its table
   named_of : (o : Option Slots) → words ≡ size_by o plan.last_card → SlotsFit plan o → (v : View) → ((last : ℕ) → words ≡ table_size last → IsNamed last v) → IsNamed greatest_number v → IsNamed plan.last_card v
@@ -71,7 +79,7 @@ module _ (plan : TablePlan) (words : ℕ) (size : words ≡ whole_size plan) (fi
     share = same_share share v w fits.share keeps.1;
     named = named_by plan.slots size w keeps.2.0;
     most = named_more plan.last_card greatest_number room w keeps.2.0;
-    inside = record { last = last_claim plan; low = claims_few plan plan.slots fit; few = claims_fit plan.slots size; named = keeps.2.1 };
+    inside = let slots = slots_fit plan.slots size fit in record { last = last_slot plan; low = slots.0; few = slots.1; placed = keeps.2.1 };
   }
 
 -- a pass that has new keys and a new share, and knows what goes with them
@@ -83,7 +91,7 @@ has_keys words was keys had share v w fits has may = record {
   share = has;
   named = λ last e. may.named last (fits.named last e);
   most = may.named greatest_number fits.most;
-  inside = record { last = fits.inside.last; low = fits.inside.low; few = fits.inside.few; named = may.named fits.inside.last fits.inside.named };
+  inside = record { last = fits.inside.last; low = fits.inside.low; few = fits.inside.few; placed = may.placed fits.inside.last fits.inside.placed };
 }
 
 -- a table as its code keeps it and as callers see it, and a pass of it so
@@ -104,35 +112,77 @@ module _ (t u : TableModel) (p q : PassModel) (same_table : t ≡ u) (same_pass 
   pub few_there : u.plan.slots ≡ None → u.plan.last_card ≤ greatest_card
   few_there = subst (λ (m : TableModel). m.plan.slots ≡ None → m.plan.last_card ≤ greatest_card) same_table (λ none. subst (SlotsFit t.plan) none fit)
 
-  -- and what it names is of cards that have words
-  pub words_there : (keys : List ℕ) (share : Share) → PassFits keys share p.table.words p.view → IsNamed greatest_card q.view
-  words_there keys share fits =
-      subst (λ (m : PassModel). IsNamed greatest_card m.view) same_pass (named_more fits.inside.last greatest_card fits.inside.low p.view fits.inside.named)
+  -- and what it names lies in slots that have words
+  pub placed_there : (keys : List ℕ) (share : Share) → PassFits keys share p.table.words p.view → IsPlaced greatest_card q.view
+  placed_there keys share fits =
+      subst (λ (m : PassModel). IsPlaced greatest_card m.view) same_pass (placed_more fits.inside.last greatest_card fits.inside.low p.view fits.inside.placed)
+
+  -- so does the card whose slot it has taken
+  pub slot_there : (standing : Standing) (period : Period) → period.slot ≡ p.slot → PlaceFits standing p.table.words period → (c : ℕ) → q.slot ≡ Some c → slot_of c ≤ greatest_card
+  slot_there standing period is fits c taken =
+      let has = fits.slot c (is ∙ (ap (λ (m : PassModel). m.slot) same_pass ∙ taken)) in
+      let low = has.low in
+      let inside = has.inside in
+      omega arith
+
+  -- each tag that it was told has a word
+  pub tags_there : (tree : View) → shown tree ≡ p.view → (c tag : ℕ) → IsTold q.view (Expects c tag) → tag ≤ greatest_tag
+  tags_there tree shows c tag told =
+      let is : q.view ≡ shown tree = ap (λ (m : PassModel). m.view) (sym same_pass) ∙ sym shows in
+      let was = was_expected tree.told c tag (subst (λ (v : View). IsTold v (Expects c tag)) is told) in
+      let cut = was.is in
+      omega arith
+
+  -- a card that a call fills has a slot there
+  abbrev pub FillFits : Call → Type 0
+  FillFits (call.Fill e f value) = HasSlotThere p.table.words e
+  FillFits _ = Unit {0}
+
+  fill_fits : (keys : List ℕ) (share : Share) (standing : Standing) (period : Period) → period.slot ≡ p.slot → PassFits keys share p.table.words p.view → PlaceFits standing p.table.words period
+      → (c : Call) → May u.plan c q.view → (u.plan.slots ≢ None → MayInMemory q.slot q.view c) → FillFits c
+  fill_fits keys share standing period is fits placed (call.Fill e f value) may kept = by u.plan.slots refl
+    where
+      by : (o : Option Slots) → u.plan.slots ≡ o → HasSlotThere p.table.words e
+      by None none =
+          let low = (named_there keys share fits).hand e may.holds in
+          let few = few_there none in
+          let all = own_size ∙ (λ i. size_by (ap (λ (m : TableModel). m.plan.slots) same_table i) (ap (λ (m : TableModel). m.plan.last_card) same_table i)) ∙ ap (λ o. size_by o u.plan.last_card) none in
+          record { last = u.plan.last_card; low = few; few = omega arith; inside = omega arith }
+      by (Some s) some = placed.slot e (is ∙ (ap (λ (m : PassModel). m.slot) same_pass ∙ kept (λ none. some_not_none some none)))
+  fill_fits keys share standing period is fits placed _ may kept = tt
 
   -- the word of a step call is one of the table
-  inside_there : (keys : List ℕ) (share : Share) (c : Call) → PassFits keys share p.table.words p.view → May u.plan c q.view → word_of c < t.id.words
-  inside_there keys share c fits may =
-      let has = fits.inside in
+  inside_there : (keys : List ℕ) (share : Share) (c : Call) → PassFits keys share p.table.words p.view → May u.plan c q.view → FillFits c → place_of c < t.id.words
+  inside_there keys share (call.Fill e f value) fits may has =
+      let low = (address_in_table has.last (slot_of e) f has.inside).1 in
       let few = has.few in
-      let below = word_fits u.plan c q.view may has.last (subst (λ (m : PassModel). IsNamed has.last m.view) same_pass has.named) in
+      let same = ap (λ i. i.words) of_table in
+      omega arith
+  inside_there keys share c fits may has =
+      let few = fits.inside.few in
+      let below = place_fits fits.inside.last u.plan c q.view may tt (subst (λ (m : PassModel). IsPlaced fits.inside.last m.view) same_pass fits.inside.placed) in
       let same = ap (λ i. i.words) of_table in
       omega arith
 
   -- what a step call owes, by what its caller says of the table and the pass, which is shown of the tree that its seat knows
-  pub owed : (tree : View) → shown tree ≡ p.view → (seat : ℕ) (period : Period) (held : List (ℕ × Unit {0})) (keys : List ℕ) (share : Share) (word : ℕ) (f : ℕ → ℕ) (told : ℕ → View → Type 0) (c : Call) → t.id.slots ≡ 0 → held ≡ []
-      → PassFits keys share p.table.words p.view → StoresWord c → word ≡ word_of c → May u.plan c q.view → ((n : ℕ) → f n ≡ left_by (atomic_of c) n)
-      → (u.plan.slots ≢ None → period.announced ≡ None → IsQuiet c) → MayTell u.plan c q.view told
+  pub owed : (tree : View) → shown tree ≡ p.view → (seat : ℕ) (period : Period) → period.slot ≡ p.slot → (held : List (ℕ × Unit {0})) (keys : List ℕ) (share : Share) (standing : Standing) (word : ℕ) (f : ℕ → ℕ)
+      (told : ℕ → View → Type 0) (notes : ℕ → Period) (c : Call) → t.id.slots ≡ 0 → held ≡ [] → PassFits keys share p.table.words p.view → PlaceFits standing p.table.words period
+      → StoresWord c → word ≡ place_of c → May u.plan c q.view → (u.plan.slots ≢ None → MayInMemory q.slot q.view c) → Does u.plan c f
+      → (u.plan.slots ≢ None → period.announced ≡ None → IsQuiet c) → (IsFill c → (n m : ℕ) (w : View) → told n w → told m w) → MayTell u.plan c q.view told
+      → ((n : ℕ) → IsWord n → Notes c n period (notes n))
       → (p.table ≡ t.id) × (word < t.id.words)
-      × Allows (IsWhole t.plan) t.id.slots seat (record { tree = tree; period = period }, held) word f (λ n x. told n (shown x.0.tree) × (x.0.period ≡ period) × (x.1 ≡ held))
-  owed tree shows seat period held keys share word f told c none empty fits stores at may does quiet tells =
+      × Allows (IsWhole t.plan) t.id.slots seat (record { tree = tree; period = period }, held) word f (λ n x. told n (shown x.0.tree) × (x.0.period ≡ notes n) × (x.1 ≡ held))
+  owed tree shows seat period slotted held keys share standing word f told notes c none empty fits placed stores at may kept does quiet same tells noted =
       let is : q.view ≡ shown tree = ap (λ (m : PassModel). m.view) (sym same_pass) ∙ sym shows in
-      let step = tree_step u.plan (record { tree = tree; period = period }) c f told stores (subst (May u.plan c) is may) does quiet (subst (λ v. MayTell u.plan c v told) is tells) in
-      let rule : (id : ℕ) → Allows (IsWhole t.plan) 0 id (record { tree = tree; period = period }, []) word f (λ n x. told n (shown x.0.tree) × (x.0.period ≡ period) × (x.1 ≡ [])) =
-      subst (λ (i : ℕ). (id : ℕ) → Allows (IsWhole t.plan) 0 id (record { tree = tree; period = period }, []) i f (λ n x. told n (shown x.0.tree) × (x.0.period ≡ period) × (x.1 ≡ []))) (sym at)
-      (subst (λ (m : TableModel). (id : ℕ) → Allows (IsWhole m.plan) 0 id (record { tree = tree; period = period }, []) (word_of c) f (λ n x. told n (shown x.0.tree) × (x.0.period ≡ period) × (x.1 ≡ []))) (sym same_table) step) in (
+      let taken : q.slot ≡ period.slot = ap (λ (m : PassModel). m.slot) (sym same_pass) ∙ sym slotted in
+      let asks : u.plan.slots ≢ None → MayInMemory period.slot (shown tree) c = λ some. subst (λ v. MayInMemory period.slot v c) is (subst (λ o. MayInMemory o q.view c) taken (kept some)) in
+      let step = tree_step u.plan (record { tree = tree; period = period }) c f told notes stores (subst (May u.plan c) is may) asks does quiet same (subst (λ v. MayTell u.plan c v told) is tells) noted in
+      let rule : (id : ℕ) → Allows (IsWhole t.plan) 0 id (record { tree = tree; period = period }, []) word f (λ n x. told n (shown x.0.tree) × (x.0.period ≡ notes n) × (x.1 ≡ [])) =
+      subst (λ (i : ℕ). (id : ℕ) → Allows (IsWhole t.plan) 0 id (record { tree = tree; period = period }, []) i f (λ n x. told n (shown x.0.tree) × (x.0.period ≡ notes n) × (x.1 ≡ []))) (sym at)
+      (subst (λ (m : TableModel). (id : ℕ) → Allows (IsWhole m.plan) 0 id (record { tree = tree; period = period }, []) (place_of c) f (λ n x. told n (shown x.0.tree) × (x.0.period ≡ notes n) × (x.1 ≡ []))) (sym same_table) step) in (
         of_table,
-        subst (λ i. i < t.id.words) (sym at) (inside_there keys share c fits may),
-        allowed t.plan t.id.slots seat (record { tree = tree; period = period }, held) word f (λ n x l. told n (shown x.0.tree) × (x.0.period ≡ period) × (x.1 ≡ l)) none empty rule,
+        subst (λ i. i < t.id.words) (sym at) (inside_there keys share c fits may (fill_fits keys share standing period slotted fits placed c may kept)),
+        allowed t.plan t.id.slots seat (record { tree = tree; period = period }, held) word f (λ n x l. told n (shown x.0.tree) × (x.0.period ≡ notes n) × (x.1 ≡ l)) none empty rule,
       )
 
   -- the pass after a step that told this

@@ -33,7 +33,7 @@ module _ (c node_key : ℕ) (v : View) where
       (λ t. Expects c (cut_tag (expected_tag v)) ∷ told_filling_shown c (filling_of c node_key v) v.told t)
       ∙ (λ t. Expects c (sym (tag_shown v) t) ∷ told_filling c (sym (filling_shown c node_key v) t) (map shown_told v.told))
 
-  claimed_shown : (won : Bool) → ((x : ℕ) → StandsAt v x → x < tag_unit)
+  pub claimed_shown : (won : Bool) → ((x : ℕ) → StandsAt v x → x < tag_unit)
       → shown (after_claim won c node_key v) ≡ after_claim won c node_key (shown v)
   claimed_shown true inside =
       λ t. record (after_claim true c node_key (shown v)) { told = told_is t; planned = planned_is inside t }

@@ -8,7 +8,9 @@ use Rattle.ell_cards.specs.declared.view.Told.TheVariants.{Met, Depth, Key, Valu
 use Rattle.ell_cards.specs.declared.view.View.{View}
 use Rattle.ell_cards.specs.Models.{flat_from, stored_at}
 use Rattle.ell_cards.specs.Depths.{deepest, IsShallow}
-use Rattle.ell_cards.specs.Naming.{EntryIsNamed, SeenIsNamed, IsNamed}
+use Rattle.ell_cards.specs.Naming.{EntryIsNamed, EntryIsPlaced, SeenIsNamed, IsNamed, IsPlaced}
+use Rattle.ell_cards.specs.SlotWords.{slot_of}
+use Rattle.ell_word.specs.Node.{card}
 use Rattle.ell_cards.specs.Looking.{HasFound, HasFoundBetween, HasMissed, TellsBetween, KeysAreFixed, ValuesAreFixed, ReadsItsOwn, MissesItsOwn}
 use Rattle.ell_cards.specs.Periods.{IsOfRoot, IsAtRest}
 use Rattle.ell_cards.specs.Shown.{shown_seen, shown_told, shown, StoresAreWhole, HandoversAreShown}
@@ -52,6 +54,32 @@ named_shown last v h = record {
       (let old = was_told v.told e told in
       subst (EntryIsNamed last) old.is (entry_named last old.entry (h.entries old.entry old.has)));
   next = h.next;
+}
+
+-- and it lies in the same slots
+entry_placed : (last : ℕ) (e : Told) → EntryIsPlaced last e → EntryIsPlaced last (shown_told e)
+entry_placed last (Expects c tag) h = h
+entry_placed last (Met x) h = h
+entry_placed last (Depth x n) h = h
+entry_placed last (Key x n) h = h
+entry_placed last (Value x n) h = h
+entry_placed last (Info c f x) h = h
+entry_placed last (Frozen c right x) h = h
+
+pub placed_shown : (last : ℕ) (v : View) → IsPlaced last v → IsPlaced last (shown v)
+placed_shown last v h = record {
+  node = h.node;
+  parent = λ x seen at behind.
+      (let old = was_seen v.worker.search.parent seen behind in
+      subst (λ (s : Seen). slot_of (card s.node) ≤ last) old.is (h.parent x old.whole at old.has));
+  grandparent = λ x seen above at behind up.
+      (let old = was_seen v.worker.search.parent seen behind in
+      let top = was_seen v.worker.search.grandparent above up in
+      subst (λ (s : Seen). slot_of (card s.node) ≤ last) top.is (h.grandparent x old.whole top.whole at old.has top.has));
+  facts = h.facts;
+  entries = λ e told.
+      (let old = was_told v.told e told in
+      subst (EntryIsPlaced last) old.is (entry_placed last old.entry (h.entries old.entry old.has)));
 }
 
 -- keys and values that were told
@@ -127,7 +155,7 @@ takings_are_shown plan c v n w can taken = record {
   keys = taken.keys;
   share = record { share = taken.share.share; ownable = taken.share.ownable };
   named = named_shown _ w taken.named;
-  inside = named_shown _ w taken.inside;
+  inside = placed_shown _ w taken.inside;
   shallow = λ x. shallow_shown (deepest plan) w x (taken.shallow x);
 }
 

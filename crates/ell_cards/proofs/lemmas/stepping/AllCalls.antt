@@ -1,4 +1,3 @@
-use Rattle.std.proofs.Common.{arith}
 use Rattle.ell_cards.specs.declared.call.Call.TheVariants as call
 use Rattle.ell_cards.specs.Laws.{StepsAreEvents}
 use Rattle.ell_cards.proofs.lemmas.stepping.Begins.{keeps_begin, keeps_again, keeps_leave, keeps_answer}
@@ -6,7 +5,6 @@ use Rattle.ell_cards.proofs.lemmas.stepping.Looks.{keeps_upd, keeps_down, keeps_
 use Rattle.ell_cards.proofs.lemmas.stepping.Asking.{keeps_info, keeps_frozen_child}
 use Rattle.ell_cards.proofs.lemmas.stepping.Looking.{keeps_look, keeps_look_down, keeps_rest}
 use Rattle.ell_cards.proofs.lemmas.stepping.Claiming.{keeps_claim}
-use Rattle.ell_cards.proofs.lemmas.words.Claims.{claim_low}
 use Rattle.ell_cards.proofs.lemmas.stepping.Filling.{keeps_fill}
 use Rattle.ell_cards.proofs.lemmas.stepping.Flags.{keeps_iflag, keeps_dflag}
 use Rattle.ell_cards.proofs.lemmas.stepping.Inserting.{keeps_ichild, keeps_iunflag}
@@ -27,7 +25,7 @@ steps_are_events plan s r id v (call.FrozenChild c p right) here may = keeps_fro
 steps_are_events plan s r id v call.Look here may = keeps_look plan s r id v here may
 steps_are_events plan s r id v (call.LookDown from key right) here may = keeps_look_down plan s r id v here from key right may
 steps_are_events plan s r id v call.Rest here may = keeps_rest plan s r id v here may
-steps_are_events plan s r id v (call.Claim c q) here may = keeps_claim plan s r id v here c q may.0 (let room = may.1 in let low = claim_low plan in omega arith)
+steps_are_events plan s r id v (call.Claim c q) here may = keeps_claim plan s r id v here c q may.0 may.1
 steps_are_events plan s r id v (call.Fill c f value) here may = keeps_fill plan s r id v here c f value may
 steps_are_events plan s r id v (call.IFlag c p from) here may = keeps_iflag plan s r id v here c p from may
 steps_are_events plan s r id v (call.IChild c p l q right) here may = keeps_ichild plan s r id v here c p l q right may

@@ -19,15 +19,16 @@ use Rattle.ell_cards.specs.declared.call.Call.TheVariants as call
 use Rattle.ell_cards.specs.declared.view.Known.{Known}
 use Rattle.ell_cards.specs.declared.view.Slots.{Slots}
 use Rattle.ell_cards.specs.declared.view.View.{View}
-use Rattle.ell_cards.specs.Calls.{word_of, atomic_of, left_by, after, May}
+use Rattle.ell_cards.specs.Calls.{word_of, atomic_of, left_by, after, May, slot_address, place_of}
 use Rattle.ell_cards.specs.Changes.{after_claim, after_flag, after_mark, is_mark_of, with_fact, unmarking}
 use Rattle.ell_cards.specs.Models.{TablePlan, Has, latest, earlier}
 use Rattle.ell_cards.specs.Periods.{WholeState, slot_word, card_in}
 use Rattle.ell_cards.specs.Shown.{cut_word}
 use Rattle.ell_cards.specs.SlotWords.{slot_of, card_by}
 use Rattle.ell_cards.specs.States.{TableState}
-use Rattle.ell_cards.specs.Ties.{slot_address, place_of, LiesThere, HasWon, HoldsWaiting, HasStored, IsKept, IsTied, MayInMemory, card_touched, TouchesTied}
-use Rattle.ell_cards.specs.Ties.IsKept.{won, stored}
+use Rattle.ell_cards.specs.Tied.{LiesThere, HasWon, HoldsWaiting, HasStored, IsKept, IsTied, MayInMemory, FlagsCard}
+use Rattle.ell_cards.specs.Ties.{card_touched, TouchesTied}
+use Rattle.ell_cards.specs.Tied.IsKept.{won, stored}
 use Rattle.ell_cards.specs.Touching.{touched_by}
 use Rattle.ell_cards.specs.Turns.{found_by, view_after, state_after}
 use Rattle.ell_cards.proofs.lemmas.runs.Met.{some_same}
@@ -36,7 +37,6 @@ use Rattle.ell_cards.proofs.lemmas.whole.Rests.{has_none}
 use Rattle.ell_cards.proofs.lemmas.whole.Seats.{before_clock, clock_before_slots}
 use Rattle.ell_cards.proofs.lemmas.whole.Slots.{card_lies}
 use Rattle.ell_cards.proofs.lemmas.ties.Touched.{spots, no_claim, no_flat}
-use Rattle.ell_cards.proofs.lemmas.ties.Winning.{FlagsCard}
 
 -- a call fills this field
 abbrev pub FillsField : Call → Field → Type 0
@@ -106,7 +106,7 @@ waited_before plan (call.Mark c p was) n v d h =
 waited_before plan c n v d h = same_waits c n v (after c n v) d refl refl refl h
 
 -- a card that a call flags is in hand, and all its fields were stored in its slot
-flag_in_hand : (plan : TablePlan) (c : Call) (k : Known) → May plan c k.tree → MayInMemory k c → (d : ℕ) → FlagsCard c d
+flag_in_hand : (plan : TablePlan) (c : Call) (k : Known) → May plan c k.tree → MayInMemory k.period.slot k.tree c → (d : ℕ) → FlagsCard c d
     → HoldsWaiting k.tree d × (k.period.slot ≡ Some d) × ((f : Field) → HasStored k.tree f)
 flag_in_hand plan (call.IFlag c p from) k may mem d is = ((may.may.holds ∙ ap Some (sym is), may.may.unflagged), mem.0 ∙ ap Some (sym is), mem.1)
 flag_in_hand plan (call.DFlag c gp from) k may mem d is = ((may.may.holds ∙ ap Some (sym is), may.may.unflagged), mem.0 ∙ ap Some (sym is), mem.1)
@@ -117,7 +117,7 @@ fill_place : (plan : TablePlan) (c : Call) (v : View) → May plan c v → (d : 
 fill_place plan (call.Fill c g value) v may d f h is = λ t. slot_address (some_same (sym may.holds ∙ h.0) t) (sym is t)
 fill_place plan _ v may d f h is = absurd is
 
-fill_taken : (plan : TablePlan) (c : Call) (k : Known) → May plan c k.tree → MayInMemory k c → (d : ℕ) (f : Field) → HoldsWaiting k.tree d → FillsField c f
+fill_taken : (plan : TablePlan) (c : Call) (k : Known) → May plan c k.tree → MayInMemory k.period.slot k.tree c → (d : ℕ) (f : Field) → HoldsWaiting k.tree d → FillsField c f
     → k.period.slot ≡ Some d
 fill_taken plan (call.Fill c g value) k may mem d f h is = mem ∙ (sym may.holds ∙ h.0)
 fill_taken plan _ k may mem d f h is = absurd is
@@ -137,7 +137,7 @@ read_there : (l : List ℕ) (i j n : ℕ) → j ≡ i → i < length l → get_o
 read_there l i j n same fits = ap (λ x. get_or (set l i n) x 0) same ∙ get_or-set_same l i n 0 fits
 
 module _ (plan : TablePlan) (s : Slots) (low : s.last < 2097152) (tree : TableState) (t : WholeState) (stage next : Stages) (dead : ℕ → Bool) (was_dead : ℕ → ℕ → Bool)
-    (tied : IsTied s tree t stage dead was_dead) (id : ℕ) (k : Known) (here : get_elem? t.views id ≡ some k) (c : Call) (may : May plan c k.tree) (mem : MayInMemory k c)
+    (tied : IsTied s tree t stage dead was_dead) (id : ℕ) (k : Known) (here : get_elem? t.views id ≡ some k) (c : Call) (may : May plan c k.tree) (mem : MayInMemory k.period.slot k.tree c)
     (touch : TouchesTied s t.words tree c) (room : table_size s.last ≤ length t.words) (fits : word_of c < length tree.words)
     (small : get_or (set tree.words (word_of c) (left_by (atomic_of c) (found_by tree c))) 0 0 < 2 ^ 64)
     (wins : (d : ℕ) → HasWon next d → HasWon stage d ⊎ FlagsCard c d) (n : ℕ) (is : n ≡ cut_word (left_by (atomic_of c) (found_by tree c))) where
@@ -294,6 +294,7 @@ module _ (plan : TablePlan) (s : Slots) (low : s.last < 2097152) (tree : TableSt
           (at_set t.views id seat knows u at))
       | inr flags ↦ hand_lies e flags
     ];
+    fits = λ e has. elim (wins e has) [ inl had ↦ tied.fits e had | inr flags ↦ (hand_lies e flags).0 ];
     hand = λ seat e u at slot waits. lies_on e (⊎_elim
         (λ (w : (seat ≡ id) × (knows ≡ u)). mine e (ap (λ (x : Known). x.period.slot) w.1 ∙ slot) (subst (λ (x : Known). HoldsWaiting x.tree e) (sym w.1) waits))
         (λ (w : (seat ≢ id) × (get_elem? t.views seat ≡ some u)). tied.hand seat e u w.1 slot waits)

@@ -7,7 +7,7 @@ use Rattle.std.proofs.lemmas.Map.Steps.{length-le_from_distinct_below}
 use Rattle.ell_cards.specs.declared.view.Slots.{Slots}
 use Rattle.ell_cards.specs.Periods.{card_in}
 use Rattle.ell_cards.specs.SlotWords.{slot_of}
-use Rattle.ell_cards.specs.Ties.{LiesThere}
+use Rattle.ell_cards.specs.Tied.{LiesThere}
 
 -- numbers of which no two are equal stay so by a function that tells them apart
 module _ (f : ℕ → ℕ) (P : ℕ → Type 0) (tells : (c d : ℕ) → P c → P d → f c ≡ f d → c ≡ d) where

@@ -1,16 +1,17 @@
 -- A step call keeps memory tied to its tree.
-use Rattle.std.proofs.Common.{◌⊎◌, ℕ, Bool, List, set, inl, inr, refl}
-use mathlib.Core.Option.{Option as Maybe}
+use Rattle.std.proofs.Common.{◌⊎◌, ℕ, Bool, List, set, inl, inr, refl, ◌≡◌, ◌<◌, ◌≤◌, length}
+use mathlib.Core.Option.{Option as Maybe, some}
 use Rattle.ell_cards.specs.declared.view.Known.{Known}
 use Rattle.ell_cards.specs.declared.view.Slots.{Slots}
 use Rattle.ell_cards.specs.Ages.{AgesAreSound}
-use Rattle.ell_cards.specs.Calls.{atomic_of, left_by}
+use Rattle.ell_cards.specs.Calls.{atomic_of, left_by, place_of, May}
 use Rattle.ell_cards.specs.Models.{TablePlan}
 use Rattle.ell_cards.specs.PeriodLaws.{IsInPeriod}
 use Rattle.ell_cards.specs.Periods.{WholeState, IsAtRest}
 use Rattle.ell_cards.specs.Shown.{cut_word}
 use Rattle.ell_cards.specs.States.{TableState}
-use Rattle.ell_cards.specs.Ties.{place_of, IsTied, TouchesTied, memory_after, CallsKeepTies}
+use Rattle.ell_cards.specs.Tied.{IsTied, MayInMemory}
+use Rattle.ell_cards.specs.Ties.{TouchesTied, memory_after, CallsKeepTies, IsTiedByAges}
 use Rattle.ell_cards.specs.Turns.{Makes, TableTurns, found_by, state_after}
 use Rattle.ell_cards.proofs.lemmas.runs.TurnsOfRuns.{steps_stay_inside}
 use Rattle.ell_cards.proofs.lemmas.whole.Ages.{AgesOn, ages_after_call}
@@ -18,6 +19,10 @@ use Rattle.ell_cards.proofs.lemmas.whole.Trees.{slots_stay}
 use Rattle.ell_cards.proofs.lemmas.ties.Winning.{won_by_call}
 use Rattle.ell_cards.proofs.lemmas.ties.Touched.{IsReady, claim_is_word, touched_tied}
 use Rattle.ell_cards.proofs.lemmas.ties.Calls.{tie_after_call}
+use Rattle.ell_cards.specs.Starts.{IsReached}
+use Rattle.ell_layout.specs.Layout.{table_size}
+use Rattle.ell_cards.specs.declared.call.Call.{Call}
+use lib.ListN.{get_elem?}
 
 -- a pass that is in a period, or at rest, is ready
 ready_by : (plan : TablePlan) (s : Slots) (tree : TableState) (t : WholeState) (dead : ℕ → Bool) (was_dead : ℕ → ℕ → Bool) → AgesAreSound plan s tree t dead was_dead
@@ -28,27 +33,37 @@ ready_by plan s tree t dead was_dead h id k (inr p) = elim (h.since id p.place p
   | inr forgot ↦ inr (p.place, p.reading, p.has, p.announces, forgot)
 ]
 
+-- what a call does to memory: it touches a word that is tied, and memory is tied after it, by the ages after the call
+module _ (plan : TablePlan) (s : Slots) (tree : TableState) (t : WholeState) (dead : ℕ → Bool) (was_dead : ℕ → ℕ → Bool) (reached : IsReached plan tree) (low : s.last < 2097152)
+    (room : table_size s.last ≤ length t.words) (h : IsTiedByAges plan s tree t dead was_dead) (id : ℕ) (k : Known) (here : get_elem? t.views id ≡ some k)
+    (there : get_elem? tree.views id ≡ some k.tree) (ready : IsAtRest k.tree ⊎ IsInPeriod t id k) (c : Call) (may : May plan c k.tree) (mem : MayInMemory k.period.slot k.tree c) where
+  abbrev after : TableState
+  after = state_after tree id k.tree c
+
+  turn : TableTurns plan tree (Makes id c) after
+  turn = record { view = k.tree; there = there; may = may; gives = refl }
+
+  pub touch : TouchesTied s t.words tree c
+  touch = touched_tied plan s tree t h.ages.now.machine dead was_dead h.tied id k here there (ready_by plan s tree t dead was_dead h.ages id k ready) c may mem
+
+  abbrev n : ℕ
+  n = cut_word (left_by (atomic_of c) (found_by tree c))
+
+  pub goes : (homes : List (Maybe (Unit {0}))) → AgesOn plan s tree t dead was_dead h.ages (Makes id c) after (memory_after tree t homes id k c)
+  goes homes = ages_after_call plan s tree reached t id k here there dead was_dead c may (set t.words (place_of c) n) homes
+      (slots_stay t id k here k.tree s (place_of c) n touch.inside) h.ages
+
+  pub tied : (homes : List (Maybe (Unit {0}))) → IsTied s after (memory_after tree t homes id k c) (goes homes).ages.now.machine.stages dead was_dead
+  tied homes = let now = (goes homes).ages.now.machine in
+      tie_after_call plan s low tree t h.ages.now.machine.stages now.stages dead was_dead h.tied id k here c may mem touch room
+      (steps_stay_inside plan tree h.ages.now.machine id k.tree c there may) (claim_is_word plan after now)
+      (won_by_call plan tree h.ages.now.machine id k.tree there now.stages (goes homes).later c may (goes homes).wins) n refl homes
+
 pub calls_keep_ties : CallsKeepTies
-calls_keep_ties plan s tree t dead was_dead reached low room h id k here there ready c may mem = (touch, λ homes. record { ages = (goes homes).ages; tied = tied homes })
-  where
-    after : TableState
-    after = state_after tree id k.tree c
-
-    turn : TableTurns plan tree (Makes id c) after
-    turn = record { view = k.tree; there = there; may = may; gives = refl }
-
-    touch : TouchesTied s t.words tree c
-    touch = touched_tied plan s tree t h.ages.now.machine dead was_dead h.tied id k here there (ready_by plan s tree t dead was_dead h.ages id k ready) c may mem
-
-    n : ℕ
-    n = cut_word (left_by (atomic_of c) (found_by tree c))
-
-    goes : (homes : List (Maybe (Unit {0}))) → AgesOn plan s tree t dead was_dead h.ages (Makes id c) after (memory_after tree t homes id k c)
-    goes homes = ages_after_call plan s tree reached t id k here there dead was_dead c may (set t.words (place_of c) n) homes
-        (slots_stay t id k here k.tree s (place_of c) n touch.inside) h.ages
-
-    tied : (homes : List (Maybe (Unit {0}))) → IsTied s after (memory_after tree t homes id k c) (goes homes).ages.now.machine.stages dead was_dead
-    tied homes = let now = (goes homes).ages.now.machine in
-        tie_after_call plan s low tree t h.ages.now.machine.stages now.stages dead was_dead h.tied id k here c may mem touch room
-        (steps_stay_inside plan tree h.ages.now.machine id k.tree c there may) (claim_is_word plan after now)
-        (won_by_call plan tree h.ages.now.machine id k.tree there now.stages (goes homes).later c may (goes homes).wins) n refl homes
+calls_keep_ties plan s tree t dead was_dead reached low room h id k here there ready c may mem = (
+  touch plan s tree t dead was_dead reached low room h id k here there ready c may mem,
+  λ homes. record {
+    ages = (goes plan s tree t dead was_dead reached low room h id k here there ready c may mem homes).ages;
+    tied = tied plan s tree t dead was_dead reached low room h id k here there ready c may mem homes;
+  },
+)

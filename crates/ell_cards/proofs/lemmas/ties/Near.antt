@@ -24,6 +24,7 @@ use Rattle.ell_cards.specs.declared.view.Known.{Known}
 use Rattle.ell_cards.specs.declared.view.Slots.{Slots}
 use Rattle.ell_cards.specs.declared.view.Told.TheVariants.{Info}
 use Rattle.ell_cards.specs.Ages.{ForgotWhen}
+use Rattle.ell_cards.specs.Aside.{IsAside}
 use Rattle.ell_cards.specs.Calls.{May, child_address}
 use Rattle.ell_cards.specs.Guards.{MayIChild, MayDChild}
 use Rattle.ell_cards.specs.Laws.{machine_of_table}
@@ -33,9 +34,11 @@ use Rattle.ell_cards.specs.PeriodLaws.{IsInPeriod}
 use Rattle.ell_cards.specs.Periods.{WholeState, IsAtRest}
 use Rattle.ell_cards.specs.Shown.{IsNear}
 use Rattle.ell_cards.specs.States.{TableState}
-use Rattle.ell_cards.specs.Ties.{LiesThere, HasWon, IsTiedByAges, ExpectsNear, ExchangesAreNear}
+use Rattle.ell_cards.specs.Tied.{LiesThere, HasWon}
+use Rattle.ell_cards.specs.Ties.{IsTiedByAges, ExpectsNear, ExchangesAreNear}
 use Rattle.ell_cards.specs.TurnEffects.{run_wins}
 use Rattle.ell_cards.specs.Turns.{Makes, found_by}
+use Rattle.ell_cards.proofs.lemmas.runs.Aside.{aside_in_run}
 use Rattle.ell_cards.proofs.lemmas.runs.GoingOn.{run_goes}
 use Rattle.ell_cards.proofs.lemmas.runs.TagsOfRuns.{tables_have_tags, exchanges_are_near}
 use Rattle.ell_cards.proofs.lemmas.runs.TagsOfRuns.{IsNear as IsNearSince}
@@ -88,7 +91,7 @@ module _ (plan : TablePlan) (tree : TableState) (seat : ℕ) (dead : ℕ → Boo
   abbrev won : ℕ → List Exchange
   won c = run_wins plan h.from (Makes seat h.call ∷ h.turns) tree (h.begun, h.made, h.run) c
 
-  -- a card that has won a child exchange since was not dead then
+  -- a card that has won a child exchange since was not dead then, nor laid aside
   was_alive : (c : ℕ) → 0 < changes (won c) → dead c ≡ false
   was_alive c more = by (dead c) refl
     where
@@ -110,8 +113,14 @@ module _ (plan : TablePlan) (tree : TableState) (seat : ℕ) (dead : ℕ → Boo
 
       by : (b : Bool) → dead c ≡ b → b ≡ false
       by false e = refl
-      by true e = absurd (ends (dead_ended h.were.machine.words stage h.were.uses.outs.invariant.words h.were.uses.uses h.were.uses.outs.outs c
-          (subst (IsDead h.were.machine.words stage) (omega arith) (h.were.each c 0 (omega arith) e))))
+      by true e = elim (h.were.each c 0 (omega arith) e) [
+        | inl died ↦ absurd (ends (dead_ended h.were.machine.words stage h.were.uses.outs.invariant.words h.were.uses.uses h.were.uses.outs.outs c
+            (subst (IsDead h.were.machine.words stage) (omega arith) died)))
+        | inr aside ↦
+            let none = ap changes (aside_in_run plan h.from h.were.machine c (subst (IsAside h.were.machine.stages h.from.views) (omega arith) aside)
+            (Makes seat h.call ∷ h.turns) tree (h.begun, h.made, h.run)).1 in
+            absurd (omega arith)
+      ]
 
 -- in a period
 module _ (plan : TablePlan) (s : Slots) (tree : TableState) (t : WholeState) (dead : ℕ → Bool) (was_dead : ℕ → ℕ → Bool)

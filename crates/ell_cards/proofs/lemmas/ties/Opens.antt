@@ -1,5 +1,5 @@
 -- The memory of a table with places is tied to its tree as it opens.
-use Rattle.std.proofs.Common.{◌≡◌, ◌+◌, ◌-◌, ◌^◌, ◌<◌, ◌≤◌, ℕ, zero, suc, Bool, Some, None, List, [], ◌∷◌, ◌++◌, replicate, length, get_or, refl, sym, ap, ◌∙◌, subst, arith}
+use Rattle.std.proofs.Common.{◌≡◌, ◌+◌, ◌-◌, ◌^◌, ◌<◌, ◌≤◌, ℕ, zero, suc, Bool, false, Some, None, List, [], ◌∷◌, ◌++◌, replicate, length, get_or, refl, sym, ap, ◌∙◌, subst, arith}
 use Rattle.std.proofs.lemmas.List.{length-append}
 use mathlib.Core.Option.{some, some-injective, some-ne-none}
 use lib.ListN.{get_elem?}
@@ -11,20 +11,21 @@ use Rattle.ell_layout.proofs.lemmas.Listed.{listed_next, address_in_table}
 use Rattle.ell_core.proofs.lemmas.outcomes.Decide.{some_not_none}
 use Rattle.ell_cards.specs.declared.view.Known.{Known}
 use Rattle.ell_cards.specs.declared.view.Slots.{Slots}
-use Rattle.ell_cards.specs.Ages.{HasPeriods}
+use Rattle.ell_cards.specs.Ages.{AgesAreSound, HasPeriods}
 use Rattle.ell_cards.specs.Changes.{first_of}
 use Rattle.ell_cards.specs.Machines.{HasMachine}
 use Rattle.ell_cards.specs.Models.{TablePlan}
-use Rattle.ell_cards.specs.Periods.{slot_word, opening_words, card_in, period_by}
-use Rattle.ell_cards.specs.Shown.{cut_word}
+use Rattle.ell_cards.specs.Periods.{WholeState, IsAtRest, slot_word, opening_words, card_in, period_by}
+use Rattle.ell_cards.specs.Shown.{IsWord, cut_word}
 use Rattle.ell_cards.specs.SlotWords.{slot_of}
-use Rattle.ell_cards.specs.Starts.{SlotsFit, IsReached}
+use Rattle.ell_cards.specs.Starts.{MayStart, SlotsFit, IsReached}
 use Rattle.ell_cards.specs.States.{TableState}
-use Rattle.ell_cards.specs.Ties.{LiesThere, HasWon, IsTied, IsTiedByAges, OpensTied, OpeningsAreTied}
+use Rattle.ell_cards.specs.Tied.{LiesThere, HasWon, IsTied}
+use Rattle.ell_cards.specs.Ties.{IsTiedByAges, OpeningsAreTied}
 use Rattle.ell_cards.proofs.lemmas.lifetimes.Openings.{start_next}
 use Rattle.ell_cards.proofs.lemmas.runs.Reaching.{reached_first}
 use Rattle.ell_cards.proofs.lemmas.shown.CutWords.{cut_same}
-use Rattle.ell_cards.proofs.lemmas.whole.Opens.{zeros_many, with_zeros, words_same, other_word, slots_empty, first_whole}
+use Rattle.ell_cards.proofs.lemmas.whole.Opens.{zeros_many, with_zeros, words_same, other_word, slots_empty, first_ages, first_periods}
 use Rattle.ell_cards.proofs.lemmas.whole.Rests.{is_at_rest}
 
 -- memory that has the tree's words in slots, whose words are 0, where each card that was claimed has a slot
@@ -58,43 +59,70 @@ module _ (plan : TablePlan) (s : Slots) (low : s.last < 2097152) (tree : TableSt
         ∙ (ap cut_word (same (address slot f) there) ∙ ap (λ c. cut_word (get_or tree.words (address c f) 0)) (sym (lies_empty slot inside)));
     alive = λ c has lives. lies c has;
     lives = λ seat q a c u at placed an has alive. lies c has;
+    fits = λ c has. (lies c has).0;
     hand = λ seat c u at slot. absurd (some_not_none slot (alone (λ j x. x.period.slot ≡ None) unslotted seat u at));
     past = λ seat c u at slot. absurd (some_not_none slot (alone (λ j x. x.period.slot ≡ None) unslotted seat u at));
     stores = λ seat c f u at waits has. absurd (some_not_none waits.0 (alone (λ j x. x.tree.worker.card ≡ None) none seat u at));
   }
 
+-- so it is as a table opens with these words of cards
+module _ (plan : TablePlan) (s : Slots) (cards : List ℕ) (may : MayStart plan) (fit : SlotsFit plan (Some s)) (size : length cards ≡ table_size s.last)
+    (are : words_of cards ≡ words_at_start plan.flat plan.start) (small : (i : ℕ) → IsWord (get_or cards i 0)) where
+  abbrev long : ℕ
+  long = table_size plan.last_card - length cards
+
+  abbrev pub tree_opened : TableState
+  tree_opened = opening (cards ++ replicate long 0) [] (first_of plan)
+
+  abbrev pub opened : WholeState
+  opened = opening (opening_words s cards) [] (record { tree = first_of plan; period = period_by (Some s) })
+
+  pub reached_opened : IsReached plan tree_opened
+  reached_opened =
+      let last = fit.2 in
+      let most = fit.4 in
+      reached_first plan (cards ++ replicate long 0) may (length-append cards (replicate long 0) ∙ (let many = zeros_many long in omega arith))
+      (words_same (cards ++ replicate long 0) cards (with_zeros cards long) ∙ are)
+
+  rest : IsAtRest (first_of plan)
+  rest = is_at_rest (first_of plan) refl refl refl refl refl
+
+  ages : AgesAreSound plan s tree_opened opened (λ x. false) (λ q x. false)
+  ages = first_ages plan s tree_opened reached_opened cards size rest fit.0
+
+  there : (i : ℕ) → i < table_size s.last → get_or (opening_words s cards) i 0 ≡ get_or cards i 0
+  there i inside = other_word s cards size i (λ e. omega arith)
+
+  -- the claim word is behind the cards of the start keys
+  next : get_or (cards ++ replicate long 0) 0 0 ≡ length plan.start + 1
+  next =
+      sym (listed_next (cards ++ replicate long 0))
+      ∙ (ap (λ (w : Words). w.next) (words_same (cards ++ replicate long 0) cards (with_zeros cards long) ∙ are) ∙ start_next plan.flat plan.start)
+
+  pub periods_opened : HasPeriods plan s tree_opened opened
+  periods_opened = record {
+    dead = λ x. false;
+    began = λ q. 0;
+    was_dead = λ q x. false;
+    periods = first_periods s cards size (first_of plan) rest fit.0;
+    ages = ages;
+    tied = tied_as_it_opens plan s (let most = fit.4 in omega arith) tree_opened ages.now.machine (opening_words s cards)
+        (λ i inside. there i inside ∙ sym (with_zeros cards long i))
+        (λ i inside. subst (λ n. n < 2 ^ 64) (sym (there i inside)) (small i))
+        (λ slot inside. slots_empty s cards size slot)
+        (let room = fit.3 in let word = next in omega arith)
+        (record { tree = first_of plan; period = period_by (Some s) }) refl refl (λ x. false) (λ q x. false);
+  }
+
 pub openings_are_tied : OpeningsAreTied
-openings_are_tied plan s cards placed may size are small = by (subst (SlotsFit plan) placed may.slots)
-  where
-    by : SlotsFit plan (Some s) → OpensTied plan s cards
-    by fit =
-        let most = fit.4 in
-        let long = table_size plan.last_card - length cards in
-        let words = cards ++ replicate long 0 in
-        let long_size : length words ≡ table_size plan.last_card =
-        length-append cards (replicate long 0) ∙ (let many = zeros_many long in let last = fit.2 in omega arith) in
-        let all : words_of words ≡ words_at_start plan.flat plan.start = words_same words cards (with_zeros cards long) ∙ are in
-        let tree : TableState = opening words [] (first_of plan) in
-        let reached : IsReached plan tree = reached_first plan words may long_size all in
-        let has : HasPeriods plan s tree (opening (opening_words s cards) [] (record { tree = first_of plan; period = period_by (Some s) })) =
-        first_whole plan s tree reached cards size (is_at_rest (first_of plan) refl refl refl refl refl) fit.0 in
-        let next : get_or words 0 0 ≡ length plan.start + 1 =
-        sym (listed_next words) ∙ (ap (λ (w : Words). w.next) all ∙ start_next plan.flat plan.start) in
-        let there : (i : ℕ) → i < table_size s.last → get_or (opening_words s cards) i 0 ≡ get_or cards i 0 =
-        λ i inside. other_word s cards size i (λ e. omega arith) in
-        record {
-          tree = tree;
-          reached = reached;
-          views = refl;
-          dead = has.dead;
-          was_dead = has.was_dead;
-          tied = subst (λ o. IsTiedByAges plan s tree (opening (opening_words s cards) [] (record { tree = first_of plan; period = period_by o })) has.dead has.was_dead) (sym placed) (record {
-            ages = has.ages;
-            tied = tied_as_it_opens plan s (omega arith) tree has.ages.now.machine (opening_words s cards)
-                (λ i inside. there i inside ∙ sym (with_zeros cards long i))
-                (λ i inside. subst (λ n. n < 2 ^ 64) (sym (there i inside)) (small i))
-                (λ slot inside. slots_empty s cards size slot)
-                (let room = fit.3 in omega arith)
-                (record { tree = first_of plan; period = period_by (Some s) }) refl refl has.dead has.was_dead;
-          });
-        }
+openings_are_tied plan s cards placed may size are small =
+    let fit = subst (SlotsFit plan) placed may.slots in
+    let has = periods_opened plan s cards may fit size are small in record {
+      tree = tree_opened plan s cards may fit size are small;
+      reached = reached_opened plan s cards may fit size are small;
+      views = refl;
+      dead = has.dead;
+      was_dead = has.was_dead;
+      tied = subst (λ o. IsTiedByAges plan s (tree_opened plan s cards may fit size are small) (opening (opening_words s cards) [] (record { tree = first_of plan; period = period_by o })) has.dead has.was_dead)
+          (sym placed) (record { ages = has.ages; tied = has.tied });
+    }

@@ -8,16 +8,17 @@ use Rattle.ell_layout.specs.Layout.{address}
 use Rattle.ell_core.proofs.lemmas.outcomes.Decide.{some_not_none}
 use Rattle.ell_core.proofs.lemmas.stages.Waiting.{waits-claimed}
 use Rattle.ell_core.specs.history.Stages.{Stages}
-use Rattle.ell_grace.specs.Dead.{IsDead}
 use Rattle.ell_cards.specs.declared.view.Known.{Known}
 use Rattle.ell_cards.specs.declared.view.Period.{Period}
 use Rattle.ell_cards.specs.declared.view.Slots.{Slots}
+use Rattle.ell_cards.specs.Ages.{IsOut}
 use Rattle.ell_cards.specs.Machines.{HasMachine}
 use Rattle.ell_cards.specs.Periods.{WholeState, slot_word, card_in}
 use Rattle.ell_cards.specs.Shown.{cut_word}
 use Rattle.ell_cards.specs.SlotWords.{slot_of, card_by, is_noted}
 use Rattle.ell_cards.specs.States.{TableState}
-use Rattle.ell_cards.specs.Ties.{LiesThere, HoldsWaiting, IsKept, IsTied, OwnSlotsKeepTies}
+use Rattle.ell_cards.specs.Tied.{LiesThere, HoldsWaiting, IsKept, IsTied}
+use Rattle.ell_cards.specs.Ties.{OwnSlotsKeepTies}
 use Rattle.ell_cards.proofs.lemmas.runs.Met.{some_same}
 use Rattle.ell_cards.proofs.lemmas.whole.Ages.{ages_of_period}
 use Rattle.ell_cards.proofs.lemmas.whole.Steps.{word_again}
@@ -54,6 +55,7 @@ module _ (s : Slots) (tree : TableState) (t : WholeState) (stage : Stages) (dead
         tied.lives id q a d k here (sym place ∙ (ap (λ (x : Known). x.period.place) e.1 ∙ placed)) (sym announced ∙ (ap (λ (x : Known). x.period.announced) e.1 ∙ an)) has lives)
         (λ (e : (seat ≢ id) × (get_elem? t.views seat ≡ some u)). tied.lives seat q a d u e.1 placed an has lives)
         (at_set t.views id seat now u at));
+    fits = tied.fits;
     hand = λ seat d u at slot waits. lies_on d (⊎_elim
         (λ (e : (seat ≡ id) × (now ≡ u)). subst (LiesThere s t.words) (some_same (sym taken ∙ (ap (λ (x : Known). x.period.slot) e.1 ∙ slot))) there)
         (λ (e : (seat ≢ id) × (get_elem? t.views seat ≡ some u)). tied.hand seat d u e.1 slot waits)
@@ -73,7 +75,7 @@ pub own_slots_keep_ties : OwnSlotsKeepTies
 own_slots_keep_ties plan s tree t dead was_dead size h trees id k here c hand there = record {
   ages = ages_of_period plan s tree t id k here (record { tree = k.tree; period = p }) refl words dead dead was_dead was_dead h.ages
       h.ages.now.each h.ages.still (λ q a at an. h.ages.since id q a k here at an) (λ j q a u other at placed an. refl)
-      noted (λ r has. absurd (some_not_none has refl));
+      noted (λ r has. absurd (some_not_none has refl)) (λ d has. h.ages.lost id d k here has);
   tied = tie_of_own s tree t h.ages.now.machine.stages dead was_dead h.tied id k here c hand there claimed p refl refl refl words same t.homes;
 }
   where
@@ -101,7 +103,7 @@ own_slots_keep_ties plan s tree t dead was_dead size h trees id k here c hand th
         omega arith
 
     noted : (slot i : ℕ) → slot ≤ s.last → is_noted (get_or words (slot_word s slot) 0) i ≡ true
-        → IsDead r.words h.ages.now.uses.outs.stages (4 * card_in s words slot + i)
+        → IsOut plan tree r h.ages.now.uses (4 * card_in s words slot + i)
     noted slot i low is =
-        subst (λ n. IsDead r.words h.ages.now.uses.outs.stages (4 * card_by slot n + i)) (sym (same (slot_word s slot)))
+        subst (λ n. IsOut plan tree r h.ages.now.uses (4 * card_by slot n + i)) (sym (same (slot_word s slot)))
         (h.ages.noted slot i low (subst (λ n. is_noted n i ≡ true) (same (slot_word s slot)) is))

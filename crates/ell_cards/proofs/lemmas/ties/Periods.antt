@@ -16,8 +16,9 @@ use Rattle.ell_cards.specs.Periods.{WholeState, card_in}
 use Rattle.ell_cards.specs.Shown.{cut_word}
 use Rattle.ell_cards.specs.SlotWords.{slot_of}
 use Rattle.ell_cards.specs.States.{TableState}
-use Rattle.ell_cards.specs.Ties.{LiesThere, HasWon, HoldsWaiting, HasStored, IsKept, IsTied, PeriodsKeepTies}
-use Rattle.ell_cards.specs.Ties.IsKept.{won, stored}
+use Rattle.ell_cards.specs.Tied.{LiesThere, HasWon, HoldsWaiting, HasStored, IsKept, IsTied}
+use Rattle.ell_cards.specs.Ties.{PeriodsKeepTies}
+use Rattle.ell_cards.specs.Tied.IsKept.{won, stored}
 
 -- what is kept where a pass knows something else of periods was kept before
 pub kept_of_period : (stage : Stages) (views : List Known) (id : ℕ) (k : Known) → get_elem? views id ≡ some k → (p : Period) (c : ℕ) (f : Field)
@@ -66,6 +67,7 @@ module _ (s : Slots) (tree : TableState) (t : WholeState) (stage : Stages) (dead
         (λ (e : (seat ≡ id) × (now ≡ u)). lives_on q a c (ap (λ (x : Known). x.period.place) e.1 ∙ placed) (ap (λ (x : Known). x.period.announced) e.1 ∙ an) has alive)
         (λ (e : (seat ≢ id) × (get_elem? t.views seat ≡ some u)). tied.lives seat q a c u e.1 placed an has (others seat q a u e.0 e.1 placed an c alive))
         (at_set t.views id seat now u at));
+    fits = tied.fits;
     hand = λ seat c u at slot waits. lies_on c (⊎_elim
         (λ (e : (seat ≡ id) × (now ≡ u)). tied.hand id c k here (sym taken ∙ (ap (λ (x : Known). x.period.slot) e.1 ∙ slot)) (subst (λ (x : Known). HoldsWaiting x.tree c) (sym e.1) waits))
         (λ (e : (seat ≢ id) × (get_elem? t.views seat ≡ some u)). tied.hand seat c u e.1 slot waits)

@@ -17,8 +17,8 @@ use Rattle.ell_cards.specs.Periods.{WholeState, slot_word, card_in}
 use Rattle.ell_cards.specs.Shown.{cut_word}
 use Rattle.ell_cards.specs.SlotWords.{slot_of, turn_of, card_by}
 use Rattle.ell_cards.specs.States.{TableState}
-use Rattle.ell_cards.specs.Ties.{LiesThere, HasWon, HoldsWaiting, HasStored, IsKept, IsTied}
-use Rattle.ell_cards.specs.Ties.IsKept.{won, stored}
+use Rattle.ell_cards.specs.Tied.{LiesThere, HasWon, HoldsWaiting, HasStored, IsKept, IsTied}
+use Rattle.ell_cards.specs.Tied.IsKept.{won, stored}
 use Rattle.ell_cards.proofs.lemmas.runs.Met.{some_same}
 use Rattle.ell_cards.proofs.lemmas.whole.Seats.{before_clock, clock_before_slots}
 use Rattle.ell_cards.proofs.lemmas.whole.Slots.{taken_turn}
@@ -113,6 +113,7 @@ module _ (s : Slots) (low : s.last < 2097152) (tree : TableState) (t : WholeStat
         lies_on d (lives_not id q a d k here placed' an' lives) (tied.lives id q a d k here placed' an' has lives))
         (λ (e : (seat ≢ id) × (get_elem? t.views seat ≡ some u)). lies_on d (lives_not seat q a d u e.1 placed an lives) (tied.lives seat q a d u e.1 placed an has lives))
         (at_set t.views id seat now u at);
+    fits = tied.fits;
     hand = λ seat d u at slot waits. ⊎_elim
         (λ (e : (seat ≡ id) × (now ≡ u)). subst (LiesThere s words) (some_same (sym taken ∙ (ap (λ (x : Known). x.period.slot) e.1 ∙ slot))) lies_now)
         (λ (e : (seat ≢ id) × (get_elem? t.views seat ≡ some u)). lies_on d (alive_not d (hands seat d u e.1 waits)) (tied.hand seat d u e.1 slot waits))

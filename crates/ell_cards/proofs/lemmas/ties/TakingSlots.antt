@@ -17,13 +17,14 @@ use Rattle.ell_grace.proofs.lemmas.dead.Out.{dead_ended}
 use Rattle.ell_cards.specs.declared.view.Known.{Known}
 use Rattle.ell_cards.specs.declared.view.Period.{Period}
 use Rattle.ell_cards.specs.declared.view.View.{View}
-use Rattle.ell_cards.specs.Ages.{AreDead}
+use Rattle.ell_cards.specs.Ages.{IsOut, AreDead}
 use Rattle.ell_cards.specs.Machines.{HasMachine}
 use Rattle.ell_cards.specs.Models.{TablePlan}
 use Rattle.ell_cards.specs.Periods.{slot_word, card_in}
 use Rattle.ell_cards.specs.SlotWords.{slot_of, turn_of, card_by, is_noted}
 use Rattle.ell_cards.specs.States.{TableState, seat_worker}
-use Rattle.ell_cards.specs.Ties.{HoldsWaiting, TakesKeepTies}
+use Rattle.ell_cards.specs.Tied.{HoldsWaiting}
+use Rattle.ell_cards.specs.Ties.{TakesKeepTies}
 use Rattle.ell_cards.proofs.lemmas.seats.Seats.{machine, mine_is, mine_sound}
 use Rattle.ell_cards.proofs.lemmas.whole.Ages.{ages_of_period}
 use Rattle.ell_cards.proofs.lemmas.whole.Trees.{tree_at}
@@ -55,11 +56,10 @@ module _ (plan : TablePlan) (tree : TableState) (dead : ℕ → Bool) (now : Are
   hand_is_waiting = hand_waits now.machine.words now.machine.stages (worker_of v.worker) d (mine_sound plan tree now.machine seat v there) h.0 h.1
 
   pub hand_is_alive : dead d ≡ false
-  hand_is_alive = false_where_not (dead d) (λ is. elim (dead_ended now.machine.words outs.stages outs.invariant.words now.uses.uses outs.outs d
-      (subst (IsDead now.machine.words outs.stages) (omega arith) (now.each d 0 (omega arith) is))) [
-        | inl start ↦ false≢true (sym (waits_unstarted (outs.stages d) waiting) ∙ start)
-        | inr ended ↦ false≢true (sym (waits_unended (outs.stages d) waiting) ∙ ended)
-      ])
+  hand_is_alive = false_where_not (dead d) (λ is. elim (now.each d 0 (omega arith) is) [
+    | inl died ↦ undead (subst (IsDead now.machine.words outs.stages) (omega arith) died)
+    | inr aside ↦ aside.nobody seat v there (h.0 ∙ ap Some (omega arith))
+  ])
     where
       outs : HasOuts (machine_of_table plan tree now.machine)
       outs = now.uses.outs
@@ -70,11 +70,17 @@ module _ (plan : TablePlan) (tree : TableState) (dead : ℕ → Bool) (now : Are
           hand_waits now.machine.words outs.stages ((machine plan tree now.machine seat v there).worker seat) d (outs.invariant.workers.each seat)
           (ap (λ (u : Worker). u.card) me ∙ h.0) (ap (λ (u : Worker). u.flagged) me ∙ h.1)
 
+      undead : IsDead now.machine.words outs.stages (4 * d) → ⊥
+      undead died = elim (dead_ended now.machine.words outs.stages outs.invariant.words now.uses.uses outs.outs d died) [
+        | inl start ↦ false≢true (sym (waits_unstarted (outs.stages d) waiting) ∙ start)
+        | inr ended ↦ false≢true (sym (waits_unended (outs.stages d) waiting) ∙ ended)
+      ]
+
 pub takes_keep_ties : TakesKeepTies
 takes_keep_ties plan s tree t dead was_dead low size h same id k here c hand inside gone was_gone = record {
   ages = ages_of_period plan s tree t id k here (record { tree = k.tree; period = p }) refl words dead dead was_dead was_dead h.ages
       h.ages.now.each h.ages.still (λ q a at an. h.ages.since id q a k here at an) (λ j q a u other at placed an. refl)
-      noted (λ r has. absurd (some_not_none has refl));
+      noted (λ r has. absurd (some_not_none has refl)) (λ d has. h.ages.lost id d k here has);
   tied = tie_of_taken s low tree t r.stages dead was_dead h.tied id k here c inside small hand
       (λ won. true≢false (sym (hand_is_waiting plan tree dead h.ages.now id k.tree (sits id k here) c hand) ∙ won.1)) claimed p refl refl refl
       (omega arith) gone was_gone (false_where_not (dead 0) (root_lives plan tree dead h.ages.now))
@@ -117,12 +123,12 @@ takes_keep_ties plan s tree t dead was_dead low size h same id k here c hand ins
         (ap (λ (z : Worker). z.card) (ap seat_worker (sits seat u at)) ∙ has))
 
     noted : (slot i : ℕ) → slot ≤ s.last → is_noted (get_or words (slot_word s slot) 0) i ≡ true
-        → IsDead r.words h.ages.now.uses.outs.stages (4 * card_in s words slot + i)
+        → IsOut plan tree r h.ages.now.uses (4 * card_in s words slot + i)
     noted slot i low is = elim (cases_eq slot (slot_of c)) [
       | inl e ↦ absurd (none_noted (turn_of c) i (subst (λ n. is_noted n i ≡ true)
           (ap (λ x. get_or words (slot_word s x) 0) e ∙ get_or-set_same t.words (slot_word s (slot_of c)) (8 * turn_of c) 0 (omega arith)) is))
       | inr apart ↦
           let stays = get_or-set_other t.words (slot_word s (slot_of c)) (slot_word s slot) (8 * turn_of c) 0 (λ e. apart (omega arith)) in
-          subst (λ n. IsDead r.words h.ages.now.uses.outs.stages (4 * card_by slot n + i)) (sym stays)
+          subst (λ n. IsOut plan tree r h.ages.now.uses (4 * card_by slot n + i)) (sym stays)
           (h.ages.noted slot i low (subst (λ n. is_noted n i ≡ true) stays is))
     ]

@@ -1,6 +1,6 @@
 -- The word that a call touches is tied: it is one of the slots, its card lies there, and memory has there what is cut of what
 -- the tree has.
-use Rattle.std.proofs.Common.{◌≡◌, ◌≢◌, ◌⊎◌, ℕ, ◌%◌, ◌^◌, ◌<◌, inl, inr, Bool, true, false, Some, get_or, refl, sym, ap, ◌∙◌, subst, arith}
+use Rattle.std.proofs.Common.{◌≡◌, ◌≢◌, ◌⊎◌, ℕ, ◌%◌, ◌^◌, ◌<◌, inl, inr, Bool, true, false, Some, List, ◌∷◌, ◌+◌, ◌*◌, get_or, refl, sym, ap, ◌∙◌, subst, arith}
 use mathlib.Core.Option.{some}
 use lib.ListN.{get_elem?}
 use Rattle.ell_word.specs.Node.{card}
@@ -8,34 +8,39 @@ use Rattle.ell_layout.specs.declared.field.Field.{Field}
 use Rattle.ell_layout.specs.declared.field.Field.TheVariants as field
 use Rattle.ell_layout.specs.Layout.{address, table_size}
 use Rattle.ell_layout.specs.Words.{key_field, value_field, child_field}
-use Rattle.ell_layout.proofs.lemmas.Listed.{address_in_table}
+use Rattle.ell_layout.proofs.lemmas.Listed.{address_in_table, addresses_apart}
 use Rattle.ell_core.specs.declared.fact.Fact.TheVariants as fact
 use Rattle.ell_core.specs.history.Stages.{Stages, Born, is_start}
 use Rattle.ell_core.specs.state.Machine.{Worker}
-use Rattle.ell_grace.specs.Dead.{IsDead}
+use Rattle.ell_grace.specs.Dead.{IsDead, HasUses}
 use Rattle.ell_cards.specs.declared.call.Call.{Call}
 use Rattle.ell_cards.specs.declared.call.Call.TheVariants as call
 use Rattle.ell_cards.specs.declared.view.Known.{Known}
 use Rattle.ell_cards.specs.declared.view.Slots.{Slots}
 use Rattle.ell_cards.specs.declared.view.Told.TheVariants.{Met}
 use Rattle.ell_cards.specs.declared.view.View.{View}
-use Rattle.ell_cards.specs.Ages.{ForgotWhen}
-use Rattle.ell_cards.specs.Calls.{word_of, May}
+use Rattle.ell_cards.specs.Ages.{IsOut, ForgotWhen}
+use Rattle.ell_cards.specs.Aside.{IsAside, CallsTouchNoCardAside}
+use Rattle.ell_cards.specs.Calls.{word_of, May, slot_address, place_of}
+use Rattle.ell_cards.specs.Laws.{machine_of_table}
 use Rattle.ell_cards.specs.Machines.{HasMachine}
 use Rattle.ell_cards.specs.Models.{TablePlan, IsTold, KnowsCard}
 use Rattle.ell_cards.specs.Periods.{WholeState, IsAtRest}
 use Rattle.ell_cards.specs.Shown.{cut_word}
 use Rattle.ell_cards.specs.SlotWords.{slot_of}
+use Rattle.ell_cards.specs.Starts.{IsReached}
 use Rattle.ell_cards.specs.States.{TableState}
-use Rattle.ell_cards.specs.Ties.{slot_address, place_of, LiesThere, HasWon, IsTied, MayInMemory, card_touched, FindsTied, TouchesTied}
-use Rattle.ell_cards.specs.Ties.IsKept.{won}
-use Rattle.ell_cards.specs.Touching.{Touched, AtNode, OfCard, AtRoot, touched_by, IsTheRoots}
-use Rattle.ell_cards.specs.Turns.{found_by}
+use Rattle.ell_cards.specs.Tied.{LiesThere, HasWon, IsTied, MayInMemory}
+use Rattle.ell_cards.specs.Ties.{card_touched, FindsTied, TouchesTied}
+use Rattle.ell_cards.specs.Tied.IsKept.{won}
+use Rattle.ell_cards.specs.Touching.{forgets, Touched, AtNode, OfCard, AtRoot, touched_by, IsTheRoots}
+use Rattle.ell_cards.specs.Turns.{Turn, Makes, CallIsMade, TableRun, found_by}
 use Rattle.ell_cards.proofs.lemmas.seats.Seats.{mine_is, mine_sound, relies, stands_born}
 use Rattle.ell_cards.proofs.lemmas.shown.CutWords.{cut_same}
 use Rattle.ell_cards.proofs.lemmas.stepping.Exchanges.{told_is}
 use Rattle.ell_cards.proofs.lemmas.stepping.Known.{insert_flagged, insert_changed, known_delete, delete_cut, delete_unmarkable}
 use Rattle.ell_cards.proofs.lemmas.runs.Alive.{calls_touch_no_dead_card}
+use Rattle.ell_cards.proofs.lemmas.runs.Aside.{aside_not_won, aside_in_run}
 use Rattle.ell_cards.proofs.lemmas.whole.Rests.{rest_touches_the_root}
 use Rattle.ell_cards.proofs.lemmas.ties.Winning.{start_won, born_won, insert_is_won, delete_is_won, marked_is_won}
 
@@ -91,7 +96,7 @@ module _ (plan : TablePlan) (s : TableState) (r : HasMachine plan s) (id : ℕ) 
   met x told = of_node x x refl ((r.views id v here).entries (Met x) told)
 
   -- a card that is known flagged or marked
-  known : (c : ℕ) → KnowsCard v c → HasWon r.stages c
+  pub known : (c : ℕ) → KnowsCard v c → HasWon r.stages c
   known c (inl k) = insert_is_won (r.stages c) ((mine_sound plan s r id v here).facts (fact.IFlagged c) k)
   known c (inr (inl k)) = delete_is_won (r.stages c) ((mine_sound plan s r id v here).facts (fact.DFlagged c) k)
   known c (inr (inr k)) = marked_is_won (r.stages c) ((mine_sound plan s r id v here).facts (fact.Marked c) k)
@@ -133,6 +138,49 @@ module _ (plan : TablePlan) (s : TableState) (r : HasMachine plan s) (id : ℕ) 
       of_node (r.words.gp c) gp (told_is plan s r id v here c field.Gp gp may.place) (delete_unmarkable plan s r id v here c may.knows).grandparent.born
   touched_won _ may = root
 
+-- the card that a call touches was not laid aside
+kept_off : (plan : TablePlan) (s : TableState) (r : HasMachine plan s) (seat : ℕ) (v : View) → get_elem? s.views seat ≡ some v → (c : Call) → May plan c v
+    → (d : ℕ) → IsAside r.stages s.views d → card_touched (touched_by c) ≢ d
+kept_off plan s r seat v there (call.Fill c f value) may d aside is = aside.nobody seat v there (may.holds ∙ ap Some is)
+kept_off plan s r seat v there c may d aside is = aside_not_won plan s r d aside (subst (HasWon r.stages) is (touched_won plan s r seat v there c may))
+
+-- no call touches a word of a card that was laid aside
+pub aside_untouched : (plan : TablePlan) (s : TableState) (r : HasMachine plan s) (seat : ℕ) (v : View) → get_elem? s.views seat ≡ some v → (c : Call) → May plan c v
+    → (d : ℕ) (f : Field) → word_of c ≡ address d f → ¬ IsAside r.stages s.views d
+aside_untouched plan s r seat v there c may d f at aside = elim (spots c) [
+  | inl claim ↦ no_claim d f (sym at ∙ claim.1)
+  | inr spot ↦ kept_off plan s r seat v there c may d aside (addresses_apart (card_touched (touched_by c)) d spot.0 f (sym spot.1 ∙ at)).0
+]
+
+-- nor does a call after turns since then
+pub calls_touch_no_card_aside : CallsTouchNoCardAside
+calls_touch_no_card_aside plan s seat c begun made r turns now run v there next may d f at aside =
+    let on = (aside_in_run plan s r d aside (Makes seat c ∷ turns) now (begun, made, run)).0 in
+    aside_untouched plan now on.0 seat v there next may d f at on.1
+
+-- so no call of a pass touches a word of a card whose nodes were all out when it forgot what it was told
+pub calls_touch_nothing_out : (plan : TablePlan) (s : TableState) → IsReached plan s
+    → (seat : ℕ) (c : Call) (begun : TableState) → CallIsMade plan s seat c begun → forgets c ≡ true
+    → (r : HasMachine plan s) (has : HasUses (machine_of_table plan s r))
+    → (turns : List Turn) (now : TableState) → TableRun plan begun turns now
+    → (v : View) → get_elem? now.views seat ≡ some v → (next : Call) → May plan next v
+    → (d : ℕ) (f : Field) → word_of next ≡ address d f → ((k : ℕ) → k < 3 → IsOut plan s r has (4 * d + k)) → ⊥
+calls_touch_nothing_out plan s reached seat c begun made anew r has turns now run v there next may d f at out =
+    by (out 0 (omega arith)) (out 1 (omega arith)) (out 2 (omega arith))
+  where
+    off : (k : ℕ) → card (4 * d + k) ≡ d → IsAside r.stages s.views (card (4 * d + k)) → ⊥
+    off k is aside = calls_touch_no_card_aside plan s seat c begun made r turns now run v there next may d f at (subst (IsAside r.stages s.views) is aside)
+
+    by : IsOut plan s r has (4 * d + 0) → IsOut plan s r has (4 * d + 1) → IsOut plan s r has (4 * d + 2) → ⊥
+    by (inr aside) _ _ = off 0 (omega arith) aside
+    by (inl a) (inr aside) _ = off 1 (omega arith) aside
+    by (inl a) (inl b) (inr aside) = off 2 (omega arith) aside
+    by (inl a) (inl b) (inl e) = calls_touch_no_dead_card plan s reached seat c begun made anew r has turns now run v there next may d f at (
+      subst (IsDead r.words has.outs.stages) (omega arith) a,
+      b,
+      e,
+    )
+
 -- the claim word of a tree is one that memory holds whole
 pub claim_is_word : (plan : TablePlan) (s : TableState) → HasMachine plan s → get_or s.words 0 0 < 2 ^ 64
 claim_is_word plan s r = let is = r.next in let low = r.invariant.limit in let limit = r.limit in omega (arith, is, low, limit)
@@ -164,12 +212,8 @@ module _ (plan : TablePlan) (s : Slots) (tree : TableState) (t : WholeState) (r 
     where
       by : (b : Bool) → was_dead q d ≡ b → b ≡ false
       by false e = refl
-      by true e = absurd (calls_touch_no_dead_card plan forgot.from forgot.reached id forgot.call forgot.begun forgot.made forgot.anew forgot.were.machine forgot.were.uses
-          forgot.turns tree forgot.run k.tree there c may d f is (
-            subst (IsDead forgot.were.machine.words forgot.were.uses.outs.stages) (omega arith) (forgot.were.each d 0 (omega arith) e),
-            forgot.were.each d 1 (omega arith) e,
-            forgot.were.each d 2 (omega arith) e,
-          ))
+      by true e = absurd (calls_touch_nothing_out plan forgot.from forgot.reached id forgot.call forgot.begun forgot.made forgot.anew forgot.were.machine forgot.were.uses
+          forgot.turns tree forgot.run k.tree there c may d f is (λ i few. forgot.were.each d i few e))
 
   -- so a card that has won its flag lies there
   lies_won : HasWon r.stages d → LiesThere s t.words d
@@ -201,7 +245,7 @@ module _ (plan : TablePlan) (s : Slots) (tree : TableState) (t : WholeState) (r 
 
 pub touched_lies : (plan : TablePlan) (s : Slots) (tree : TableState) (t : WholeState) (r : HasMachine plan tree) (dead : ℕ → Bool) (was_dead : ℕ → ℕ → Bool)
     → IsTied s tree t r.stages dead was_dead → (id : ℕ) (k : Known) → get_elem? t.views id ≡ some k → get_elem? tree.views id ≡ some k.tree
-    → IsReady plan tree id k was_dead → (c : Call) → May plan c k.tree → MayInMemory k c → LiesThere s t.words (card_touched (touched_by c))
+    → IsReady plan tree id k was_dead → (c : Call) → May plan c k.tree → MayInMemory k.period.slot k.tree c → LiesThere s t.words (card_touched (touched_by c))
 touched_lies plan s tree t r dead was_dead tied id k here there ready (call.Fill c f value) may mem = tied.hand id c k here mem (may.holds, may.unflagged)
 touched_lies plan s tree t r dead was_dead tied id k here there ready c may mem =
     lies_won plan s tree t r dead was_dead tied id k here there ready c may (touched_won plan tree r id k.tree there c may)
@@ -216,7 +260,7 @@ touched_finds plan s tree t r dead was_dead tied id k here there ready c may =
 -- the word that a call touches is tied
 pub touched_tied : (plan : TablePlan) (s : Slots) (tree : TableState) (t : WholeState) (r : HasMachine plan tree) (dead : ℕ → Bool) (was_dead : ℕ → ℕ → Bool)
     → IsTied s tree t r.stages dead was_dead → (id : ℕ) (k : Known) → get_elem? t.views id ≡ some k → get_elem? tree.views id ≡ some k.tree
-    → IsReady plan tree id k was_dead → (c : Call) → May plan c k.tree → MayInMemory k c → TouchesTied s t.words tree c
+    → IsReady plan tree id k was_dead → (c : Call) → May plan c k.tree → MayInMemory k.period.slot k.tree c → TouchesTied s t.words tree c
 touched_tied plan s tree t r dead was_dead tied id k here there ready c may mem =
     let lies = touched_lies plan s tree t r dead was_dead tied id k here there ready c may mem in record {
       inside = inside plan s tree t r dead was_dead tied id k here there ready c may lies;

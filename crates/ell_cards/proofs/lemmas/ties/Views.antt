@@ -14,8 +14,8 @@ use Rattle.ell_cards.specs.Periods.{WholeState, slot_word, card_in}
 use Rattle.ell_cards.specs.Shown.{cut_word}
 use Rattle.ell_cards.specs.SlotWords.{slot_of, card_by}
 use Rattle.ell_cards.specs.States.{TableState}
-use Rattle.ell_cards.specs.Ties.{LiesThere, HasWon, HoldsWaiting, HasStored, IsKept, IsTied}
-use Rattle.ell_cards.specs.Ties.IsKept.{won, stored}
+use Rattle.ell_cards.specs.Tied.{LiesThere, HasWon, HoldsWaiting, HasStored, IsKept, IsTied}
+use Rattle.ell_cards.specs.Tied.IsKept.{won, stored}
 
 -- What a pass in a seat knows after a step that is no call. It is what it knew; or it has the same card in hand as the pass there, with
 -- no more stored of it, and announces what that announces; or it has no card in hand, and announces what some pass announces, or nothing.
@@ -98,6 +98,7 @@ module _ (s : Slots) (low : s.last < 2097152) (tree tree' : TableState) (t : Who
     at = λ slot f inside kept. at_slot slot f inside (card_in s words slot) (cards_stay slot inside) kept;
     alive = λ c has lives. lies_on c (tied.alive c (wins c has) lives);
     lives = λ seat q a c u at placed an has alive. lies_on c (lives_on seat q a c u at placed an has alive);
+    fits = λ c has. tied.fits c (wins c has);
     hand = λ seat c u at slot waits. lies_on c (hand_on seat c u at slot waits);
     past = λ seat c u at slot. subst (λ n. c < n) (sym (slots 0 (omega arith))) (past_on seat c u at slot);
     stores = stores_on;

@@ -16,7 +16,7 @@ use Rattle.ell_cards.specs.Calls.{May, atomic_of, is_won}
 use Rattle.ell_cards.specs.Machines.{HasMachine}
 use Rattle.ell_cards.specs.Models.{TablePlan}
 use Rattle.ell_cards.specs.States.{TableState}
-use Rattle.ell_cards.specs.Ties.{HasWon}
+use Rattle.ell_cards.specs.Tied.{HasWon, FlagsCard}
 use Rattle.ell_cards.specs.TurnEffects.{turn_wins}
 use Rattle.ell_cards.specs.Turns.{Makes, found_by}
 use Rattle.ell_cards.proofs.lemmas.seats.Seats.{mine_sound}
@@ -66,12 +66,6 @@ won_before old new later d wins won = elim (won_some (new d) won) [
       some_won (old d) (omega arith)
 ]
 
--- a call wins the flag of this card, if it wins what it is to
-abbrev pub FlagsCard : Call → ℕ → Type 0
-FlagsCard (call.IFlag c p from) d = d ≡ c
-FlagsCard (call.DFlag c gp from) d = d ≡ c
-FlagsCard _ d = ⊥
-
 -- what is won for a card is nothing for another one
 for_card : (b : Bool) (k : Exchange) (c d : ℕ) → ((if b then win_for (Some c) k d else []) ≡ []) ⊎ (d ≡ c)
 for_card false k c d = inl refl
@@ -87,7 +81,7 @@ none_for false none = refl
 
 module _ (plan : TablePlan) (s : TableState) (r : HasMachine plan s) (id : ℕ) (v : View) (here : get_elem? s.views id ≡ some v) where
   -- whatever a call wins for a card that is no flag, that card has won its flag
-  gains : (c : Call) → May plan c v → (d : ℕ) → (turn_wins s (Makes id c) d ≡ []) ⊎ (HasWon r.stages d ⊎ FlagsCard c d)
+  pub gains : (c : Call) → May plan c v → (d : ℕ) → (turn_wins s (Makes id c) d ≡ []) ⊎ (HasWon r.stages d ⊎ FlagsCard c d)
   gains (call.IFlag c p from) may d = elim (for_card (is_won (atomic_of (call.IFlag c p from)) (found_by s (call.IFlag c p from))) exchange.IFlag c d) [ inl e ↦ inl e | inr e ↦ inr (inr e) ]
   gains (call.DFlag c gp from) may d = elim (for_card (is_won (atomic_of (call.DFlag c gp from)) (found_by s (call.DFlag c gp from))) exchange.DFlag c d) [ inl e ↦ inl e | inr e ↦ inr (inr e) ]
   gains (call.IChild c p l q right) may d = elim (for_card (is_won (atomic_of (call.IChild c p l q right)) (found_by s (call.IChild c p l q right))) exchange.IChild c d) [

@@ -1,8 +1,9 @@
-use Rattle.std.proofs.Common.{◌≡◌, ◌≢◌, ℕ, ◌+◌, ◌*◌, ◌<◌, ◌≤◌, Bool, true, false, Some, List, [], ◌∷◌, ◌++◌, get_or, set, inl, inr, ◌⊎◌, refl, sym, subst, ⊎_elim}
+use Rattle.std.proofs.Common.{◌≡◌, ◌≢◌, ℕ, ◌+◌, ◌*◌, ◌<◌, ◌≤◌, Bool, true, false, Some, List, [], ◌∷◌, ◌++◌, get_or, set, inl, inr, ◌⊎◌, refl, sym, ap, ◌∙◌, subst, ⊎_elim}
 use mathlib.Core.Option.{some}
 use mathlib.Core.Option.{Option as Maybe}
 use lib.ListN.{get_elem?}
 use Rattle.atomic_table.proofs.Lists.{at_set}
+use Rattle.ell_word.specs.Node.{card}
 use Rattle.ell_core.specs.history.Later.{StagesLater, wins_of}
 use Rattle.ell_grace.specs.Dead.{IsDead, HasUses}
 use Rattle.ell_cards.specs.declared.call.Call.{Call}
@@ -11,7 +12,8 @@ use Rattle.ell_cards.specs.declared.view.Known.{Known}
 use Rattle.ell_cards.specs.declared.view.SlotRead.{SlotRead}
 use Rattle.ell_cards.specs.declared.view.Slots.{Slots}
 use Rattle.ell_cards.specs.declared.view.View.{View}
-use Rattle.ell_cards.specs.Ages.{AreDead, ForgotWhen, AgesAreSound}
+use Rattle.ell_cards.specs.Ages.{IsOut, AreDead, ForgotWhen, AgesAreSound}
+use Rattle.ell_cards.specs.Aside.{IsAside}
 use Rattle.ell_cards.specs.Calls.{May}
 use Rattle.ell_cards.specs.Laws.{machine_of_table}
 use Rattle.ell_cards.specs.Machines.{HasMachine}
@@ -25,6 +27,7 @@ use Rattle.ell_cards.specs.Touching.{forgets}
 use Rattle.ell_cards.specs.TurnEffects.{turn_wins}
 use Rattle.ell_cards.specs.Turns.{Turn, Makes, TableTurns, found_by, view_after, state_after}
 use Rattle.ell_cards.proofs.lemmas.runs.Alive.{turn_keeps_dead}
+use Rattle.ell_cards.proofs.lemmas.runs.Aside.{aside_on}
 use Rattle.ell_cards.proofs.lemmas.runs.TurnsOfRuns.{one_more_turn, turn_lawful}
 use Rattle.ell_cards.proofs.lemmas.whole.Rests.{stays_at_rest}
 
@@ -35,11 +38,12 @@ keeps_quiet call.Look e = cc
 keeps_quiet _ e = tt
 
 module _ (plan : TablePlan) where
-  -- a state to which a turn leads from another one, in which what was dead is so, and each card has won what the turn wins for it
+  -- a state to which a turn leads from another one, in which what was dead is so, cards that were laid aside are, and each card has won what the turn wins for it
   pub record Onward (s : TableState) (machine : HasMachine plan s) (uses : HasUses (machine_of_table plan s machine)) (t : Turn) (s' : TableState) : Type 0 where
     pub next : HasMachine plan s'
     pub used : HasUses (machine_of_table plan s' next)
     pub stays : (x : ℕ) → IsDead machine.words uses.outs.stages x → IsDead next.words used.outs.stages x
+    pub aside : (c : ℕ) → IsAside machine.stages s.views c → IsAside next.stages s'.views c
     pub later : StagesLater machine.stages next.stages
     pub wins : (d : ℕ) → wins_of (next.stages d) ≡ wins_of (machine.stages d) ++ turn_wins s t d
 
@@ -48,11 +52,24 @@ module _ (plan : TablePlan) where
   onward s machine uses t s' turn =
       let lawful = turn_lawful plan s machine t s' turn in
       let on = turn_keeps_dead plan s machine uses t s' lawful.0 lawful.1.machine in
-      record { next = lawful.0; used = on.0; stays = on.1; later = lawful.1.later; wins = lawful.1.wins }
+      record {
+        next = lawful.0;
+        used = on.0;
+        stays = on.1;
+        aside = λ c h. aside_on plan s machine c h t s' turn lawful.0 lawful.1.later (lawful.1.wins c);
+        later = lawful.1.later;
+        wins = lawful.1.wins;
+      }
 
-  -- what is dead is dead after it
+  -- what is out is out after it
+  pub out_on : (s : TableState) (machine : HasMachine plan s) (uses : HasUses (machine_of_table plan s machine)) (t : Turn) (s' : TableState) (on : Onward s machine uses t s')
+      → (x : ℕ) → IsOut plan s machine uses x → IsOut plan s' on.next on.used x
+  out_on s machine uses t s' on x (inl dead) = inl (on.stays x dead)
+  out_on s machine uses t s' on x (inr aside) = inr (on.aside (card x) aside)
+
+  -- so are the cards that were
   abbrev pub dead_on : (s : TableState) (dead : ℕ → Bool) (h : AreDead plan s dead) (t : Turn) (s' : TableState) → Onward s h.machine h.uses t s' → AreDead plan s' dead
-  dead_on s dead h t s' on = record { machine = on.next; uses = on.used; each = λ c k low is. on.stays (4 * c + k) (h.each c k low is) }
+  dead_on s dead h t s' on = record { machine = on.next; uses = on.used; each = λ c k low is. out_on s h.machine h.uses t s' on (4 * c + k) (h.each c k low is) }
 
   -- and a pass that forgot when something was dead did so before the turn
   pub forgot_on : (s : TableState) (seat : ℕ) (dead : ℕ → Bool) → ForgotWhen plan s seat dead → (t : Turn) (s' : TableState) → TableTurns plan s t s'
@@ -91,18 +108,22 @@ module _ (plan : TablePlan) where
     run = refl;
   }
 
-  -- what the words of slots note as dead, and what passes have read of them, is so after a turn, if those words are as they were
+  -- what the words of slots note as dead, and what passes have read of them, is out after a turn, if those words are as they were
   module _ (s : Slots) (tree tree' : TableState) (t : WholeState) (dead : ℕ → Bool) (was_dead : ℕ → ℕ → Bool) (h : AgesAreSound plan s tree t dead was_dead)
       (by : Turn) (on : Onward tree h.now.machine h.now.uses by tree') where
     pub noted_on : (words : List ℕ) → ((slot : ℕ) → slot ≤ s.last → get_or words (slot_word s slot) 0 ≡ get_or t.words (slot_word s slot) 0)
-        → (slot k : ℕ) → slot ≤ s.last → is_noted (get_or words (slot_word s slot) 0) k ≡ true → IsDead on.next.words on.used.outs.stages (4 * card_in s words slot + k)
+        → (slot k : ℕ) → slot ≤ s.last → is_noted (get_or words (slot_word s slot) 0) k ≡ true → IsOut plan tree' on.next on.used (4 * card_in s words slot + k)
     noted_on words same slot k low is =
-        subst (λ n. IsDead on.next.words on.used.outs.stages (4 * card_by slot n + k)) (sym (same slot low))
-        (on.stays (4 * card_in s t.words slot + k) (h.noted slot k low (subst (λ n. is_noted n k ≡ true) (same slot low) is)))
+        subst (λ n. IsOut plan tree' on.next on.used (4 * card_by slot n + k)) (sym (same slot low))
+        (out_on tree h.now.machine h.now.uses by tree' on (4 * card_in s t.words slot + k) (h.noted slot k low (subst (λ n. is_noted n k ≡ true) (same slot low) is)))
 
     pub read_on : (seat : ℕ) (k : Known) (r : SlotRead) → get_elem? t.views seat ≡ some k → k.period.read ≡ Some r → (i : ℕ) → is_noted r.word i ≡ true
-        → IsDead on.next.words on.used.outs.stages (4 * card_by r.slot r.word + i)
-    read_on seat k r at has i is = on.stays (4 * card_by r.slot r.word + i) (h.read seat k r at has i is)
+        → IsOut plan tree' on.next on.used (4 * card_by r.slot r.word + i)
+    read_on seat k r at has i is = out_on tree h.now.machine h.now.uses by tree' on (4 * card_by r.slot r.word + i) (h.read seat k r at has i is)
+
+    -- so is the card whose flag a pass lost last laid aside
+    pub lost_on : (seat c : ℕ) (k : Known) → get_elem? t.views seat ≡ some k → k.period.lost ≡ Some c → IsAside on.next.stages tree'.views c
+    lost_on seat c k at has = on.aside c (h.lost seat c k at has)
 
   -- the ages after a turn, with what each card has won
   pub record AgesOn (s : Slots) (tree : TableState) (t : WholeState) (dead : ℕ → Bool) (was_dead : ℕ → ℕ → Bool) (h : AgesAreSound plan s tree t dead was_dead) (turn : Turn)
@@ -140,6 +161,10 @@ module _ (plan : TablePlan) where
             (λ (e : (seat ≡ id) × (knows ≡ u)). read_on s tree after t dead was_dead h (Makes id c) on id k r here (subst (λ (x : Known). x.period.read ≡ Some r) (sym e.1) has))
             (λ (e : (seat ≢ id) × (get_elem? t.views seat ≡ some u)). read_on s tree after t dead was_dead h (Makes id c) on seat u r e.1 has)
             (at_set t.views id seat knows u at);
+        lost = λ seat d u at has. ⊎_elim
+            (λ (e : (seat ≡ id) × (knows ≡ u)). lost_on s tree after t dead was_dead h (Makes id c) on id d k here (ap (λ (x : Known). x.period.lost) e.1 ∙ has))
+            (λ (e : (seat ≢ id) × (get_elem? t.views seat ≡ some u)). lost_on s tree after t dead was_dead h (Makes id c) on seat d u e.1 has)
+            (at_set t.views id seat knows u at);
       };
       later = on.later;
       wins = on.wins;
@@ -162,19 +187,20 @@ module _ (plan : TablePlan) where
             (subst (λ (x : Known). x.period.place ≡ Some q → x.period.announced ≡ Some a → IsAtRest x.tree ⊎ ForgotWhen plan after id (was_dead q)) is (by (forgets c) refl q a))
 
   -- The ages where a pass knows something else of periods, and words became other ones: by what is dead now, what was dead when
-  -- the pass's period began, and what slots and the pass note.
+  -- the pass's period began, what slots and the pass note, and what the pass laid aside.
   module _ (s : Slots) (tree : TableState) (t : WholeState) (id : ℕ) (k : Known) (here : get_elem? t.views id ≡ some k) (now : Known) (same : now.tree ≡ k.tree)
       (words : List ℕ) (dead dead' : ℕ → Bool) (was_dead was_dead' : ℕ → ℕ → Bool) (h : AgesAreSound plan s tree t dead was_dead) where
-    abbrev DeadNow : ℕ → Type 0
-    DeadNow x = IsDead h.now.machine.words h.now.uses.outs.stages x
+    abbrev OutNow : ℕ → Type 0
+    OutNow x = IsOut plan tree h.now.machine h.now.uses x
 
-    abbrev pub ages_of_period : ((c i : ℕ) → i < 3 → dead' c ≡ true → DeadNow (4 * c + i)) → ((q c : ℕ) → was_dead' q c ≡ true → dead' c ≡ true)
+    abbrev pub ages_of_period : ((c i : ℕ) → i < 3 → dead' c ≡ true → OutNow (4 * c + i)) → ((q c : ℕ) → was_dead' q c ≡ true → dead' c ≡ true)
         → ((q a : ℕ) → now.period.place ≡ Some q → now.period.announced ≡ Some a → IsAtRest k.tree ⊎ ForgotWhen plan tree id (was_dead' q))
         → ((j q a : ℕ) (u : Known) → j ≢ id → get_elem? t.views j ≡ some u → u.period.place ≡ Some q → u.period.announced ≡ Some a → was_dead' q ≡ was_dead q)
-        → ((slot i : ℕ) → slot ≤ s.last → is_noted (get_or words (slot_word s slot) 0) i ≡ true → DeadNow (4 * card_in s words slot + i))
-        → ((r : SlotRead) → now.period.read ≡ Some r → (i : ℕ) → is_noted r.word i ≡ true → DeadNow (4 * card_by r.slot r.word + i))
+        → ((slot i : ℕ) → slot ≤ s.last → is_noted (get_or words (slot_word s slot) 0) i ≡ true → OutNow (4 * card_in s words slot + i))
+        → ((r : SlotRead) → now.period.read ≡ Some r → (i : ℕ) → is_noted r.word i ≡ true → OutNow (4 * card_by r.slot r.word + i))
+        → ((c : ℕ) → now.period.lost ≡ Some c → IsAside h.now.machine.stages tree.views c)
         → AgesAreSound plan s tree (record { words = words; homes = t.homes; views = set t.views id now }) dead' was_dead'
-    ages_of_period each still mine others noted read = record {
+    ages_of_period each still mine others noted read lost = record {
       now = record { machine = h.now.machine; uses = h.now.uses; each = each };
       still = still;
       since = λ seat q a u at placed an. ⊎_elim
@@ -186,6 +212,10 @@ module _ (plan : TablePlan) where
       read = λ seat u r at has. ⊎_elim
           (λ (e : (seat ≡ id) × (now ≡ u)). read r (subst (λ (x : Known). x.period.read ≡ Some r) (sym e.1) has))
           (λ (e : (seat ≢ id) × (get_elem? t.views seat ≡ some u)). h.read seat u r e.1 has)
+          (at_set t.views id seat now u at);
+      lost = λ seat c u at has. ⊎_elim
+          (λ (e : (seat ≡ id) × (now ≡ u)). lost c (ap (λ (x : Known). x.period.lost) e.1 ∙ has))
+          (λ (e : (seat ≢ id) × (get_elem? t.views seat ≡ some u)). h.lost seat c u e.1 has)
           (at_set t.views id seat now u at);
     }
       where

@@ -5,14 +5,14 @@ use Rattle.std.proofs.lemmas.Option.{same_Some}
 use mathlib.Core.Option.{some}
 use lib.ListN.{get_elem?}
 use prog.Atomic.{either}
-use Rattle.ell_grace.specs.Dead.{IsDead}
 use Rattle.ell_layout.specs.Words.{put}
 use Rattle.ell_layout.proofs.lemmas.Writes.{put_same, put_other}
 use Rattle.ell_cards.specs.declared.view.Known.{Known}
 use Rattle.ell_cards.specs.declared.view.Period.{Period}
 use Rattle.ell_cards.specs.declared.view.SlotRead.{SlotRead}
 use Rattle.ell_cards.specs.declared.view.Slots.{Slots}
-use Rattle.ell_cards.specs.Ages.{HasPeriods, KnowsDeadNode, KnowsDeadCard}
+use Rattle.ell_cards.specs.Ages.{IsOut, HasPeriods, KnowsDeadNode, KnowsDeadCard, MayStamp}
+use Rattle.ell_cards.specs.Aside.{IsAside}
 use Rattle.ell_cards.specs.Models.{TablePlan}
 use Rattle.ell_cards.specs.Periods.{WholeState, clock_word, slot_word, slots_size, last_reading, card_in, pending_by, after_read, after_stamp, PeriodsAreSound}
 use Rattle.ell_cards.specs.SlotWords.{card_by, turn_in, free_word, is_noted, bit_of}
@@ -20,7 +20,9 @@ use Rattle.ell_cards.specs.States.{TableState}
 use Rattle.ell_cards.specs.Stepping.{MayGoOn}
 use Rattle.ell_cards.proofs.lemmas.runs.Alive.{known_dead_is_dead}
 use Rattle.ell_cards.proofs.lemmas.whole.Ages.{ages_of_period}
-use Rattle.ell_cards.proofs.lemmas.whole.Going.{turned_to, same_noted, same_again, stays, goes_on_there}
+use Rattle.ell_cards.proofs.lemmas.ties.Periods.{tie_of_period}
+use Rattle.ell_cards.proofs.lemmas.whole.Going.{turned_to, behind, same_noted, same_again, stays, goes_on_there}
+use Rattle.ell_cards.proofs.lemmas.whole.Steps.{word_again}
 use Rattle.ell_cards.proofs.lemmas.whole.Seats.{period_was}
 use Rattle.ell_cards.proofs.lemmas.whole.Slots.{slot_read, card_stamped, slot_noted, slot_freed, freed_card}
 
@@ -62,6 +64,10 @@ all_noted n zero (suc (suc (suc i))) low few lacks all = absurd (omega arith)
 all_noted n (suc zero) (suc (suc (suc i))) low few lacks all = absurd (omega arith)
 all_noted n (suc (suc zero)) (suc (suc (suc i))) low few lacks all = absurd (omega arith)
 
+-- nor does the turn change where a slot is set free
+freed_turn : (n reading : ℕ) → turn_in (free_word (turn_in n) reading) ≡ turn_in n
+freed_turn n reading = omega arith
+
 -- a word that lacks a node sets nothing free
 pub lacks_some : (n k : ℕ) → k < 3 → is_noted n k ≡ false → n % 8 ≢ 7
 lacks_some n zero low lacks e = grind (arith, nat_tests)
@@ -72,12 +78,12 @@ lacks_some n (suc (suc (suc k))) low lacks e = omega arith
 -- the steps of a pass on the words of slots, as those of a whole table
 module _ (plan : TablePlan) (s : Slots) (tree : TableState) (t : WholeState) (id : ℕ) (k : Known) (here : get_elem? t.views id ≡ some k)
     (there : get_elem? tree.views id ≡ some k.tree) (h : HasPeriods plan s tree t) (size : length t.words ≡ slots_size s) where
-  abbrev DeadNow : ℕ → Type 0
-  DeadNow x = IsDead h.ages.now.machine.words h.ages.now.uses.outs.stages x
+  abbrev OutNow : ℕ → Type 0
+  OutNow x = IsOut plan tree h.ages.now.machine h.ages.now.uses x
 
-  -- what the pass knows to be dead is so
-  dead_by : (x : ℕ) → KnowsDeadNode k.tree x → DeadNow x
-  dead_by x knows = known_dead_is_dead plan tree id k.tree there knows.0 x knows.1 h.ages.now.machine h.ages.now.uses.outs
+  -- what the pass knows to be dead is out
+  dead_by : (x : ℕ) → KnowsDeadNode k.tree x → OutNow x
+  dead_by x knows = inl (known_dead_is_dead plan tree id k.tree there knows.0 x knows.1 h.ages.now.machine h.ages.now.uses.outs)
 
   -- it reads the word of a slot
   pub reads_now : (slot : ℕ) → slot ≤ s.last
@@ -91,13 +97,17 @@ module _ (plan : TablePlan) (s : Slots) (tree : TableState) (t : WholeState) (id
         ages = ages_of_period plan s tree t id k here (record { tree = k.tree; period = after_read slot n k.period }) refl (set t.words (slot_word s slot) n) h.dead h.dead h.was_dead h.was_dead h.ages
             h.ages.now.each h.ages.still (λ q a at an. h.ages.since id q a k here at an) (λ j q a u other at placed an. refl)
             (same_noted plan s tree t id k here h (set t.words (slot_word s slot) n) (same_again plan s tree t id k here h size (slot_word s slot) (omega arith)))
-            (λ r has i is. subst (λ (x : SlotRead). is_noted x.word i ≡ true → DeadNow (4 * card_by x.slot x.word + i)) (same_Some _ r has) (h.ages.noted slot i inside) is);
+            (λ r has i is. subst (λ (x : SlotRead). is_noted x.word i ≡ true → OutNow (4 * card_by x.slot x.word + i)) (same_Some _ r has) (h.ages.noted slot i inside) is)
+            (λ c has. h.ages.lost id c k here has);
+        tied = tie_of_period s tree t h.ages.now.machine.stages h.dead h.dead h.was_dead h.was_dead h.tied id k here (after_read slot n k.period) refl (set t.words (slot_word s slot) n)
+            (λ j low. word_again t.words (slot_word s slot) (omega arith) j) (λ other low. ap (card_by other) (same_again plan s tree t id k here h size (slot_word s slot) (omega arith) other))
+            (λ c lives. lives) (λ q a at an. inl (at, an, λ c lives. lives)) (λ seat q a u other at placed an c lives. lives) t.homes;
       }
 
-  -- it reads the clock for a card whose nodes it knows dead
-  pub stamps_now : (c : ℕ) → KnowsDeadCard k c
+  -- it reads the clock for a card whose nodes it knows dead, or which it laid aside
+  pub stamps_now : (c : ℕ) → MayStamp k c
       → HasPeriods plan s tree (turned_to t id k (after_stamp c (get_or t.words (clock_word s) 0) k.period) (clock_word s) (get_or t.words (clock_word s) 0))
-  stamps_now c knows =
+  stamps_now c may =
       let n = get_or t.words (clock_word s) 0 in record {
         dead = put h.dead c true;
         began = h.began;
@@ -106,18 +116,34 @@ module _ (plan : TablePlan) (s : Slots) (tree : TableState) (t : WholeState) (id
         ages = ages_of_period plan s tree t id k here (record { tree = k.tree; period = after_stamp c n k.period }) refl (set t.words (clock_word s) n) h.dead (put h.dead c true) h.was_dead h.was_dead h.ages
             each (λ q d was. still d (h.ages.still q d was)) (λ q a at an. h.ages.since id q a k here at an) (λ j q a u other at placed an. refl)
             (same_noted plan s tree t id k here h (set t.words (clock_word s) n) (same_again plan s tree t id k here h size (clock_word s) (omega arith)))
-            (λ r has. h.ages.read id k r here has);
+            (λ r has. h.ages.read id k r here has)
+            (λ d has. h.ages.lost id d k here has);
+        tied = tie_of_period s tree t h.ages.now.machine.stages h.dead (put h.dead c true) h.was_dead h.was_dead h.tied id k here (after_stamp c n k.period) refl (set t.words (clock_word s) n)
+            (λ j low. word_again t.words (clock_word s) (omega arith) j) (λ slot low. ap (card_by slot) (same_again plan s tree t id k here h size (clock_word s) (omega arith) slot))
+            less (λ q a at an. inl (at, an, λ d lives. lives)) (λ seat q a u other at placed an d lives. lives) t.homes;
       }
     where
-      mine : (i : ℕ) → i < 3 → DeadNow (4 * c + i)
-      mine i low = elim (knows.each i low) [
-        | inl noted ↦ subst (λ d. DeadNow (4 * d + i)) knows.lies (h.ages.read id k knows.read here knows.has i noted)
+      less : (d : ℕ) → put h.dead c true d ≡ false → h.dead d ≡ false
+      less d lives = elim (cases_eq d c) [
+        | inl e ↦ absurd (false≢true (sym lives ∙ (ap (put h.dead c true) e ∙ put_same h.dead c true)))
+        | inr n ↦ sym (put_other h.dead c true d n) ∙ lives
+      ]
+
+      known : KnowsDeadCard k c → (i : ℕ) → i < 3 → OutNow (4 * c + i)
+      known knows i low = elim (knows.each i low) [
+        | inl noted ↦ subst (λ d. OutNow (4 * d + i)) knows.lies (h.ages.read id k knows.read here knows.has i noted)
         | inr node ↦ dead_by (4 * c + i) node
       ]
 
-      each : (d i : ℕ) → i < 3 → put h.dead c true d ≡ true → DeadNow (4 * d + i)
+      mine : (i : ℕ) → i < 3 → OutNow (4 * c + i)
+      mine i low = elim may [
+        | inl knows ↦ known knows i low
+        | inr lost ↦ inr (subst (IsAside h.ages.now.machine.stages tree.views) (omega arith) (h.ages.lost id c k here lost))
+      ]
+
+      each : (d i : ℕ) → i < 3 → put h.dead c true d ≡ true → OutNow (4 * d + i)
       each d i low is = elim (cases_eq d c) [
-        | inl e ↦ subst (λ x. DeadNow (4 * x + i)) (sym e) (mine i low)
+        | inl e ↦ subst (λ x. OutNow (4 * x + i)) (sym e) (mine i low)
         | inr n ↦ h.ages.now.each d i low (sym (put_other h.dead c true d n) ∙ is)
       ]
 
@@ -128,10 +154,10 @@ module _ (plan : TablePlan) (s : Slots) (tree : TableState) (t : WholeState) (id
       ]
 
   -- a slot's word becomes another one, by which what it notes is dead
-  turns_now : (slot n : ℕ) → slot ≤ s.last → PeriodsAreSound s (turned_to t id k k.period (slot_word s slot) n) h.dead h.began h.was_dead
-      → ((i : ℕ) → is_noted n i ≡ true → DeadNow (4 * card_by slot n + i))
+  turns_now : (slot n : ℕ) → slot ≤ s.last → turn_in n ≡ turn_in (get_or t.words (slot_word s slot) 0) → PeriodsAreSound s (turned_to t id k k.period (slot_word s slot) n) h.dead h.began h.was_dead
+      → ((i : ℕ) → is_noted n i ≡ true → OutNow (4 * card_by slot n + i))
       → HasPeriods plan s tree (turned_to t id k k.period (slot_word s slot) n)
-  turns_now slot n inside sound notes = record {
+  turns_now slot n inside turn sound notes = record {
     dead = h.dead;
     began = h.began;
     was_dead = h.was_dead;
@@ -139,18 +165,28 @@ module _ (plan : TablePlan) (s : Slots) (tree : TableState) (t : WholeState) (id
     ages = ages_of_period plan s tree t id k here k refl (set t.words (slot_word s slot) n) h.dead h.dead h.was_dead h.was_dead h.ages
         h.ages.now.each h.ages.still (λ q a at an. h.ages.since id q a k here at an) (λ j q a u other at placed an. refl)
         noted
-        (λ r has. h.ages.read id k r here has);
+        (λ r has. h.ages.read id k r here has)
+        (λ c has. h.ages.lost id c k here has);
+    tied = tie_of_period s tree t h.ages.now.machine.stages h.dead h.dead h.was_dead h.was_dead h.tied id k here k.period refl (set t.words (slot_word s slot) n)
+        (behind plan s tree t id k here h (slot_word s slot) n (omega arith)) (λ other low. lie other (cases_eq other slot)) (λ c lives. lives)
+        (λ q a at an. inl (at, an, λ c lives. lives)) (λ seat q a u other at placed an c lives. lives) t.homes;
   }
     where
-      at : (other i m : ℕ) → get_or (set t.words (slot_word s slot) n) (slot_word s other) 0 ≡ m → ((is_noted m i ≡ true) → DeadNow (4 * card_by other m + i))
-          → is_noted (get_or (set t.words (slot_word s slot) n) (slot_word s other) 0) i ≡ true → DeadNow (4 * card_in s (set t.words (slot_word s slot) n) other + i)
-      at other i m same dead is = subst (λ x. DeadNow (4 * card_by other x + i)) (sym same) (dead (subst (λ x. is_noted x i ≡ true) same is))
+      lie : (other : ℕ) → (other ≡ slot) ⊎ (other ≢ slot) → card_in s (set t.words (slot_word s slot) n) other ≡ card_in s t.words other
+      lie other (inl e) =
+          ap (card_in s (set t.words (slot_word s slot) n)) e
+          ∙ (ap (card_by slot) (get_or-set_same t.words (slot_word s slot) n 0 (omega arith)) ∙ (ap (λ x. 2097152 * x + slot) turn ∙ sym (ap (card_in s t.words) e)))
+      lie other (inr apart) = ap (card_by other) (get_or-set_other t.words (slot_word s slot) (slot_word s other) n 0 (λ e. apart (omega arith)))
+
+      at : (other i m : ℕ) → get_or (set t.words (slot_word s slot) n) (slot_word s other) 0 ≡ m → ((is_noted m i ≡ true) → OutNow (4 * card_by other m + i))
+          → is_noted (get_or (set t.words (slot_word s slot) n) (slot_word s other) 0) i ≡ true → OutNow (4 * card_in s (set t.words (slot_word s slot) n) other + i)
+      at other i m same dead is = subst (λ x. OutNow (4 * card_by other x + i)) (sym same) (dead (subst (λ x. is_noted x i ≡ true) same is))
 
       noted : (other i : ℕ) → other ≤ s.last → is_noted (get_or (set t.words (slot_word s slot) n) (slot_word s other) 0) i ≡ true
-          → DeadNow (4 * card_in s (set t.words (slot_word s slot) n) other + i)
+          → OutNow (4 * card_in s (set t.words (slot_word s slot) n) other + i)
       noted other i low is = elim (cases_eq other slot) [
         | inl e ↦ at other i n (ap (λ x. get_or (set t.words (slot_word s slot) n) (slot_word s x) 0) e ∙ get_or-set_same t.words (slot_word s slot) n 0 (omega arith))
-            (λ is. subst (λ x. DeadNow (4 * card_by x n + i)) (sym e) (notes i is)) is
+            (λ is. subst (λ x. OutNow (4 * card_by x n + i)) (sym e) (notes i is)) is
         | inr apart ↦ at other i (get_or t.words (slot_word s other) 0) (get_or-set_other t.words (slot_word s slot) (slot_word s other) n 0 (λ e. apart (omega arith)))
             (h.ages.noted other i low) is
       ]
@@ -160,11 +196,11 @@ module _ (plan : TablePlan) (s : Slots) (tree : TableState) (t : WholeState) (id
       → KnowsDeadNode k.tree (4 * card_by slot n + i)
       → HasPeriods plan s tree (turned_to t id k k.period (slot_word s slot) (n + bit_of i))
   notes_now slot i inside low n is lacks some_bit some_bit' knows =
-      turns_now slot (n + bit_of i) inside
+      turns_now slot (n + bit_of i) inside (noted_turn n i low lacks ∙ ap turn_in (sym is))
       (slot_noted s t id k here h.dead h.began h.was_dead h.periods size slot inside (n + bit_of i) (λ e. some_bit (ap (λ x. x % 8) (sym is) ∙ e)) some_bit')
-      (λ j noted. subst (λ turn. DeadNow (4 * (2097152 * turn + slot) + j)) (sym (noted_turn n i low lacks)) (elim (noted_or n i j low lacks noted) [
-        | inl was ↦ subst (λ x. is_noted x j ≡ true → DeadNow (4 * card_by slot x + j)) is (h.ages.noted slot j inside) was
-        | inr e ↦ subst (λ x. DeadNow (4 * card_by slot n + x)) (sym e) (dead_by (4 * card_by slot n + i) knows)
+      (λ j noted. subst (λ turn. OutNow (4 * (2097152 * turn + slot) + j)) (sym (noted_turn n i low lacks)) (elim (noted_or n i j low lacks noted) [
+        | inl was ↦ subst (λ x. is_noted x j ≡ true → OutNow (4 * card_by slot x + j)) is (h.ages.noted slot j inside) was
+        | inr e ↦ subst (λ x. OutNow (4 * card_by slot n + x)) (sym e) (dead_by (4 * card_by slot n + i) knows)
       ]))
 
   -- or the slot is set free, if all nodes of the card are dead
@@ -172,11 +208,11 @@ module _ (plan : TablePlan) (s : Slots) (tree : TableState) (t : WholeState) (id
       → k.period.stamp ≡ Some (record { card = card_by slot n; reading = reading })
       → HasPeriods plan s tree (turned_to t id k k.period (slot_word s slot) (free_word (turn_in n) reading))
   frees_now slot reading inside low n is some_bit has =
-      turns_now slot (free_word (turn_in n) reading) inside
+      turns_now slot (free_word (turn_in n) reading) inside (freed_turn n reading ∙ ap turn_in (sym is))
       (subst (λ m. PeriodsAreSound s (turned_to t id k k.period (slot_word s slot) (free_word (turn_in m) reading)) h.dead h.began h.was_dead) is
       (slot_freed s t id k here h.dead h.began h.was_dead h.periods size slot inside reading low (λ e. some_bit (ap (λ x. x % 8) (sym is) ∙ e))
       (has ∙ ap (λ m. Some (record { card = card_by slot m; reading = reading })) (sym is))))
-      (λ i noted. subst (λ c. DeadNow (4 * c + i)) (sym (freed_card slot n reading)) (h.ages.now.each (card_by slot n) i (few (free_word (turn_in n) reading) i noted) dead))
+      (λ i noted. subst (λ c. OutNow (4 * c + i)) (sym (freed_card slot n reading)) (h.ages.now.each (card_by slot n) i (few (free_word (turn_in n) reading) i noted) dead))
     where
       few : (m i : ℕ) → is_noted m i ≡ true → i < 3
       few m zero is = omega arith
@@ -192,7 +228,7 @@ module _ (plan : TablePlan) (s : Slots) (placed : plan.slots ≡ Some s) (slot :
   -- a pass reads the word of a slot
   pub reads_slot : (k : Known) → MayGoOn plan k (slot_word s slot) (λ n. n) (λ n p. p ≡ after_read slot n k.period)
   reads_slot k =
-      goes_on_there plan s placed k (slot_word s slot) (λ n. n) (λ n p. p ≡ after_read slot n k.period) (λ t. after_read slot (get_or t.words (slot_word s slot) 0) k.period) (omega arith)
+      goes_on_there plan s placed k (slot_word s slot) (λ n. n) (λ n p. p ≡ after_read slot n k.period) (λ t. after_read slot (get_or t.words (slot_word s slot) 0) k.period)
       (λ tree t id here there h size. (reads_now plan s tree t id k here there h size slot inside, refl))
 
   -- whatever slot a word is of
@@ -213,7 +249,7 @@ module _ (plan : TablePlan) (s : Slots) (placed : plan.slots ≡ Some s) (slot :
   pub notes_node : (k : Known) (i n : ℕ) → i < 3 → is_noted n i ≡ false → n % 8 ≢ 7 → (n + bit_of i) % 8 ≢ 7 → KnowsDeadNode k.tree (4 * card_by slot n + i)
       → MayGoOn plan k (slot_word s slot) (λ m. either (m == n) (n + bit_of i) m) (λ m p. p ≡ k.period)
   notes_node k i n low lacks some_bit some_bit' knows =
-      goes_on_there plan s placed k (slot_word s slot) (λ m. either (m == n) (n + bit_of i) m) (λ m p. p ≡ k.period) (λ t. k.period) (omega arith)
+      goes_on_there plan s placed k (slot_word s slot) (λ m. either (m == n) (n + bit_of i) m) (λ m p. p ≡ k.period) (λ t. k.period)
       (λ tree t id here there h size. (by tree t id here there h size (cases_eq (get_or t.words (slot_word s slot) 0) n), refl))
     where
       by : (tree : TableState) (t : WholeState) (id : ℕ) → get_elem? t.views id ≡ some k → get_elem? tree.views id ≡ some k.tree → HasPeriods plan s tree t → length t.words ≡ slots_size s
@@ -232,7 +268,7 @@ module _ (plan : TablePlan) (s : Slots) (placed : plan.slots ≡ Some s) (slot :
   pub frees_slot : (k : Known) (reading n : ℕ) → slot < 2097152 → n % 8 ≢ 7 → k.period.stamp ≡ Some (record { card = card_by slot n; reading = reading })
       → MayGoOn plan k (slot_word s slot) (λ m. either (m == n) (free_word (turn_in n) reading) m) (λ m p. p ≡ k.period)
   frees_slot k reading n low some_bit has =
-      goes_on_there plan s placed k (slot_word s slot) (λ m. either (m == n) (free_word (turn_in n) reading) m) (λ m p. p ≡ k.period) (λ t. k.period) (omega arith)
+      goes_on_there plan s placed k (slot_word s slot) (λ m. either (m == n) (free_word (turn_in n) reading) m) (λ m p. p ≡ k.period) (λ t. k.period)
       (λ tree t id here there h size. (by tree t id here there h size (cases_eq (get_or t.words (slot_word s slot) 0) n), refl))
     where
       by : (tree : TableState) (t : WholeState) (id : ℕ) → get_elem? t.views id ≡ some k → get_elem? tree.views id ≡ some k.tree → HasPeriods plan s tree t → length t.words ≡ slots_size s
@@ -247,9 +283,9 @@ module _ (plan : TablePlan) (s : Slots) (placed : plan.slots ≡ Some s) (slot :
           (sym (ap (λ b. either b (free_word (turn_in n) reading) (get_or t.words (slot_word s slot) 0)) (ne_eqb (get_or t.words (slot_word s slot) 0) n other)))
           (stays plan s tree t id k here h size (slot_word s slot) (omega arith))
 
--- a pass reads the clock for a card whose nodes it knows dead
-pub stamps_card : (plan : TablePlan) (s : Slots) → plan.slots ≡ Some s → (k : Known) (c : ℕ) → KnowsDeadCard k c
+-- a pass reads the clock for a card whose nodes it knows dead, or which it laid aside
+pub stamps_card : (plan : TablePlan) (s : Slots) → plan.slots ≡ Some s → (k : Known) (c : ℕ) → MayStamp k c
     → MayGoOn plan k (clock_word s) (λ n. n) (λ n p. (p ≡ after_stamp c n k.period) × (n ≤ last_reading))
-stamps_card plan s placed k c knows =
-    goes_on_there plan s placed k (clock_word s) (λ n. n) (λ n p. (p ≡ after_stamp c n k.period) × (n ≤ last_reading)) (λ t. after_stamp c (get_or t.words (clock_word s) 0) k.period) (omega arith)
-    (λ tree t id here there h size. (stamps_now plan s tree t id k here there h size c knows, (refl, h.periods.low)))
+stamps_card plan s placed k c may =
+    goes_on_there plan s placed k (clock_word s) (λ n. n) (λ n p. (p ≡ after_stamp c n k.period) × (n ≤ last_reading)) (λ t. after_stamp c (get_or t.words (clock_word s) 0) k.period)
+    (λ tree t id here there h size. (stamps_now plan s tree t id k here there h size c may, (refl, h.periods.low)))

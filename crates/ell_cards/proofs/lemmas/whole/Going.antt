@@ -1,4 +1,4 @@
-use Rattle.std.proofs.Common.{◌≡◌, ◌≢◌, ℕ, zero, suc, ◌+◌, ◌*◌, ◌<◌, ◌≤◌, ◌==◌, min, true, Some, None, List, length, get_or, set, inl, inr, ◌⊎◌, refl, sym, ap, ◌∙◌, subst, arith, eq-eqb, ne_eqb, length-set, get_or-set_other}
+use Rattle.std.proofs.Common.{◌≡◌, ◌≢◌, ℕ, zero, suc, ◌+◌, ◌*◌, ◌<◌, ◌≤◌, ◌==◌, true, Some, None, List, length, get_or, set, inl, inr, ◌⊎◌, refl, sym, ap, ◌∙◌, subst, arith, eq-eqb, ne_eqb, length-set, get_or-set_other}
 use Rattle.std.proofs.lemmas.Bool.{cases_eq}
 use Rattle.std.proofs.lemmas.List.{map-set}
 use Rattle.std.proofs.lemmas.Option.{same_Some}
@@ -14,14 +14,14 @@ use Rattle.ell_layout.proofs.lemmas.Writes.{put_same, put_other}
 use Rattle.ell_cards.specs.declared.view.Known.{Known}
 use Rattle.ell_cards.specs.declared.view.Period.{Period}
 use Rattle.ell_cards.specs.declared.view.Slots.{Slots}
-use Rattle.ell_cards.specs.Ages.{HasPeriods}
+use Rattle.ell_cards.specs.Ages.{IsOut, HasPeriods}
 use Rattle.ell_cards.specs.Models.{TablePlan}
-use Rattle.ell_cards.specs.Periods.{WholeState, clock_word, place_word, slot_word, slots_size, card_in, last_reading, card_words, card_words_by, after_clock, after_announce, after_retract, after_look_at, after_take, after_give, own, IsAtRest, PeriodsAreSound}
+use Rattle.ell_cards.specs.Periods.{WholeState, clock_word, place_word, slot_word, slots_size, card_in, last_reading, after_clock, after_announce, after_retract, after_look_at, after_take, after_give, own, IsAtRest, PeriodsAreSound}
 use Rattle.ell_cards.specs.SlotWords.{card_by, is_noted}
 use Rattle.ell_cards.specs.States.{TableState}
-use Rattle.ell_grace.specs.Dead.{IsDead}
 use Rattle.ell_cards.specs.Stepping.{MayGoOn}
 use Rattle.ell_cards.specs.Whole.{trees_of, WordsAre, PeriodsAre}
+use Rattle.ell_cards.proofs.lemmas.ties.Periods.{tie_of_period}
 use Rattle.ell_cards.proofs.lemmas.whole.Ages.{ages_of_period}
 use Rattle.ell_cards.proofs.lemmas.whole.Seats.{before_clock}
 use Rattle.ell_cards.proofs.lemmas.whole.Steps.{word_again, periods_stay, periods_read, periods_ticked, periods_seen, periods_announced, periods_retracted, periods_taken, periods_given}
@@ -39,16 +39,21 @@ module _ (plan : TablePlan) (s : Slots) (tree : TableState) (t : WholeState) (id
   -- what the words of slots note where they are as they were
   pub same_noted : (words : List ℕ) → ((slot : ℕ) → get_or words (slot_word s slot) 0 ≡ get_or t.words (slot_word s slot) 0)
       → (slot i : ℕ) → slot ≤ s.last → is_noted (get_or words (slot_word s slot) 0) i ≡ true
-      → IsDead h.ages.now.machine.words h.ages.now.uses.outs.stages (4 * card_in s words slot + i)
+      → IsOut plan tree h.ages.now.machine h.ages.now.uses (4 * card_in s words slot + i)
   same_noted words same slot i low is =
-      subst (λ n. IsDead h.ages.now.machine.words h.ages.now.uses.outs.stages (4 * card_by slot n + i)) (sym (same slot))
+      subst (λ n. IsOut plan tree h.ages.now.machine h.ages.now.uses (4 * card_by slot n + i)) (sym (same slot))
       (h.ages.noted slot i low (subst (λ n. is_noted n i ≡ true) (same slot) is))
 
+  -- the words of cards where one behind them becomes another one
+  pub behind : (i n : ℕ) → clock_word s ≤ i → (j : ℕ) → j < table_size s.last → get_or (set t.words i n) j 0 ≡ get_or t.words j 0
+  behind i n after j low = get_or-set_other t.words i j n 0 (let before = before_clock s j low in omega arith)
+
   -- the periods of a table after a step by which no pass begins one
-  pub going : (p : Period) (i n : ℕ) → AnnouncesNoMore k.period p → p.read ≡ k.period.read
+  pub going : (p : Period) (i n : ℕ) → AnnouncesNoMore k.period p → p.read ≡ k.period.read → p.lost ≡ k.period.lost → p.slot ≡ k.period.slot
+      → ((j : ℕ) → j < table_size s.last → get_or (set t.words i n) j 0 ≡ get_or t.words j 0)
       → ((slot : ℕ) → get_or (set t.words i n) (slot_word s slot) 0 ≡ get_or t.words (slot_word s slot) 0)
       → PeriodsAreSound s (turned_to t id k p i n) h.dead h.began h.was_dead → HasPeriods plan s tree (turned_to t id k p i n)
-  going p i n was read same sound = record {
+  going p i n was read lost taken cards same sound = record {
     dead = h.dead;
     began = h.began;
     was_dead = h.was_dead;
@@ -58,7 +63,11 @@ module _ (plan : TablePlan) (s : Slots) (tree : TableState) (t : WholeState) (id
         (λ q a at an. let old = was q a at an in h.ages.since id q a k here old.0 old.1)
         (λ j q a u other there at an. refl)
         (same_noted (set t.words i n) same)
-        (λ r has. h.ages.read id k r here (sym read ∙ has));
+        (λ r has. h.ages.read id k r here (sym read ∙ has))
+        (λ c has. h.ages.lost id c k here (sym lost ∙ has));
+    tied = tie_of_period s tree t h.ages.now.machine.stages h.dead h.dead h.was_dead h.was_dead h.tied id k here p taken (set t.words i n) cards
+        (λ slot low. ap (card_by slot) (same slot)) (λ c lives. lives) (λ q a at an. (let old = was q a at an in inl (old.0, old.1, λ c lives. lives)))
+        (λ seat q a u other there at an c lives. lives) t.homes;
   }
 
   -- a word is stored again
@@ -68,7 +77,7 @@ module _ (plan : TablePlan) (s : Slots) (tree : TableState) (t : WholeState) (id
 
   pub stays : length t.words ≡ slots_size s → (i : ℕ) → i < slots_size s → HasPeriods plan s tree (turned_to t id k k.period i (get_or t.words i 0))
   stays size i inside =
-      going k.period i (get_or t.words i 0) (λ q a at an. (at, an)) refl (same_again size i inside)
+      going k.period i (get_or t.words i 0) (λ q a at an. (at, an)) refl refl refl (λ j low. word_again t.words i (omega arith) j) (same_again size i inside)
       (periods_stay s t id k here h.dead h.began h.was_dead h.periods size i inside)
 
   -- and after one begins
@@ -85,7 +94,15 @@ module _ (plan : TablePlan) (s : Slots) (tree : TableState) (t : WholeState) (id
         (λ j r a u other there at an. put_other h.was_dead q h.dead r
         (λ e. other (h.periods.apart j id q u k there here (own (at ∙ ap (λ x. Some x) e)) (own placed))))
         (same_noted (set t.words (place_word s q) (reading + 2)) (λ slot. get_or-set_other t.words (place_word s q) (slot_word s slot) (reading + 2) 0 (λ e. omega arith)))
-        (λ r has. h.ages.read id k r here has);
+        (λ r has. h.ages.read id k r here has)
+        (λ c has. h.ages.lost id c k here has);
+    tied = tie_of_period s tree t h.ages.now.machine.stages h.dead h.dead h.was_dead (put h.was_dead q h.dead) h.tied id k here (after_announce reading (get_or t.words (clock_word s) 0) k.period) refl
+        (set t.words (place_word s q) (reading + 2)) (behind (place_word s q) (reading + 2) (omega arith))
+        (λ slot low. ap (card_by slot) (get_or-set_other t.words (place_word s q) (slot_word s slot) (reading + 2) 0 (λ e. omega arith))) (λ c lives. lives)
+        (λ r a at an. inr (λ c lives. sym (ap (λ f. f c) (ap (put h.was_dead q h.dead) (same_Some r q (sym at ∙ placed)) ∙ put_same h.was_dead q h.dead)) ∙ lives))
+        (λ seat r a u other there at an c lives. sym (ap (λ f. f c) (put_other h.was_dead q h.dead r
+        (λ e. other (h.periods.apart seat id q u k there here (own (at ∙ ap (λ x. Some x) e)) (own placed))))) ∙ lives)
+        t.homes;
   }
     where
       still : (r x : ℕ) → put h.was_dead q h.dead r x ≡ true → h.dead x ≡ true
@@ -96,15 +113,15 @@ module _ (plan : TablePlan) (s : Slots) (tree : TableState) (t : WholeState) (id
 
 -- a step on the words of the periods is one of the table
 module _ (plan : TablePlan) (s : Slots) (placed : plan.slots ≡ Some s) where
-  pub goes_on_there : (k : Known) (i : ℕ) (f : ℕ → ℕ) (told : ℕ → Period → Type 0) (p : WholeState → Period) → clock_word s ≤ i
-      → ((tree : TableState) (t : WholeState) (id : ℕ) → get_elem? t.views id ≡ some k → get_elem? tree.views id ≡ some k.tree → HasPeriods plan s tree t → length t.words ≡ slots_size s
+  pub goes_on_whole : (k : Known) (i : ℕ) (f : ℕ → ℕ) (told : ℕ → Period → Type 0) (p : WholeState → Period)
+      → ((tree : TableState) (t : WholeState) (id : ℕ) → get_elem? t.views id ≡ some k → trees_of t.views ≡ tree.views → HasPeriods plan s tree t → length t.words ≡ slots_size s
       → HasPeriods plan s tree (turned_to t id k (p t) i (f (get_or t.words i 0))) × told (get_or t.words i 0) (p t))
       → MayGoOn plan k i f told
-  goes_on_there k i f told p behind step id t h homes here small =
-      let has = subst (λ o. WordsAre plan o t.words h.tree.words) placed h.words in
+  goes_on_whole k i f told p step id t h homes here small =
+      let has = subst (λ o. WordsAre o t.words h.tree.words) placed h.words in
       let n = get_or t.words i 0 in
       let now : Known = record { tree = k.tree; period = p t } in
-      let x = step h.tree t id here (ap (λ l. get_elem? l id) (sym h.views) ∙ tree_at t.views id k here) (subst (λ o. PeriodsAre plan o h.tree t) placed h.periods) has.0 in (
+      let x = step h.tree t id here h.views (subst (λ o. PeriodsAre plan o h.tree t) placed h.periods) has.0 in (
         now,
         keeps,
         tt,
@@ -114,37 +131,38 @@ module _ (plan : TablePlan) (s : Slots) (placed : plan.slots ≡ Some s) where
           views = map-set (λ (l : Known). l.tree) t.views id now ∙ (set_again (trees_of t.views) id k.tree (tree_at t.views id k here) ∙ h.views);
           homes = h.homes;
           stores = h.stores;
-          words = subst (λ o. WordsAre plan o (set t.words i (f n)) h.tree.words) (sym placed)
-              (length-set t.words i (f n) ∙ has.0, λ j low. get_or-set_other t.words i j (f n) 0 (apart j low) ∙ has.1 j low);
+          words = subst (λ o. WordsAre o (set t.words i (f n)) h.tree.words) (sym placed) (length-set t.words i (f n) ∙ has.0, has.1);
           periods = subst (λ o. PeriodsAre plan o h.tree (turned_to t id k (p t) i (f n))) (sym placed) x.0;
         },
         (x.1, refl, refl),
       )
-    where
-      apart : (j : ℕ) → j < card_words plan → j ≢ i
-      apart j low e =
-          let all : card_words plan ≡ min (table_size s.last) (table_size plan.last_card) = ap (λ o. card_words_by o plan.last_card) placed in
-          let before = before_clock s j (omega arith) in omega arith
+
+  -- where only the pass's own view of the tree is asked for
+  pub goes_on_there : (k : Known) (i : ℕ) (f : ℕ → ℕ) (told : ℕ → Period → Type 0) (p : WholeState → Period)
+      → ((tree : TableState) (t : WholeState) (id : ℕ) → get_elem? t.views id ≡ some k → get_elem? tree.views id ≡ some k.tree → HasPeriods plan s tree t → length t.words ≡ slots_size s
+      → HasPeriods plan s tree (turned_to t id k (p t) i (f (get_or t.words i 0))) × told (get_or t.words i 0) (p t))
+      → MayGoOn plan k i f told
+  goes_on_there k i f told p step = goes_on_whole k i f told p (λ tree t id here same. step tree t id here (ap (λ l. get_elem? l id) (sym same) ∙ tree_at t.views id k here))
 
   -- where nothing is asked of the tree
-  goes_on : (k : Known) (i : ℕ) (f : ℕ → ℕ) (told : ℕ → Period → Type 0) (p : WholeState → Period) → clock_word s ≤ i
+  goes_on : (k : Known) (i : ℕ) (f : ℕ → ℕ) (told : ℕ → Period → Type 0) (p : WholeState → Period)
       → ((tree : TableState) (t : WholeState) (id : ℕ) → get_elem? t.views id ≡ some k → HasPeriods plan s tree t → length t.words ≡ slots_size s
       → HasPeriods plan s tree (turned_to t id k (p t) i (f (get_or t.words i 0))) × told (get_or t.words i 0) (p t))
       → MayGoOn plan k i f told
-  goes_on k i f told p behind step = goes_on_there k i f told p behind (λ tree t id here there. step tree t id here)
+  goes_on k i f told p step = goes_on_there k i f told p (λ tree t id here there. step tree t id here)
 
   -- a pass reads the clock
   pub read_clock_goes_on : (k : Known) → MayGoOn plan k (clock_word s) (λ n. n) (λ n p. (p ≡ after_clock n k.period) × (n ≤ last_reading))
   read_clock_goes_on k =
-      goes_on k (clock_word s) (λ n. n) (λ n p. (p ≡ after_clock n k.period) × (n ≤ last_reading)) (λ t. after_clock (get_or t.words (clock_word s) 0) k.period) (omega arith)
-      (λ tree t id here h size. (going plan s tree t id k here h (after_clock (get_or t.words (clock_word s) 0) k.period) (clock_word s) (get_or t.words (clock_word s) 0) (λ q a at an. (at, an)) refl (λ slot. get_or-set_other t.words (clock_word s) (slot_word s slot) (get_or t.words (clock_word s) 0) 0 (λ e. omega arith)) (periods_read s t id k here h.dead h.began h.was_dead h.periods size), (refl, h.periods.low)))
+      goes_on k (clock_word s) (λ n. n) (λ n p. (p ≡ after_clock n k.period) × (n ≤ last_reading)) (λ t. after_clock (get_or t.words (clock_word s) 0) k.period)
+      (λ tree t id here h size. (going plan s tree t id k here h (after_clock (get_or t.words (clock_word s) 0) k.period) (clock_word s) (get_or t.words (clock_word s) 0) (λ q a at an. (at, an)) refl refl refl (behind plan s tree t id k here h (clock_word s) (get_or t.words (clock_word s) 0) (omega arith)) (λ slot. get_or-set_other t.words (clock_word s) (slot_word s slot) (get_or t.words (clock_word s) 0) 0 (λ e. omega arith)) (periods_read s t id k here h.dead h.began h.was_dead h.periods size), (refl, h.periods.low)))
 
   -- it announces a reading of the clock, if it announces nothing
   pub announces : (k : Known) (q reading : ℕ) → k.period.place ≡ Some q → k.period.announced ≡ None → k.period.reading ≡ Some reading
       → MayGoOn plan k (place_word s q) (λ n. reading + 2) (λ n p. (clock : ℕ) × (reading ≤ clock) × (p ≡ after_announce reading clock k.period))
   announces k q reading has quiet was =
       goes_on k (place_word s q) (λ n. reading + 2) (λ n p. (clock : ℕ) × (reading ≤ clock) × (p ≡ after_announce reading clock k.period))
-      (λ t. after_announce reading (get_or t.words (clock_word s) 0) k.period) (omega arith)
+      (λ t. after_announce reading (get_or t.words (clock_word s) 0) k.period)
       (λ tree t id here h size. (
         begins_now plan s tree t id k here h q reading has quiet was size,
         (get_or t.words (clock_word s) 0, (h.periods.each id k here).reading reading was, refl),
@@ -154,13 +172,13 @@ module _ (plan : TablePlan) (s : Slots) (placed : plan.slots ≡ Some s) where
   pub retracts : (k : Known) (q : ℕ) → k.period.place ≡ Some q → IsAtRest k.tree
       → MayGoOn plan k (place_word s q) (λ n. 1) (λ n p. p ≡ after_retract k.period)
   retracts k q has rest =
-      goes_on k (place_word s q) (λ n. 1) (λ n p. p ≡ after_retract k.period) (λ t. after_retract k.period) (omega arith)
-      (λ tree t id here h size. (going plan s tree t id k here h (after_retract k.period) (place_word s q) 1 (λ r a at an. absurd (some_not_none an refl)) refl (λ slot. get_or-set_other t.words (place_word s q) (slot_word s slot) 1 0 (λ e. omega arith)) (periods_retracted s t id k here h.dead h.began h.was_dead h.periods size q has rest), refl))
+      goes_on k (place_word s q) (λ n. 1) (λ n p. p ≡ after_retract k.period) (λ t. after_retract k.period)
+      (λ tree t id here h size. (going plan s tree t id k here h (after_retract k.period) (place_word s q) 1 (λ r a at an. absurd (some_not_none an refl)) refl refl refl (behind plan s tree t id k here h (place_word s q) 1 (omega arith)) (λ slot. get_or-set_other t.words (place_word s q) (slot_word s slot) 1 0 (λ e. omega arith)) (periods_retracted s t id k here h.dead h.began h.was_dead h.periods size q has rest), refl))
 
   -- it takes a place, if no pass has it
   pub takes : (k : Known) (q : ℕ) → q < s.places → MayGoOn plan k (place_word s q) (λ n. either (n == 0) 1 n) (λ n p. p ≡ after_take q n k.period)
   takes k q below =
-      goes_on k (place_word s q) (λ n. either (n == 0) 1 n) (λ n p. p ≡ after_take q n k.period) (λ t. after_take q (get_or t.words (place_word s q) 0) k.period) (omega arith)
+      goes_on k (place_word s q) (λ n. either (n == 0) 1 n) (λ n p. p ≡ after_take q n k.period) (λ t. after_take q (get_or t.words (place_word s q) 0) k.period)
       (λ tree t id here h size. (by tree t id here h size (get_or t.words (place_word s q) 0) refl, refl))
     where
       taken : (n : ℕ) → either (suc n == 0) 1 (suc n) ≡ suc n
@@ -168,7 +186,7 @@ module _ (plan : TablePlan) (s : Slots) (placed : plan.slots ≡ Some s) where
 
       by : (tree : TableState) (t : WholeState) (id : ℕ) → get_elem? t.views id ≡ some k → HasPeriods plan s tree t → length t.words ≡ slots_size s → (n : ℕ) → get_or t.words (place_word s q) 0 ≡ n
           → HasPeriods plan s tree (turned_to t id k (after_take q n k.period) (place_word s q) (either (n == 0) 1 n))
-      by tree t id here h size zero e = going plan s tree t id k here h (after_take q 0 k.period) (place_word s q) 1 (λ r a at an. (at, an)) refl (λ slot. get_or-set_other t.words (place_word s q) (slot_word s slot) 1 0 (λ e. omega arith))
+      by tree t id here h size zero e = going plan s tree t id k here h (after_take q 0 k.period) (place_word s q) 1 (λ r a at an. (at, an)) refl refl refl (behind plan s tree t id k here h (place_word s q) 1 (omega arith)) (λ slot. get_or-set_other t.words (place_word s q) (slot_word s slot) 1 0 (λ e. omega arith))
           (periods_taken s t id k here h.dead h.began h.was_dead h.periods size q below e)
       by tree t id here h size (suc n) e =
           subst (λ m. HasPeriods plan s tree (turned_to t id k k.period (place_word s q) m)) (e ∙ sym (taken n))
@@ -194,14 +212,14 @@ module _ (plan : TablePlan) (s : Slots) (placed : plan.slots ≡ Some s) where
   -- it gives its other place back
   pub gives_back : (k : Known) (q : ℕ) → k.period.other ≡ Some q → MayGoOn plan k (place_word s q) (λ n. 0) (λ n p. p ≡ after_give k.period)
   gives_back k q has =
-      goes_on k (place_word s q) (λ n. 0) (λ n p. p ≡ after_give k.period) (λ t. after_give k.period) (omega arith)
-      (λ tree t id here h size. (going plan s tree t id k here h (after_give k.period) (place_word s q) 0 (λ r a at an. (at, an)) refl (λ slot. get_or-set_other t.words (place_word s q) (slot_word s slot) 0 0 (λ e. omega arith)) (periods_given s t id k here h.dead h.began h.was_dead h.periods size q has), refl))
+      goes_on k (place_word s q) (λ n. 0) (λ n p. p ≡ after_give k.period) (λ t. after_give k.period)
+      (λ tree t id here h size. (going plan s tree t id k here h (after_give k.period) (place_word s q) 0 (λ r a at an. (at, an)) refl refl refl (behind plan s tree t id k here h (place_word s q) 0 (omega arith)) (λ slot. get_or-set_other t.words (place_word s q) (slot_word s slot) 0 0 (λ e. omega arith)) (periods_given s t id k here h.dead h.began h.was_dead h.periods size q has), refl))
 
   -- it lets the clock go on, if that is as it was read
   pub tick_goes_on : (k : Known) (reading : ℕ) → reading < last_reading
       → MayGoOn plan k (clock_word s) (λ n. either (n == reading) (reading + 1) n) (λ n p. p ≡ k.period)
   tick_goes_on k reading low =
-      goes_on k (clock_word s) (λ n. either (n == reading) (reading + 1) n) (λ n p. p ≡ k.period) (λ t. k.period) (omega arith)
+      goes_on k (clock_word s) (λ n. either (n == reading) (reading + 1) n) (λ n p. p ≡ k.period) (λ t. k.period)
       (λ tree t id here h size. (by tree t id here h size (cases_eq (get_or t.words (clock_word s) 0) reading), refl))
     where
       on : TableState → WholeState → ℕ → ℕ → Type 0
@@ -213,7 +231,7 @@ module _ (plan : TablePlan) (s : Slots) (placed : plan.slots ≡ Some s) where
       by tree t id here h size (inl is) =
           subst (on tree t id)
           (ap (λ n. n + 1) is ∙ sym (ap (λ n. either (n == reading) (reading + 1) n) is ∙ ap (λ b. either b (reading + 1) reading) (eq-eqb reading reading refl)))
-          (going plan s tree t id k here h k.period (clock_word s) (get_or t.words (clock_word s) 0 + 1) (λ q a at an. (at, an)) refl (λ slot. get_or-set_other t.words (clock_word s) (slot_word s slot) (get_or t.words (clock_word s) 0 + 1) 0 (λ e. omega arith))
+          (going plan s tree t id k here h k.period (clock_word s) (get_or t.words (clock_word s) 0 + 1) (λ q a at an. (at, an)) refl refl refl (behind plan s tree t id k here h (clock_word s) (get_or t.words (clock_word s) 0 + 1) (omega arith)) (λ slot. get_or-set_other t.words (clock_word s) (slot_word s slot) (get_or t.words (clock_word s) 0 + 1) 0 (λ e. omega arith))
           (periods_ticked s t id k here h.dead h.began h.was_dead h.periods size (omega arith)))
       by tree t id here h size (inr other) =
           subst (on tree t id)
@@ -224,9 +242,9 @@ module _ (plan : TablePlan) (s : Slots) (placed : plan.slots ≡ Some s) where
   pub looks_at : (k : Known) (q : ℕ) → q ≡ k.period.looked → q < s.places
       → MayGoOn plan k (place_word s q) (λ n. n) (λ n p. (o : Slots) → plan.slots ≡ Some o → p ≡ after_look_at o.places n k.period)
   looks_at k q next below =
-      goes_on k (place_word s q) (λ n. n) (λ n p. (o : Slots) → plan.slots ≡ Some o → p ≡ after_look_at o.places n k.period) (λ t. after_look_at s.places (get_or t.words (place_word s q) 0) k.period) (omega arith)
+      goes_on k (place_word s q) (λ n. n) (λ n p. (o : Slots) → plan.slots ≡ Some o → p ≡ after_look_at o.places n k.period) (λ t. after_look_at s.places (get_or t.words (place_word s q) 0) k.period)
       (λ tree t id here h size. (
         going plan s tree t id k here h (after_look_at s.places (get_or t.words (place_word s q) 0) k.period) (place_word s q) (get_or t.words (place_word s q) 0)
-            (λ r a at an. (at, an)) refl (λ slot. get_or-set_other t.words (place_word s q) (slot_word s slot) (get_or t.words (place_word s q) 0) 0 (λ e. omega arith)) (periods_seen s t id k here h.dead h.began h.was_dead h.periods size q next below),
+            (λ r a at an. (at, an)) refl refl refl (behind plan s tree t id k here h (place_word s q) (get_or t.words (place_word s q) 0) (omega arith)) (λ slot. get_or-set_other t.words (place_word s q) (slot_word s slot) (get_or t.words (place_word s q) 0) 0 (λ e. omega arith)) (periods_seen s t id k here h.dead h.began h.was_dead h.periods size q next below),
         λ o is. ap (λ (x : Slots). after_look_at x.places (get_or t.words (place_word s q) 0) k.period) (same_Some s o (sym placed ∙ is)),
       ))

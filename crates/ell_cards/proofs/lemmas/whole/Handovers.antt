@@ -1,9 +1,7 @@
-use Rattle.std.proofs.Common.{◌≡◌, ◌≢◌, ℕ, zero, suc, ◌≤◌, nat_lt, Bool, false, Option, Some, None, List, [], ◌∷◌, ◌++◌, length, set, inl, inr, ◌⊎◌, refl, sym, ap, ◌∙◌, subst, ⊎_elim, arith, length-set}
+use Rattle.std.proofs.Common.{◌≡◌, ◌≢◌, ℕ, zero, suc, ◌≤◌, nat_lt, Bool, false, Some, None, List, [], ◌∷◌, ◌++◌, length, set, inl, inr, ◌⊎◌, refl, sym, ap, ◌∙◌, subst, ⊎_elim, arith, length-set}
 use Rattle.std.proofs.lemmas.Bool.{cases_eq, false≢true, false_from_ne_true, ltb-true}
-use Rattle.std.proofs.lemmas.List.{map-set}
 use mathlib.Core.Option.{some, some-injective, some-ne-none}
 use lib.ListN.{get_elem?}
-use Rattle.atomic_table.specs.Table.{Splits, Joins}
 use Rattle.atomic_table.proofs.Lists.{at_set, set_else}
 use Rattle.ell_core.proofs.lemmas.outcomes.Decide.{some_not_none}
 use Rattle.ell_grace.specs.Grace.{Grace}
@@ -14,23 +12,17 @@ use Rattle.ell_cards.specs.declared.view.Known.{Known}
 use Rattle.ell_cards.specs.declared.view.Period.{Period}
 use Rattle.ell_cards.specs.declared.view.Slots.{Slots}
 use Rattle.ell_cards.specs.declared.view.View.{View}
-use Rattle.ell_cards.specs.Models.{TablePlan, IsFree}
-use Rattle.ell_cards.specs.Changes.{left_view, right_view, joined_view, spent_view}
+use Rattle.ell_cards.specs.Models.{TablePlan}
+use Rattle.ell_cards.specs.Changes.{joined_view, spent_view}
 use Rattle.ell_cards.specs.Periods.{WholeState, no_period, after_give, given_period, joined_period, period_in, pending_by, place_says, IsAtRest, PeriodHolds, HasPlace, own, spare, PeriodsAreSound, grace_of}
 use Rattle.ell_cards.specs.Ages.{AgesAreSound}
 use Rattle.ell_cards.specs.States.{TableState}
-use Rattle.ell_cards.specs.Shown.{StoresAreWhole}
-use Rattle.ell_cards.specs.Stepping.{MaySplit}
 use Rattle.ell_cards.specs.Turns.{TableTurns, Splits as SplitsInto, Joins as JoinsWith}
-use Rattle.ell_cards.specs.Whole.{trees_of, joined_known, spent_known, PeriodsAre, IsWhole}
-use Rattle.ell_cards.proofs.lemmas.lifetimes.Joins.{each_joined as each_view_joined}
-use Rattle.ell_cards.proofs.lemmas.lifetimes.Splits.{each_split as each_view_split}
-use Rattle.ell_cards.proofs.lemmas.shown.ShownViews.{unfilled_whole}
-use Rattle.ell_cards.proofs.lemmas.runs.Reaching.{reached_on}
-use Rattle.ell_cards.proofs.lemmas.whole.Ages.{AgesOn, Onward, onward, dead_on, still_since, noted_on, read_on}
+use Rattle.ell_cards.specs.Whole.{joined_known, spent_known}
+use Rattle.ell_cards.proofs.lemmas.whole.Ages.{AgesOn, Onward, onward, dead_on, still_since, noted_on, read_on, lost_on}
 use Rattle.ell_cards.proofs.lemmas.whole.Rests.{is_at_rest}
 use Rattle.ell_cards.proofs.lemmas.whole.Seats.{part_same, part_put}
-use Rattle.ell_cards.proofs.lemmas.whole.Trees.{tree_at, grace_same}
+use Rattle.ell_cards.proofs.lemmas.whole.Trees.{grace_same}
 
 -- what is at a place of a list with one more at its end
 pub at_end : {A : Type 0} (l : List A) (a b : A) (j : ℕ) → get_elem? (l ++ a ∷ []) j ≡ some b → (get_elem? l j ≡ some b) ⊎ ((j ≡ length l) × (a ≡ b))
@@ -49,11 +41,6 @@ part_more part [] k same zero = same
 part_more part [] k same (suc i) = refl
 part_more part (x ∷ xs) k same zero = refl
 part_more part (x ∷ xs) k same (suc i) = part_more part xs k same i
-
--- the trees of a list with one more at its end
-trees_more : (views : List Known) (k : Known) → trees_of (views ++ k ∷ []) ≡ trees_of views ++ k.tree ∷ []
-trees_more [] k = refl
-trees_more (x ∷ xs) k = ap (λ l. x.tree ∷ l) (trees_more xs k)
 
 -- a split
 module _ (sl : Slots) (t : WholeState) (id : ℕ) (k : Known) (here : get_elem? t.views id ≡ some k) (dead : ℕ → Bool) (began : ℕ → ℕ) (was_dead : ℕ → ℕ → Bool)
@@ -166,6 +153,7 @@ module _ (sl : Slots) (t : WholeState) (id : ℕ) (k : Known) (here : get_elem? 
 -- the ages after a split, whose parts are both at rest
 module _ (plan : TablePlan) (s : Slots) (tree tree' : TableState) (t : WholeState) (id : ℕ) (k : Known) (here : get_elem? t.views id ≡ some k) (keys : List ℕ) (turn : TableTurns plan tree (SplitsInto id keys) tree')
     (left right : Known) (left_rests : IsAtRest left.tree) (right_rests : IsAtRest right.tree) (left_read : left.period.read ≡ k.period.read) (right_read : right.period.read ≡ None)
+    (left_lost : left.period.lost ≡ k.period.lost) (right_lost : right.period.lost ≡ None)
     (dead : ℕ → Bool) (was_dead : ℕ → ℕ → Bool) where
   pub ages_after_split : (h : AgesAreSound plan s tree t dead was_dead)
       → AgesOn plan s tree t dead was_dead h (SplitsInto id keys) tree' (record { words = t.words; homes = t.homes; views = set t.views id left ++ right ∷ [] })
@@ -189,6 +177,13 @@ module _ (plan : TablePlan) (s : Slots) (tree tree' : TableState) (t : WholeStat
             (at_set t.views id seat left u was)
         | inr new ↦ λ i is. absurd (some_not_none (ap (λ (x : Known). x.period.read) new.1 ∙ has) right_read)
       ];
+      lost = λ seat c u at has. elim (at_end (set t.views id left) right u seat at) [
+        | inl was ↦ ⊎_elim
+            (λ (e : (seat ≡ id) × (left ≡ u)). lost_on plan s tree tree' t dead was_dead h (SplitsInto id keys) on id c k here (sym left_lost ∙ (ap (λ (x : Known). x.period.lost) e.1 ∙ has)))
+            (λ (e : (seat ≢ id) × (get_elem? t.views seat ≡ some u)). lost_on plan s tree tree' t dead was_dead h (SplitsInto id keys) on seat c u e.1 has)
+            (at_set t.views id seat left u was)
+        | inr new ↦ absurd (some_not_none (ap (λ (x : Known). x.period.lost) new.1 ∙ has) right_lost)
+      ];
     };
     later = on.later;
     wins = on.wins;
@@ -196,49 +191,6 @@ module _ (plan : TablePlan) (s : Slots) (tree tree' : TableState) (t : WholeStat
     where
       on : Onward plan tree h.now.machine h.now.uses (SplitsInto id keys) tree'
       on = onward plan tree h.now.machine h.now.uses (SplitsInto id keys) tree' turn
-
--- a split of the tree is a split of the table
-pub whole_splits : (plan : TablePlan) (k : Known) (keys : List ℕ) → ((q : ℕ) → k.period.other ≡ Some q → k.period.other_says ≡ None) → MaySplit k.tree
-    → (id : ℕ) → Splits (IsWhole plan) id k (record { tree = left_view keys k.tree; period = after_give k.period }) (record { tree = right_view keys k.tree; period = given_period k.period })
-whole_splits plan k keys quiet may id s h here =
-    let l : Known = record { tree = left_view keys k.tree; period = after_give k.period } in
-    let r : Known = record { tree = right_view keys k.tree; period = given_period k.period } in
-    let there : get_elem? h.tree.views id ≡ some k.tree = ap (λ v. get_elem? v id) (sym h.views) ∙ tree_at s.views id k here in
-    let tree : TableState = record { words = h.tree.words; homes = h.tree.homes; views = set h.tree.views id (left_view keys k.tree) ++ (right_view keys k.tree) ∷ [] } in
-    let turn : TableTurns plan h.tree (SplitsInto id keys) tree = record {
-      view = k.tree;
-      there = there;
-      free = may.free;
-      may = may.may;
-      gives = refl;
-    } in
-    record {
-      tree = tree;
-      reached = reached_on plan h.tree h.reached (SplitsInto id keys) tree turn;
-      views = trees_more (set s.views id l) r ∙ (ap (λ v. v ++ (right_view keys k.tree) ∷ []) (map-set (λ (x : Known). x.tree) s.views id l) ∙ ap (λ v. set v id (left_view keys k.tree) ++ (right_view keys k.tree) ∷ []) h.views);
-      homes = h.homes;
-      words = h.words;
-      stores = each_view_split h.tree.views id k.tree there (left_view keys k.tree) (right_view keys k.tree) StoresAreWhole
-          (unfilled_whole (left_view keys k.tree) refl refl) (unfilled_whole (right_view keys k.tree) refl refl) h.stores;
-      periods = by h.tree tree turn plan.slots h.periods;
-    }
-  where
-    left_rests : IsAtRest (left_view keys k.tree)
-    left_rests = is_at_rest (left_view keys k.tree) refl refl refl refl refl
-
-    right_rests : IsAtRest (right_view keys k.tree)
-    right_rests = is_at_rest (right_view keys k.tree) refl refl refl refl refl
-
-    by : (tree tree' : TableState) → TableTurns plan tree (SplitsInto id keys) tree' → (o : Option Slots) → PeriodsAre plan o tree s
-        → PeriodsAre plan o tree' (record { words = s.words; homes = s.homes; views = set s.views id (record { tree = left_view keys k.tree; period = after_give k.period }) ++ record { tree = right_view keys k.tree; period = given_period k.period } ∷ [] })
-    by tree tree' turn None periods = tt
-    by tree tree' turn (Some sl) h = record {
-      dead = h.dead;
-      began = h.began;
-      was_dead = h.was_dead;
-      periods = split_periods sl s id k here h.dead h.began h.was_dead h.periods (left_view keys k.tree) (right_view keys k.tree) left_rests right_rests quiet;
-      ages = (ages_after_split plan sl tree tree' s id k here keys turn (record { tree = left_view keys k.tree; period = after_give k.period }) (record { tree = right_view keys k.tree; period = given_period k.period }) left_rests right_rests refl refl h.dead h.was_dead h.ages).ages;
-    }
 
 -- whoever has seen nothing of the others' periods, and is about to free no card, knows nothing wrong of them
 reset : (places : ℕ) (w : Grace) (i : ℕ) → GraceIsSound places w
@@ -377,6 +329,7 @@ module _ (sl : Slots) (t : WholeState) (id other : ℕ) (k l : Known) (here : ge
 -- the ages after a join, whose pass is at rest
 module _ (plan : TablePlan) (s : Slots) (tree tree' : TableState) (t : WholeState) (id other : ℕ) (k : Known) (here : get_elem? t.views id ≡ some k) (turn : TableTurns plan tree (JoinsWith id other) tree')
     (both spent : Known) (both_rests : IsAtRest both.tree) (spent_rests : IsAtRest spent.tree) (both_read : both.period.read ≡ k.period.read) (spent_read : spent.period.read ≡ None)
+    (both_lost : both.period.lost ≡ k.period.lost) (spent_lost : spent.period.lost ≡ None)
     (dead : ℕ → Bool) (was_dead : ℕ → ℕ → Bool) where
   pub ages_after_join : (h : AgesAreSound plan s tree t dead was_dead)
       → AgesOn plan s tree t dead was_dead h (JoinsWith id other) tree' (record { words = t.words; homes = t.homes; views = set (set t.views id both) other spent })
@@ -400,6 +353,13 @@ module _ (plan : TablePlan) (s : Slots) (tree tree' : TableState) (t : WholeStat
           (λ (f : (seat ≢ id) × (get_elem? t.views seat ≡ some u)). read_on plan s tree tree' t dead was_dead h (JoinsWith id other) on seat u r f.1 has)
           (at_set t.views id seat both u e.1))
           (at_set (set t.views id both) other seat spent u at);
+      lost = λ seat c u at has. ⊎_elim
+          (λ (e : (seat ≡ other) × (spent ≡ u)). absurd (some_not_none (ap (λ (x : Known). x.period.lost) e.1 ∙ has) spent_lost))
+          (λ (e : (seat ≢ other) × (get_elem? (set t.views id both) seat ≡ some u)). ⊎_elim
+          (λ (f : (seat ≡ id) × (both ≡ u)). lost_on plan s tree tree' t dead was_dead h (JoinsWith id other) on id c k here (sym both_lost ∙ (ap (λ (x : Known). x.period.lost) f.1 ∙ has)))
+          (λ (f : (seat ≢ id) × (get_elem? t.views seat ≡ some u)). lost_on plan s tree tree' t dead was_dead h (JoinsWith id other) on seat c u f.1 has)
+          (at_set t.views id seat both u e.1))
+          (at_set (set t.views id both) other seat spent u at);
     };
     later = on.later;
     wins = on.wins;
@@ -407,45 +367,3 @@ module _ (plan : TablePlan) (s : Slots) (tree tree' : TableState) (t : WholeStat
     where
       on : Onward plan tree h.now.machine h.now.uses (JoinsWith id other) tree'
       on = onward plan tree h.now.machine h.now.uses (JoinsWith id other) tree' turn
-
--- a join of the tree is a join of the table
-pub whole_joins : (plan : TablePlan) (k l : Known) → IsFree k.tree → IsFree l.tree
-    → (id other : ℕ) → Joins (IsWhole plan) id k other l (joined_known k l) spent_known
-whole_joins plan k l free other_free id other s h here aside there =
-    let ours : get_elem? h.tree.views id ≡ some k.tree = ap (λ v. get_elem? v id) (sym h.views) ∙ tree_at s.views id k here in
-    let theirs : get_elem? s.views other ≡ some l = sym (set_else s.views id other (joined_known k l) aside) ∙ there in
-    let tree : TableState = record { words = h.tree.words; homes = h.tree.homes; views = set (set h.tree.views id (joined_view k.tree l.tree)) other spent_view } in
-    let turn : TableTurns plan h.tree (JoinsWith id other) tree = record {
-      view = k.tree;
-      view' = l.tree;
-      there = ours;
-      there' = ap (λ v. get_elem? v other) (sym h.views) ∙ tree_at s.views other l theirs;
-      apart = λ e. aside (sym e);
-      free = free;
-      free' = other_free;
-      gives = refl;
-    } in
-    record {
-      tree = tree;
-      reached = reached_on plan h.tree h.reached (JoinsWith id other) tree turn;
-      views = map-set (λ (x : Known). x.tree) (set s.views id (joined_known k l)) other spent_known
-          ∙ (ap (λ v. set v other spent_view) (map-set (λ (x : Known). x.tree) s.views id (joined_known k l))
-          ∙ ap (λ v. set (set v id (joined_view k.tree l.tree)) other spent_view) h.views);
-      homes = h.homes;
-      words = h.words;
-      stores = each_view_joined h.tree.views id other k.tree l.tree ours turn.there' aside (joined_view k.tree l.tree) StoresAreWhole
-          (unfilled_whole (joined_view k.tree l.tree) refl refl) (unfilled_whole spent_view refl refl) h.stores;
-      periods = by h.tree tree turn plan.slots h.periods theirs;
-    }
-  where
-    by : (tree tree' : TableState) → TableTurns plan tree (JoinsWith id other) tree' → (o : Option Slots) → PeriodsAre plan o tree s → get_elem? s.views other ≡ some l
-        → PeriodsAre plan o tree' (record { words = s.words; homes = s.homes; views = set (set s.views id (joined_known k l)) other spent_known })
-    by tree tree' turn None periods theirs = tt
-    by tree tree' turn (Some sl) h theirs = record {
-      dead = h.dead;
-      began = h.began;
-      was_dead = h.was_dead;
-      periods = join_periods sl s id other k l here theirs aside h.dead h.began h.was_dead h.periods;
-      ages = (ages_after_join plan sl tree tree' s id other k here turn (joined_known k l) spent_known
-          (is_at_rest (joined_view k.tree l.tree) refl refl refl refl refl) (is_at_rest spent_view refl refl refl refl refl) refl refl h.dead h.was_dead h.ages).ages;
-    }

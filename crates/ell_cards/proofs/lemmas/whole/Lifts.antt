@@ -1,29 +1,22 @@
 -- A call that a pass may make by what is shown of what it knows is one that it may make by that itself, where all that it
 -- names, and the word that the call finds, are so small that nothing is cut.
-use Rattle.std.proofs.Common.{◌≡◌, ℕ, ◌≤◌, Option, Some, None, refl, sym, ap, ◌∙◌, subst, arith}
-use Rattle.ell_word.specs.Node.{greatest_card}
+use Rattle.std.proofs.Common.{◌≡◌, ℕ, ◌≤◌, refl, sym, ap, ◌∙◌, subst, arith}
+use Rattle.ell_word.specs.Node.{greatest_card, greatest_number}
 use Rattle.ell_layout.specs.declared.field.Field.{Field}
 use Rattle.ell_layout.specs.declared.field.Field.TheVariants as field
 use Rattle.ell_layout.specs.Cards.{stored}
 use Rattle.ell_cards.specs.declared.call.Call.{Call}
 use Rattle.ell_cards.specs.declared.call.Call.TheVariants as call
-use Rattle.ell_cards.specs.declared.view.Slots.{Slots}
 use Rattle.ell_cards.specs.declared.view.Told.TheVariants.{Expects}
 use Rattle.ell_cards.specs.declared.view.View.{View}
-use Rattle.ell_cards.specs.Models.{TablePlan, last_claim_of}
+use Rattle.ell_cards.specs.Models.{TablePlan}
 use Rattle.ell_cards.specs.Naming.{IsNamed}
 use Rattle.ell_cards.specs.Guards.{MayFill}
 use Rattle.ell_cards.specs.Calls.{Atomic, Store, atomic_of, is_won, May}
 use Rattle.ell_cards.specs.Shown.{IsWord, cut_tag, shown_word, shown, shown_call, ReadsWhole, StandsInside, CanBeShown, StoresAreWhole, IsWholeFor, FillIsWhole, StoresWord, IsLifted}
-use Rattle.ell_cards.specs.Starts.{SlotsFit}
 use Rattle.ell_cards.proofs.lemmas.shown.CutWords.{cut_same}
 use Rattle.ell_cards.proofs.lemmas.shown.ShownCalls.{guards_are_lifted}
 use Rattle.ell_cards.proofs.lemmas.shown.ShownKinds.{field_is_whole, origins_are_of_their_kind}
-
--- no more cards may be claimed than may have words
-pub claims_few : (plan : TablePlan) (o : Option Slots) → SlotsFit plan o → last_claim_of o plan.last_card ≤ greatest_card
-claims_few plan None fit = fit
-claims_few plan (Some s) fit = let few = fit.4 in omega arith
 
 -- what an atomic step stores is a word
 abbrev pub AtomicIsWord : Atomic → Type 0
@@ -100,15 +93,15 @@ module _ (plan : TablePlan) (v : View) (last : ℕ) (few : last ≤ greatest_car
   reads_whole (call.Mark x p was) n word = word
   reads_whole _ n word = tt
 
-  -- a claim stands at a node that a child word has room for
-  pub stands_inside : (c : Call) → StandsInside c v
-  stands_inside (call.Claim x node_key) = λ y at. (let low = named.node y at in omega arith)
-  stands_inside _ = tt
-
   -- so it can be shown
-  pub can_be_shown : (c : Call) (n : ℕ) → shown_call c ≡ c → IsWord n → CanBeShown c n v
-  can_be_shown c n same word = record {
+  pub can_be_shown : (c : Call) (n : ℕ) → shown_call c ≡ c → IsWord n → StandsInside c v → CanBeShown c n v
+  can_be_shown c n same word inside = record {
     wins = λ t. is_won (atomic_of (same t)) (cut_same n word t);
     whole = reads_whole c n word;
-    inside = stands_inside c;
+    inside = inside;
   }
+
+-- a claim stands at a node that a child word has room for
+pub stands_inside : (v : View) → IsNamed greatest_number v → (c : Call) → StandsInside c v
+stands_inside v named (call.Claim x node_key) = λ y at. (let low = named.node y at in omega arith)
+stands_inside v named _ = tt

@@ -1,4 +1,4 @@
-use Rattle.std.proofs.Common.{◌≡◌, ◌≢◌, ℕ, zero, suc, ◌+◌, ◌*◌, ◌-◌, ◌<◌, ◌≤◌, ◌==◌, ◌&&◌, nat_lt, nat_le, if◌then◌else◌, Bool, true, false, Option, Some, None, List, [], ◌∷◌, ◌++◌, length, replicate, get_or, inl, inr, ◌⊎◌, refl, sym, ap, ◌∙◌, subst, arith, length-set, get_or-set_same, get_or-set_other, eq-eqb, true≢false}
+use Rattle.std.proofs.Common.{◌≡◌, ◌≢◌, ℕ, zero, suc, ◌+◌, ◌*◌, ◌-◌, ◌≤◌, ◌==◌, ◌&&◌, nat_lt, nat_le, if◌then◌else◌, Bool, true, false, Option, Some, None, List, [], ◌∷◌, ◌++◌, length, replicate, get_or, inl, inr, ◌⊎◌, refl, sym, ap, ◌∙◌, subst, arith, length-set, get_or-set_same, get_or-set_other, eq-eqb, true≢false}
 use Rattle.std.proofs.lemmas.Bool.{cases_eq, cases_lt, false≢true}
 use Rattle.std.proofs.lemmas.List.{length-append, length-replicate, get_or_past, get_or-replicate, get_or_append_left, get_or-append_right}
 use Rattle.std.proofs.lemmas.Option.{same_Some}
@@ -9,27 +9,20 @@ use Rattle.ell_core.proofs.lemmas.outcomes.Decide.{some_not_none}
 use Rattle.ell_grace.proofs.lemmas.Grace.{grace_starts}
 use Rattle.ell_word.specs.Node.{greatest_card, greatest_number}
 use Rattle.ell_layout.specs.Layout.{address, table_size}
-use Rattle.ell_layout.specs.Start.{words_at_start}
 use Rattle.ell_layout.specs.Words.{words_of, table_words}
 use Rattle.ell_cards.specs.declared.view.Known.{Known}
 use Rattle.ell_cards.specs.declared.view.Period.{Period}
 use Rattle.ell_cards.specs.declared.view.Slots.{Slots}
 use Rattle.ell_cards.specs.declared.view.View.{View}
-use Rattle.ell_cards.specs.Models.{TablePlan, last_claim, last_claim_of}
+use Rattle.ell_cards.specs.Models.{TablePlan, last_slot, last_slot_of}
 use Rattle.ell_cards.specs.Changes.{first_of}
-use Rattle.ell_cards.specs.Periods.{slots_of, last_for, clock_word, place_word, slot_word, slots_size, stamp_at, pending_by, opening_words, whole_words, size_by, whole_size, period_by, announced_by, period_in, card_words, card_words_by, IsAtRest, PeriodHolds, PeriodsAreSound, grace_of}
-use Rattle.ell_cards.specs.Ages.{ForgotWhen, HasPeriods}
+use Rattle.ell_cards.specs.Periods.{slots_of, last_for, clock_word, place_word, slot_word, slots_size, stamp_at, pending_by, opening_words, whole_words, size_by, whole_size, period_by, announced_by, period_in, IsAtRest, PeriodHolds, PeriodsAreSound, grace_of}
+use Rattle.ell_cards.specs.Aside.{IsAside}
+use Rattle.ell_cards.specs.Ages.{IsOut, ForgotWhen, AgesAreSound}
 use Rattle.ell_cards.specs.SlotWords.{slot_of, card_by, freed_by, is_noted}
 use Rattle.ell_cards.specs.States.{TableState}
-use Rattle.ell_grace.specs.Dead.{IsDead}
 use Rattle.ell_cards.specs.Starts.{MayStart, SlotsFit, IsReached, most_places}
-use Rattle.ell_cards.specs.Shown.{StoresAreWhole}
-use Rattle.ell_cards.specs.Whole.{first_known, WordsAre, PeriodsAre, IsWhole}
-use Rattle.ell_cards.proofs.lemmas.lifetimes.Openings.{each_first}
-use Rattle.ell_cards.proofs.lemmas.shown.ShownViews.{unfilled_whole}
-use Rattle.ell_cards.proofs.lemmas.runs.Reaching.{reached_first}
 use Rattle.ell_cards.proofs.lemmas.runs.Alive.{tables_have_uses}
-use Rattle.ell_cards.proofs.lemmas.whole.Rests.{is_at_rest}
 
 -- so many zeros are as many
 pub zeros_many : (n : ℕ) → length (replicate {A = ℕ} n 0) ≡ n
@@ -62,7 +55,7 @@ module _ (s : Slots) (cards : List ℕ) (size : length cards ≡ table_size s.la
   behind : List ℕ
   behind = cards ++ replicate (slots_size s - length cards) 0
 
-  all_size : length all ≡ slots_size s
+  pub all_size : length all ≡ slots_size s
   all_size =
       length-set (cards ++ replicate (slots_size s - length cards) 0) (place_word s 0) 1
       ∙ (length-append cards (replicate (slots_size s - length cards) 0) ∙ (let many = zeros_many (slots_size s - length cards) in omega arith))
@@ -154,77 +147,25 @@ none_noted (suc (suc zero)) is = false≢true is
 none_noted (suc (suc (suc k))) is = false≢true is
 
 -- nothing is dead in it, and nobody is in a period
-pub first_whole : (plan : TablePlan) (s : Slots) (tree : TableState) → IsReached plan tree → (cards : List ℕ) (size : length cards ≡ table_size s.last) → IsAtRest (first_of plan) → 1 ≤ s.places
-    → HasPeriods plan s tree (opening (opening_words s cards) [] (record { tree = first_of plan; period = period_by (Some s) }))
-first_whole plan s tree reached cards size rest one =
+pub first_ages : (plan : TablePlan) (s : Slots) (tree : TableState) → IsReached plan tree → (cards : List ℕ) (size : length cards ≡ table_size s.last) → IsAtRest (first_of plan) → 1 ≤ s.places
+    → AgesAreSound plan s tree (opening (opening_words s cards) [] (record { tree = first_of plan; period = period_by (Some s) })) (λ x. false) (λ q x. false)
+first_ages plan s tree reached cards size rest one =
     let has = tables_have_uses plan tree reached in record {
-      dead = λ x. false;
-      began = λ q. 0;
-      was_dead = λ q x. false;
-      periods = first_periods s cards size (first_of plan) rest one;
-      ages = record {
-        now = record { machine = has.0; uses = has.1; each = λ c k low is. absurd (false≢true is) };
-        still = λ q x is. is;
-        since = λ i q a k at. alone s cards size (first_of plan) rest one (λ j u. u.period.place ≡ Some q → u.period.announced ≡ Some a → IsAtRest u.tree ⊎ ForgotWhen plan tree j (λ x. false))
-            (λ is an. inl rest) i k at;
-        noted = λ slot k low is. absurd (none_noted k (subst (λ n. is_noted n k ≡ true) (slots_empty s cards size slot) is));
-        read = λ i k r at. alone s cards size (first_of plan) rest one (λ j u. u.period.read ≡ Some r → (b : ℕ) → is_noted r.word b ≡ true → IsDead has.0.words has.1.outs.stages (4 * card_by r.slot r.word + b))
-            (λ is. absurd (some_not_none is refl)) i k at;
-      };
+      now = record { machine = has.0; uses = has.1; each = λ c k low is. absurd (false≢true is) };
+      still = λ q x is. is;
+      since = λ i q a k at. alone s cards size (first_of plan) rest one (λ j u. u.period.place ≡ Some q → u.period.announced ≡ Some a → IsAtRest u.tree ⊎ ForgotWhen plan tree j (λ x. false))
+          (λ is an. inl rest) i k at;
+      noted = λ slot k low is. absurd (none_noted k (subst (λ n. is_noted n k ≡ true) (slots_empty s cards size slot) is));
+      read = λ i k r at. alone s cards size (first_of plan) rest one (λ j u. u.period.read ≡ Some r → (b : ℕ) → is_noted r.word b ≡ true → IsOut plan tree has.0 has.1 (4 * card_by r.slot r.word + b))
+          (λ is. absurd (some_not_none is refl)) i k at;
+      lost = λ i c k at. alone s cards size (first_of plan) rest one (λ j u. u.period.lost ≡ Some c → IsAside has.0.stages tree.views c) (λ is. absurd (some_not_none is refl)) i k at;
     }
 
--- a table starts so
-pub whole_first : (plan : TablePlan) (may : MayStart plan) (cards words : List ℕ) → length cards ≡ table_size (last_claim plan) → words_of cards ≡ words_at_start plan.flat plan.start
-    → words ≡ whole_words plan.slots cards → IsWhole plan (opening words [] (first_known plan))
-whole_first plan may cards words size are is = by plan.slots refl may.slots
-  where
-    by : (o : Option Slots) → plan.slots ≡ o → SlotsFit plan o → IsWhole plan (opening words [] (first_known plan))
-    by None none fit =
-        let same : words ≡ cards = is ∙ ap (λ o. whole_words o cards) none in
-        let all : length cards ≡ table_size plan.last_card = size ∙ ap (λ o. table_size (last_claim_of o plan.last_card)) none in
-        record {
-          tree = opening cards [] (first_of plan);
-          reached = reached_first plan cards may all are;
-          views = refl;
-          homes = refl;
-          stores = each_first (first_of plan) StoresAreWhole (unfilled_whole (first_of plan) refl refl);
-          words = subst (λ o. WordsAre plan o words cards) (sym none) same;
-          periods = subst (λ o. PeriodsAre plan o (opening cards [] (first_of plan)) (opening words [] (first_known plan))) (sym none) tt;
-        }
-    by (Some s) placed fit =
-        let same : words ≡ opening_words s cards = is ∙ ap (λ o. whole_words o cards) placed in
-        let last = fit.2 in
-        let most = fit.4 in
-        let all : length cards ≡ table_size s.last = size ∙ (ap (λ o. table_size (last_claim_of o plan.last_card)) placed ∙ ap table_size (omega arith)) in
-        let long = table_size plan.last_card - length cards in
-        let tree = cards ++ replicate long 0 in
-        let long_size : length tree ≡ table_size plan.last_card = length-append cards (replicate long 0) ∙ (let many = zeros_many long in omega arith) in
-        let rest : IsAtRest (first_of plan) = is_at_rest (first_of plan) refl refl refl refl refl in
-        let reached = reached_first plan tree may long_size (words_same tree cards (with_zeros cards long) ∙ are) in
-        record {
-          tree = opening tree [] (first_of plan);
-          reached = reached;
-          views = refl;
-          homes = refl;
-          stores = each_first (first_of plan) StoresAreWhole (unfilled_whole (first_of plan) refl refl);
-          words = subst (λ o. WordsAre plan o words tree) (sym placed)
-              (subst (λ l. (length l ≡ slots_size s) × ((i : ℕ) → i < card_words plan → get_or l i 0 ≡ get_or tree i 0)) (sym same) (
-                all_size s cards all,
-                λ i low. (
-                    let low : i < card_words_by (Some s) plan.last_card = subst (λ o. i < card_words_by o plan.last_card) placed low in
-                    other_word s cards all i (λ e. omega arith) ∙ sym (with_zeros cards long i)),
-              ));
-          periods = subst (λ o. PeriodsAre plan o (opening tree [] (first_of plan)) (opening words [] (first_known plan))) (sym placed)
-              (subst (λ l. HasPeriods plan s (opening tree [] (first_of plan)) (opening l [] (first_known plan))) (sym same)
-              (subst (λ o. HasPeriods plan s (opening tree [] (first_of plan)) (opening (opening_words s cards) [] (record { tree = first_of plan; period = period_by o }))) (sym placed)
-              (first_whole plan s (opening tree [] (first_of plan)) reached cards all rest fit.0)));
-        }
-
 -- and has as many words as it is to have
-pub whole_length : (plan : TablePlan) → MayStart plan → (cards : List ℕ) → length cards ≡ table_size (last_claim plan) → length (whole_words plan.slots cards) ≡ whole_size plan
+pub whole_length : (plan : TablePlan) → MayStart plan → (cards : List ℕ) → length cards ≡ table_size (last_slot plan) → length (whole_words plan.slots cards) ≡ whole_size plan
 whole_length plan may cards size = by plan.slots may.slots size
   where
-    by : (o : Option Slots) → SlotsFit plan o → length cards ≡ table_size (last_claim_of o plan.last_card) → length (whole_words o cards) ≡ size_by o plan.last_card
+    by : (o : Option Slots) → SlotsFit plan o → length cards ≡ table_size (last_slot_of o plan.last_card) → length (whole_words o cards) ≡ size_by o plan.last_card
     by None fit size = size
     by (Some s) fit size = all_size s cards (let last = fit.2 in let most = fit.4 in size ∙ ap table_size (omega arith))
 

@@ -1,16 +1,43 @@
-use Rattle.std.proofs.Common.{◌≡◌, ◌≢◌, ℕ, ◌≤◌, if◌then◌else◌, false, Option, Some, None, is_some, IfSome, refl, sym, ap, ◌∙◌, subst, arith, true≢false}
+use Rattle.std.proofs.Common.{◌≡◌, ◌≢◌, ℕ, ◌≤◌, if◌then◌else◌, Bool, true, false, Option, Some, None, is_some, IfSome, refl, sym, ap, ◌∙◌, subst, arith, true≢false}
 use Rattle.ell_layout.specs.Layout.{table_size}
 use Rattle.ell_cards.specs.declared.pass.Standing.{Standing}
 use Rattle.ell_cards.specs.declared.view.Period.{Period}
-use Rattle.ell_cards.specs.Inside.{PlaceFits}
+use Rattle.ell_cards.specs.Inside.{HasSlotThere, PlaceFits}
 use Rattle.ell_cards.specs.declared.view.Slots.{Slots}
 use Rattle.ell_cards.specs.Models.{TablePlan}
-use Rattle.ell_cards.specs.Periods.{after_give, after_take, given_period, joined_period, period_by, size_by, slots_size, whole_size}
+use Rattle.ell_cards.specs.Periods.{StandsAs, after_flagging, after_give, after_take, given_period, joined_period, period_by, size_by, slots_size, whole_size}
 use Rattle.ell_core.proofs.lemmas.outcomes.Decide.{some_not_none}
 
 -- the code of a pass keeps its place where nothing changes
 pub same_place : (standing : Standing) (words words' : ℕ) (p p' : Period) → words' ≡ words → p' ≡ p → PlaceFits standing words p → PlaceFits standing words' p'
 same_place standing words words' p p' same is fits = subst (λ n. PlaceFits standing n p') (sym same) (subst (PlaceFits standing words) (sym is) fits)
+
+-- so it does where its places stay, and what is announced there, and the safe number and the slot
+pub still_place : (standing : Standing) (words words' : ℕ) (p p' : Period) → words' ≡ words → StandsAs p p' → p'.safe ≡ p.safe → p'.slot ≡ p.slot
+    → PlaceFits standing words p → PlaceFits standing words' p'
+still_place standing words words' p p' same stands safe slot fits = record {
+  place = stands.place ∙ fits.place;
+  other = stands.other ∙ fits.other;
+  announces = fits.announces ∙ ap is_some (sym stands.announced);
+  none = λ last e. fits.none last (sym same ∙ e);
+  unsafe = λ last e. safe ∙ fits.unsafe last (sym same ∙ e);
+  some = λ s e. fits.some s (sym same ∙ e);
+  slot = λ c is. subst (λ n. HasSlotThere n c) (sym same) (fits.slot c (sym slot ∙ is));
+  safe = safe ∙ fits.safe;
+}
+
+-- a pass that notes a card whose flag it lost has its place
+pub flagging_stands : (won : Bool) (c : ℕ) (p p' : Period) → p' ≡ after_flagging won c p → StandsAs p p' × (p'.safe ≡ p.safe) × (p'.slot ≡ p.slot)
+flagging_stands true c p p' is = (
+  record { place = ap (λ (x : Period). x.place) is; other = ap (λ (x : Period). x.other) is; other_says = ap (λ (x : Period). x.other_says) is; announced = ap (λ (x : Period). x.announced) is },
+  ap (λ (x : Period). x.safe) is,
+  ap (λ (x : Period). x.slot) is,
+)
+flagging_stands false c p p' is = (
+  record { place = ap (λ (x : Period). x.place) is; other = ap (λ (x : Period). x.other) is; other_says = ap (λ (x : Period). x.other_says) is; announced = ap (λ (x : Period). x.announced) is },
+  ap (λ (x : Period). x.safe) is,
+  ap (λ (x : Period). x.slot) is,
+)
 
 -- no table with places has the size of one without
 pub no_places : (words last : ℕ) (s : Slots) → words ≡ slots_size s → words ≡ table_size last → ⊥
@@ -25,22 +52,26 @@ size_some plan = by plan.slots
     by (Some s) = omega arith
 
 -- the first pass of a table has the first place, if there is one
-pub first_place_fits : (o : Option Slots) (last words : ℕ) → words ≡ size_by o last → PlaceFits (record { place = (period_by o).place; announces = false; found = 0 }) words (period_by o)
+pub first_place_fits : (o : Option Slots) (last words : ℕ) → words ≡ size_by o last → PlaceFits (record { place = (period_by o).place; announces = false; found = 0; safe = 0; takings = 0 }) words (period_by o)
 first_place_fits None last words is = record {
   place = refl;
   other = refl;
   announces = refl;
+  safe = refl;
   none = λ other e. refl;
   unsafe = λ other e. refl;
   some = λ s e none. no_places words last s e is;
+  slot = λ c is. absurd (some_not_none is refl);
 }
 first_place_fits (Some s) last words is = record {
   place = refl;
   other = refl;
   announces = refl;
+  safe = refl;
   none = λ other e. absurd (no_places words other s is e);
   unsafe = λ other e. refl;
   some = λ t e none. some_not_none refl none;
+  slot = λ c is. absurd (some_not_none is refl);
 }
 
 -- what a pass knows of periods after it looked for a place, and found this one, or none
@@ -50,6 +81,7 @@ pub record Found (o : Option Slots) (result : Option ℕ) (old new : Period) : T
   pub place : new.place ≡ old.place
   pub announced : new.announced ≡ old.announced
   pub safe : new.safe ≡ old.safe
+  pub slot : new.slot ≡ old.slot
   pub placed : (q : ℕ) → result ≡ Some q → o ≢ None
 
 pub found_is : (o : Option Slots) (result : Option ℕ) (old new : Period) → old.other ≡ None → IfSome result (λ q. (new ≡ after_take q 0 old) × (o ≢ None)) → (result ≡ None → new ≡ old)
@@ -60,6 +92,7 @@ found_is o (Some r) old new none took lost = record {
   place = ap (λ (p : Period). p.place) took.0;
   announced = ap (λ (p : Period). p.announced) took.0;
   safe = ap (λ (p : Period). p.safe) took.0;
+  slot = ap (λ (p : Period). p.slot) took.0;
   placed = λ q is. took.1;
 }
 found_is o None old new none took lost =
@@ -69,30 +102,35 @@ found_is o None old new none took lost =
       place = ap (λ (p : Period). p.place) same;
       announced = ap (λ (p : Period). p.announced) same;
       safe = ap (λ (p : Period). p.safe) same;
+      slot = ap (λ (p : Period). p.slot) same;
       placed = λ q is. absurd (some_not_none is refl);
     }
 
 -- the places of two parts: the left one has the pass's own, and the right one what was found, if there are places
 pub left_place_fits : (was standing : Standing) (words words' : ℕ) (o : Option Slots) (result : Option ℕ) (old new : Period) → words' ≡ words → Found o result old new
-    → (standing.place ≡ was.place) × (standing.announces ≡ was.announces) → PlaceFits was words old → PlaceFits standing words' (after_give new)
+    → (standing.place ≡ was.place) × (standing.announces ≡ was.announces) × (standing.safe ≡ was.safe) → PlaceFits was words old → PlaceFits standing words' (after_give new)
 left_place_fits was standing words words' o result old new same found kept fits = record {
   place = found.place ∙ (fits.place ∙ sym kept.0);
   other = refl;
   announces = kept.1 ∙ (fits.announces ∙ ap is_some (sym found.announced));
+  safe = found.safe ∙ (fits.safe ∙ sym kept.2);
   none = λ last e. kept.0 ∙ fits.none last (sym same ∙ e);
   unsafe = λ last e. found.safe ∙ fits.unsafe last (sym same ∙ e);
   some = λ s e none. fits.some s (sym same ∙ e) (sym kept.0 ∙ none);
+  slot = λ c is. subst (λ n. HasSlotThere n c) (sym same) (fits.slot c (sym found.slot ∙ is));
 }
 
 pub right_place_fits : (standing : Standing) (o : Option Slots) (last words : ℕ) (result : Option ℕ) (old new : Period) → words ≡ size_by o last → Found o result old new → (o ≢ None → result ≢ None)
-    → (standing.place ≡ result) × (standing.announces ≡ false) → PlaceFits standing words (given_period new)
+    → (standing.place ≡ result) × (standing.announces ≡ false) × (standing.safe ≡ 0) → PlaceFits standing words (given_period new)
 right_place_fits standing o last words result old new size found each given = record {
   place = found.other ∙ sym given.0;
   other = refl;
   announces = given.1;
+  safe = sym given.2;
   none = λ other e. given.0 ∙ by o result size found.placed other e;
   unsafe = λ other e. refl;
   some = λ s e none. each (λ is. no_places words last s e (size ∙ ap (λ x. size_by x last) is)) (sym given.0 ∙ none);
+  slot = λ c is. absurd (some_not_none is refl);
 }
   where
     by : (o : Option Slots) (result : Option ℕ) → words ≡ size_by o last → ((q : ℕ) → result ≡ Some q → o ≢ None) → (other : ℕ) → words ≡ table_size other → result ≡ None
@@ -107,17 +145,21 @@ joined_place_fits standing words words' (Some q) p other new same is now fits = 
   place = fits.place;
   other = refl;
   announces = fits.announces;
+  safe = fits.safe;
   none = λ last e. fits.none last (sym same ∙ e);
   unsafe = λ last e. fits.unsafe last (sym same ∙ e);
   some = λ s e. fits.some s (sym same ∙ e);
+  slot = λ c taken. subst (λ n. HasSlotThere n c) (sym same) (fits.slot c taken);
 })
 joined_place_fits standing words words' None p other new same is now fits = subst (PlaceFits standing words') (sym now) (record {
   place = fits.place;
   other = is;
   announces = fits.announces;
+  safe = fits.safe;
   none = λ last e. fits.none last (sym same ∙ e);
   unsafe = λ last e. fits.unsafe last (sym same ∙ e);
   some = λ s e. fits.some s (sym same ∙ e);
+  slot = λ c taken. subst (λ n. HasSlotThere n c) (sym same) (fits.slot c taken);
 })
 
 -- what is not there is nothing

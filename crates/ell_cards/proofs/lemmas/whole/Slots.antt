@@ -11,7 +11,7 @@ use Rattle.ell_grace.proofs.lemmas.Grace.{grace_goes_on, taken_cards_were_gone}
 use Rattle.ell_cards.specs.declared.view.Known.{Known}
 use Rattle.ell_cards.specs.declared.view.Period.{Period}
 use Rattle.ell_cards.specs.declared.view.Slots.{Slots}
-use Rattle.ell_cards.specs.Periods.{WholeState, clock_word, place_word, slot_word, slots_size, stamp_at, pending_by, period_in, word_at_place, announced_by, place_says, last_reading, after_read, after_stamp, HasPlace, own, spare, StandsAs, PeriodHolds, PeriodsAreSound, grace_of}
+use Rattle.ell_cards.specs.Periods.{WholeState, clock_word, place_word, slot_word, slots_size, stamp_at, pending_by, period_in, word_at_place, announced_by, place_says, last_reading, after_read, after_stamp, after_taking, HasPlace, own, spare, StandsAs, PeriodHolds, PeriodsAreSound, grace_of}
 use Rattle.ell_cards.specs.SlotWords.{slot_of, turn_in, stamp_in, free_word, card_by, freed_by}
 use Rattle.ell_cards.proofs.lemmas.whole.Seats.{before_slots, clock_before_slots, stamp_by, stamps_same, period_was, part_put, part_same, holds_on}
 use Rattle.ell_cards.proofs.lemmas.whole.Steps.{word_again, announced_again, periods_after}
@@ -184,6 +184,20 @@ module _ (s : Slots) (t : WholeState) (id : ℕ) (k : Known) (here : get_elem? t
         again : (j : ℕ) → get_or (set t.words (slot_word s slot) (get_or t.words (slot_word s slot) 0)) j 0 ≡ get_or t.words j 0
         again = word_again t.words (slot_word s slot) (omega arith)
 
+    -- it reads that to take the slot, where a card lies already
+    pub slot_owned : (c : ℕ)
+        → PeriodsAreSound s (record { words = set t.words (slot_word s slot) (get_or t.words (slot_word s slot) 0); homes = t.homes; views = set t.views id (record { tree = k.tree; period = after_taking c k.period }) })
+        dead began was_dead
+    slot_owned c =
+        slots_after s t id k here dead began was_dead h (set t.words (slot_word s slot) (get_or t.words (slot_word s slot) 0)) (after_taking c k.period)
+        (record { place = refl; other = refl; other_says = refl; announced = refl }) refl refl refl refl refl (again (clock_word s)) (λ q. again (place_word s q))
+        dead was.pending was.free h.sound
+        (part_same t.views id k here (record { tree = k.tree; period = after_taking c k.period }) (λ p. pending_by p.stamp) refl)
+        (stamps_same s t.words (set t.words (slot_word s slot) (get_or t.words (slot_word s slot) 0)) (λ x low. again (slot_word s x)))
+      where
+        again : (j : ℕ) → get_or (set t.words (slot_word s slot) (get_or t.words (slot_word s slot) 0)) j 0 ≡ get_or t.words j 0
+        again = word_again t.words (slot_word s slot) (omega arith)
+
     -- it becomes another one
     module _ (n' : ℕ) where
       abbrev turned : List ℕ
@@ -296,15 +310,15 @@ module _ (s : Slots) (t : WholeState) (id : ℕ) (k : Known) (here : get_elem? t
               ap (λ b. if b then announced_by (get_or t.words (place_word s q) 0) else None) there
               ∙ (ap announced_by (has.1 ∙ ap place_says says) ∙ announced_again a)
 
-      -- the pass takes it, for the next card there
-      pub slot_taken : (turn : ℕ)
-          → PeriodsAreSound s (record { words = set t.words (slot_word s slot) (8 * turn); homes = t.homes; views = set t.views id (record { tree = k.tree; period = record k.period { read = None } }) }) dead began was_dead
-      slot_taken turn =
-          slots_after s t id k here dead began was_dead h (turned n') (record k.period { read = None })
+      -- the pass takes it, for another card there
+      pub slot_taken : (turn next : ℕ)
+          → PeriodsAreSound s (record { words = set t.words (slot_word s slot) (8 * turn); homes = t.homes; views = set t.views id (record { tree = k.tree; period = after_taking next k.period }) }) dead began was_dead
+      slot_taken turn next =
+          slots_after s t id k here dead began was_dead h (turned n') (after_taking next k.period)
           (record { place = refl; other = refl; other_says = refl; announced = refl }) refl refl refl refl refl (turned_clock n') (turned_place n')
           dead was.pending (put was.free card None)
           (grace_goes_on s.places was (record was { free = put was.free card None }) h.sound (takes id card (stamp_in found) card_free card_past refl))
-          (part_same t.views id k here (record { tree = k.tree; period = record k.period { read = None } }) (λ p. pending_by p.stamp) refl)
+          (part_same t.views id k here (record { tree = k.tree; period = after_taking next k.period }) (λ p. pending_by p.stamp) refl)
           stamp
         where
           n' : ℕ

@@ -1,9 +1,11 @@
 use Rattle.std.proofs.Common.{◌≡◌, ◌≢◌, ℕ, ◌<◌, Bool, true, Option, Some, None, [], length, inl, inr, refl, sym, ap, ◌∙◌, subst, arith, ⊎_elim}
+use Rattle.std.proofs.lemmas.Bool.{false≢true}
 use mathlib.Core.Option.{some}
 use lib.ListN.{get_elem?}
 use Rattle.ell_core.proofs.lemmas.outcomes.Decide.{some_not_none}
+use Rattle.ell_core.proofs.lemmas.stages.Waiting.{waits-no_start}
+use Rattle.ell_core.specs.history.Stages.{is_start}
 use Rattle.ell_core.specs.tree.Tree.{Reached}
-use Rattle.ell_grace.specs.Dead.{IsDead}
 use Rattle.ell_grace.proofs.lemmas.dead.Runs.{never_comes_stays_out}
 use Rattle.ell_layout.specs.declared.field.Field.{Field}
 use Rattle.ell_layout.specs.Layout.{address}
@@ -21,17 +23,20 @@ use Rattle.ell_cards.specs.Starts.{SlotsFit}
 use Rattle.ell_cards.specs.States.{TableState}
 use Rattle.ell_cards.specs.Touching.{Touched, AtNode, OfCard, AtRoot, touched_by, IsWordOf, IsTheRoots}
 use Rattle.ell_cards.specs.Whole.{WordsAre, PeriodsAre}
-use Rattle.ell_cards.proofs.lemmas.runs.Alive.{calls_touch_no_dead_card}
 use Rattle.ell_cards.proofs.lemmas.runs.Touching.{calls_touch_their_words}
 use Rattle.ell_cards.proofs.lemmas.whole.Rests.{rest_touches_the_root}
 use Rattle.ell_cards.proofs.lemmas.whole.Slots.{taken_is_dead, taken_was_dead_for}
 use Rattle.ell_cards.proofs.lemmas.whole.Trees.{tree_at}
+use Rattle.ell_cards.proofs.lemmas.ties.Touched.{calls_touch_nothing_out}
 
 -- the root is not dead
 pub root_lives : (plan : TablePlan) (tree : TableState) (dead : ℕ → Bool) → AreDead plan tree dead → dead 0 ≡ true → ⊥
 root_lives plan tree dead h is = elim (h.each 0 0 (omega arith) is) [
-  | inl gone ↦ h.uses.outs.outs.out gone.taker 0 gone.takes root
-  | inr never ↦ (never_comes_stays_out (machine_of_table plan tree h.machine) h.uses 0 never).out root
+  | inl died ↦ elim died [
+    | inl gone ↦ h.uses.outs.outs.out gone.taker 0 gone.takes root
+    | inr never ↦ (never_comes_stays_out (machine_of_table plan tree h.machine) h.uses 0 never).out root
+  ]
+  | inr aside ↦ false≢true (sym (waits-no_start (h.machine.stages 0) aside.waits) ∙ ap (λ st. is_start st) h.machine.invariant.words.opening)
 ]
   where
     root : Reached h.machine.words 0
@@ -64,12 +69,8 @@ module _ (plan : TablePlan) (s : Slots) (tree : TableState) (t : WholeState) (h 
       begun : (q : ℕ) → ForgotWhen plan tree seat (h.was_dead q) → h.was_dead q (card_in s t.words slot) ≡ true → ⊥
       begun q forgot was =
           let d = card_in s t.words slot in
-          calls_touch_no_dead_card plan forgot.from forgot.reached seat forgot.call forgot.begun forgot.made forgot.anew forgot.were.machine forgot.were.uses forgot.turns tree forgot.run
-          k.tree there c may d f is (
-            subst (IsDead forgot.were.machine.words forgot.were.uses.outs.stages) (omega arith) (forgot.were.each d 0 (omega arith) was),
-            forgot.were.each d 1 (omega arith) was,
-            forgot.were.each d 2 (omega arith) was,
-          )
+          calls_touch_nothing_out plan forgot.from forgot.reached seat forgot.call forgot.begun forgot.made forgot.anew forgot.were.machine forgot.were.uses forgot.turns tree forgot.run
+          k.tree there c may d f is (λ i few. forgot.were.each d i few was)
 
       by : (a : Option ℕ) → k.period.announced ≡ a → ⊥
       by None quiet = at_rest ((h.periods.each seat k here).rests quiet)
@@ -86,6 +87,6 @@ pub free_slots_are_untouched : FreeSlotsAreUntouched
 free_slots_are_untouched plan s t placed h slot free seat k here c may =
     let fit = subst (SlotsFit plan) placed h.reached.starts.may.slots in
     let low : s.last < 2097152 = let last = fit.4 in omega arith in
-    let has = subst (λ o. WordsAre plan o t.words h.tree.words) placed h.words in
+    let has = subst (λ o. WordsAre o t.words h.tree.words) placed h.words in
     untouched plan s h.tree t (subst (λ o. PeriodsAre plan o h.tree t) placed h.periods) has.0 low slot free seat k here
     (ap (λ l. get_elem? l seat) (sym h.views) ∙ tree_at t.views seat k here) c may

@@ -2,10 +2,13 @@ use Rattle.std.proofs.Common.{◌+◌, ◌≡◌, ◌≢◌, Some, refl, ap, ◌
 use Rattle.ell_ops.specs.declared.op.Op.TheVariants.{Delete}
 use Rattle.ell_word.specs.declared.update.State.TheVariants.{Clean}
 use Rattle.ell_core.specs.declared.view.Search.{Search}
-use Rattle.ell_cards.specs.Models.{flat_from, Does}
+use Rattle.ell_cards.specs.Depths.{deepest}
+use Rattle.ell_cards.specs.Models.{PassModel, flat_from, Does}
 use Rattle.ell_cards.proofs.lemmas.runs.Taking.{deletes_take_what_they_tell}
-use Rattle.ell_tree.specs.CardsTaken.{cards_taken}
-use Rattle.ell_tree.specs.Hindrances.{way_of}
+use Rattle.ell_tree.specs.CardsTaken.{cards_taken, TakesNoCard}
+use Rattle.ell_tree.specs.Helps.{help_steps}
+use Rattle.ell_tree.specs.Hindrances.{Meets, way_of}
+use Rattle.ell_tree.specs.Keeping.{KeepsAllButMet}
 use Rattle.ell_tree.specs.Searches.{seen_any, below, node_with}
 use Rattle.ell_tree.proofs.lemmas.Called.{answered_taking, takes_told}
 use Rattle.ell_tree.proofs.lemmas.Keeping.{inner_kept, share_trans}
@@ -61,6 +64,33 @@ finish_own-requires-clause-read g c =
     let card = delete_card a.view c.take_card.new.pass.view c.in-Card.card 0 c.args.key c.args.place c.in-Some.above c.in-Some.is c.requires.searched.busy
     c.requires.searched.ends.at c.in-Card.ensures.claims.0 in
     told_was c.take_card.new.pass.view c.flag_delete.new.pass.view c.in-Card.card c.args.place c.flag_delete.ensures.keeps.view c.args.key c.in-Some.above card
+
+-- what its card told of the parent and the leaf is known once it is over
+pub retire_deleted-requires-clause-parent : goal.retire_deleted-requires-clause-parent
+retire_deleted-requires-clause-parent g c =
+    let a = c.args.pass.now in
+    let t = c.take_card.new.pass in
+    let cards = c.args.table.now.plan.last_card in
+    let card = delete_card a.view t.view c.in-Card.card 0 c.args.key c.args.place c.in-Some.above c.in-Some.is c.requires.searched.busy
+    c.requires.searched.ends.at c.in-Card.ensures.claims.0 in
+    let parent = told_parent t.view c.flag_delete.new.pass.view c.in-Card.card c.args.place c.flag_delete.ensures.keeps.view c.args.key c.in-Some.above card cards
+    (inner_kept cards a.view t.view c.args.place.parent.node c.take_card.ensures.keeps.view c.requires.searched.ends.passed.seen.node) in
+    c.finish_own.ensures.keeps_but_met.keeps.view.told _ parent.told
+
+pub retire_deleted-requires-clause-leaf : goal.retire_deleted-requires-clause-leaf
+retire_deleted-requires-clause-leaf g c =
+    let a = c.args.pass.now in
+    let t = c.take_card.new.pass in
+    let card = delete_card a.view t.view c.in-Card.card 0 c.args.key c.args.place c.in-Some.above c.in-Some.is c.requires.searched.busy
+    c.requires.searched.ends.at c.in-Card.ensures.claims.0 in
+    c.finish_own.ensures.keeps_but_met.keeps.view.told _
+    (told_leaf t.view c.flag_delete.new.pass.view c.in-Card.card c.args.place c.flag_delete.ensures.keeps.view c.args.key c.in-Some.above card)
+
+-- once it is over, it is answered
+pub answer-requires-clause-may : goal.answer-requires-clause-may
+answer-requires-clause-may g c =
+    rw c.retire_deleted.ensures.same
+    (search rules)
 
 -- a flag or a mark stood at the grandparent
 pub returns-then-ne-clause-ends : goal.returns-then-ne-clause-ends
@@ -239,16 +269,18 @@ returns-clause-ends g c =
     let a = c.args.pass.now in
     let t = c.take_card.new.pass in
     let f = c.flag_delete.new.pass in
-    let m = c.finish_own.new.pass in
+    let m = c.retire_deleted.new.pass in
+    let met : KeepsAllButMet f m (help_steps (deepest c.args.table.now.plan) + 2) = rw c.retire_deleted.ensures.same c.finish_own.ensures.keeps_but_met in
     let said = c.answer in
     let op = Delete c.args.key in
     let taken = keeps_meets a t 2 c.take_card.ensures.keeps c.in-Card.ensures.claims.2 in
     let flagged = meets_trans a.view t.view f.view taken (keeps_meets t f 5 c.flag_delete.ensures.keeps c.in_default-flag_delete.ensures.flags.hindrances) in
-    let finished = meets_trans a.view f.view m.view flagged c.finish_own.ensures.meets in
+    let meets : Meets f.view m.view = rw c.retire_deleted.ensures.same c.finish_own.ensures.meets in
+    let finished = meets_trans a.view f.view m.view flagged meets in
     let answers = said.ensures.answers op (search rules) in (
       keeps_answers c.args.table.now op _ a t said.new.pass _ c.take_card.ensures.keeps
           (keeps_answers c.args.table.now op _ t f said.new.pass _ c.flag_delete.ensures.keeps
-          (keeps_answers c.args.table.now op _ f m said.new.pass _ c.finish_own.ensures.keeps_but_met.keeps answers)),
+          (keeps_answers c.args.table.now op _ f m said.new.pass _ met.keeps answers)),
       meets_trans a.view m.view said.new.pass.view finished (said_meets m.view said.new.pass.view said.ensures.hindrances said.ensures.facts),
       said.ensures.room,
     )
@@ -260,18 +292,19 @@ returns-clause-took g c =
     let ends = c.requires.searched.ends in
     let t = c.take_card.new.pass in
     let f = c.flag_delete.new.pass in
-    let m = c.finish_own.new.pass in
+    let m = c.retire_deleted.new.pass in
+    let met : KeepsAllButMet f m (help_steps (deepest c.args.table.now.plan) + 2) = rw c.retire_deleted.ensures.same c.finish_own.ensures.keeps_but_met in
     let said = c.answer in
     let new = said.new.pass in
     let place = c.args.place in
     let card = c.in-Card.card in
     let busy : Does m.view (Delete c.args.key) = search rules in
-    let hand : m.view.worker.card ≡ Some card = c.finish_own.ensures.keeps_but_met.card ∙ c.in_default-flag_delete.ensures.flags.card in
+    let hand : m.view.worker.card ≡ Some card = met.card ∙ c.in_default-flag_delete.ensures.flags.card in
     let leaf = told_leaf t.view f.view card place c.flag_delete.ensures.keeps.view c.args.key c.in-Some.above
     (delete_card a.view t.view card 0 c.args.key place c.in-Some.above c.in-Some.is c.requires.searched.busy ends.at c.in-Card.ensures.claims.0) in
     let value = c.flag_delete.ensures.keeps.view.told _ (c.take_card.ensures.keeps.view.told _ (ends.at.leaf (ends.outer c.requires.key))) in
-    let on = c.finish_own.ensures.keeps_but_met.keeps.view.told in
-    let same = c.finish_own.ensures.keeps_but_met.keeps.view.answers ∙ (c.flag_delete.ensures.keeps.view.answers ∙ c.take_card.ensures.keeps.view.answers) in (
+    let on = met.keeps.view.told in
+    let same = met.keeps.view.answers ∙ (c.flag_delete.ensures.keeps.view.answers ∙ c.take_card.ensures.keeps.view.answers) in (
       record {
         mine = had_value c.args.table.now.plan a a refl place c.args.key ends c.requires.key;
         took = deletes_take_what_they_tell c.args.table.now.plan new.view c.args.key (Some card) place.value
@@ -304,4 +337,6 @@ returns-in-Err-clause-taken g c =
 
 pub returns-clause-taken : goal.returns-clause-taken
 returns-clause-taken g c =
-    omega (arith, c.answer.ensures.taken, c.finish_own.ensures.keeps_but_met.taken, c.flag_delete.ensures.taken, c.in-Card.ensures.taken)
+    let said : TakesNoCard c.finish_own.new.pass c.answer.new.pass =
+    c.answer.ensures.taken ∙ ap (λ (p : PassModel). cards_taken p) c.retire_deleted.ensures.same in
+    omega (arith, said, c.finish_own.ensures.keeps_but_met.taken, c.flag_delete.ensures.taken, c.in-Card.ensures.taken)

@@ -4,9 +4,12 @@ use Rattle.ell_core.specs.declared.view.Search.{Search}
 use Rattle.ell_cards.specs.declared.view.Told.TheVariants.{Met}
 use Rattle.std.proofs.lemmas.Bool.{false≢true}
 use Rattle.ell_ops.specs.Meaning.{found}
-use Rattle.ell_tree.specs.CardsTaken.{cards_taken, TakesOneCard, TakesOneIf}
+use Rattle.ell_core.proofs.lemmas.keeping.Puts.{put_key}
+use Rattle.ell_cards.specs.Models.{PassModel}
+use Rattle.ell_tree.specs.CardsTaken.{cards_taken, TakesNoCard, TakesOneCard, TakesOneIf}
 use Rattle.ell_tree.specs.Ends.{Answers, changes_by, reply_by}
 use Rattle.ell_tree.specs.Hindrances.{way_of}
+use Rattle.ell_tree.specs.Keeping.{KeepsAll}
 use Rattle.ell_tree.specs.Searches.{node_with}
 use Rattle.ell_tree.proofs.lemmas.Searches.{may_answer}
 use Rattle.ell_tree.proofs.lemmas.Filling.{put_card, is_insert}
@@ -17,6 +20,7 @@ use Rattle.ell_tree.proofs.lemmas.Meeting.{meets_trans, meets_more, put_way, now
 use Rattle.ell_tree.proofs.lemmas.Halting.{keeps_meets, seek_meets, walk_meets, said_meets, flag_lost}
 use Rattle.ell_tree.proofs.lemmas.Hindrances.{root_in_try}
 use Rattle.ell_tree.proofs.lemmas.Putting.{put_wants, put_refused, put_done, refused_outer}
+use Rattle.ell_tree.proofs.lemmas.Retiring.{has_put}
 use Rattle.ell_tree.proofs.lemmas.Milestones.{sees_end, gives_out}
 use Rattle.ell_tree.proofs.inserting.try_put.Goals as goal
 
@@ -62,6 +66,32 @@ finish_insert-requires-clause-insert g c =
     rw c.node_with-below.ensures
     (is_insert c.take_card.new.pass.view c.flag_insert.new.pass.view c.in-Card.card place c.flag_insert.ensures.keeps.view c.node_key-node_key.result c.args.op c.args.what card
     c.in-Ok.ensures.flags.knows (c.take_card.ensures.keeps.view.told (Met place.parent.node) ends.passed.seen.node.met))
+
+-- what its card told is known once it is over
+pub retire_put-requires-clause-put : goal.retire_put-requires-clause-put
+retire_put-requires-clause-put g c =
+    let s = c.search-place in
+    let place = s.result in
+    let ends = s.ensures.ends in
+    let t = c.take_card.new.pass in
+    let f = c.flag_insert.new.pass in
+    let m = c.finish_insert.new.pass in
+    let kept = c.finish_insert.ensures.keeps_all in
+    let busy = s.ensures.keeps_but_search.keeps.view.operation ∙ c.requires.root.busy in
+    let key = put_key c.args.op c.args.what c.requires.puts in
+    let card = put_card s.new.pass.view t.view c.in-Card.card c.node_key-node_key.result c.args.op c.args.what place c.requires.puts busy ends.at
+    c.in-Card.ensures.claims.0 in
+    let insert = is_insert t.view f.view c.in-Card.card place c.flag_insert.ensures.keeps.view c.node_key-node_key.result c.args.op c.args.what card
+    c.in-Ok.ensures.flags.knows (c.take_card.ensures.keeps.view.told (Met place.parent.node) ends.passed.seen.node.met) in
+    has_put f.view m.view c.in-Card.card c.args.op c.args.what place c.requires.puts kept.keeps.view
+    (c.flag_insert.ensures.keeps.view.operation ∙ (c.take_card.ensures.keeps.view.operation ∙ busy)) (kept.card ∙ c.in-Ok.ensures.flags.card)
+    (kept.flagged ∙ c.in-Ok.ensures.flags.flagged) c.finish_insert.ensures.over insert (λ same. ends.outer (same ∙ sym key))
+
+-- once it is over, it is answered
+pub answer-requires-in-Ok-clause-may : goal.answer-requires-in-Ok-clause-may
+answer-requires-in-Ok-clause-may g c =
+    rw c.retire_put.ensures.same
+    (search rules)
 
 -- there was no place for it
 pub returns-then-not-may_replace-clause-ends : goal.returns-then-not-may_replace-clause-ends
@@ -186,12 +216,13 @@ returns-in-Ok-clause-ends g c =
     let s = c.search-place in
     let t = c.take_card.new.pass in
     let f = c.flag_insert.new.pass in
-    let m = c.finish_insert.new.pass in
+    let m = c.retire_put.new.pass in
+    let kept : KeepsAll f m 3 = rw c.retire_put.ensures.same c.finish_insert.ensures.keeps_all in
     let said = c.answer-in-Ok in
     let taken = meets_trans a.view s.new.pass.view t.view (seek_meets a s.new.pass _ s.ensures.keeps_but_search)
     (keeps_meets s.new.pass t 2 c.take_card.ensures.keeps c.in-Card.ensures.claims.2) in
     let flagged = meets_trans a.view t.view f.view taken (keeps_meets t f 11 c.flag_insert.ensures.keeps c.in-Ok.ensures.flags.hindrances) in
-    let finished = meets_trans a.view f.view m.view flagged (walk_meets f m 3 c.finish_insert.ensures.keeps_all) in
+    let finished = meets_trans a.view f.view m.view flagged (walk_meets f m 3 kept) in
     let done = put_done c.args.op c.args.what c.requires.puts in
     let reply : c.reply_once_done.result ≡ reply_by c.args.op (Some c.unwrap_or.result) =
     c.reply_once_done.ensures ∙ (done.reply ∙ ap (λ v. reply_by c.args.op (Some v)) (sym (search rules))) in
@@ -200,7 +231,7 @@ returns-in-Ok-clause-ends g c =
           (keeps_answers c.args.table.now c.args.op _ a s.new.pass said.new.pass _ s.ensures.keeps_but_search.keeps
           (keeps_answers c.args.table.now c.args.op _ s.new.pass t said.new.pass _ c.take_card.ensures.keeps
           (keeps_answers c.args.table.now c.args.op _ t f said.new.pass _ c.flag_insert.ensures.keeps
-          (keeps_answers c.args.table.now c.args.op _ f m said.new.pass _ c.finish_insert.ensures.keeps_all.keeps answers)))),
+          (keeps_answers c.args.table.now c.args.op _ f m said.new.pass _ kept.keeps answers)))),
       meets_trans a.view m.view said.new.pass.view finished (said_meets m.view said.new.pass.view said.ensures.hindrances said.ensures.facts),
       said.ensures.room,
     )
@@ -257,8 +288,10 @@ returns-in-Lost-clause-taken g c =
 
 pub returns-in-Ok-clause-taken : goal.returns-in-Ok-clause-taken
 returns-in-Ok-clause-taken g c =
+    let said : TakesNoCard c.finish_insert.new.pass c.answer-in-Ok.new.pass =
+    c.answer-in-Ok.ensures.taken ∙ ap (λ (p : PassModel). cards_taken p) c.retire_put.ensures.same in
     let taken : TakesOneCard c.args.pass.now c.answer-in-Ok.new.pass =
-    omega (arith, c.answer-in-Ok.ensures.taken, c.finish_insert.ensures.keeps_all.taken, c.flag_insert.ensures.taken, c.in-Card.ensures.taken, c.search-place.ensures.keeps_but_search.taken) in
+    omega (arith, said, c.finish_insert.ensures.keeps_all.taken, c.flag_insert.ensures.taken, c.in-Card.ensures.taken, c.search-place.ensures.keeps_but_search.taken) in
     let done = put_done c.args.op c.args.what c.requires.puts in
     subst (λ b. TakesOneIf b c.args.pass.now c.answer-in-Ok.new.pass)
     (sym (ap (λ v. changes_by c.args.op (Some v)) (search rules) ∙ done.changes)) taken

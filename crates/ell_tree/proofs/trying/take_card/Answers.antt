@@ -1,5 +1,5 @@
 use Rattle.std.proofs.Common.{Bool, true, false, ap, subst, arith}
-use Rattle.ell_cards.specs.Models.{Steps, flat_from, last_claim_of}
+use Rattle.ell_cards.specs.Models.{Steps, flat_from, last_slot_of}
 use Rattle.ell_cards.specs.Changes.{after_claim}
 use Rattle.ell_tree.proofs.lemmas.Claiming.{may_claim_at, won_goes, won_calm, won_takes, given_out, has_card, lost_goes, lost_takes, lost_claims}
 use Rattle.ell_tree.proofs.trying.take_card.Goals as goal
@@ -11,7 +11,7 @@ claim-requires-clause-may g c =
 
 pub claim-requires-clause-room : goal.claim-requires-clause-room
 claim-requires-clause-room g c =
-    let all = ap (λ o. last_claim_of o c.args.table.now.plan.last_card) c.requires.plain in
+    let all = ap (λ o. last_slot_of o c.args.table.now.plan.last_card) c.requires.plain in
     let last = c.last_card.ensures.cards in
     let low = c.if-card-last_card.false in
     omega arith

@@ -2,10 +2,10 @@ use Rattle.std.proofs.Common.{◌≢◌, ℕ, List, None, ap, ◌∙◌, sym, su
 use Rattle.std.specs.List.{All}
 use Rattle.std.specs.Slots.{slots_items}
 use Rattle.ell_core.specs.state.Machine.{ledger_of}
-use Rattle.ell_cards.specs.Models.{TableModel, PassModel, IsFree, last_claim_of, whole_share}
+use Rattle.ell_cards.specs.Models.{TableModel, PassModel, IsFree, last_slot_of, whole_share}
 use Rattle.ell_cards.specs.Shown.{shown}
 use Rattle.ell_cards.specs.Whole.{WordsAre}
-use Rattle.ell_cards.proofs.lemmas.whole.Trees.{tree_here}
+use Rattle.ell_cards.proofs.lemmas.whole.Calling.{tree_here}
 use Rattle.ell_cards.specs.Closed.{ClosedModel, TableEnds}
 use Rattle.ell_cards.proofs.lemmas.runs.Ending.{ends}
 use Rattle.ell_cards.proofs.table.CardTable.close.Goals as goal
@@ -25,10 +25,10 @@ returns-clause-ends g c none =
     let free = subst (λ (p : PassModel). IsFree p.view) (sym c.pass.view_is) c.requires.free in
     let seen = tree_here plan last.0 whole_state c.pass.inside.seat.id c.pass.inside.seat.me.0 last.1.1 in
     let there = ends plan whole_state.tree whole_state.reached c.pass.inside.seat.id v seen free whole all in
-    let same : whole_state.tree.words ≡ words = sym (subst (λ o. WordsAre plan o last.0.words whole_state.tree.words) none whole_state.words) ∙ last.2 in
-    let number : plan.last_card ≡ c.last_claim.result =
-    sym (ap (λ o. last_claim_of o plan.last_card) none) ∙ (sym (ap (λ o. last_claim_of o plan.last_card) c.self.invariant.7) ∙ (sym (ap (last_claim_of c.self.inside.slots) c.self.invariant.3) ∙ sym c.last_claim.ensures)) in
-    let ended : ClosedModel = record { words = words; last_card = c.last_claim.result } in
+    let same : whole_state.tree.words ≡ words = sym (subst (λ o. WordsAre o last.0.words whole_state.tree.words) none whole_state.words) ∙ last.2 in
+    let number : plan.last_card ≡ c.last_slot.result =
+    sym (ap (λ o. last_slot_of o plan.last_card) none) ∙ (sym (ap (λ o. last_slot_of o plan.last_card) c.self.invariant.7) ∙ (sym (ap (last_slot_of c.self.inside.slots) c.self.invariant.3) ∙ sym c.last_slot.ensures)) in
+    let ended : ClosedModel = record { words = words; last_card = c.last_slot.result } in
     subst (λ (m : TableModel). TableEnds m.plan c.args.pass.view ended) c.self.view_is
     (subst (λ (p : PassModel). TableEnds plan p.view ended) c.pass.view_is
     (subst (λ (n : ℕ). TableEnds plan (shown v) (record { words = words; last_card = n })) number

@@ -5,12 +5,13 @@ use Rattle.ell_cards.proofs.table.CardTable.dflag.Goals as goal
 pub pack-expected-requires : goal.pack-expected-requires
 pack-expected-requires g c =
     let may = c.requires.may in
-    let low = (c.names.ensures.words.grandparent may.leaf may.parent _ may.stands may.behind may.above).word in
+    let low = (c.names.ensures.named.grandparent may.leaf may.parent _ may.stands may.behind may.above).word in
+    let room = c.names.ensures.room in
     let same = card_again c.args.from in
     omega arith
 
-pub update_address-requires : goal.update_address-requires
-update_address-requires g c =
+pub update_address-word-requires : goal.update_address-word-requires
+update_address-word-requires g c =
     let may = c.requires.may in
-    let low = (c.names.ensures.words.grandparent may.leaf may.parent _ may.stands may.behind may.above).node in
+    let low = c.names.ensures.placed.grandparent may.leaf may.parent _ may.stands may.behind may.above in
     omega arith

@@ -1,3 +1,5 @@
+use Rattle.std.proofs.Common.{refl, sym, arith}
+use Rattle.ell_cards.proofs.lemmas.shown.CutWords.{cut_same}
 use Rattle.ell_cards.proofs.lemmas.seats.Taken.{taken_keeps, steps_by}
 use Rattle.ell_cards.proofs.lemmas.whole.Rests.{exchange_is_quiet}
 use Rattle.ell_cards.proofs.lemmas.runs.Reaching.{calls_tell}
@@ -11,6 +13,14 @@ exchange_as-requires-clause-tells g c = calls_tell c.args.self.now.plan c.args.c
 
 pub exchange_as-requires-clause-keeps : goal.exchange_as-requires-clause-keeps
 exchange_as-requires-clause-keeps g c = taken_keeps c.args.self.now.plan c.args.call c.args.pass.now.view
+
+pub exchange_as-requires-clause-exchanges : goal.exchange_as-requires-clause-exchanges
+exchange_as-requires-clause-exchanges g c = record {
+  whole = c.args.value;
+  is = c.requires.atomic;
+  cut = sym (cut_same c.args.value (omega arith));
+  all = λ none. refl;
+}
 
 pub returns-clause-step : goal.returns-clause-step
 returns-clause-step g c = steps_by c.args.pass.now c.exchange_as.new.pass _ c.exchange_as.ensures.step c.exchange_as.ensures.told.view

@@ -1,20 +1,19 @@
-use Rattle.std.proofs.Common.{◌≡◌, ◌∙◌, ◌==◌, ℕ, if◌then◌else◌, Bool, true, false, refl, ap, sym}
+use Rattle.std.proofs.Common.{◌∙◌, ◌==◌, refl, ap}
 use prog.Atomic.{either}
-use Rattle.ell_cards.specs.Calls.{Exchange, left_by}
+use Rattle.ell_cards.specs.Calls.{Exchange}
 use Rattle.ell_cards.proofs.lemmas.seats.Opened.{owed, stepped}
+use Rattle.ell_cards.proofs.lemmas.whole.Calling.Notes.{nothing}
+use Rattle.ell_cards.proofs.lemmas.whole.Calling.{exchange_does, exchange_stores}
 use Rattle.ell_cards.proofs.lemmas.whole.Lifts.{stores_word}
 use Rattle.ell_cards.proofs.lemmas.whole.Places.{same_place}
 use Rattle.ell_cards.proofs.table.CardTable.exchange_as.Goals as goal
 
-either_is : (b : Bool) (x y : ℕ) → either b x y ≡ (if b then x else y)
-either_is true x y = refl
-either_is false x y = refl
-
 pub compare_exchange-found-requires : goal.compare_exchange-found-requires
 compare_exchange-found-requires g c =
-    owed _ _ _ _ c.self.view_is c.pass.view_is c.requires.own c.self.invariant.0 c.self.invariant.8 c.pass.inside.seat.me.0.tree refl c.pass.inside.seat.id c.pass.inside.seat.me.0.period c.pass.inside.seat.me.1 c.pass.inside.keys.items c.pass.inside.share c.args.word
-    (λ n. either (n == c.args.expected) c.args.value n) g.J.Telling.then c.args.call c.self.invariant.1 c.pass.invariant.1 c.pass.invariant.0 (stores_word c.args.call (Exchange c.args.expected c.args.value) c.requires.atomic tt) c.requires.word c.requires.may
-    (λ n. either_is (n == c.args.expected) c.args.value n ∙ ap (λ a. left_by a n) (sym c.requires.atomic)) (λ placed none. c.requires.quiet) c.requires.tells
+    let does = c.requires.exchanges in
+    owed _ _ _ _ c.self.view_is c.pass.view_is c.requires.own c.self.invariant.0 c.self.invariant.8 c.pass.inside.seat.me.0.tree refl c.pass.inside.seat.id c.pass.inside.seat.me.0.period refl c.pass.inside.seat.me.1 c.pass.inside.keys.items c.pass.inside.share c.pass.inside.standing c.args.word
+    (λ n. either (n == c.args.expected) c.args.value n) g.J.Telling.then (λ n. c.pass.inside.seat.me.0.period) c.args.call c.self.invariant.1 c.pass.invariant.1 c.pass.invariant.0 c.pass.invariant.2 (stores_word c.args.call (Exchange c.args.expected does.whole) does.is tt) c.requires.word c.requires.may
+    c.requires.kept (exchange_does c.args.self.now.plan c.args.call c.args.expected c.args.value does) (λ placed none. c.requires.quiet) (λ fill. absurd (exchange_stores c.args.call c.args.expected does.whole does.is fill)) c.requires.tells (λ n small. nothing refl)
 
 pub invariant_of-pass : goal.invariant_of-pass
 invariant_of-pass g c =

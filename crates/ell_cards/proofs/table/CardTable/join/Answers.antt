@@ -8,7 +8,7 @@ use Rattle.ell_cards.specs.Shown.{shown}
 use Rattle.ell_cards.specs.Periods.{after_give}
 use Rattle.ell_cards.proofs.lemmas.lifetimes.Joins.{joined_fits}
 use Rattle.ell_cards.proofs.lemmas.seats.Opened.{of_table, own_size}
-use Rattle.ell_cards.proofs.lemmas.whole.Handovers.{whole_joins}
+use Rattle.ell_cards.proofs.lemmas.whole.Parting.{whole_joins}
 use Rattle.ell_cards.proofs.lemmas.whole.Places.{joined_place_fits, size_some}
 use Rattle.ell_cards.proofs.table.CardTable.join.Goals as goal
 

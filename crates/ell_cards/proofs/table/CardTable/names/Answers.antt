@@ -1,13 +1,22 @@
-use Rattle.ell_cards.proofs.lemmas.seats.Opened.{named_there, words_there, few_there}
+use Rattle.std.proofs.Common.{refl}
+use Rattle.ell_cards.proofs.lemmas.seats.Opened.{named_there, placed_there, slot_there, tags_there, few_there}
 use Rattle.ell_cards.proofs.table.CardTable.names.Goals as goal
 
 pub returns-clause-named : goal.returns-clause-named
 returns-clause-named g c =
     named_there _ _ _ _ c.self.view_is c.pass.view_is c.requires.own c.self.invariant.0 c.self.invariant.8 c.pass.inside.keys.items c.pass.inside.share c.pass.invariant.0
 
-pub returns-clause-words : goal.returns-clause-words
-returns-clause-words g c =
-    words_there _ _ _ _ c.self.view_is c.pass.view_is c.requires.own c.self.invariant.0 c.self.invariant.8 c.pass.inside.keys.items c.pass.inside.share c.pass.invariant.0
+pub returns-clause-placed : goal.returns-clause-placed
+returns-clause-placed g c =
+    placed_there _ _ _ _ c.self.view_is c.pass.view_is c.requires.own c.self.invariant.0 c.self.invariant.8 c.pass.inside.keys.items c.pass.inside.share c.pass.invariant.0
+
+pub returns-clause-slot : goal.returns-clause-slot
+returns-clause-slot g c =
+    slot_there _ _ _ _ c.self.view_is c.pass.view_is c.requires.own c.self.invariant.0 c.self.invariant.8 c.pass.inside.standing c.pass.inside.seat.me.0.period refl c.pass.invariant.2
+
+pub returns-clause-tags : goal.returns-clause-tags
+returns-clause-tags g c =
+    tags_there _ _ _ _ c.self.view_is c.pass.view_is c.requires.own c.self.invariant.0 c.self.invariant.8 c.pass.inside.seat.me.0.tree refl
 
 pub returns-clause-few : goal.returns-clause-few
 returns-clause-few g c = few_there _ _ _ _ c.self.view_is c.pass.view_is c.requires.own c.self.invariant.0 c.self.invariant.8

@@ -8,15 +8,15 @@ use Rattle.ell_cards.proofs.table.CardTable.note_dead.Goals as goal
 pub set_free-requires-clause-read : goal.set_free-requires-clause-read
 set_free-requires-clause-read g c = ap (λ (p : Period). p.read) c.read_slot-word.ensures.read
 
-pub set_free-requires-clause-dead : goal.set_free-requires-clause-dead
-set_free-requires-clause-dead g c =
+pub set_free-requires-clause-may : goal.set_free-requires-clause-may
+set_free-requires-clause-may g c =
     let word = c.read_slot-word.result in
     let node = c.args.node in
     let place = node % 4 in
     let lies : 4 * card_by c.slot_of-slot.result word + place ≡ node =
     let turn = sym c.turn_in.ensures ∙ (c.if-turn_in-turn_of.false ∙ (c.turn_of.ensures ∙ ap turn_of c.card_of-card.ensures)) in
     let slot = c.slot_of-slot.ensures ∙ ap slot_of c.card_of-card.ensures in
-    omega arith in record {
+    omega arith in inl record {
       read = record { slot = c.slot_of-slot.result; word = word };
       has = ap (λ (p : Period). p.read) c.read_slot-word.ensures.read;
       lies = refl;

@@ -8,6 +8,7 @@ invariant-loop g l = record {
   seat : l.seat.table_id ≡ l.fn.seat.table_id;
   empty : l.seat.me.1 ≡ [];
   stands : StandsAs l.fn.seat.me.0.period l.seat.me.0.period;
+  slot : l.seat.me.0.period.slot ≡ l.fn.seat.me.0.period.slot;
   safe : l.seat.me.0.period.safe ≡ l.fn.seat.me.0.period.safe;
   tree : l.seat.me.0.tree ≡ l.fn.seat.me.0.tree;
 }

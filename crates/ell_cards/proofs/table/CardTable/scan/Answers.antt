@@ -10,6 +10,7 @@ loop-place-init g c =
       empty = search rules;
       tree = search rules;
       stands = search rules;
+      slot = search rules;
       looked = search rules;
       least = search rules;
       safe = λ none. absurd (omega arith);

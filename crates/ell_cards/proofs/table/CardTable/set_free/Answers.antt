@@ -6,6 +6,9 @@ use Rattle.ell_cards.specs.Stepping.{MayGoOn}
 use Rattle.ell_cards.proofs.lemmas.whole.Freeing.{frees_slot}
 use Rattle.ell_cards.proofs.table.CardTable.set_free.Goals as goal
 
+pub stamp-reading-requires-clause-dead : goal.stamp-reading-requires-clause-dead
+stamp-reading-requires-clause-dead g c = c.requires.may
+
 pub period_exchange-requires-clause-rule : goal.period_exchange-requires-clause-rule
 period_exchange-requires-clause-rule g c =
     let k = c.stamp-reading.new.seat.me.0 in

@@ -9,7 +9,7 @@ use Rattle.ell_cards.specs.Changes.{left_view, right_view}
 use Rattle.ell_cards.specs.Shown.{shown}
 use Rattle.ell_cards.specs.Stepping.{MayHave, MaySplit}
 use Rattle.ell_cards.proofs.lemmas.seats.Opened.{of_table, own_size, part_fits}
-use Rattle.ell_cards.proofs.lemmas.whole.Handovers.{whole_splits}
+use Rattle.ell_cards.proofs.lemmas.whole.Parting.{whole_splits}
 use Rattle.ell_cards.proofs.lemmas.whole.Places.{none_is, found_is, left_place_fits, right_place_fits, size_some}
 use Rattle.ell_cards.proofs.table.CardTable.split_as.Goals as goal
 use Rattle.ell_cards.proofs.table.CardTable.split_as.Goals.{else-is_some-via-then-is_some+else-is_none, else-is_some-via-else-is_some}

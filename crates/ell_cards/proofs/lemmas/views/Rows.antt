@@ -1,0 +1,360 @@
+-- What a pass knows after a row of claims, in which each card but the last one is laid aside.
+use Rattle.std.proofs.Common.{◌≢◌, ◌<◌, unwrap_or, ◌≡◌, ◌⊎◌, ℕ, zero, suc, ◌+◌, ◌≤◌, ◌==◌, ◌%◌, if◌then◌else◌, Bool, true, false, Option, Some, None, List, [], ◌∷◌, inl, inr, refl, sym, ap, ◌∙◌, subst, arith}
+use Rattle.std.proofs.lemmas.Bool.{cases_eq}
+use Rattle.std.proofs.lemmas.Option.{same_Some}
+use Rattle.ell_core.specs.declared.exchange.Exchange.TheVariants as exchange
+use Rattle.ell_core.specs.declared.fact.Fact.{Fact}
+use Rattle.ell_core.specs.declared.fact.Fact.TheVariants.{IFlagged, DFlagged, Marked}
+use Rattle.ell_core.specs.declared.view.Search.{Search}
+use Rattle.ell_core.specs.declared.view.Seen.{Seen}
+use Rattle.ell_core.specs.state.Facts.{known_of}
+use Rattle.ell_core.specs.statements.Told.{is_fixed}
+use Rattle.ell_layout.specs.declared.field.Field.{Field}
+use Rattle.ell_layout.specs.declared.field.Field.TheVariants as field
+use Rattle.ell_ops.specs.declared.op.Op.{Op}
+use Rattle.ell_ops.specs.declared.op.Op.TheVariants.{Find, Insert, Delete, Swap}
+use Rattle.ell_word.specs.Node.{card}
+use Rattle.ell_cards.specs.declared.call.Call.TheVariants as call
+use Rattle.ell_cards.specs.declared.view.Told.{Told}
+use Rattle.ell_cards.specs.declared.view.Told.TheVariants.{Key, Value, Info, Expects}
+use Rattle.ell_cards.specs.declared.view.View.{View}
+use Rattle.ell_cards.specs.Changes.{expected_tag, filling_for, filling_of, ledger_keys, tag_of_claim, tagged, told_filling, told_value, value_told}
+use Rattle.ell_cards.specs.Calls.{after}
+use Rattle.ell_cards.specs.Guards.{Wants, MayClaim}
+use Rattle.ell_cards.specs.Models.{Has, latest, earlier, IsTold, KnowsCard}
+use Rattle.ell_cards.specs.Naming.{EntryIsNamed, EntryIsPlaced, IsNamed, IsPlaced}
+use Rattle.ell_cards.specs.Skipping.{after_one, after_row, told_of_claim, IsAfterRow}
+use Rattle.ell_cards.specs.SlotWords.{slot_of}
+use Rattle.ell_cards.specs.Stepping.{SameShare}
+use Rattle.ell_cards.proofs.lemmas.views.Entries.{filling_more}
+
+-- what was told before a claim is told after it
+pub told_on : (c node_key : ℕ) (v : View) (e : Told) → IsTold v e → IsTold (after_one c node_key v) e
+told_on c node_key v e h =
+    earlier e (Expects c (expected_tag v)) (told_filling c (filling_of c node_key v) v.told) (filling_more c (filling_of c node_key v) v.told e h)
+
+-- so are the values of leaves
+value_on : (c : ℕ) (es : List (Field × ℕ)) (told : List Told) (x : ℕ) → told_value (told_filling c es told) x ≡ told_value told x
+value_on c [] told x = refl
+value_on c (e ∷ es) told x = by (is_fixed e.0) (value_on c es told x)
+  where
+    by : (b : Bool) → told_value (told_filling c es told) x ≡ told_value told x
+        → told_value (if b then Info c e.0 e.1 ∷ told_filling c es told else told_filling c es told) x ≡ told_value told x
+    by true rest = rest
+    by false rest = rest
+
+values_on : (c node_key : ℕ) (v : View) → value_told (after_one c node_key v).told ≡ value_told v.told
+values_on c node_key v = λ t x. if x % 4 == 0 then 0 else value_on c (filling_of c node_key v) v.told x t
+
+-- so what fills a card after a claim fills it before that
+filling_on : (c d node_key : ℕ) (v : View) → filling_of d node_key (after_one c node_key v) ≡ filling_of d node_key v
+filling_on c d node_key v =
+    ap (filling_for d node_key v.worker.operation v.worker.search.node v.worker.search.parent v.worker.search.grandparent
+    (unwrap_or v.here 0)) (values_on c node_key v)
+
+-- what is told of what fills a card
+filling_has : (c : ℕ) (es : List (Field × ℕ)) (told : List Told) (e : Told) → Has (told_filling c es []) e → Has (told_filling c es told) e
+filling_has c [] told e h = elim h [ ]
+filling_has c (d ∷ es) told e h = by (is_fixed d.0) e (filling_has c es told e) h
+  where
+    by : (b : Bool) (e : Told) → (Has (told_filling c es []) e → Has (told_filling c es told) e)
+        → Has (if b then Info c d.0 d.1 ∷ told_filling c es [] else told_filling c es []) e
+        → Has (if b then Info c d.0 d.1 ∷ told_filling c es told else told_filling c es told) e
+    by true e rest (latest _ _) = latest e (told_filling c es told)
+    by true e rest (earlier _ _ _ g) = earlier e (Info c d.0 d.1) (told_filling c es told) (rest g)
+    by false e rest g = rest g
+
+filling_only : (c : ℕ) (es : List (Field × ℕ)) (told : List Told) (e : Told) → Has (told_filling c es told) e
+    → Has told e ⊎ Has (told_filling c es []) e
+filling_only c [] told e h = inl h
+filling_only c (d ∷ es) told e h = by (is_fixed d.0) e (filling_only c es told e) h
+  where
+    by : (b : Bool) (e : Told) → (Has (told_filling c es told) e → Has told e ⊎ Has (told_filling c es []) e)
+        → Has (if b then Info c d.0 d.1 ∷ told_filling c es told else told_filling c es told) e
+        → Has told e ⊎ Has (if b then Info c d.0 d.1 ∷ told_filling c es [] else told_filling c es []) e
+    by true e rest (latest _ _) = inr (latest e (told_filling c es []))
+    by true e rest (earlier _ _ _ g) = elim (rest g) [
+      | inl old ↦ inl old
+      | inr new ↦ inr (earlier e (Info c d.0 d.1) (told_filling c es []) new)
+    ]
+    by false e rest g = rest g
+
+-- a claim tells this
+claim_says : (c tag : ℕ) (es : List (Field × ℕ)) (told : List Told) (e : Told) → Has (Expects c tag ∷ told_filling c es []) e
+    → Has (Expects c tag ∷ told_filling c es told) e
+claim_says c tag es told e (latest _ _) = latest e (told_filling c es told)
+claim_says c tag es told e (earlier _ _ _ h) = earlier e (Expects c tag) (told_filling c es told) (filling_has c es told e h)
+
+-- and nothing else
+claim_only : (c tag : ℕ) (es : List (Field × ℕ)) (told : List Told) (e : Told) → Has (Expects c tag ∷ told_filling c es told) e
+    → Has told e ⊎ Has (Expects c tag ∷ told_filling c es []) e
+claim_only c tag es told e (latest _ _) = inr (latest e (told_filling c es []))
+claim_only c tag es told e (earlier _ _ _ h) = elim (filling_only c es told e h) [
+  | inl old ↦ inl old
+  | inr new ↦ inr (earlier e (Expects c tag) (told_filling c es []) new)
+]
+
+-- what a pass knows after a row of claims
+pub rows_keep : (n c node_key : ℕ) (v : View) → IsAfterRow c (c + n) node_key v (after_row n c node_key v)
+rows_keep zero c node_key v = subst (λ m. IsAfterRow c m node_key v (after_row zero c node_key v)) (omega arith) (record {
+  operation = refl;
+  search = refl;
+  knows = refl;
+  ledger = refl;
+  shared = refl;
+  card = refl;
+  unflagged = refl;
+  planned = refl;
+  stores = refl;
+  here = refl;
+  next = λ at. at;
+  least = refl;
+  found = refl;
+  share = refl;
+  looks = refl;
+  glances = refl;
+  answers = refl;
+  answered = refl;
+  laid_down = refl;
+  knew_before = refl;
+  hindrances = refl;
+  hindered = refl;
+  met = refl;
+  won = λ w h. earlier w (exchange.Claim, c) v.won h;
+  claimed = λ d low most. subst (λ x. Has ((exchange.Claim, c) ∷ v.won) (exchange.Claim, x)) (omega arith) (latest (exchange.Claim, c) v.won);
+  made = omega arith;
+  told = told_on c node_key v;
+  says = claim_says c (expected_tag v) (filling_of c node_key v) v.told;
+  only = λ e h. elim (claim_only c (expected_tag v) (filling_of c node_key v) v.told e h) [
+    | inl old ↦ inl old
+    | inr new ↦ inr (record { card = c; from = omega arith; upto = omega arith; among = new })
+  ];
+})
+rows_keep (suc n) c node_key v =
+    let h = rows_keep n (c + 1) node_key (after_one c node_key v) in
+    let same : (d : ℕ) → told_of_claim d node_key (after_one c node_key v) ≡ told_of_claim d node_key v =
+    λ d. ap (λ es. Expects d (expected_tag v) ∷ told_filling d es []) (filling_on c d node_key v) in
+    subst (λ m. IsAfterRow c m node_key v (after_row (suc n) c node_key v)) (omega arith) (record {
+      operation = h.operation;
+      search = h.search;
+      knows = h.knows;
+      ledger = h.ledger;
+      shared = h.shared;
+      card = h.card;
+      unflagged = h.unflagged;
+      planned = h.planned ∙ ap (tagged (expected_tag v)) (filling_on c (c + 1 + n) node_key v);
+      stores = h.stores;
+      here = h.here;
+      next = λ at. h.next refl;
+      least = h.least;
+      found = h.found;
+      share = h.share;
+      looks = h.looks;
+      glances = h.glances;
+      answers = h.answers;
+      answered = h.answered;
+      laid_down = h.laid_down;
+      knew_before = h.knew_before;
+      hindrances = h.hindrances;
+      hindered = h.hindered;
+      met = h.met;
+      won = λ w has. h.won w (earlier w (exchange.Claim, c) v.won has);
+      claimed = λ d low most. elim (cases_eq d c) [
+        | inl e ↦ subst (λ x. Has (after_row n (c + 1) node_key (after_one c node_key v)).won (exchange.Claim, x)) (sym e)
+            (h.won (exchange.Claim, c) (latest (exchange.Claim, c) v.won))
+        | inr other ↦ h.claimed d (omega arith) most
+      ];
+      made = let more = h.made in omega arith;
+      told = λ e was. h.told e (told_on c node_key v e was);
+      says = λ e has. h.says e (subst (λ es. Has es e) (sym (same (c + 1 + n))) has);
+      only = λ e has. elim (h.only e has) [
+        | inl old ↦ elim (claim_only c (expected_tag v) (filling_of c node_key v) v.told e old) [
+          | inl older ↦ inl older
+          | inr new ↦ inr (record { card = c; from = omega arith; upto = omega arith; among = new })
+        ]
+        | inr new ↦ inr (record {
+          card = new.card;
+          from = let low = new.from in omega arith;
+          upto = new.upto;
+          among = subst (λ es. Has es e) (same new.card) new.among;
+        })
+      ];
+    })
+
+-- it has the keys and the share that it had
+pub row_keys : (n c node_key : ℕ) (v : View) → ledger_keys (after_row n c node_key v).worker.ledger ≡ ledger_keys v.worker.ledger
+row_keys n c node_key v = ap ledger_keys (rows_keep n c node_key v).ledger
+
+pub row_share : (n c node_key : ℕ) (v : View) → SameShare v (after_row n c node_key v)
+row_share n c node_key v = let h = rows_keep n c node_key v in record { share = h.share; ownable = h.shared }
+
+-- a pass that was told what it was told before, and whose search stands where it stood, wants the same
+wants_same : (from : ℕ) (v w : View) → ((e : Told) → IsTold v e → IsTold w e) → w.worker.search ≡ v.worker.search
+    → (op : Op) (parent x key node_key : ℕ) → Wants from v op parent x key node_key → Wants from w op parent x key node_key
+wants_same from v w more same (Find k) parent x key node_key h = h
+wants_same from v w more same (Insert k value) parent x key node_key h = record {
+  leaf = λ outer. (let at = h.leaf outer in (at.0, (at.1.0, more (Value x at.1.0) at.1.1)));
+  edge = h.edge;
+  fits = λ block. (let at = h.fits block in (at.0, more (Key parent at.0) at.1, at.2));
+  named = h.named;
+}
+wants_same from v w more same (Swap k was value) parent x key node_key h = record {
+  outer = h.outer;
+  same = h.same;
+  value = more (Value x was) h.value;
+  named = h.named;
+}
+wants_same from v w more same (Delete k) parent x key node_key h = record {
+  outer = h.outer;
+  same = h.same;
+  above = h.above;
+  grandparent = ap (λ (s : Search). s.grandparent) same ∙ h.grandparent;
+  calm = h.calm;
+}
+
+-- so in a flat tree, where it might claim the card from which it has claimed a row, it may claim the next one too, once it
+-- has read that: then the last one of the row is laid aside
+pub row_claims_on : (from : ℕ) → 0 < from → (n c node_key next : ℕ) (v : View) → next ≢ c + n → MayClaim from v c node_key
+    → MayClaim from (after call.Next next (after_row n c node_key v)) next node_key
+row_claims_on from flat n c node_key next v other m =
+    let h = rows_keep n c node_key v in
+    record {
+      op = m.op;
+      below = m.below;
+      key = m.key;
+      parent = m.parent;
+      read = refl;
+      other = λ e. other (sym (same_Some (c + n) next (sym h.card ∙ e)));
+      ready = inr (flat, h.unflagged);
+      busy = h.operation ∙ m.busy;
+      stands = ap (λ (s : Search). s.node) h.search ∙ m.stands;
+      told = h.here ∙ m.told;
+      behind = ap (λ (s : Search). s.parent) h.search ∙ m.behind;
+      calm = m.calm;
+      wants = wants_same from v (after call.Next next (after_row n c node_key v)) h.told h.search m.op m.parent.node m.below m.key node_key m.wants;
+    }
+
+-- so it is after one claim
+pub one_claims_on : (from : ℕ) → 0 < from → (c node_key : ℕ) (v : View) → MayClaim from v c node_key → MayClaim from (after_one c node_key v) (c + 1) node_key
+one_claims_on from flat c node_key v m = row_claims_on from flat 0 c node_key (c + 1) v (λ e. omega arith) m
+
+-- the nodes that fill a card are those where the search stands and stood
+abbrev Stood : Option ℕ → Option Seen → Option Seen → Field → ℕ → Type 0
+Stood below parent above field.Gp x =
+    (y : ℕ) × (seen : Seen) × (top : Seen) × (below ≡ Some y) × (parent ≡ Some seen) × (above ≡ Some top) × (top.node ≡ x)
+Stood below parent above field.P x = (y : ℕ) × (seen : Seen) × (below ≡ Some y) × (parent ≡ Some seen) × (seen.node ≡ x)
+Stood below parent above field.L x = below ≡ Some x
+Stood below parent above _ x = Unit {0}
+
+abbrev AllStood : Option ℕ → Option Seen → Option Seen → List (Field × ℕ) → Type 0
+AllStood below parent above [] = Unit {0}
+AllStood below parent above (e ∷ es) = Stood below parent above e.0 e.1 × AllStood below parent above es
+
+filling_stood : (c node_key : ℕ) (op : Option Op) (node : Option ℕ) (parent above : Option Seen) (key : ℕ) (value_of : ℕ → ℕ)
+    → AllStood node parent above (filling_for c node_key op node parent above key value_of)
+filling_stood c node_key (Some (Insert k value)) (Some below) (Some parent) above key value_of =
+    ((below, parent, refl, refl, refl), (refl, (tt, (tt, (tt, (tt, (tt, (tt, (tt, (tt, tt))))))))))
+filling_stood c node_key (Some (Swap k was value)) (Some below) (Some parent) above key value_of =
+    ((below, parent, refl, refl, refl), (refl, (tt, (tt, (tt, (tt, (tt, (tt, (tt, (tt, tt))))))))))
+filling_stood c node_key (Some (Delete k)) (Some leaf) (Some parent) (Some above) key value_of =
+    ((leaf, parent, above, refl, refl, refl, refl), ((leaf, parent, refl, refl, refl), (refl, (tt, tt))))
+filling_stood c node_key _ _ _ _ key value_of = tt
+
+-- what is so of entries that tell such fields of a card is so of what is told of its filling
+stood_told : (Q : Told → Type 0) (c : ℕ) (node : Option ℕ) (parent above : Option Seen)
+    → ((f : Field) (x : ℕ) → Stood node parent above f x → Q (Info c f x))
+    → (es : List (Field × ℕ)) → AllStood node parent above es → (e : Told) → Has (told_filling c es []) e → Q e
+stood_told Q c below parent above each [] all e h = elim h [ ]
+stood_told Q c below parent above each (d ∷ es) all e h = by (is_fixed d.0) e (stood_told Q c below parent above each es all.1 e) h
+  where
+    by : (b : Bool) (e : Told) → (Has (told_filling c es []) e → Q e) → Has (if b then Info c d.0 d.1 ∷ told_filling c es [] else told_filling c es []) e → Q e
+    by true e rest (latest _ _) = each d.0 d.1 all.0
+    by true e rest (earlier _ _ _ g) = rest g
+    by false e rest g = rest g
+
+claim_told : (Q : Told → Type 0) (c node_key : ℕ) (v : View) → Q (Expects c (expected_tag v))
+    → ((f : Field) (x : ℕ) → Stood v.worker.search.node v.worker.search.parent v.worker.search.grandparent f x → Q (Info c f x))
+    → (e : Told) → Has (told_of_claim c node_key v) e → Q e
+claim_told Q c node_key v tag each e (latest _ _) = tag
+claim_told Q c node_key v tag each e (earlier _ _ _ h) =
+    stood_told Q c v.worker.search.node v.worker.search.parent v.worker.search.grandparent each (filling_of c node_key v)
+    (filling_stood c node_key v.worker.operation v.worker.search.node v.worker.search.parent v.worker.search.grandparent (unwrap_or v.here 0) (value_told v.told)) e h
+
+-- the tag that a card expects is one that its search has seen
+tag_seen : (last : ℕ) (op : Option Op) (parent above : Option Seen) → ((seen : Seen) → parent ≡ Some seen → seen.tag ≤ last)
+    → ((top : Seen) → above ≡ Some top → top.tag ≤ last) → tag_of_claim op parent above ≤ last
+tag_seen last None None above near far = omega arith
+tag_seen last None (Some seen) above near far = near seen refl
+tag_seen last (Some (Find k)) None above near far = omega arith
+tag_seen last (Some (Find k)) (Some seen) above near far = near seen refl
+tag_seen last (Some (Insert k value)) None above near far = omega arith
+tag_seen last (Some (Insert k value)) (Some seen) above near far = near seen refl
+tag_seen last (Some (Swap k was value)) None above near far = omega arith
+tag_seen last (Some (Swap k was value)) (Some seen) above near far = near seen refl
+tag_seen last (Some (Delete k)) None None near far = omega arith
+tag_seen last (Some (Delete k)) None (Some top) near far = far top refl
+tag_seen last (Some (Delete k)) (Some seen) None near far = near seen refl
+tag_seen last (Some (Delete k)) (Some seen) (Some top) near far = far top refl
+
+-- a pass that names what is in a table with this last card does after a row of claims up to that
+pub row_named : (from last n c node_key : ℕ) (v : View) → MayClaim from v c node_key → c + n ≤ last → IsNamed last v
+    → IsNamed last (after_row n c node_key v)
+row_named from last n c node_key v may room h = record {
+  node = λ x at. h.node x (sym (ap (λ (s : Search). s.node) keeps.search) ∙ at);
+  parent = λ x seen at behind. h.parent x seen (sym (ap (λ (s : Search). s.node) keeps.search) ∙ at) (sym (ap (λ (s : Search). s.parent) keeps.search) ∙ behind);
+  grandparent = λ x seen top at behind up. h.grandparent x seen top (sym (ap (λ (s : Search). s.node) keeps.search) ∙ at)
+      (sym (ap (λ (s : Search). s.parent) keeps.search) ∙ behind) (sym (ap (λ (s : Search). s.grandparent) keeps.search) ∙ up);
+  hand = λ d has. (let same = same_Some (c + n) d (sym keeps.card ∙ has) in omega arith);
+  facts = λ f knows. h.facts f (subst (λ facts. known_of facts f ≡ true) keeps.knows knows);
+  entries = λ e told. elim (keeps.only e told) [
+    | inl old ↦ h.entries e old
+    | inr new ↦ claim_told (EntryIsNamed last) new.card node_key v (
+      let low = new.upto in omega arith,
+      tag_seen last v.worker.operation v.worker.search.parent v.worker.search.grandparent
+          (λ seen is. (h.parent may.below seen may.stands is).tag) (λ top is. (h.grandparent may.below may.parent top may.stands may.behind is).tag),
+    )
+        (named new.card (let low = new.upto in omega arith)) e new.among
+  ];
+  next = let same = keeps.least in omega arith;
+}
+  where
+    keeps : IsAfterRow c (c + n) node_key v (after_row n c node_key v)
+    keeps = rows_keep n c node_key v
+
+    named : (d : ℕ) → d ≤ last → (f : Field) (x : ℕ) → Stood v.worker.search.node v.worker.search.parent v.worker.search.grandparent f x
+        → EntryIsNamed last (Info d f x)
+    named d low field.Gp x at = (low, subst (λ y. card y ≤ last) at.6 (h.grandparent at.0 at.1 at.2 at.3 at.4 at.5).node)
+    named d low field.P x at = (low, subst (λ y. card y ≤ last) at.4 (h.parent at.0 at.1 at.2 at.3).node)
+    named d low field.L x at = (low, h.node x at)
+    named d low _ x at = (low, tt)
+
+-- and what it names lies in the slots in which it lay
+pub row_placed : (last n c node_key : ℕ) (v : View) → IsPlaced last v → IsPlaced last (after_row n c node_key v)
+row_placed last n c node_key v h = record {
+  node = λ x at. h.node x (sym (ap (λ (s : Search). s.node) keeps.search) ∙ at);
+  parent = λ x seen at behind. h.parent x seen (sym (ap (λ (s : Search). s.node) keeps.search) ∙ at) (sym (ap (λ (s : Search). s.parent) keeps.search) ∙ behind);
+  grandparent = λ x seen top at behind up. h.grandparent x seen top (sym (ap (λ (s : Search). s.node) keeps.search) ∙ at)
+      (sym (ap (λ (s : Search). s.parent) keeps.search) ∙ behind) (sym (ap (λ (s : Search). s.grandparent) keeps.search) ∙ up);
+  facts = λ d knows. h.facts d (known d knows);
+  entries = λ e told. elim (keeps.only e told) [
+    | inl old ↦ h.entries e old
+    | inr new ↦ claim_told (EntryIsPlaced last) new.card node_key v tt (placed new.card) e new.among
+  ];
+}
+  where
+    keeps : IsAfterRow c (c + n) node_key v (after_row n c node_key v)
+    keeps = rows_keep n c node_key v
+
+    fact : (f : Fact) → known_of (after_row n c node_key v).worker.knows f ≡ true → known_of v.worker.knows f ≡ true
+    fact f knows = subst (λ facts. known_of facts f ≡ true) keeps.knows knows
+
+    known : (d : ℕ) → KnowsCard (after_row n c node_key v) d → KnowsCard v d
+    known d (inl k) = inl (fact (IFlagged d) k)
+    known d (inr (inl k)) = inr (inl (fact (DFlagged d) k))
+    known d (inr (inr k)) = inr (inr (fact (Marked d) k))
+
+    placed : (d : ℕ) (f : Field) (x : ℕ) → Stood v.worker.search.node v.worker.search.parent v.worker.search.grandparent f x
+        → EntryIsPlaced last (Info d f x)
+    placed d field.Gp x at = subst (λ y. slot_of (card y) ≤ last) at.6 (h.grandparent at.0 at.1 at.2 at.3 at.4 at.5)
+    placed d field.P x at = subst (λ y. slot_of (card y) ≤ last) at.4 (h.parent at.0 at.1 at.2 at.3)
+    placed d _ x at = tt

@@ -1,0 +1,484 @@
+-- A step call of the tree, which a pass makes by what is shown of what it knows, is a step of the whole table.
+use Rattle.std.proofs.Common.{zero, suc, ◌≡◌, ◌≢◌, ℕ, ◌<◌, ◌≤◌, ◌==◌, if◌then◌else◌, Bool, true, false, Option, Some, None, List, [], ◌∷◌, length, get_or, set, inl, inr, ◌⊎◌, refl, sym, ap, ◌∙◌, subst, ⊎_elim, arith, length-set}
+use Rattle.std.proofs.lemmas.List.{map-set}
+use mathlib.Core.Option.{some}
+use mathlib.Core.Option.{Option as Maybe}
+use lib.ListN.{get_elem?}
+use prog.Atomic.{either}
+use Rattle.atomic_table.specs.Table.{Act, Allows, Valid, carried_after, keeps, homes_after, stepped}
+use Rattle.atomic_table.proofs.Lists.{at_set}
+use Rattle.ell_core.proofs.lemmas.outcomes.Decide.{some_not_none}
+use Rattle.ell_word.specs.Link.{linked, tag_unit}
+use Rattle.ell_word.specs.declared.link.Link.{Link}
+use Rattle.ell_word.specs.Node.{greatest_card, greatest_number}
+use Rattle.ell_layout.specs.Layout.{address, table_size}
+use Rattle.ell_layout.specs.declared.field.Field.{Field}
+use Rattle.ell_layout.specs.declared.field.Field.TheVariants as field
+use Rattle.ell_cards.specs.declared.call.Call.{Call}
+use Rattle.ell_cards.specs.declared.call.Call.TheVariants as call
+use Rattle.ell_cards.specs.declared.view.Known.{Known}
+use Rattle.ell_cards.specs.declared.view.Period.{Period}
+use Rattle.ell_cards.specs.declared.view.Slots.{Slots}
+use Rattle.ell_cards.specs.declared.view.Told.TheVariants.{Info}
+use Rattle.ell_cards.specs.declared.view.View.{View}
+use Rattle.ell_cards.specs.Ages.{HasPeriods}
+use Rattle.ell_cards.specs.Calls.{Load, Store, Exchange, next_link, word_of, place_of, atomic_of, is_won, left_by, May}
+use Rattle.ell_cards.specs.Machines.{HasMachine}
+use Rattle.ell_cards.specs.Models.{Has, latest, earlier, TablePlan, last_slot, last_slot_of}
+use Rattle.ell_cards.specs.Naming.{IsNamed, IsPlaced}
+use Rattle.ell_cards.specs.PeriodLaws.{IsInPeriod}
+use Rattle.ell_cards.specs.Periods.{WholeState, IsAtRest, slots_size, after_flagging}
+use Rattle.ell_cards.specs.Shown.{IsWord, cut_word, shown_word, shown_words, shown, shown_call, FieldIsWhole, FillIsWhole, StandsInside, CanBeShown, StoresAreWhole, StoresWord}
+use Rattle.ell_cards.specs.SlotWords.{slot_of}
+use Rattle.ell_cards.specs.Starts.{SlotsFit}
+use Rattle.ell_cards.specs.States.{TableState}
+use Rattle.ell_cards.specs.Stepping.{Exchanges, IsQuiet, MayTell}
+use Rattle.ell_cards.specs.Tied.{HasWon, MayInMemory, IsTied, FlagsCard}
+use Rattle.ell_cards.specs.Ties.{card_touched, ExpectsNear, FindsTied, IsTiedByAges, TouchesTied, memory_after}
+use Rattle.ell_cards.specs.Touching.{touched_by}
+use Rattle.ell_cards.specs.Turns.{Makes, found_by, view_after, state_after}
+use Rattle.ell_cards.specs.Whole.{FieldsAreWhole, WordsAre, PeriodsAre, AllStoresAreWhole, IsWhole}
+use Rattle.ell_cards.proofs.lemmas.runs.Reaching.{reached_kept, call_on}
+use Rattle.ell_cards.proofs.lemmas.seats.Named.{kept_named, named_more, planned_leaf}
+use Rattle.ell_cards.proofs.lemmas.seats.Placed.{named_placed}
+use Rattle.ell_cards.proofs.lemmas.seats.Seats.{set_there}
+use Rattle.ell_cards.proofs.lemmas.shown.CutWords.{cut_same}
+use Rattle.ell_cards.proofs.lemmas.shown.ShownActs.{calls_act_alike}
+use Rattle.ell_cards.proofs.lemmas.shown.ShownCalls.{guards_are_lifted}
+use Rattle.ell_cards.proofs.lemmas.shown.ShownStores.{stores_stay_whole}
+use Rattle.ell_cards.proofs.lemmas.ties.Keeping.{touch, goes, tied}
+use Rattle.ell_cards.proofs.lemmas.ties.Near.{expected_links_are_near}
+use Rattle.ell_cards.proofs.lemmas.ties.Placed.{placed_to}
+use Rattle.ell_cards.proofs.lemmas.ties.Touched.{spots, touched_won, claim_is_word}
+use Rattle.ell_cards.proofs.lemmas.whole.Ages.{AgesOn}
+use Rattle.ell_cards.proofs.lemmas.whole.Fields.{FillsWhole, fields_after, field_can}
+use Rattle.ell_cards.proofs.lemmas.whole.Losing.{aside_in_ages, lost_now}
+use Rattle.ell_cards.proofs.lemmas.whole.Lifts.{is_its_own, stands_inside, can_be_shown}
+use Rattle.ell_cards.proofs.lemmas.whole.Rests.{stays_at_rest}
+use Rattle.ell_cards.proofs.lemmas.whole.Trees.{tree_at, tree_periods}
+
+-- a card that is no later than the last one that may have a slot of its own has that
+own_slot : (c : ℕ) → c ≤ greatest_card → slot_of c ≡ c
+own_slot c low = omega arith
+
+-- what a pass notes of periods by a step call: nothing, or the card that the call was to flag, and has not
+pub data Notes (c : Call) (n : ℕ) (old new : Period) : Type 0 where
+  nothing : new ≡ old → Notes c n old new
+  loses : (d : ℕ) → new ≡ record old { lost = Some d } → FlagsCard c d → is_won (atomic_of c) n ≡ false → Notes c n old new
+
+-- the last of two that are put in one place
+pub set_twice : {A : Type 0} (l : List A) (i : ℕ) (a b : A) → set (set l i a) i b ≡ set l i b
+set_twice [] i a b = refl
+set_twice (x ∷ xs) zero a b = refl
+set_twice (x ∷ xs) (suc i) a b = ap (λ l. x ∷ l) (set_twice xs i a b)
+
+-- the parts of a step call of the tree
+module _ (plan : TablePlan) (s : WholeState) (h : IsWhole plan s) (id : ℕ) (k : Known) (here : get_elem? s.views id ≡ some k) where
+  -- the pass has its seat in the tree
+  pub tree_here : get_elem? h.tree.views id ≡ some k.tree
+  tree_here = ap (λ l. get_elem? l id) (sym h.views) ∙ tree_at s.views id k here
+
+  tree_kept : HasMachine plan h.tree
+  tree_kept = reached_kept plan h.tree h.reached
+
+  -- all that it names is of the table
+  tree_named : IsNamed plan.last_card k.tree
+  tree_named = kept_named plan h.tree tree_kept id k.tree tree_here
+
+  -- a pass that announces nothing is at rest, if there are places
+  rest_by : (o : Option Slots) → PeriodsAre plan o h.tree s → o ≢ None → k.period.announced ≡ None → IsAtRest k.tree
+  rest_by None periods placed none = absurd (placed refl)
+  rest_by (Some sl) periods placed none = (periods.periods.each id k here).rests none
+
+  pub rest_here : plan.slots ≢ None → k.period.announced ≡ None → IsAtRest k.tree
+  rest_here = rest_by plan.slots h.periods
+
+  -- if it claims a card, it stands at a node that a child word has room for
+  inside_whole : (c : Call) → StandsInside c k.tree
+  inside_whole = stands_inside k.tree (named_more plan.last_card greatest_number h.reached.starts.may.limit k.tree tree_named)
+
+  -- without places there are no more cards than slots
+  pub few_plain : plan.slots ≡ None → plan.last_card ≤ greatest_card
+  few_plain none = subst (SlotsFit plan) none h.reached.starts.may.slots
+
+  -- a call that it may make
+  module _ (c : Call) (may : May plan c k.tree) (fills : FillIsWhole c k.tree) where
+    abbrev noting : Period → Known
+    noting p = record { tree = view_after h.tree k.tree c; period = p }
+
+    abbrev knows : Known
+    knows = noting k.period
+
+    abbrev after : TableState
+    after = state_after h.tree id k.tree c
+
+    abbrev left : ℕ
+    left = left_by (atomic_of c) (found_by h.tree c)
+
+    -- what each pass has stored after the step
+    stores_after : AllStoresAreWhole after
+    stores_after j v at = ⊎_elim
+        (λ (t : (j ≡ id) × (view_after h.tree k.tree c ≡ v)). subst StoresAreWhole t.1
+        (stores_stay_whole plan c (found_by h.tree c) k.tree may (inside_whole c) fills (h.stores id k.tree tree_here)))
+        (λ (t : (j ≢ id) × (get_elem? h.tree.views j ≡ some v)). h.stores j v t.1)
+        (at_set h.tree.views id j (view_after h.tree k.tree c) v at)
+
+    -- the state after the step, by its words and its periods
+    whole_after : (p : Period) (i n : ℕ) → WordsAre plan.slots (set s.words i n) after.words
+        → PeriodsAre plan plan.slots after (record { words = set s.words i n; homes = homes_after s.homes [] keeps; views = set s.views id (noting p) })
+        → IsWhole plan (stepped s i n id [] (noting p) keeps)
+    whole_after p i n words periods = record {
+      tree = after;
+      reached = call_on plan h.tree h.reached id c k.tree tree_here may;
+      views = map-set (λ (l : Known). l.tree) s.views id (noting p) ∙ ap (λ l. set l id (view_after h.tree k.tree c)) h.views;
+      homes = h.homes;
+      words = words;
+      stores = stores_after;
+      periods = periods;
+    }
+
+    tree_there : get_elem? after.views id ≡ some (view_after h.tree k.tree c)
+    tree_there = set_there h.tree.views id (view_after h.tree k.tree c) k.tree tree_here
+
+    -- without places
+    module _ (none : plan.slots ≡ None) where
+      -- each card has a slot of its own, so the word stands in memory where it does in the tree
+      word_at : (d : Call) → May plan d k.tree → place_of d ≡ word_of d
+      word_at (call.Fill e f value) may = ap (λ x. address x f) (own_slot e (let low = tree_named.hand e may.holds in let few = few_plain none in omega arith))
+      word_at d may = at_won d (touched_won plan h.tree tree_kept id k.tree tree_here d may)
+        where
+          at_won : (d : Call) → HasWon tree_kept.stages (card_touched (touched_by d)) → place_of d ≡ word_of d
+          at_won d has =
+              let below = (tree_kept.invariant.words.cards (card_touched (touched_by d))).claimed.0 has.0 in
+              let limit = tree_kept.invariant.limit in
+              elim (spots d) [
+                | inl at ↦ at.2 ∙ sym at.1
+                | inr at ↦ at.2 ∙ (ap (λ x. address x at.0) (own_slot (card_touched (touched_by d)) (let few = few_plain none in omega arith)) ∙ sym at.1)
+              ]
+
+      same_words : s.words ≡ h.tree.words
+      same_words = subst (λ o. WordsAre o s.words h.tree.words) none h.words
+
+      pub plain_found : get_or s.words (place_of c) 0 ≡ found_by h.tree c
+      plain_found = (λ i. get_or (same_words i) (word_at c may i) 0)
+
+      pub plain_whole : (p : Period) → IsWhole plan (stepped s (place_of c) left id [] (noting p) keeps)
+      plain_whole p = whole_after p (place_of c) left
+          (subst (λ o. WordsAre o (set s.words (place_of c) left) after.words) (sym none) (λ i. set (same_words i) (word_at c may i) left))
+          (subst (λ o. PeriodsAre plan o after (record { words = set s.words (place_of c) left; homes = homes_after s.homes [] keeps; views = set s.views id (noting p) })) (sym none) tt)
+
+      pub plain_placed : IsPlaced (last_slot plan) (view_after h.tree k.tree c)
+      plain_placed = subst (λ o. IsPlaced (last_slot_of o plan.last_card) (view_after h.tree k.tree c)) (sym none)
+          (named_placed plan.last_card (view_after h.tree k.tree c)
+          (kept_named plan after (reached_kept plan after (call_on plan h.tree h.reached id c k.tree tree_here may)) id (view_after h.tree k.tree c) tree_there))
+
+    -- with places
+    module _ (sl : Slots) (placed : plan.slots ≡ Some sl) (mem : MayInMemory k.period.slot k.tree c) (whole_fill : FillsWhole c)
+        (quiet : k.period.announced ≡ None → IsQuiet c) where
+      has_words : (length s.words ≡ slots_size sl) × FieldsAreWhole h.tree.words
+      has_words = subst (λ o. WordsAre o s.words h.tree.words) placed h.words
+
+      abbrev pub has : HasPeriods plan sl h.tree s
+      has = subst (λ o. PeriodsAre plan o h.tree s) placed h.periods
+
+      fit : SlotsFit plan (Some sl)
+      fit = subst (SlotsFit plan) placed h.reached.starts.may.slots
+
+      abbrev by_ages : IsTiedByAges plan sl h.tree s has.dead has.was_dead
+      by_ages = record { ages = has.ages; tied = has.tied }
+
+      -- the pass is at rest, or in a period
+      pub ready : IsAtRest k.tree ⊎ IsInPeriod s id k
+      ready = by k.period.announced refl
+        where
+          by_place : (a : ℕ) → k.period.announced ≡ Some a → (o : Option ℕ) → k.period.place ≡ o → IsAtRest k.tree ⊎ IsInPeriod s id k
+          by_place a says None none = absurd (some_not_none says ((has.periods.each id k here).none none))
+          by_place a says (Some q) at = inr (record { there = here; place = q; has = at; reading = a; announces = says })
+
+          by : (o : Option ℕ) → k.period.announced ≡ o → IsAtRest k.tree ⊎ IsInPeriod s id k
+          by None none = inl ((has.periods.each id k here).rests none)
+          by (Some a) says = by_place a says k.period.place refl
+
+      pub low_last : sl.last < 2097152
+      low_last = let low = fit.4 in omega arith
+
+      pub room : table_size sl.last ≤ length s.words
+      room = let all = has_words.0 in omega arith
+
+      -- it finds what is cut of what is in the tree
+      pub tied_touch : TouchesTied sl s.words h.tree c
+      tied_touch = touch plan sl h.tree s has.dead has.was_dead h.reached low_last room by_ages id k here tree_here ready c may mem
+
+      near : ExpectsNear c (found_by h.tree c)
+      near = elim ready [
+        | inl rest ↦ rest_near c rest may
+        | inr period ↦ expected_links_are_near plan sl h.tree s has.dead has.was_dead by_ages h.reached fit.4 id k here tree_here period c may
+      ]
+        where
+          rest_near : (d : Call) → IsAtRest k.tree → May plan d k.tree → ExpectsNear d (found_by h.tree d)
+          rest_near (call.IChild e p l q right) rest may = absurd (rest.forgot (Info e field.P p) may.parent)
+          rest_near (call.DChild e gp p y right) rest may = absurd (rest.forgot (Info e field.Gp gp) may.grandparent)
+          rest_near _ rest may = tt
+
+      pub tied_can : CanBeShown c (found_by h.tree c) k.tree
+      tied_can = field_can h.tree (claim_is_word plan h.tree tree_kept) has_words.1 c k.tree near (inside_whole c)
+
+      abbrev cut : ℕ
+      cut = cut_word left
+
+      abbrev pub homes : List (Maybe (Unit {0}))
+      homes = homes_after s.homes [] keeps
+
+      pub rests : k.period.announced ≡ None → IsAtRest (view_after h.tree k.tree c)
+      rests none = stays_at_rest k.tree ((has.periods.each id k here).rests none) plan c (found_by h.tree c) (quiet none) may
+
+      abbrev pub tied_ages : AgesOn plan sl h.tree s has.dead has.was_dead has.ages (Makes id c) after (memory_after h.tree s homes id k c)
+      tied_ages = goes plan sl h.tree s has.dead has.was_dead h.reached low_last room by_ages id k here tree_here ready c may mem homes
+
+      pub still_tied : IsTied sl after (memory_after h.tree s homes id k c) tied_ages.ages.now.machine.stages has.dead has.was_dead
+      still_tied = tied plan sl h.tree s has.dead has.was_dead h.reached low_last room by_ages id k here tree_here ready c may mem homes
+
+      abbrev pub tied_periods : HasPeriods plan sl after (record { words = set s.words (place_of c) cut; homes = homes; views = set s.views id knows })
+      tied_periods = record {
+        dead = has.dead;
+        began = has.began;
+        was_dead = has.was_dead;
+        periods = tree_periods s id k here (view_after h.tree k.tree c) sl (place_of c) cut homes has.dead has.began has.was_dead tied_touch.inside rests has.periods;
+        ages = tied_ages.ages;
+        tied = still_tied;
+      }
+
+      -- and if it noted the card whose flag it lost
+      noted_periods : (p : Period) → Notes c (found_by h.tree c) k.period p
+          → HasPeriods plan sl after (record { words = set s.words (place_of c) cut; homes = homes; views = set s.views id (noting p) })
+      noted_periods p (nothing is) =
+          subst (λ q. HasPeriods plan sl after (record { words = set s.words (place_of c) cut; homes = homes; views = set s.views id (noting q) })) (sym is) tied_periods
+      noted_periods p (loses d is flags unwon) =
+          let at : get_elem? (set s.views id knows) id ≡ some knows = set_there s.views id knows k here in
+          subst (λ q. HasPeriods plan sl after (record { words = set s.words (place_of c) cut; homes = homes; views = set s.views id (noting q) })) (sym is)
+          (subst (λ l. HasPeriods plan sl after (record { words = set s.words (place_of c) cut; homes = homes; views = l })) (set_twice s.views id knows (noting (record k.period { lost = Some d })))
+          (lost_now plan sl after (memory_after h.tree s homes id k c) id knows at tied_periods d
+          (aside_in_ages plan sl h.tree s has.dead has.was_dead has.ages id k.tree tree_here c may (memory_after h.tree s homes id k c) tied_ages d flags unwon)))
+
+      pub tied_whole : (p : Period) → Notes c (found_by h.tree c) k.period p → IsWhole plan (stepped s (place_of c) cut id [] (noting p) keeps)
+      tied_whole p notes = whole_after p (place_of c) cut
+          (subst (λ o. WordsAre o (set s.words (place_of c) cut) after.words) (sym placed) (
+            length-set s.words (place_of c) cut ∙ has_words.0,
+            fields_after plan h.tree k.tree c may (named_more plan.last_card greatest_number h.reached.starts.may.limit k.tree tree_named) whole_fill has_words.1,
+          ))
+          (subst (λ o. PeriodsAre plan o after (record { words = set s.words (place_of c) cut; homes = homes; views = set s.views id (noting p) })) (sym placed) (noted_periods p notes))
+
+      pub tied_placed : IsPlaced (last_slot plan) (view_after h.tree k.tree c)
+      tied_placed = subst (λ o. IsPlaced (last_slot_of o plan.last_card) (view_after h.tree k.tree c)) (sym placed)
+          (placed_to plan after tied_ages.ages.now.machine id (view_after h.tree k.tree c) tree_there sl.last still_tied.fits)
+
+-- what a pass has stored of its card in hand, by what is shown
+was_stored : (es : List (Field × ℕ)) (f : Field) (x : ℕ) → Has (shown_words es) (f, x) → (y : ℕ) × Has es (f, y)
+was_stored [] f x h = elim h [ ]
+was_stored (e ∷ es) f x (latest _ _) = (e.1, latest e es)
+was_stored (e ∷ es) f x (earlier _ _ _ h) = let old = was_stored es f x h in (old.0, earlier (f, old.0) e es old.1)
+
+-- what a call that is shown asks of memory is what the call asks
+asks_whole : (slot : Option ℕ) (v : View) (c : Call) → MayInMemory slot (shown v) (shown_call c) → MayInMemory slot v c
+asks_whole slot v (call.Fill e f value) asks = asks
+asks_whole slot v (call.IFlag e p from) asks = (asks.0, λ f. was_stored v.stores f (asks.1 f).0 (asks.1 f).1)
+asks_whole slot v (call.DFlag e gp from) asks = (asks.0, λ f. was_stored v.stores f (asks.1 f).0 (asks.1 f).1)
+asks_whole slot v _ asks = tt
+
+-- it touches the word that the call touches
+place_shown : (c : Call) → place_of (shown_call c) ≡ place_of c
+place_shown (call.Fill e f value) = refl
+place_shown (call.IChild e p l q right) = refl
+place_shown (call.DChild e gp p y right) = refl
+place_shown _ = refl
+
+-- begins nothing that the call does not begin
+quiet_whole : (c : Call) → IsQuiet (shown_call c) → IsQuiet c
+quiet_whole (call.Begin op) quiet = quiet
+quiet_whole call.Look quiet = quiet
+quiet_whole _ quiet = tt
+
+-- and stores a word where the call stores what a field holds whole
+word_filled : (f : Field) (value : ℕ) → IsWord (shown_word f value) → FieldIsWhole f value
+word_filled field.L value word = tt
+word_filled field.Left value word = tt
+word_filled field.Right value word = tt
+word_filled _ value word = word
+
+fills_whole : (c : Call) → StoresWord (shown_call c) → FillsWhole c
+fills_whole (call.Fill e f value) word = word_filled f value word
+fills_whole _ word = tt
+
+-- a call stores a word
+abbrev pub IsFill : Call → Type 0
+IsFill (call.Fill e f value) = Unit {0}
+IsFill _ = ⊥
+
+-- what a call leaves by what it found in memory it leaves by what is there of the tree, and so is what it tells
+left_tied : (words : List ℕ) (tree : TableState) (c : Call) → FindsTied words tree c
+    → left_by (atomic_of (shown_call c)) (get_or words (place_of c) 0) ≡ left_by (atomic_of (shown_call c)) (cut_word (found_by tree c))
+left_tied words tree (call.Fill e f value) finds = refl
+left_tied words tree c finds = ap (left_by (atomic_of (shown_call c))) finds
+
+told_tied : (words : List ℕ) (tree : TableState) (c : Call) (told : ℕ → View → Type 0) (w : View) → FindsTied words tree c
+    → (IsFill (shown_call c) → (n m : ℕ) → told n w → told m w) → told (cut_word (found_by tree c)) w → told (get_or words (place_of c) 0) w
+told_tied words tree (call.Fill e f value) told w finds same says = same tt (cut_word (found_by tree (call.Fill e f value))) (get_or words (place_of (call.Fill e f value)) 0) says
+told_tied words tree c told w finds same says = subst (λ n. told n w) (sym finds) says
+
+-- and what the pass notes by the call that is shown it notes by the call
+notes_whole : (words : List ℕ) (tree : TableState) (c : Call) (v : View) → FindsTied words tree c → CanBeShown c (found_by tree c) v → (old new : Period)
+    → Notes (shown_call c) (get_or words (place_of c) 0) old new → Notes c (found_by tree c) old new
+notes_whole words tree c v finds can old new (nothing is) = nothing is
+notes_whole words tree (call.IFlag e p from) v finds can old new (loses d is flags unwon) =
+    loses d is flags (sym can.wins ∙ (ap (is_won (atomic_of (call.IFlag e p from))) (sym finds) ∙ unwon))
+notes_whole words tree (call.DFlag e gp from) v finds can old new (loses d is flags unwon) =
+    loses d is flags (sym can.wins ∙ (ap (is_won (atomic_of (call.DFlag e gp from))) (sym finds) ∙ unwon))
+notes_whole words tree _ v finds can old new (loses d is flags unwon) = absurd flags
+
+-- what a step call does to the word that it finds: it leaves what is cut of what the call leaves, and without places all of that
+abbrev pub Does : (plan : TablePlan) → Call → (ℕ → ℕ) → Type 0
+Does plan c f =
+    (n : ℕ) → IsWord n → (f n ≡ cut_word (left_by (atomic_of c) n)) × (plan.slots ≡ None → f n ≡ left_by (atomic_of c) n)
+
+module _ (plan : TablePlan) (k : Known) (c : Call) (f : ℕ → ℕ) (told : ℕ → View → Type 0) (notes : ℕ → Period) (word : StoresWord c) (by_shown : May plan c (shown k.tree))
+    (mem : plan.slots ≢ None → MayInMemory k.period.slot (shown k.tree) c) (does : Does plan c f)
+    (quiet : plan.slots ≢ None → k.period.announced ≡ None → IsQuiet c) (same : IsFill c → (n m : ℕ) (w : View) → told n w → told m w)
+    (tells : MayTell plan c (shown k.tree) told) (noted : (n : ℕ) → IsWord n → Notes c n k.period (notes n)) (id : ℕ) (s : WholeState) (h : IsWhole plan s) (here : get_elem? s.views id ≡ some k) (small : IsWord (get_or s.words (place_of c) 0)) where
+  abbrev n : ℕ
+  n = get_or s.words (place_of c) 0
+
+  abbrev Goes : Type 0
+  Goes = (w : Known) × (a : Act (Unit {0})) × Valid s.homes [] a × IsWhole plan (stepped s (place_of c) (f n) id [] w a)
+      × (told n (shown w.tree) × (w.period ≡ notes n) × (carried_after {S = Unit {0}} [] a ≡ []))
+
+  there : get_elem? h.tree.views id ≡ some k.tree
+  there = tree_here plan s h id k here
+
+  stores : StoresAreWhole k.tree
+  stores = h.stores id k.tree there
+
+  plainly : plan.slots ≡ None → Goes
+  plainly none =
+      let few = few_plain plan s h id k here none in
+      let named = tree_named plan s h id k here in
+      let own = is_its_own plan k.tree plan.last_card few named stores
+      (λ x may. planned_leaf plan h.tree (tree_kept plan s h id k here) id k.tree there plan.last_card (tree_kept plan s h id k here).invariant.limit few x may.holds may.unflagged)
+      c word by_shown in
+      let at = plain_found plan s h id k here c own.may own.fills none in
+      let found : IsWord (found_by h.tree c) = subst IsWord at small in
+      let inside = inside_whole plan s h id k here c in
+      let can = can_be_shown plan k.tree plan.last_card few named c (found_by h.tree c) own.same found inside in
+      let w = view_after h.tree k.tree c in (
+        record { tree = w; period = notes n },
+        keeps,
+        tt,
+        subst (λ m. IsWhole plan (stepped s (place_of c) m id [] (record { tree = w; period = notes n }) keeps))
+            (sym ((does n small).1 none ∙ ap (left_by (atomic_of c)) at)) (plain_whole plan s h id k here c own.may own.fills none (notes n)),
+        (
+          subst (λ m. told m (shown w)) (cut_same (found_by h.tree c) found ∙ sym at)
+              (tells h.tree h.reached id k.tree there refl c own.same own.may can (plain_placed plan s h id k here c own.may own.fills none)),
+          refl,
+          refl,
+        ),
+      )
+
+  by_slots : (sl : Slots) → plan.slots ≡ Some sl → Goes
+  by_slots sl placed =
+      let some : plan.slots ≢ None = λ none. some_not_none placed none in
+      let lift = guards_are_lifted plan c k.tree stores word by_shown in
+      let whole = lift.origin in
+      let asks = asks_whole k.period.slot k.tree whole (subst (MayInMemory k.period.slot (shown k.tree)) (sym lift.is) (mem some)) in
+      let fills = fills_whole whole (subst StoresWord (sym lift.is) word) in
+      let calm : k.period.announced ≡ None → IsQuiet whole = λ none. quiet_whole whole (subst IsQuiet (sym lift.is) (quiet some none)) in
+      let touch = tied_touch plan s h id k here whole lift.may lift.fills sl placed asks fills calm in
+      let can = tied_can plan s h id k here whole lift.may lift.fills sl placed asks fills calm in
+      let place : place_of whole ≡ place_of c = sym (place_shown whole) ∙ ap place_of lift.is in
+      let w = view_after h.tree k.tree whole in
+      let leaves : f n ≡ cut_word (left_by (atomic_of whole) (found_by h.tree whole)) =
+      (does n small).0
+      ∙ (ap cut_word ((λ i. left_by (atomic_of (sym lift.is i)) (get_or s.words (sym place i) 0)) ∙ left_tied s.words h.tree whole touch.finds)
+      ∙ (calls_act_alike whole (found_by h.tree whole) k.tree can).leaves) in (
+        record { tree = w; period = notes n },
+        keeps,
+        tt,
+        subst (λ i. IsWhole plan (stepped s i (f n) id [] (record { tree = w; period = notes n }) keeps)) place
+            (subst (λ m. IsWhole plan (stepped s (place_of whole) m id [] (record { tree = w; period = notes n }) keeps)) (sym leaves)
+            (tied_whole plan s h id k here whole lift.may lift.fills sl placed asks fills calm (notes n)
+            (notes_whole s.words h.tree whole k.tree touch.finds can k.period (notes n)
+            (subst (λ i. Notes (shown_call whole) (get_or s.words i 0) k.period (notes n)) (sym place) (subst (λ d. Notes d n k.period (notes n)) (sym lift.is) (noted n small)))))),
+        (
+          subst (λ i. told (get_or s.words i 0) (shown w)) place
+              (told_tied s.words h.tree whole told (shown w) touch.finds (λ fill a b. same (subst IsFill lift.is fill) a b (shown w))
+              (tells h.tree h.reached id k.tree there refl whole lift.is lift.may can
+              (tied_placed plan s h id k here whole lift.may lift.fills sl placed asks fills calm))),
+          refl,
+          refl,
+        ),
+      )
+
+  goes_by : (o : Option Slots) → plan.slots ≡ o → Goes
+  goes_by None none = plainly none
+  goes_by (Some sl) placed = by_slots sl placed
+
+-- a step call of the tree, which a pass makes by what is shown of what it knows, is one of the table
+pub tree_step : (plan : TablePlan) (k : Known) (c : Call) (f : ℕ → ℕ) (told : ℕ → View → Type 0) (notes : ℕ → Period) → StoresWord c → May plan c (shown k.tree)
+    → (plan.slots ≢ None → MayInMemory k.period.slot (shown k.tree) c) → Does plan c f
+    → (plan.slots ≢ None → k.period.announced ≡ None → IsQuiet c) → (IsFill c → (n m : ℕ) (w : View) → told n w → told m w) → MayTell plan c (shown k.tree) told
+    → ((n : ℕ) → IsWord n → Notes c n k.period (notes n))
+    → (id : ℕ) → Allows (IsWhole plan) 0 id (k, []) (place_of c) f (λ n x. told n (shown x.0.tree) × (x.0.period ≡ notes n) × (x.1 ≡ []))
+tree_step plan k c f told notes word by_shown mem does quiet same tells noted id s h homes here small =
+    goes_by plan k c f told notes word by_shown mem does quiet same tells noted id s h here small plan.slots refl
+
+-- what a load, a store and an exchange do
+pub load_does : (plan : TablePlan) (c : Call) → atomic_of c ≡ Load → Does plan c (λ n. n)
+load_does plan c is n small =
+    (sym (cut_same n small) ∙ ap (λ a. cut_word (left_by a n)) (sym is), λ none. ap (λ a. left_by a n) (sym is))
+
+pub store_does : (plan : TablePlan) (c : Call) (value : ℕ) → IsWord value → atomic_of c ≡ Store value → Does plan c (λ n. value)
+store_does plan c value word is n small =
+    (sym (cut_same value word) ∙ ap (λ a. cut_word (left_by a n)) (sym is), λ none. ap (λ a. left_by a n) (sym is))
+
+pub exchange_does : (plan : TablePlan) (c : Call) (expected value : ℕ) → Exchanges plan c expected value → Does plan c (λ n. either (n == expected) value n)
+exchange_does plan c expected value x n small =
+    (by (n == expected) ∙ ap (λ a. cut_word (left_by a n)) (sym x.is), λ none. all (n == expected) (x.all none) ∙ ap (λ a. left_by a n) (sym x.is))
+  where
+    by : (b : Bool) → either b value n ≡ cut_word (if b then x.whole else n)
+    by true = x.cut
+    by false = sym (cut_same n small)
+
+    all : (b : Bool) → value ≡ x.whole → either b value n ≡ (if b then x.whole else n)
+    all true same = same
+    all false same = refl
+
+-- a load stores nothing, and asks nothing of the slots
+pub load_asks : (c : Call) → atomic_of c ≡ Load → (slot : Option ℕ) (v : View) → MayInMemory slot v c
+load_asks (call.Fill e f value) is slot v = absurd cc
+load_asks (call.IFlag e p from) is slot v = absurd cc
+load_asks (call.DFlag e gp from) is slot v = absurd cc
+load_asks _ is slot v = tt
+
+pub load_stores : (c : Call) → atomic_of c ≡ Load → IsFill c → ⊥
+load_stores (call.Fill e f value) is fill = absurd cc
+load_stores _ is fill = fill
+
+pub exchange_stores : (c : Call) (expected value : ℕ) → atomic_of c ≡ Exchange expected value → IsFill c → ⊥
+exchange_stores (call.Fill e f value) expected new is fill = absurd cc
+exchange_stores _ expected value is fill = fill
+
+-- the exchange of a child word, in words of 64 bits
+pub child_exchanges : (plan : TablePlan) (c : Call) (old : Link) (node expected value : ℕ) → expected ≡ linked old → value ≡ cut_word (linked (next_link old node))
+    → atomic_of c ≡ Exchange (linked old) (linked (next_link old node)) → node < tag_unit → (plan.slots ≡ None → old.tag ≤ greatest_card) → Exchanges plan c expected value
+child_exchanges plan c old node expected value at cut is inside few = record {
+  whole = linked (next_link old node);
+  is = is ∙ ap (λ x. Exchange x (linked (next_link old node))) (sym at);
+  cut = cut;
+  all = λ none. (let low = few none in cut ∙ cut_same (linked (next_link old node)) (omega arith));
+}
+
+-- what a pass notes where it is to set a flag
+pub flag_notes : (c : Call) (d expected value n : ℕ) (old new : Period) → atomic_of c ≡ Exchange expected value → FlagsCard c d → new ≡ after_flagging (n == expected) d old → Notes c n old new
+flag_notes c d expected value n old new is flags notes = by (n == expected) refl notes
+  where
+    by : (b : Bool) → (n == expected) ≡ b → new ≡ after_flagging b d old → Notes c n old new
+    by true won notes = nothing notes
+    by false unwon notes = loses d notes flags (ap (λ a. is_won a n) is ∙ unwon)

@@ -1,0 +1,122 @@
+-- Splits and joins of a table.
+use Rattle.std.proofs.Common.{◌≡◌, ℕ, Option, Some, None, List, [], ◌∷◌, ◌++◌, set, refl, sym, ap, ◌∙◌, arith}
+use Rattle.std.proofs.lemmas.List.{map-set}
+use mathlib.Core.Option.{some}
+use lib.ListN.{get_elem?}
+use Rattle.atomic_table.specs.Table.{Splits, Joins}
+use Rattle.atomic_table.proofs.Lists.{set_else}
+use Rattle.ell_cards.specs.declared.view.Known.{Known}
+use Rattle.ell_cards.specs.declared.view.Slots.{Slots}
+use Rattle.ell_cards.specs.Models.{TablePlan, IsFree}
+use Rattle.ell_cards.specs.Changes.{left_view, right_view, joined_view, spent_view}
+use Rattle.ell_cards.specs.Periods.{after_give, given_period, IsAtRest}
+use Rattle.ell_cards.specs.States.{TableState}
+use Rattle.ell_cards.specs.Shown.{StoresAreWhole}
+use Rattle.ell_cards.specs.Stepping.{MaySplit}
+use Rattle.ell_cards.specs.Starts.{SlotsFit}
+use Rattle.ell_cards.specs.Turns.{TableTurns, Splits as SplitsInto, Joins as JoinsWith, state_split, state_joined}
+use Rattle.ell_cards.proofs.lemmas.ties.Handovers.{splits_keep_ties, joins_keep_ties}
+use Rattle.ell_cards.proofs.lemmas.whole.Handovers.{split_periods, join_periods}
+use Rattle.ell_cards.specs.Whole.{trees_of, joined_known, spent_known, PeriodsAre, IsWhole}
+use Rattle.ell_cards.proofs.lemmas.lifetimes.Joins.{each_joined as each_view_joined}
+use Rattle.ell_cards.proofs.lemmas.lifetimes.Splits.{each_split as each_view_split}
+use Rattle.ell_cards.proofs.lemmas.shown.ShownViews.{unfilled_whole}
+use Rattle.ell_cards.proofs.lemmas.runs.Reaching.{reached_on}
+use Rattle.ell_cards.proofs.lemmas.whole.Rests.{is_at_rest}
+use Rattle.ell_cards.proofs.lemmas.whole.Trees.{tree_at}
+
+-- the trees of a list with one more at its end
+trees_more : (views : List Known) (k : Known) → trees_of (views ++ k ∷ []) ≡ trees_of views ++ k.tree ∷ []
+trees_more [] k = refl
+trees_more (x ∷ xs) k = ap (λ l. x.tree ∷ l) (trees_more xs k)
+
+-- a split of the tree is a split of the table
+pub whole_splits : (plan : TablePlan) (k : Known) (keys : List ℕ) → ((q : ℕ) → k.period.other ≡ Some q → k.period.other_says ≡ None) → MaySplit k.tree
+    → (id : ℕ) → Splits (IsWhole plan) id k (record { tree = left_view keys k.tree; period = after_give k.period }) (record { tree = right_view keys k.tree; period = given_period k.period })
+whole_splits plan k keys quiet may id s h here =
+    let l : Known = record { tree = left_view keys k.tree; period = after_give k.period } in
+    let r : Known = record { tree = right_view keys k.tree; period = given_period k.period } in
+    let there : get_elem? h.tree.views id ≡ some k.tree = ap (λ v. get_elem? v id) (sym h.views) ∙ tree_at s.views id k here in
+    let tree : TableState = record { words = h.tree.words; homes = h.tree.homes; views = set h.tree.views id (left_view keys k.tree) ++ (right_view keys k.tree) ∷ [] } in
+    let turn : TableTurns plan h.tree (SplitsInto id keys) tree = record {
+      view = k.tree;
+      there = there;
+      free = may.free;
+      may = may.may;
+      gives = refl;
+    } in
+    record {
+      tree = tree;
+      reached = reached_on plan h.tree h.reached (SplitsInto id keys) tree turn;
+      views = trees_more (set s.views id l) r ∙ (ap (λ v. v ++ (right_view keys k.tree) ∷ []) (map-set (λ (x : Known). x.tree) s.views id l) ∙ ap (λ v. set v id (left_view keys k.tree) ++ (right_view keys k.tree) ∷ []) h.views);
+      homes = h.homes;
+      words = h.words;
+      stores = each_view_split h.tree.views id k.tree there (left_view keys k.tree) (right_view keys k.tree) StoresAreWhole
+          (unfilled_whole (left_view keys k.tree) refl refl) (unfilled_whole (right_view keys k.tree) refl refl) h.stores;
+      periods = by h.tree there plan.slots h.reached.starts.may.slots h.periods;
+    }
+  where
+    left_rests : IsAtRest (left_view keys k.tree)
+    left_rests = is_at_rest (left_view keys k.tree) refl refl refl refl refl
+
+    right_rests : IsAtRest (right_view keys k.tree)
+    right_rests = is_at_rest (right_view keys k.tree) refl refl refl refl refl
+
+    by : (tree : TableState) → get_elem? tree.views id ≡ some k.tree → (o : Option Slots) → SlotsFit plan o → PeriodsAre plan o tree s
+        → PeriodsAre plan o (state_split tree id k.tree keys)
+        (record { words = s.words; homes = s.homes; views = set s.views id (record { tree = left_view keys k.tree; period = after_give k.period }) ++ record { tree = right_view keys k.tree; period = given_period k.period } ∷ [] })
+    by tree there None fit periods = tt
+    by tree there (Some sl) fit h =
+        let tie = splits_keep_ties plan sl tree s h.dead h.was_dead (let low = fit.4 in omega arith) (record { ages = h.ages; tied = h.tied }) id k here there keys may.free may.may in record {
+          dead = h.dead;
+          began = h.began;
+          was_dead = h.was_dead;
+          periods = split_periods sl s id k here h.dead h.began h.was_dead h.periods (left_view keys k.tree) (right_view keys k.tree) left_rests right_rests quiet;
+          ages = tie.ages;
+          tied = tie.tied;
+        }
+
+-- a join of the tree is a join of the table
+pub whole_joins : (plan : TablePlan) (k l : Known) → IsFree k.tree → IsFree l.tree
+    → (id other : ℕ) → Joins (IsWhole plan) id k other l (joined_known k l) spent_known
+whole_joins plan k l free other_free id other s h here aside there =
+    let ours : get_elem? h.tree.views id ≡ some k.tree = ap (λ v. get_elem? v id) (sym h.views) ∙ tree_at s.views id k here in
+    let theirs : get_elem? s.views other ≡ some l = sym (set_else s.views id other (joined_known k l) aside) ∙ there in
+    let tree : TableState = record { words = h.tree.words; homes = h.tree.homes; views = set (set h.tree.views id (joined_view k.tree l.tree)) other spent_view } in
+    let turn : TableTurns plan h.tree (JoinsWith id other) tree = record {
+      view = k.tree;
+      view' = l.tree;
+      there = ours;
+      there' = ap (λ v. get_elem? v other) (sym h.views) ∙ tree_at s.views other l theirs;
+      apart = λ e. aside (sym e);
+      free = free;
+      free' = other_free;
+      gives = refl;
+    } in
+    record {
+      tree = tree;
+      reached = reached_on plan h.tree h.reached (JoinsWith id other) tree turn;
+      views = map-set (λ (x : Known). x.tree) (set s.views id (joined_known k l)) other spent_known
+          ∙ (ap (λ v. set v other spent_view) (map-set (λ (x : Known). x.tree) s.views id (joined_known k l))
+          ∙ ap (λ v. set (set v id (joined_view k.tree l.tree)) other spent_view) h.views);
+      homes = h.homes;
+      words = h.words;
+      stores = each_view_joined h.tree.views id other k.tree l.tree ours turn.there' aside (joined_view k.tree l.tree) StoresAreWhole
+          (unfilled_whole (joined_view k.tree l.tree) refl refl) (unfilled_whole spent_view refl refl) h.stores;
+      periods = by h.tree ours turn.there' plan.slots h.reached.starts.may.slots h.periods theirs;
+    }
+  where
+    by : (tree : TableState) → get_elem? tree.views id ≡ some k.tree → get_elem? tree.views other ≡ some l.tree → (o : Option Slots) → SlotsFit plan o → PeriodsAre plan o tree s → get_elem? s.views other ≡ some l
+        → PeriodsAre plan o (state_joined tree id other k.tree l.tree)
+        (record { words = s.words; homes = s.homes; views = set (set s.views id (joined_known k l)) other spent_known })
+    by tree ours theirs None fit periods there = tt
+    by tree ours theirs (Some sl) fit h there =
+        let tie = joins_keep_ties plan sl tree s h.dead h.was_dead (let low = fit.4 in omega arith) (record { ages = h.ages; tied = h.tied }) id other k l here there ours theirs
+        (λ e. aside (sym e)) free other_free in record {
+          dead = h.dead;
+          began = h.began;
+          was_dead = h.was_dead;
+          periods = join_periods sl s id other k l here there aside h.dead h.began h.was_dead h.periods;
+          ages = tie.ages;
+          tied = tie.tied;
+        }

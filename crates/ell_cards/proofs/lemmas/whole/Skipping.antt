@@ -1,0 +1,242 @@
+-- A row of claims, in which each card but the last one is laid aside, is one step of the whole table.
+use Rattle.std.proofs.Common.{None, Option, ◌≢◌, ◌≡◌, ℕ, zero, suc, ◌+◌, ◌*◌, ◌<◌, ◌≤◌, ◌==◌, if◌then◌else◌, Bool, true, false, Some, List, [], length, get_or, set, refl, sym, ap, ◌∙◌, subst, arith, eq-eqb, eqb-true, get_or-set_same}
+use mathlib.Core.Option.{some}
+use lib.ListN.{get_elem?}
+use prog.Atomic.{either}
+use Rattle.atomic_table.specs.Table.{Allows, Act, Valid, carried_after, keeps, stepped}
+use Rattle.ell_word.specs.Link.{tag_unit}
+use Rattle.ell_word.specs.Node.{greatest_number}
+use Rattle.ell_cards.specs.declared.call.Call.TheVariants as call
+use Rattle.ell_cards.specs.declared.view.Known.{Known}
+use Rattle.ell_cards.specs.declared.view.Period.{Period}
+use Rattle.ell_cards.specs.declared.view.Slots.{Slots}
+use Rattle.ell_cards.specs.declared.view.View.{View}
+use Rattle.ell_cards.specs.Ages.{HasPeriods}
+use Rattle.ell_cards.specs.Calls.{after, May}
+use Rattle.ell_cards.specs.Changes.{ledger_keys, after_claim}
+use Rattle.ell_cards.specs.Guards.{MayClaim}
+use Rattle.ell_cards.specs.Models.{TablePlan, TableModel, PassModel, StandsAt, flat_from, last_slot_of}
+use Rattle.ell_cards.specs.Naming.{IsPlaced}
+use Rattle.ell_cards.specs.Periods.{whole_size, WholeState}
+use Rattle.ell_cards.specs.Shown.{IsWord, cut_word, shown}
+use Rattle.ell_cards.specs.Skipping.{last_of_turn, skipped, after_one, after_row, after_skip, MayStepOn, SkipTells}
+use Rattle.ell_cards.specs.SlotWords.{turn_of}
+use Rattle.ell_cards.specs.Starts.{SlotsFit}
+use Rattle.ell_cards.specs.Stepping.{IsInside, KeepsPass, SameShare}
+use Rattle.ell_cards.specs.Turns.{found_by}
+use Rattle.ell_cards.specs.Whole.{WordsAre, PeriodsAre, IsWhole}
+use Rattle.ell_cards.proofs.lemmas.runs.Reaching.{reached_kept}
+use Rattle.ell_cards.proofs.lemmas.seats.Named.{kept_named, named_more}
+use Rattle.ell_cards.proofs.lemmas.seats.Opened.{allowed, of_table}
+use Rattle.ell_cards.proofs.lemmas.seats.Seats.{set_there}
+use Rattle.ell_cards.proofs.lemmas.shown.CutWords.{cut_same}
+use Rattle.ell_cards.proofs.lemmas.shown.ShownChanges.{claimed_shown}
+use Rattle.ell_cards.proofs.lemmas.shown.ShownGuards.{claim_whole}
+use Rattle.ell_cards.proofs.lemmas.shown.ShownViews.{named_shown, placed_shown}
+use Rattle.ell_cards.proofs.lemmas.ties.Placed.{placed_to}
+use Rattle.ell_cards.proofs.lemmas.views.Rows.{one_claims_on, row_keys, row_share}
+use Rattle.ell_cards.proofs.lemmas.whole.Calling.{set_twice, tree_here, tied_whole}
+use Rattle.ell_cards.proofs.lemmas.whole.Calling.Notes.{nothing}
+use Rattle.ell_cards.proofs.lemmas.whole.Lifts.{stands_inside}
+use Rattle.ell_cards.proofs.lemmas.whole.Places.{size_some}
+
+-- a flat tree is flat from some card on
+pub from_some : (plan : TablePlan) → plan.flat ≡ true → 0 < flat_from plan
+from_some plan flat = subst (λ b. 0 < (if b then length plan.start + 1 else 0)) (sym flat) (omega arith)
+
+-- where the last card was claimed, and the claim word read, the next one may be claimed
+pub claims_on : (plan : TablePlan) → plan.flat ≡ true → (c node_key : ℕ) (v : View) → c + 1 ≤ plan.last_card → May plan (call.Claim c node_key) v
+    → May plan (call.Claim (c + 1) node_key) (after_one c node_key v)
+claims_on plan flat c node_key v room may = (one_claims_on (flat_from plan) (from_some plan flat) c node_key v may.0, room)
+
+-- the table where a pass knows something else of the tree, and the claim word is another one
+abbrev pub claimed_to : WholeState → ℕ → Known → View → ℕ → WholeState
+claimed_to t id k v n = record { words = set t.words 0 n; homes = t.homes; views = set t.views id (record { tree = v; period = k.period }) }
+
+module _ (plan : TablePlan) (s : Slots) (placed : plan.slots ≡ Some s) where
+  -- such a table has a claim word
+  has_words : (t : WholeState) → IsWhole plan t → 0 < length t.words
+  has_words t h = let all = (subst (λ o. WordsAre o t.words h.tree.words) placed h.words).0 in omega arith
+
+  has_periods : (t : WholeState) (h : IsWhole plan t) → HasPeriods plan s h.tree t
+  has_periods t h = subst (λ o. PeriodsAre plan o h.tree t) placed h.periods
+
+  -- a pass of the table names what is in the table
+  pub whole_inside : (t : WholeState) → IsWhole plan t → (id : ℕ) (k : Known) → get_elem? t.views id ≡ some k → IsInside plan k.tree
+  whole_inside t h id k here =
+      let there = tree_here plan t h id k here in
+      let periods = has_periods t h in (
+        kept_named plan h.tree (reached_kept plan h.tree h.reached) id k.tree there,
+        subst (λ o. IsPlaced (last_slot_of o plan.last_card) k.tree) (sym placed)
+            (placed_to plan h.tree periods.ages.now.machine id k.tree there s.last periods.tied.fits),
+      )
+
+  -- and stands at a node that a child word has room for
+  pub whole_stands : (t : WholeState) → IsWhole plan t → (id : ℕ) (k : Known) → get_elem? t.views id ≡ some k → (x : ℕ) → StandsAt k.tree x → x < tag_unit
+  whole_stands t h id k here =
+      stands_inside k.tree (named_more plan.last_card greatest_number h.reached.starts.may.limit k.tree (whole_inside t h id k here).0) (call.Claim 0 0)
+
+  module _ (t : WholeState) (h : IsWhole plan t) (id : ℕ) (k : Known) (here : get_elem? t.views id ≡ some k) where
+    -- the claim word of the tree is that of the table
+    found : found_by h.tree call.Next ≡ get_or t.words 0 0
+    found = sym (has_periods t h).tied.claim
+
+    -- after a claim
+    claimed : (c node_key : ℕ) → May plan (call.Claim c node_key) k.tree → (won : Bool) → (get_or t.words 0 0 == c) ≡ won
+        → IsWhole plan (claimed_to t id k (after_claim won c node_key k.tree) (cut_word (if won then c + 1 else get_or t.words 0 0)))
+    claimed c node_key may won is =
+        subst (λ b. IsWhole plan (claimed_to t id k (after_claim b c node_key k.tree) (cut_word (if b then c + 1 else get_or t.words 0 0)))) is
+        (subst (λ n. IsWhole plan (claimed_to t id k (after_claim (n == c) c node_key k.tree) (cut_word (if n == c then c + 1 else n)))) found
+        (tied_whole plan t h id k here (call.Claim c node_key) may tt s placed tt tt (λ none. tt) k.period (nothing refl)))
+
+    pub claim_won : (c node_key : ℕ) → May plan (call.Claim c node_key) k.tree → get_or t.words 0 0 ≡ c
+        → IsWhole plan (claimed_to t id k (after_claim true c node_key k.tree) (c + 1))
+    claim_won c node_key may is =
+        let low = may.1 in
+        let limit = h.reached.starts.may.limit in
+        subst (λ n. IsWhole plan (claimed_to t id k (after_claim true c node_key k.tree) n)) (cut_same (c + 1) (omega arith))
+        (claimed c node_key may true (eq-eqb (get_or t.words 0 0) c is))
+
+    pub claim_lost : (c node_key : ℕ) → May plan (call.Claim c node_key) k.tree → (get_or t.words 0 0 == c) ≡ false → IsWord (get_or t.words 0 0)
+        → IsWhole plan (claimed_to t id k (after_claim false c node_key k.tree) (get_or t.words 0 0))
+    claim_lost c node_key may is word =
+        subst (λ n. IsWhole plan (claimed_to t id k (after_claim false c node_key k.tree) n)) (cut_same (get_or t.words 0 0) word)
+        (claimed c node_key may false is)
+
+    -- after the claim word was read
+    pub read_next : (n : ℕ) → get_or t.words 0 0 ≡ n → IsWord n → IsWhole plan (claimed_to t id k (after call.Next n k.tree) n)
+    read_next n is word =
+        subst (λ m. IsWhole plan (claimed_to t id k (after call.Next n k.tree) m)) (cut_same n word)
+        (subst (λ m. IsWhole plan (claimed_to t id k (after call.Next m k.tree) (cut_word m))) (found ∙ is)
+        (tied_whole plan t h id k here call.Next tt tt s placed tt tt (λ none. tt) k.period (nothing refl)))
+
+  -- what was written before at the claim word and in the seat is gone
+  written_again : (t : WholeState) (id : ℕ) (k l : Known) (v : View) (a n : ℕ) → l.period ≡ k.period
+      → claimed_to (record { words = set t.words 0 a; homes = t.homes; views = set t.views id l }) id l v n ≡ claimed_to t id k v n
+  written_again t id k l v a n same = λ i. record {
+    words = set_twice t.words 0 a n i;
+    homes = t.homes;
+    views = (set_twice t.views id l (record { tree = v; period = l.period }) ∙ ap (λ p. set t.views id (record { tree = v; period = p })) same) i;
+  }
+
+  module _ (flat : plan.flat ≡ true) where
+    -- after a claim that was won, and the claim word read
+    one_on : (c node_key : ℕ) (t : WholeState) (h : IsWhole plan t) (id : ℕ) (k : Known) → get_elem? t.views id ≡ some k
+        → May plan (call.Claim c node_key) k.tree → get_or t.words 0 0 ≡ c → IsWhole plan (claimed_to t id k (after_one c node_key k.tree) (c + 1))
+    one_on c node_key t h id k here may is =
+        let low = may.1 in
+        let limit = h.reached.starts.may.limit in
+        let now : Known = record { tree = after_claim true c node_key k.tree; period = k.period } in
+        subst (IsWhole plan) (written_again t id k now (after_one c node_key k.tree) (c + 1) (c + 1) refl)
+        (read_next (claimed_to t id k (after_claim true c node_key k.tree) (c + 1)) (claim_won t h id k here c node_key may is) id now
+        (set_there t.views id now k here) (c + 1) (get_or-set_same t.words 0 (c + 1) 0 (has_words t h)) (omega arith))
+
+    -- a row of claims
+    pub row_whole : (n c node_key : ℕ) (t : WholeState) (h : IsWhole plan t) (id : ℕ) (k : Known) → get_elem? t.views id ≡ some k
+        → May plan (call.Claim c node_key) k.tree → get_or t.words 0 0 ≡ c → c + n ≤ plan.last_card
+        → IsWhole plan (claimed_to t id k (after_row n c node_key k.tree) (c + n + 1))
+    row_whole zero c node_key t h id k here may is room =
+        subst (λ m. IsWhole plan (claimed_to t id k (after_claim true c node_key k.tree) m)) (omega arith) (claim_won t h id k here c node_key may is)
+    row_whole (suc n) c node_key t h id k here may is room =
+        let now : Known = record { tree = after_one c node_key k.tree; period = k.period } in
+        let v = after_row n (c + 1) node_key (after_one c node_key k.tree) in
+        subst (λ m. IsWhole plan (claimed_to t id k v m)) (omega arith)
+        (subst (IsWhole plan) (written_again t id k now v (c + 1) (c + 1 + n + 1) refl)
+        (row_whole n (c + 1) node_key (claimed_to t id k (after_one c node_key k.tree) (c + 1)) (one_on c node_key t h id k here may is) id now
+        (set_there t.views id now k here) (claims_on plan flat c node_key k.tree (omega arith) may)
+        (get_or-set_same t.words 0 (c + 1) 0 (has_words t h)) (omega arith)))
+
+-- what is shown of what a pass knows after a row of claims
+pub row_shown : (n c node_key : ℕ) (v : View) → ((x : ℕ) → StandsAt v x → x < tag_unit)
+    → shown (after_row n c node_key v) ≡ after_row n c node_key (shown v)
+row_shown zero c node_key v inside = claimed_shown c node_key v true inside
+row_shown (suc n) c node_key v inside =
+    row_shown n (c + 1) node_key (after_one c node_key v) inside
+    ∙ ap (λ w. after_row n (c + 1) node_key (after call.Next (c + 1) w)) (claimed_shown c node_key v true inside)
+
+-- a pass takes all numbers of a turn from its next one on, or loses the claim
+module _ (plan : TablePlan) (s : Slots) (placed : plan.slots ≡ Some s) (flat : plan.flat ≡ true) (v : View) (c node_key : ℕ) (room : last_of_turn c ≤ plan.last_card) (may : MayClaim (flat_from plan) v c node_key) where
+  module _ (k : Known) (is : shown k.tree ≡ v) (id : ℕ) (t : WholeState) (h : IsWhole plan t) (here : get_elem? t.views id ≡ some k) (small : IsWord (get_or t.words 0 0)) where
+    abbrev n : ℕ
+    n = get_or t.words 0 0
+
+    abbrev Goes : Bool → Type 0
+    Goes b = (w : Known) × (a : Act (Unit {0})) × Valid t.homes [] a × IsWhole plan (stepped t 0 (either b (2097152 * (turn_of c + 1)) n) id [] w a)
+        × (((shown w.tree ≡ after_skip b c node_key v) × IsInside plan (shown w.tree)) × (w.period ≡ k.period) × (carried_after {S = Unit {0}} [] a ≡ []))
+
+    low : c ≤ plan.last_card
+    low = omega arith
+
+    by_tree : May plan (call.Claim c node_key) k.tree
+    by_tree = (claim_whole (flat_from plan) k.tree c node_key (subst (λ u. MayClaim (flat_from plan) u c node_key) (sym is) may), low)
+
+    inside : (x : ℕ) → StandsAt k.tree x → x < tag_unit
+    inside = whole_stands plan s placed t h id k here
+
+    goes : (b : Bool) (w : View) → IsWhole plan (claimed_to t id k w (either b (2097152 * (turn_of c + 1)) n)) → shown w ≡ after_skip b c node_key v → Goes b
+    goes b w whole shows =
+        let now : Known = record { tree = w; period = k.period } in
+        let names = whole_inside plan s placed (claimed_to t id k w (either b (2097152 * (turn_of c + 1)) n)) whole id now (set_there t.views id now k here) in
+        (now, keeps, tt, whole, ((shows, (named_shown plan.last_card w names.0, placed_shown _ w names.1)), refl, refl))
+
+    by : (b : Bool) → (n == c) ≡ b → Goes b
+    by true won =
+        goes true (after_row (skipped c) c node_key k.tree)
+        (subst (λ m. IsWhole plan (claimed_to t id k (after_row (skipped c) c node_key k.tree) m)) (omega arith)
+        (row_whole plan s placed flat (skipped c) c node_key t h id k here by_tree (eqb-true n c won) (omega arith)))
+        (row_shown (skipped c) c node_key k.tree inside ∙ ap (after_row (skipped c) c node_key) is)
+    by false lost =
+        goes false (after_claim false c node_key k.tree) (claim_lost plan s placed t h id k here c node_key by_tree lost small)
+        (claimed_shown c node_key k.tree false inside ∙ ap (after_claim false c node_key) is)
+
+  pub skips : MayStepOn plan v 0 (λ n. either (n == c) (2097152 * (turn_of c + 1)) n) (SkipTells plan c node_key v)
+  skips k is id t h homes here small = by k is id t h here small (get_or t.words 0 0 == c) refl
+
+-- a table with places has all numbers of each turn of which it has one
+pub turn_fits : (plan : TablePlan) (o : Option Slots) → SlotsFit plan o → o ≢ None → (c : ℕ) → c ≤ plan.last_card
+    → (last_of_turn c ≤ plan.last_card) × (c ≤ greatest_number)
+turn_fits plan None fit there c low = absurd (there refl)
+turn_fits plan (Some s) fit there c low = let all = fit.2 in (omega arith, omega arith)
+
+-- whichever places there are
+pub skips_any : (plan : TablePlan) → plan.slots ≢ None → plan.flat ≡ true → (v : View) (c node_key : ℕ) → last_of_turn c ≤ plan.last_card
+    → MayClaim (flat_from plan) v c node_key → MayStepOn plan v 0 (λ n. either (n == c) (2097152 * (turn_of c + 1)) n) (SkipTells plan c node_key v)
+skips_any plan there flat v c node_key room may = by plan.slots refl
+  where
+    by : (o : Option Slots) → plan.slots ≡ o → MayStepOn plan v 0 (λ n. either (n == c) (2097152 * (turn_of c + 1)) n) (SkipTells plan c node_key v)
+    by None none = absurd (there none)
+    by (Some s) placed = skips plan s placed flat v c node_key room may
+
+-- the pass has the keys and the share that it had, and names what is in the table
+pub skips_keep : (plan : TablePlan) (v : View) (c node_key : ℕ) → KeepsPass plan v (SkipTells plan c node_key v)
+skips_keep plan v c node_key n w h = by (n == c) h.0
+  where
+    by : (b : Bool) → w ≡ after_skip b c node_key v → (ledger_keys w.worker.ledger ≡ ledger_keys v.worker.ledger) × SameShare v w × IsInside plan w
+    by true is = (
+      ap (λ (u : View). ledger_keys u.worker.ledger) is ∙ row_keys (skipped c) c node_key v,
+      subst (SameShare v) (sym is) (row_share (skipped c) c node_key v),
+      h.1,
+    )
+    by false is =
+        (ap (λ (u : View). ledger_keys u.worker.ledger) is, subst (SameShare v) (sym is) (record { share = refl; ownable = refl }), h.1)
+
+-- the same of a table as its callers see it
+pub turn_fits_there : (t u : TableModel) → t ≡ u → SlotsFit t.plan t.plan.slots → u.plan.slots ≢ None → (c : ℕ) → c ≤ u.plan.last_card
+    → (last_of_turn c ≤ u.plan.last_card) × (c ≤ greatest_number)
+turn_fits_there t u same fit = subst (λ (m : TableModel). m.plan.slots ≢ None → (c : ℕ) → c ≤ m.plan.last_card → (last_of_turn c ≤ m.plan.last_card) × (c ≤ greatest_number)) same
+    (turn_fits t.plan t.plan.slots fit)
+
+-- what a step on the claim word owes that the rule allows, by what its caller says of the table and the pass
+module _ (t u : TableModel) (p q : PassModel) (same_table : t ≡ u) (same_pass : p ≡ q) (own : q.table ≡ u.id) (size : t.id.words ≡ whole_size t.plan) (fit : SlotsFit t.plan t.plan.slots) where
+  pub claim_owed : (tree : View) → shown tree ≡ p.view → (seat : ℕ) (period : Period) (held : List (ℕ × Unit {0})) (f : ℕ → ℕ) (told : ℕ → View → Type 0)
+      → t.id.slots ≡ 0 → held ≡ [] → MayStepOn u.plan q.view 0 f told
+      → (p.table ≡ t.id) × (0 < t.id.words)
+      × Allows (IsWhole t.plan) t.id.slots seat (record { tree = tree; period = period }, held) 0 f (λ n x. told n (shown x.0.tree) × (x.0.period ≡ period) × (x.1 ≡ held))
+  claim_owed tree shows seat period held f told none empty rule =
+      let step = subst (λ (m : TableModel). MayStepOn m.plan q.view 0 f told) (sym same_table) rule (record { tree = tree; period = period })
+      (shows ∙ ap (λ (m : PassModel). m.view) same_pass) in
+      let some = size_some t.plan in (
+        of_table t u p q same_table same_pass own size fit,
+        omega arith,
+        allowed t.plan t.id.slots seat (record { tree = tree; period = period }, held) 0 f (λ n x l. told n (shown x.0.tree) × (x.0.period ≡ period) × (x.1 ≡ l)) none empty step,
+      )

@@ -1,0 +1,134 @@
+-- A pass takes the slot of its card in hand: that card lies there already, or the slot was set free with a stamp below the pass's safe number.
+use Rattle.std.proofs.Common.{◌≡◌, ◌≢◌, ℕ, ◌+◌, ◌*◌, ◌%◌, ◌<◌, ◌≤◌, ◌==◌, if◌then◌else◌, Bool, true, false, Some, length, get_or, inl, inr, ◌⊎◌, refl, sym, ap, ◌∙◌, subst, arith, eq-eqb, ne_eqb}
+use Rattle.std.proofs.lemmas.Bool.{cases_eq}
+use Rattle.std.proofs.lemmas.Bool.Decides.{nat_tests}
+use Rattle.std.proofs.lemmas.Option.{same_Some}
+use mathlib.Core.Option.{some}
+use lib.ListN.{get_elem?}
+use prog.Atomic.{either}
+use Rattle.ell_cards.specs.declared.view.Known.{Known}
+use Rattle.ell_cards.specs.declared.view.Period.{Period}
+use Rattle.ell_cards.specs.declared.view.Slots.{Slots}
+use Rattle.ell_cards.specs.Ages.{HasPeriods}
+use Rattle.ell_cards.specs.Models.{TablePlan}
+use Rattle.ell_cards.specs.Periods.{WholeState, slot_word, slots_size, after_own, after_read, after_taking}
+use Rattle.ell_cards.specs.SlotWords.{slot_of, turn_of, turn_in, stamp_in}
+use Rattle.ell_cards.specs.States.{TableState}
+use Rattle.ell_cards.specs.Stepping.{MayGoOn}
+use Rattle.ell_cards.specs.Tied.{HoldsWaiting}
+use Rattle.ell_cards.specs.Whole.{trees_of}
+use Rattle.ell_cards.proofs.lemmas.ties.Owning.{own_slots_keep_ties}
+use Rattle.ell_cards.proofs.lemmas.ties.TakingSlots.{takes_keep_ties}
+use Rattle.ell_cards.proofs.lemmas.whole.Freeing.{reads_now}
+use Rattle.ell_cards.proofs.lemmas.whole.Going.{turned_to, stays, goes_on_whole}
+use Rattle.ell_cards.proofs.lemmas.whole.Slots.{slot_owned, slot_taken, taken_is_dead, taken_was_dead_for}
+use Rattle.ell_cards.proofs.lemmas.whole.Trees.{tree_at}
+
+-- what the pass knows of periods, by whether the word was as it was
+pub word_was : (b : Bool) (p taken old : Period) → p ≡ (if b then taken else old) → b ≡ true → p ≡ taken
+word_was b p taken old is same = is ∙ ap (λ x. if x then taken else old) same
+
+pub word_changed : (b : Bool) (p taken old : Period) → p ≡ (if b then taken else old) → b ≡ false → p ≡ old
+word_changed b p taken old is other = is ∙ ap (λ x. if x then taken else old) other
+
+-- the card of a slot at a turn
+card_of_turn : (c n : ℕ) → turn_in n ≡ turn_of c → 2097152 * turn_in n + slot_of c ≡ c
+card_of_turn c n turn = omega arith
+
+-- the periods of a table where a pass takes the slot of its card in hand
+module _ (plan : TablePlan) (s : Slots) (tree : TableState) (t : WholeState) (id : ℕ) (k : Known) (here : get_elem? t.views id ≡ some k) (same : trees_of t.views ≡ tree.views)
+    (h : HasPeriods plan s tree t) (size : length t.words ≡ slots_size s) (c : ℕ) (hand : HoldsWaiting k.tree c) (inside : slot_of c ≤ s.last) where
+  abbrev at : ℕ
+  at = slot_word s (slot_of c)
+
+  abbrev found : ℕ
+  found = get_or t.words at 0
+
+  -- that card lies there already
+  own_now : turn_in (get_or t.words (slot_word s (slot_of c)) 0) ≡ turn_of c
+      → HasPeriods plan s tree (turned_to t id k (after_taking c k.period) (slot_word s (slot_of c)) (get_or t.words (slot_word s (slot_of c)) 0))
+  own_now turn =
+      let tied = own_slots_keep_ties plan s tree t h.dead h.was_dead size (record { ages = h.ages; tied = h.tied }) same id k here c hand (inside, card_of_turn c found turn) in record {
+        dead = h.dead;
+        began = h.began;
+        was_dead = h.was_dead;
+        periods = slot_owned s t id k here h.dead h.began h.was_dead h.periods size (slot_of c) inside c;
+        ages = tied.ages;
+        tied = tied.tied;
+      }
+
+  -- so the pass reads the slot's word, and has taken the slot if that is so
+  pub owns_now : HasPeriods plan s tree (turned_to t id k (after_own c (get_or t.words (slot_word s (slot_of c)) 0) k.period) (slot_word s (slot_of c)) (get_or t.words (slot_word s (slot_of c)) 0))
+  owns_now = by (turn_in found == turn_of c) refl
+    where
+      by : (b : Bool) → (turn_in found == turn_of c) ≡ b
+          → HasPeriods plan s tree (turned_to t id k (if b then after_taking c k.period else after_read (slot_of c) found k.period) (slot_word s (slot_of c)) found)
+      by true is = own_now (grind (arith, nat_tests))
+      by false is = reads_now plan s tree t id k here (ap (λ l. get_elem? l id) (sym same) ∙ tree_at t.views id k here) h size (slot_of c) inside
+
+  -- or the slot was set free with a stamp below the pass's safe number
+  pub takes_now : s.last < 2097152 → (n : ℕ) → get_or t.words (slot_word s (slot_of c)) 0 ≡ n → n % 8 ≡ 7 → stamp_in n < k.period.safe
+      → HasPeriods plan s tree (turned_to t id k (after_taking c k.period) (slot_word s (slot_of c)) (8 * turn_of c))
+  takes_now low n is free safe =
+      let full : found % 8 ≡ 7 = ap (λ m. m % 8) is ∙ free in
+      let past : stamp_in found < k.period.safe = subst (λ m. stamp_in m < k.period.safe) (sym is) safe in
+      let few : slot_of c < 2097152 = omega arith in
+      let tied = takes_keep_ties plan s tree t h.dead h.was_dead low size (record { ages = h.ages; tied = h.tied }) same id k here c hand inside
+      (taken_is_dead s t id k here h.dead h.began h.was_dead h.periods size (slot_of c) inside few full past)
+      (taken_was_dead_for s t id k here h.dead h.began h.was_dead h.periods size (slot_of c) inside few full past) in record {
+        dead = h.dead;
+        began = h.began;
+        was_dead = h.was_dead;
+        periods = slot_taken s t id k here h.dead h.began h.was_dead h.periods size (slot_of c) inside few full past (turn_of c) c;
+        ages = tied.ages;
+        tied = tied.tied;
+      }
+
+-- these steps are steps of the table
+module _ (plan : TablePlan) (s : Slots) (placed : plan.slots ≡ Some s) (k : Known) (c : ℕ) (hand : HoldsWaiting k.tree c) (inside : slot_of c ≤ s.last) where
+  -- a pass reads the word of the slot, and has taken it if its card lies there already
+  pub owns_slot : MayGoOn plan k (slot_word s (slot_of c)) (λ n. n) (λ n p. p ≡ after_own c n k.period)
+  owns_slot =
+      goes_on_whole plan s placed k (slot_word s (slot_of c)) (λ n. n) (λ n p. p ≡ after_own c n k.period) (λ t. after_own c (get_or t.words (slot_word s (slot_of c)) 0) k.period)
+      (λ tree t id here same h size. (owns_now plan s tree t id k here same h size c hand inside, refl))
+
+  -- it takes the slot, if the word is as it was
+  pub takes_slot : s.last < 2097152 → (n : ℕ) → n % 8 ≡ 7 → stamp_in n < k.period.safe
+      → MayGoOn plan k (slot_word s (slot_of c)) (λ m. either (m == n) (8 * turn_of c) m) (λ m p. p ≡ (if m == n then after_taking c k.period else k.period))
+  takes_slot low n free safe =
+      goes_on_whole plan s placed k (slot_word s (slot_of c)) (λ m. either (m == n) (8 * turn_of c) m) (λ m p. p ≡ (if m == n then after_taking c k.period else k.period))
+      (λ t. if get_or t.words (slot_word s (slot_of c)) 0 == n then after_taking c k.period else k.period)
+      (λ tree t id here same h size. (by tree t id here same h size (cases_eq (get_or t.words (slot_word s (slot_of c)) 0) n), refl))
+    where
+      after : WholeState → TableState → ℕ → ℕ → Bool → Type 0
+      after t tree id m b = HasPeriods plan s tree (turned_to t id k (if b then after_taking c k.period else k.period) (slot_word s (slot_of c)) (either b (8 * turn_of c) m))
+
+      by : (tree : TableState) (t : WholeState) (id : ℕ) → get_elem? t.views id ≡ some k → trees_of t.views ≡ tree.views → HasPeriods plan s tree t → length t.words ≡ slots_size s
+          → (get_or t.words (slot_word s (slot_of c)) 0 ≡ n) ⊎ (get_or t.words (slot_word s (slot_of c)) 0 ≢ n)
+          → HasPeriods plan s tree (turned_to t id k (if get_or t.words (slot_word s (slot_of c)) 0 == n then after_taking c k.period else k.period) (slot_word s (slot_of c))
+          (either (get_or t.words (slot_word s (slot_of c)) 0 == n) (8 * turn_of c) (get_or t.words (slot_word s (slot_of c)) 0)))
+      by tree t id here same h size (inl is) =
+          subst (after t tree id (get_or t.words (slot_word s (slot_of c)) 0)) (sym (eq-eqb (get_or t.words (slot_word s (slot_of c)) 0) n is))
+          (takes_now plan s tree t id k here same h size c hand inside low n is free safe)
+      by tree t id here same h size (inr other) =
+          subst (after t tree id (get_or t.words (slot_word s (slot_of c)) 0)) (sym (ne_eqb (get_or t.words (slot_word s (slot_of c)) 0) n other))
+          (stays plan s tree t id k here h size (slot_word s (slot_of c)) (omega arith))
+
+  -- whichever card the pass has in hand, and whatever slot's word this is
+  one : (d : ℕ) → k.tree.worker.card ≡ Some d → c ≡ d
+  one d has = same_Some c d (sym hand.0 ∙ has)
+
+  pub owns_any : (word : ℕ) → word ≡ slot_word s (slot_of c)
+      → MayGoOn plan k word (λ n. n) (λ n p. (d : ℕ) → k.tree.worker.card ≡ Some d → p ≡ after_own d n k.period)
+  owns_any word is id t h homes here small =
+      let may = subst (λ i. MayGoOn plan k i (λ n. n) (λ n p. p ≡ after_own c n k.period)) (sym is) owns_slot in
+      let x = may id t h homes here small in
+      (x.0, x.1, x.2, x.3, (λ d has. x.4.0 ∙ ap (λ e. after_own e (get_or t.words word 0) k.period) (one d has), x.4.1, x.4.2))
+
+  pub takes_any : s.last < 2097152 → (n word turn : ℕ) → n % 8 ≡ 7 → stamp_in n < k.period.safe → word ≡ slot_word s (slot_of c) → turn ≡ turn_of c
+      → MayGoOn plan k word (λ m. either (m == n) (8 * turn) m) (λ m p. (d : ℕ) → k.tree.worker.card ≡ Some d → p ≡ (if m == n then after_taking d k.period else k.period))
+  takes_any low n word turn free safe is at id t h homes here small =
+      let may = subst (λ i. MayGoOn plan k i (λ m. either (m == n) (8 * turn) m) (λ m p. p ≡ (if m == n then after_taking c k.period else k.period))) (sym is)
+      (subst (λ u. MayGoOn plan k (slot_word s (slot_of c)) (λ m. either (m == n) (8 * u) m) (λ m p. p ≡ (if m == n then after_taking c k.period else k.period))) (sym at) (takes_slot low n free safe)) in
+      let x = may id t h homes here small in
+      (x.0, x.1, x.2, x.3, (λ d has. x.4.0 ∙ ap (λ e. if get_or t.words word 0 == n then after_taking e k.period else k.period) (one d has), x.4.1, x.4.2))

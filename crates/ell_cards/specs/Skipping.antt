@@ -1,0 +1,98 @@
+-- A pass takes the numbers of cards from one to the last one of its turn at once, where the slots of a table end before a
+-- turn does.
+use Rattle.std.specs.Prelude.{◌≡◌, ◌⊎◌, ℕ, zero, suc, ◌+◌, ◌-◌, ◌*◌, ◌≤◌, ◌==◌, List, [], ◌∷◌, if◌then◌else◌, Bool, true, false, Some}
+use Rattle.atomic_table.specs.Table.{Allows}
+use Rattle.ell_core.specs.declared.exchange.Exchange.{Exchange}
+use Rattle.ell_core.specs.declared.exchange.Exchange.TheVariants as exchange
+use Rattle.ell_cards.specs.declared.call.Call.TheVariants as call
+use Rattle.ell_cards.specs.declared.view.Known.{Known}
+use Rattle.ell_cards.specs.declared.view.Told.{Told}
+use Rattle.ell_cards.specs.declared.view.Told.TheVariants.{Expects}
+use Rattle.ell_cards.specs.declared.view.View.{View}
+use Rattle.ell_cards.specs.Models.{TablePlan, Has, IsTold}
+use Rattle.ell_cards.specs.Changes.{after_claim, expected_tag, filling_of, tagged, told_filling}
+use Rattle.ell_cards.specs.Calls.{after}
+use Rattle.ell_cards.specs.Shown.{shown}
+use Rattle.ell_cards.specs.SlotWords.{turn_of}
+use Rattle.ell_cards.specs.Stepping.{IsInside}
+use Rattle.ell_cards.specs.Whole.{IsWhole}
+
+-- the last number of the turn of a card, and how many come after the card up to that
+abbrev pub last_of_turn : ℕ → ℕ
+last_of_turn c = 2097152 * (turn_of c + 1) - 1
+
+abbrev pub skipped : ℕ → ℕ
+skipped c = last_of_turn c - c
+
+-- what a pass knows once it has claimed a card, and then read the claim word
+abbrev pub after_one : ℕ → ℕ → View → View
+after_one c node_key v = after call.Next (c + 1) (after_claim true c node_key v)
+
+-- and once it has claimed this card and so many after it, one after the other, and read the claim word between two
+-- claims: it has laid aside all of them but the last one, which is in hand
+abbrev pub after_row : ℕ → ℕ → ℕ → View → View
+after_row zero c node_key v = after_claim true c node_key v
+after_row (suc n) c node_key v = after_row n (c + 1) node_key (after_one c node_key v)
+
+-- once it has claimed all of the turn from this card on, or else lost the claim
+abbrev pub after_skip : Bool → ℕ → ℕ → View → View
+after_skip won c node_key v =
+    if won then after_row (skipped c) c node_key v else after_claim false c node_key v
+
+-- what is told of a card that is claimed
+abbrev pub told_of_claim : ℕ → ℕ → View → List Told
+told_of_claim c node_key v = Expects c (expected_tag v) ∷ told_filling c (filling_of c node_key v) []
+
+-- something was told of a card of a row when that was claimed
+pub record IsToldInRow (first last node_key : ℕ) (v : View) (e : Told) : Type 0 where
+  pub card : ℕ
+  pub from : first ≤ card
+  pub upto : card ≤ last
+  pub among : Has (told_of_claim card node_key v) e
+
+-- What a pass knows after a row of claims, from a first card to a last one: that is in hand, not flagged, and nothing of
+-- it is stored; it is to say what it would have been to say had it been the first; and beside what was told before, what
+-- was told is of the cards of the row. It has won a claim for each of these, and has made a call between two of them.
+-- All else is as it was.
+pub record IsAfterRow (first last node_key : ℕ) (old new : View) : Type 0 where
+  pub operation : new.worker.operation ≡ old.worker.operation
+  pub search : new.worker.search ≡ old.worker.search
+  pub knows : new.worker.knows ≡ old.worker.knows
+  pub ledger : new.worker.ledger ≡ old.worker.ledger
+  pub shared : new.worker.shared ≡ old.worker.shared
+  pub card : new.worker.card ≡ Some last
+  pub unflagged : new.worker.flagged ≡ false
+  pub planned : new.planned ≡ tagged (expected_tag old) (filling_of last node_key old)
+  pub stores : new.stores ≡ []
+  pub here : new.here ≡ old.here
+  pub next : old.next ≡ Some first → new.next ≡ Some last
+  pub least : new.next_at_least ≡ last + 1
+  pub found : new.found ≡ old.found
+  pub share : new.share ≡ old.share
+  pub looks : new.looks ≡ old.looks
+  pub glances : new.glances ≡ old.glances
+  pub answers : new.answers ≡ old.answers
+  pub answered : new.answered ≡ old.answered
+  pub laid_down : new.laid_down ≡ old.laid_down
+  pub knew_before : new.knew_before ≡ old.knew_before
+  pub hindrances : new.hindrances ≡ old.hindrances
+  pub hindered : new.hindered ≡ old.hindered
+  pub met : new.met ≡ old.met
+  pub won : (w : Exchange × ℕ) → Has old.won w → Has new.won w
+  pub claimed : (c : ℕ) → first ≤ c → c ≤ last → Has new.won (exchange.Claim, c)
+  pub made : new.made ≡ old.made + 2 * (last - first) + 1
+  pub told : (e : Told) → IsTold old e → IsTold new e
+  pub says : (e : Told) → Has (told_of_claim last node_key old) e → IsTold new e
+  pub only : (e : Told) → IsTold new e → IsTold old e ⊎ IsToldInRow first last node_key old e
+
+-- whatever the table is when a word becomes another one, and whatever the pass knows of which this is shown, this holds
+-- of the word found and of what is shown of what it knows of the tree after, and what it knows of periods is as it was
+abbrev pub MayStepOn : TablePlan → View → ℕ → (ℕ → ℕ) → (ℕ → View → Type 0) → Type 0
+MayStepOn plan v i f told =
+    (k : Known) → shown k.tree ≡ v → (id : ℕ) → Allows (IsWhole plan) 0 id (k, []) i f
+    (λ n me. told n (shown me.0.tree) × (me.0.period ≡ k.period) × (me.1 ≡ []))
+
+-- an exchange of the claim word that found this, and takes all numbers of a turn from a card on where it is won, leaves
+-- of a pass what it is to know, and that names what is in its table
+abbrev pub SkipTells : TablePlan → ℕ → ℕ → View → ℕ → View → Type 0
+SkipTells plan c node_key v n w = (w ≡ after_skip (n == c) c node_key v) × IsInside plan w

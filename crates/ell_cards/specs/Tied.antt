@@ -1,0 +1,78 @@
+-- How the memory of a table with places has what its tree has, by slots.
+use Rattle.std.specs.Prelude.{◌≡◌, ℕ, ◌<◌, ◌≤◌, Bool, true, false, Option, Some, List, slice_index}
+use mathlib.Core.Option.{some}
+use lib.ListN.{get_elem?}
+use Rattle.ell_layout.specs.declared.field.Field.{Field}
+use Rattle.ell_layout.specs.Layout.{address}
+use Rattle.ell_core.specs.history.Stages.{Stages, is_claimed, waits}
+use Rattle.ell_cards.specs.declared.call.Call.{Call}
+use Rattle.ell_cards.specs.declared.call.Call.TheVariants as call
+use Rattle.ell_cards.specs.declared.view.Known.{Known}
+use Rattle.ell_cards.specs.declared.view.Slots.{Slots}
+use Rattle.ell_cards.specs.declared.view.View.{View}
+use Rattle.ell_cards.specs.Models.{Has}
+use Rattle.ell_cards.specs.Periods.{WholeState, card_in}
+use Rattle.ell_cards.specs.Shown.{cut_word}
+use Rattle.ell_cards.specs.SlotWords.{slot_of}
+use Rattle.ell_cards.specs.States.{TableState}
+
+-- a card lies in its slot, by the words of a table
+abbrev pub LiesThere : Slots → List ℕ → ℕ → Type 0
+LiesThere s words c = (slot_of c ≤ s.last) × (card_in s words (slot_of c) ≡ c)
+
+-- a card was given out, and has won its flag, or it is of the opening tree
+abbrev pub HasWon : Stages → ℕ → Type 0
+HasWon stage c = (is_claimed (stage c) ≡ true) × (waits (stage c) ≡ false)
+
+-- a pass has a card in hand that is not flagged
+abbrev pub HoldsWaiting : View → ℕ → Type 0
+HoldsWaiting v c = (v.worker.card ≡ Some c) × (v.worker.flagged ≡ false)
+
+-- a pass has stored this field of its card in hand
+abbrev pub HasStored : View → Field → Type 0
+HasStored v f = (x : ℕ) × Has v.stores (f, x)
+
+-- a field of a card that is kept in memory: of a card that has won its flag each, and of one in hand those that
+-- were stored
+pub data IsKept (stage : Stages) (views : List Known) (c : ℕ) (f : Field) : Type 0 where
+  won : HasWon stage c → IsKept stage views c f
+  stored : (seat : ℕ) (k : Known) → get_elem? views seat ≡ some k → HoldsWaiting k.tree c → HasStored k.tree f
+      → IsKept stage views c f
+
+-- What the memory of a table with places has of its tree: the claim word, and the word from which the tree is flat;
+-- and at each slot, of the card that lies there, what is kept, with tags cut. The card of the root lies in slot 0,
+-- and so does each card in its slot that has won its flag and is not dead; for a pass that is in a period, each
+-- that was not dead when the period began; and the card in hand whose slot the pass has taken. Whichever card has won
+-- its flag has a slot. The card for which a pass took a slot last was claimed, and what a pass has stored of its card
+-- in hand it stored once it had taken that one's slot.
+pub record IsTied (s : Slots) (tree : TableState) (t : WholeState) (stage : Stages) (dead : ℕ → Bool)
+    (was_dead : ℕ → ℕ → Bool) : Type 0 where
+  pub claim : slice_index t.words 0 ≡ slice_index tree.words 0
+  pub flat : slice_index t.words 1 ≡ slice_index tree.words 1
+  pub root : card_in s t.words 0 ≡ 0
+  pub at : (slot : ℕ) (f : Field) → slot ≤ s.last → IsKept stage t.views (card_in s t.words slot) f
+      → slice_index t.words (address slot f) ≡ cut_word (slice_index tree.words (address (card_in s t.words slot) f))
+  pub alive : (c : ℕ) → HasWon stage c → dead c ≡ false → LiesThere s t.words c
+  pub lives : (seat q a c : ℕ) (k : Known) → get_elem? t.views seat ≡ some k → k.period.place ≡ Some q
+      → k.period.announced ≡ Some a → HasWon stage c → was_dead q c ≡ false → LiesThere s t.words c
+  pub fits : (c : ℕ) → HasWon stage c → slot_of c ≤ s.last
+  pub hand : (seat c : ℕ) (k : Known) → get_elem? t.views seat ≡ some k → k.period.slot ≡ Some c → HoldsWaiting k.tree c
+      → LiesThere s t.words c
+  pub past : (seat c : ℕ) (k : Known) → get_elem? t.views seat ≡ some k → k.period.slot ≡ Some c
+      → c < slice_index t.words 0
+  pub stores : (seat c : ℕ) (f : Field) (k : Known) → get_elem? t.views seat ≡ some k → HoldsWaiting k.tree c
+      → HasStored k.tree f → k.period.slot ≡ Some c
+
+-- what a call asks beside what it asks of the tree: what is stored goes to the slot that the pass has taken, and a card
+-- is flagged whose fields were all stored there
+abbrev pub MayInMemory : Option ℕ → View → Call → Type 0
+MayInMemory slot v (call.Fill c f value) = slot ≡ Some c
+MayInMemory slot v (call.IFlag c p from) = (slot ≡ Some c) × ((f : Field) → HasStored v f)
+MayInMemory slot v (call.DFlag c gp from) = (slot ≡ Some c) × ((f : Field) → HasStored v f)
+MayInMemory slot v _ = Unit {0}
+
+-- a call sets the flag of a card
+abbrev pub FlagsCard : Call → ℕ → Type 0
+FlagsCard (call.IFlag c p from) d = d ≡ c
+FlagsCard (call.DFlag c gp from) d = d ≡ c
+FlagsCard _ d = ⊥

@@ -1,0 +1,127 @@
+use Rattle.std.proofs.Common.{◌≡◌, ◌≢◌, ℕ, ◌<◌, ◌≤◌, Some, inl, inr, refl, ◌∙◌, subst, max, min, true, arith}
+use Rattle.ell_ops.specs.declared.op.Op.{Op}
+use Rattle.ell_word.specs.Node.{IsInternal, card, left_leaf, right_leaf}
+use Rattle.ell_core.specs.declared.fact.Fact.TheVariants as fact
+use Rattle.ell_core.specs.declared.put.Put.{Put}
+use Rattle.ell_core.specs.acts.Searching.{put_of}
+use Rattle.ell_core.proofs.lemmas.keeping.Puts.{put_key}
+use Rattle.ell_layout.specs.declared.field.Field.TheVariants as field
+use Rattle.ell_layout.specs.Words.{IsLeaf}
+use Rattle.ell_cards.specs.declared.view.Told.TheVariants.{Info}
+use Rattle.ell_cards.specs.declared.view.View.{View}
+use Rattle.ell_cards.specs.Ages.{KnowsDeadNode}
+use Rattle.ell_cards.specs.Dead.{KnowsDeleteEnded}
+use Rattle.ell_cards.specs.Models.{IsTold, Knows, Does}
+use Rattle.ell_tree.specs.declared.searching.Place.{Place}
+use Rattle.ell_tree.specs.Helps.{IsInsert}
+use Rattle.ell_tree.specs.Keeping.{LosesNothing}
+use Rattle.ell_tree.specs.Retiring.{HasPut}
+use Rattle.ell_tree.specs.Searches.{node_with}
+
+-- none of the nodes of a delete's card that has ended comes
+pub own_dead : (v : View) (c x : ℕ) → KnowsDeleteEnded v c → card x ≡ c → KnowsDeadNode v x
+own_dead v c x ended on = (c, inr (on, inl ended))
+
+-- a delete that is over has taken its parent and its leaf out
+pub parent_dead : (v : View) (c x : ℕ) → Knows v (fact.DOver c) → IsTold v (Info c field.P x) → KnowsDeadNode v x
+parent_dead v c x over told = (c, inl (inr (over, inl told)))
+
+pub leaf_dead : (v : View) (c x : ℕ) → Knows v (fact.DOver c) → IsTold v (Info c field.L x) → KnowsDeadNode v x
+leaf_dead v c x over told = (c, inl (inr (over, inr told)))
+
+module _ (what : Put) (place : Place) (v : View) (c : ℕ) (h : HasPut what place v c) where
+  -- an insert or a swap has taken out the leaf where it went
+  pub below_dead : IsLeaf place.node → KnowsDeadNode v place.node
+  below_dead outer = (c, inl (inl (h.over, outer, h.below)))
+
+  -- where that had its key, what is not the card's right leaf never comes
+  pub replaced_dead : (x : ℕ) → place.key ≡ what.key → card x ≡ c → x ≢ right_leaf c → KnowsDeadNode v x
+  replaced_dead x same on other =
+      let lesser : min what.key place.key ≡ what.key = omega (arith, same) in
+      let greater : max what.key place.key ≡ what.key = omega (arith, same) in (
+        c,
+        inr (
+          on,
+          inr (
+            h.over,
+            inl (record {
+              key = what.key;
+              left = subst (λ k. IsTold v (Info c field.LeftLeafKey k)) lesser h.left_key;
+              right = subst (λ k. IsTold v (Info c field.RightLeafKey k)) greater h.right_key;
+              other = other;
+            }),
+          ),
+        ),
+      )
+
+  -- above an internal node the leaf of that node's key is not used
+  other_key : IsInternal place.node → place.key ≢ what.key
+  other_key inner = λ same. h.outer same inner
+
+  pub right_dead : IsInternal place.node → what.key < place.key → KnowsDeadNode v (right_leaf c)
+  right_dead inner less =
+      let greater : max what.key place.key ≡ place.key = omega (arith, less) in
+      let on : card (right_leaf c) ≡ c = omega arith in (
+        c,
+        inr (
+          on,
+          inr (
+            h.over,
+            inr (record {
+              op = h.op;
+              below = place.node;
+              key = place.key;
+              busy = h.busy;
+              holds = h.card;
+              flagged = h.flagged;
+              goes = h.below;
+              inner = inner;
+              told = inr (refl, subst (λ k. IsTold v (Info c field.RightLeafKey k)) greater h.right_key);
+              other = λ same. other_key inner (same ∙ put_key h.op what h.puts);
+            }),
+          ),
+        ),
+      )
+
+  pub left_dead : IsInternal place.node → place.key ≤ what.key → KnowsDeadNode v (left_leaf c)
+  left_dead inner most =
+      let lesser : min what.key place.key ≡ place.key = omega (arith, most) in
+      let on : card (left_leaf c) ≡ c = omega arith in (
+        c,
+        inr (
+          on,
+          inr (
+            h.over,
+            inr (record {
+              op = h.op;
+              below = place.node;
+              key = place.key;
+              busy = h.busy;
+              holds = h.card;
+              flagged = h.flagged;
+              goes = h.below;
+              inner = inner;
+              told = inl (refl, subst (λ k. IsTold v (Info c field.LeftLeafKey k)) lesser h.left_key);
+              other = λ same. other_key inner (same ∙ put_key h.op what h.puts);
+            }),
+          ),
+        ),
+      )
+
+-- what was known of the card of an insert or a swap when its flag stood is known once it is over
+pub has_put : (f m : View) (c : ℕ) (op : Op) (what : Put) (place : Place) → put_of op ≡ Some what → LosesNothing f m → Does f op → m.worker.card ≡ Some c
+    → m.worker.flagged ≡ true → Knows m (fact.IOver c)
+    → IsInsert f c place.parent.node (node_with place place.parent.tag) (max what.key place.key) (min what.key place.key)
+    → (place.key ≡ what.key → IsLeaf place.node) → HasPut what place m c
+has_put f m c op what place puts k busy hand flagged over is outer = record {
+  op = op;
+  puts = puts;
+  busy = k.operation ∙ busy;
+  card = hand;
+  flagged = flagged;
+  over = over;
+  below = k.told _ is.leaf;
+  left_key = k.told _ is.left_key;
+  right_key = k.told _ is.right_key;
+  outer = outer;
+}

@@ -1,0 +1,25 @@
+use Rattle.std.specs.Prelude.{◌≡◌, ℕ, true, Some, max, min}
+use Rattle.ell_ops.specs.declared.op.Op.{Op}
+use Rattle.ell_core.specs.declared.fact.Fact.TheVariants.{IOver}
+use Rattle.ell_core.specs.declared.put.Put.{Put}
+use Rattle.ell_core.specs.acts.Searching.{put_of}
+use Rattle.ell_layout.specs.declared.field.Field.TheVariants as field
+use Rattle.ell_layout.specs.Words.{IsLeaf}
+use Rattle.ell_cards.specs.declared.view.Told.TheVariants.{Info}
+use Rattle.ell_cards.specs.declared.view.View.{View}
+use Rattle.ell_cards.specs.Models.{IsTold, Knows, Does}
+use Rattle.ell_tree.specs.declared.searching.Place.{Place}
+
+-- An insert or a swap has put this at a place: its card, which is in hand, is over, and it was told where the card went
+-- and which keys its leaves have. A node of the operation's key is a leaf.
+pub record HasPut (what : Put) (place : Place) (v : View) (c : ℕ) : Type 0 where
+  pub op : Op
+  pub puts : put_of op ≡ Some what
+  pub busy : Does v op
+  pub card : v.worker.card ≡ Some c
+  pub flagged : v.worker.flagged ≡ true
+  pub over : Knows v (IOver c)
+  pub below : IsTold v (Info c field.L place.node)
+  pub left_key : IsTold v (Info c field.LeftLeafKey (min what.key place.key))
+  pub right_key : IsTold v (Info c field.RightLeafKey (max what.key place.key))
+  pub outer : place.key ≡ what.key → IsLeaf place.node

@@ -1,0 +1,79 @@
+//! What the owner of a card notes once the card is over: the nodes that the card took out of the tree, and those of its own
+//! that never come into it, so that the slots of their cards can be used anew. In a table without places this does nothing.
+ghost use Rattle.std.specs.Prelude.{◌≡◌, ◌≤◌};
+ghost use Rattle.ell_word.specs.Node.{greatest_number};
+ghost use Rattle.ell_core.specs.declared.fact.Fact.TheVariants.{DOver};
+ghost use Rattle.ell_layout.specs.declared.field.Field.TheVariants as field;
+ghost use Rattle.ell_cards.specs.declared.view.Told.TheVariants.{Info};
+ghost use Rattle.ell_cards.specs.Dead.{KnowsDeleteEnded};
+ghost use Rattle.ell_cards.specs.Models.{IsTold, Knows};
+ghost use Rattle.ell_tree.specs.Retiring.{HasPut};
+
+use crate::searching::Place;
+use ell_cards::{CardTable, Pass};
+use ell_core::Put;
+use ell_word::{internal_of, is_internal, left_leaf_of, right_leaf_of};
+use std::alloc::Allocator;
+
+/// Notes what the card of an insert or a swap has taken out, and which of its nodes never come. Where it went above an
+/// internal node, it took nothing out, and the leaf of that node's key is not used. Else it took the leaf out that stood
+/// there; and if that leaf had its key, the card's right leaf alone came.
+pub(crate) fn retire_put<A: Allocator + Copy>(
+    table: &CardTable<A>,
+    pass: &mut Pass<A>,
+    card: u64,
+    what: Put,
+    place: Place,
+)
+    requires own { pass.old.table ≡ table.now.id }
+    requires limit { card ≤ greatest_number }
+    requires put { HasPut what place pass.old.view card }
+    ensures same { pass.new ≡ pass.old }
+{
+    if is_internal(place.node) {
+        let unused = if what.key < place.key {
+            right_leaf_of(card)
+        } else {
+            left_leaf_of(card)
+        };
+        table.retire(pass, unused);
+        return;
+    }
+    table.retire(pass, place.node);
+    if place.key == what.key {
+        table.retire(pass, internal_of(card));
+        table.retire(pass, left_leaf_of(card));
+    }
+}
+
+/// Notes what the card of a delete has taken out: the parent and the leaf; and its own nodes, none of which comes.
+pub(crate) fn retire_deleted<A: Allocator + Copy>(
+    table: &CardTable<A>,
+    pass: &mut Pass<A>,
+    card: u64,
+    parent: u64,
+    leaf: u64,
+)
+    requires own { pass.old.table ≡ table.now.id }
+    requires limit { card ≤ greatest_number }
+    requires over { Knows pass.old.view (DOver card) }
+    requires parent { IsTold pass.old.view (Info card field.P parent) }
+    requires leaf { IsTold pass.old.view (Info card field.L leaf) }
+    ensures same { pass.new ≡ pass.old }
+{
+    table.retire(pass, parent);
+    table.retire(pass, leaf);
+    retire_own(table, pass, card);
+}
+
+/// Notes the nodes of a delete's card that has ended: none of them comes.
+pub(crate) fn retire_own<A: Allocator + Copy>(table: &CardTable<A>, pass: &mut Pass<A>, card: u64)
+    requires own { pass.old.table ≡ table.now.id }
+    requires limit { card ≤ greatest_number }
+    requires ended { KnowsDeleteEnded pass.old.view card }
+    ensures same { pass.new ≡ pass.old }
+{
+    table.retire(pass, internal_of(card));
+    table.retire(pass, left_leaf_of(card));
+    table.retire(pass, right_leaf_of(card));
+}
