@@ -4,6 +4,7 @@
    other; many sections, which are parted and joined; keys in order, which make no list; and each answer and refusal of one thread. */
 #define _GNU_SOURCE
 #include "elltree_map.h"
+#include <malloc.h>
 #include <pthread.h>
 #include <stdio.h>
 #include <string.h>
@@ -13,16 +14,7 @@
 #ifndef OPS
 #define OPS 200000
 #endif
-/* The address sanitizer keeps memory that is freed. */
-#ifndef __has_feature
-#define __has_feature(it) 0
-#endif
-#if defined(__SANITIZE_ADDRESS__) || __has_feature(address_sanitizer)
-#define KEEPS_FREED 1
-#else
-#define KEEPS_FREED 0
-#endif
-enum { MOST = 64, KEYS = 32, COUNTERS = 4, CARDS = 3000, STEADY = 40, TOKENS = 8, MANY = 20000, CROWD = 4 };
+enum { MOST = 64, KEYS = 32, COUNTERS = 4, CARDS = 3000, STEADY = 40, TOKENS = 8, MANY = 20000, CROWD = 4, SMALL = 100000 };
 
 static struct elltree_map *map;
 static int working; /* how many threads share the map, and part the keys among them */
@@ -203,26 +195,20 @@ static long share(int count, uint32_t calls) {
     return end_map(name, wrong + compare(w, count), OPS / 8000);
 }
 
-/* The pages that the process has in memory. */
-static long pages(void) {
-    long all = 0, resident = 0;
-    FILE *file = fopen("/proc/self/statm", "r");
-    if (!file)
-        return 0;
-    if (fscanf(file, "%ld %ld", &all, &resident) != 2)
-        resident = 0;
-    fclose(file);
-    return resident;
+/* The bytes that the process has taken from the allocator and not given back. What the allocator keeps for later depends on how the threads met. */
+static long bytes(void) {
+    const struct mallinfo2 taken = mallinfo2();
+    return (long)(taken.uordblks + taken.hblkhd);
 }
 
-/* Rounds and rounds take no more memory than the first two. */
+/* Rounds and rounds leave no more memory taken than the first two: some small pieces that each thread keeps, and no tree. */
 static long memory_is_flat(int rounds) {
-    long wrong = share(4, 0) + share(4, 0), before = pages(), after;
+    long wrong = share(4, 0) + share(4, 0), before = bytes(), after;
     for (int i = 0; i < rounds; i++)
         wrong += share(4, 0);
-    after = pages();
-    printf("%ld pages at first, %ld after %d rounds\n", before, after, rounds);
-    return wrong + (after > before + before / 4 + 256 && !KEEPS_FREED);
+    after = bytes();
+    printf("%ld bytes taken at first, %ld after %d rounds\n", before, after, rounds);
+    return wrong + (after > before + SMALL);
 }
 
 /* Values that are told once each: by the put that replaces it, by the remove that takes it, or by the snapshot at the end. */

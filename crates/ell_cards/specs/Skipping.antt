@@ -10,7 +10,7 @@ use Rattle.ell_cards.specs.declared.view.Told.{Told}
 use Rattle.ell_cards.specs.declared.view.Told.TheVariants.{Expects}
 use Rattle.ell_cards.specs.declared.view.View.{View}
 use Rattle.ell_cards.specs.Models.{TablePlan, Has, IsTold}
-use Rattle.ell_cards.specs.Changes.{after_claim, expected_tag, filling_of, tagged, told_filling}
+use Rattle.ell_cards.specs.Changes.{after_claim, expected_tag, filling_of, tagged, told_filling, value_told}
 use Rattle.ell_cards.specs.Calls.{after}
 use Rattle.ell_cards.specs.Shown.{shown}
 use Rattle.ell_cards.specs.SlotWords.{turn_of}
@@ -52,8 +52,8 @@ pub record IsToldInRow (first last node_key : ℕ) (v : View) (e : Told) : Type 
 
 -- What a pass knows after a row of claims, from a first card to a last one: that is in hand, not flagged, and nothing of
 -- it is stored; it is to say what it would have been to say had it been the first; and beside what was told before, what
--- was told is of the cards of the row. It has won a claim for each of these, and has made a call between two of them.
--- All else is as it was.
+-- was told is of the cards of the row, and no leaf's value. It has won a claim for each of these, and has made a call
+-- between two of them. All else is as it was.
 pub record IsAfterRow (first last node_key : ℕ) (old new : View) : Type 0 where
   pub operation : new.worker.operation ≡ old.worker.operation
   pub search : new.worker.search ≡ old.worker.search
@@ -82,6 +82,7 @@ pub record IsAfterRow (first last node_key : ℕ) (old new : View) : Type 0 wher
   pub claimed : (c : ℕ) → first ≤ c → c ≤ last → Has new.won (exchange.Claim, c)
   pub made : new.made ≡ old.made + 2 * (last - first) + 1
   pub told : (e : Told) → IsTold old e → IsTold new e
+  pub values : value_told new.told ≡ value_told old.told
   pub says : (e : Told) → Has (told_of_claim last node_key old) e → IsTold new e
   pub only : (e : Told) → IsTold new e → IsTold old e ⊎ IsToldInRow first last node_key old e
 

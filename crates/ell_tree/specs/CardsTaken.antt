@@ -6,6 +6,8 @@ use Rattle.ell_cards.specs.Models.{PassModel}
 use Rattle.ell_tree.specs.Ends.{changes_by}
 use Rattle.ell_tree.specs.declared.trying.Claimed.{Claimed}
 use Rattle.ell_tree.specs.declared.trying.Claimed.TheVariants as claimed
+use Rattle.ell_tree.specs.declared.trying.Next.{Next}
+use Rattle.ell_tree.specs.declared.trying.Next.TheVariants as next
 use Rattle.ell_tree.specs.declared.trying.Tried.{Tried}
 use Rattle.ell_tree.specs.declared.trying.Tried.TheVariants as tried
 
@@ -63,3 +65,10 @@ abbrev pub AskTakes : PassModel → PassModel → Claimed → Type 0
 AskTakes old new (claimed.Card c) = TakesOneCard old new
 AskTakes old new claimed.NoneLeft = TakesNoCard old new
 AskTakes old new claimed.Lost = TakesNoCard old new
+
+-- and to claim the next one
+abbrev pub NextTakes : PassModel → PassModel → Next → Type 0
+NextTakes old new (next.Taken c) = TakesOneCard old new
+NextTakes old new next.NoneLeft = TakesNoCard old new
+NextTakes old new next.Lost = TakesNoCard old new
+NextTakes old new next.InUse = Unit {0}

@@ -7,7 +7,9 @@ use Rattle.ell_ops.specs.Meaning.{key_of, yes_if, reply_of, after, found}
 use Rattle.ell_cards.specs.Answering.{IsAnsweredInRuns}
 use Rattle.ell_cards.specs.LayingDown.{IsLaidDownInRuns}
 use Rattle.ell_cards.specs.Taking.{IsTakenInRuns}
-use Rattle.ell_cards.specs.Models.{PassModel}
+use Rattle.ell_cards.specs.declared.view.Slots.{Slots}
+use Rattle.ell_cards.specs.Depths.{deepest}
+use Rattle.ell_cards.specs.Models.{PassModel, TablePlan}
 use Rattle.ell_cards.specs.Stepping.{SameShare}
 use Rattle.ell_tree.specs.declared.operations.NotDone.{NotDone}
 use Rattle.ell_tree.specs.declared.operations.NotDone.TheVariants.{Busy, Spent}
@@ -47,11 +49,15 @@ pub record LaidDown (t : TreeModel) (op : Op) (old new : PassModel) : Type 0 whe
   pub idle : IsIdle new
   pub no_card : new.view.worker.card ≡ None
 
--- why: something was in its way at each try; or the claim word, as its last try read it, says that all cards are given
--- out
-abbrev pub NotDoneFor : ℕ → ℕ → PassModel → PassModel → NotDone → Type 0
-NotDoneFor last tries old new Busy = hindrances old + tries ≤ hindrances new
-NotDoneFor last tries old new Spent = new.view.next ≡ Some (last + 1)
+-- the claim word, as the pass read it last, says that all cards are given out; where cards lie in slots, each slot that
+-- the pass has asked for may have been in use instead
+abbrev pub AreGivenOut : TablePlan → PassModel → Type 0
+AreGivenOut plan p = plan.slots ≡ None → p.view.next ≡ Some (plan.last_card + 1)
+
+-- why: something was in its way at each try; or its last try got no card
+abbrev pub NotDoneFor : TablePlan → ℕ → PassModel → PassModel → NotDone → Type 0
+NotDoneFor plan tries old new Busy = hindrances old + tries ≤ hindrances new
+NotDoneFor plan tries old new Spent = AreGivenOut plan new
 
 -- of so many tries at most, those that something hindered which was over by then are counted
 pub record CountsTries (tries : ℕ) (old new : PassModel) : Type 0 where
@@ -119,7 +125,7 @@ TakesIfDelete t (Swap key was value) old new there = Unit {0}
 abbrev pub Ends : TreeModel → ℕ → Op → PassModel → PassModel → Result Reply NotDone → Type 0
 Ends t tries op old new (Ok said) = Answers t op said old new × Meets old.view new.view
 Ends t tries op old new (Err why) =
-    LaidDown t op old new × NotDoneFor t.plan.last_card tries old new why × Meets old.view new.view
+    LaidDown t op old new × NotDoneFor t.plan tries old new why × Meets old.view new.view
 
 -- the most steps of a find, where no internal node is below more internal nodes than this
 abbrev pub find_steps : ℕ → ℕ
@@ -136,6 +142,36 @@ rest_steps most = 4 * most + 22
 -- the most steps of so many tries
 abbrev pub change_steps : ℕ → ℕ → ℕ
 change_steps most tries = tries * try_steps most + 1
+
+-- the most steps in which a try asks for a card: two, where each card has words of its own; where cards lie in slots, two
+-- for each slot, and two more for the numbers of a turn that have none, and for the first slot of the turn behind
+abbrev pub claim_steps : Option Slots → ℕ
+claim_steps None = 2
+claim_steps (Some s) = 2 * s.last + 4
+
+-- how many words of its card an insert or a swap stores, and how many a delete: where cards lie in slots all of them
+abbrev pub put_stores : Option Slots → ℕ
+put_stores None = 10
+put_stores (Some s) = 12
+
+abbrev pub delete_stores : Option Slots → ℕ
+delete_stores None = 4
+delete_stores (Some s) = 12
+
+-- how many steps more a try takes at most where cards lie in slots
+abbrev pub slot_steps : Option Slots → ℕ
+slot_steps None = 0
+slot_steps (Some s) = 2 * s.last + 10
+
+-- the most steps of a try in a table, of what it does after its search, and of so many tries
+abbrev pub try_steps_in : TablePlan → ℕ
+try_steps_in plan = try_steps (deepest plan) + slot_steps plan.slots
+
+abbrev pub rest_steps_in : TablePlan → ℕ
+rest_steps_in plan = rest_steps (deepest plan) + slot_steps plan.slots
+
+abbrev pub change_steps_in : TablePlan → ℕ → ℕ
+change_steps_in plan tries = tries * try_steps_in plan + 1
 
 -- these bounds are at most 64 (c + 2), and with t tries 64 (t + 1) (c + 2), where no internal node is below more than c
 abbrev pub FindsAreShort : Type 0

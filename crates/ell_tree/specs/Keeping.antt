@@ -10,9 +10,9 @@ use Rattle.ell_cards.specs.declared.view.Told.{Told}
 use Rattle.ell_cards.specs.declared.view.Told.TheVariants.{Met, Info}
 use Rattle.ell_cards.specs.declared.view.Hindrance.{Hindrance}
 use Rattle.ell_cards.specs.declared.view.View.{View}
-use Rattle.ell_cards.specs.Models.{PassModel, InTable, IsTold, Knows}
+use Rattle.ell_cards.specs.Models.{TablePlan, PassModel, InTable, IsTold, Knows}
 use Rattle.ell_cards.specs.Stepping.{SameShare}
-use Rattle.ell_tree.specs.Counts.{Took}
+use Rattle.ell_tree.specs.Counts.{Took, TookIn}
 use Rattle.ell_tree.specs.CardsTaken.{TakesNoCard}
 
 -- ledger, operation, answers and share stay, and nothing is forgotten; no try is given up, so what was in the way
@@ -35,6 +35,13 @@ pub record Keeps (old new : PassModel) (n : ℕ) : Type 0 where
   pub label : new.label ≡ old.label
   pub view : LosesNothing old.view new.view
   pub took : Took old new n
+
+-- the same in a table
+pub record KeepsIn (plan : TablePlan) (old new : PassModel) (n : ℕ) : Type 0 where
+  pub table : new.table ≡ old.table
+  pub label : new.label ≡ old.label
+  pub view : LosesNothing old.view new.view
+  pub took : TookIn plan old new n
 
 -- and took no card, has the same card in hand, and met nothing in its way
 pub record KeepsAllButSearch (old new : PassModel) (n : ℕ) : Type 0 where

@@ -3,12 +3,11 @@ use Rattle.ell_core.specs.state.Machine.{worker_of}
 use Rattle.ell_core.specs.soundness.Sound.{MayChange}
 use Rattle.ell_cards.specs.Contention.{AreHinderedByOthers}
 use Rattle.ell_tree.specs.CardsTaken.{TakesAtMost, TakesCards, TakesNoCard}
-use Rattle.ell_tree.specs.Counts.{IsAmortized, Took}
-use Rattle.ell_tree.specs.Ends.{CountsTries, change_steps}
+use Rattle.ell_tree.specs.Counts.{IsAmortized, TookIn}
+use Rattle.ell_tree.specs.Ends.{CountsTries, change_steps_in}
 use Rattle.ell_tree.specs.Hindrances.{Meets}
 use Rattle.ell_tree.specs.Ledgers.{IsIdle, Owns, PassModel, TreeModel}
 use Rattle.ell_tree.specs.Milestones.{milestones_known}
-use Rattle.ell_cards.specs.Depths.{deepest}
 
 -- a pass may find or change a key of this tree: it is a pass of the tree, with nothing in hand, and owns the key, or
 -- the key is shared
@@ -21,7 +20,7 @@ pub record MayDo (t : TreeModel) (key : ℕ) (p : PassModel) : Type 0 where
 -- takes, and another for each milestone that its pass came to know of; and it counted no more tries as hindered than
 -- these
 pub record IsWithin (t : TreeModel) (tries : ℕ) (old new : PassModel) : Type 0 where
-  pub most : Took old new (change_steps (deepest t.plan) tries)
+  pub most : TookIn t.plan old new (change_steps_in t.plan tries)
   pub amortized : IsAmortized t.plan old new
   pub counted : CountsTries tries old new
 

@@ -1,7 +1,7 @@
 //! Calls that compute what becomes of a key from what the tree has for it, and make that change in one atomic step.
-ghost use Rattle.std.specs.Prelude.{◌≡◌, ◌≢◌, ◌<◌, ◌≤◌, ◌*◌, None, Err, IfOk, IfErr};
-ghost use Rattle.ell_tree.specs.Computing.{AreTried, Computes, IsNotDone, Replaces, round_steps, update_steps, whether_done, whether_made};
-ghost use Rattle.ell_tree.specs.Counts.{Took};
+ghost use Rattle.std.specs.Prelude.{true, ◌≡◌, ◌≢◌, ◌<◌, ◌≤◌, ◌*◌, None, Err, IfOk, IfErr};
+ghost use Rattle.ell_tree.specs.Computing.{update_steps_in, round_steps_in, AreTried, Computes, IsNotDone, Replaces, round_steps, update_steps, whether_done, whether_made};
+ghost use Rattle.ell_tree.specs.Counts.{TookIn, Took};
 ghost use Rattle.ell_tree.specs.Ends.{CountsTries};
 ghost use Rattle.ell_tree.specs.Ledgers.{Owns};
 ghost use Rattle.ell_tree.specs.Promises.{IsOthersDoing, MayDo, SpendsCards};
@@ -41,7 +41,7 @@ pub(crate) fn compute<A: Allocator + Copy, G: StepGate, F: Fn(Option<u64>) -> Op
     tries: u32,
     gate: &G,
 ) -> Result<Computed, NotDone>
-    requires plain { table.now.plan.slots ≡ None }
+    requires flat { table.now.plan.slots ≢ None → table.now.plan.flat ≡ true }
     requires may { MayDo table.now key pass.old }
     requires tries { 1 ≤ tries }
     requires make { F.IsAlwaysCallable make }
@@ -50,9 +50,9 @@ pub(crate) fn compute<A: Allocator + Copy, G: StepGate, F: Fn(Option<u64>) -> Op
     ensures not_done { IfErr result (IsNotDone table.now key pass.old pass.new) }
     ensures tried { result ≡ Err Busy → AreTried tries pass.old pass.new }
     ensures others { Owns pass.old key → result ≡ Err Busy → IsOthersDoing table.now tries pass.old pass.new }
-    ensures steps { Took pass.old pass.new (update_steps (deepest table.now.plan) tries) }
+    ensures steps { TookIn table.now.plan pass.old pass.new (update_steps_in table.now.plan tries) }
     ensures counted { CountsTries tries pass.old pass.new }
-    ensures cards { SpendsCards key tries pass.old pass.new (whether_made result) }
+    ensures cards { table.now.plan.slots ≡ None → SpendsCards key tries pass.old pass.new (whether_made result) }
     ensures enough { Owns pass.old key → 2 * table.now.plan.last_card < tries → result ≢ Err Busy }
 {
     let mut was = find(table, pass, key, gate);
@@ -87,13 +87,13 @@ fn replace<A: Allocator + Copy, G: StepGate>(
     value: u64,
     gate: &G,
 ) -> Result<Replaced, NotDone>
-    requires plain { table.now.plan.slots ≡ None }
+    requires flat { table.now.plan.slots ≢ None → table.now.plan.flat ≡ true }
     requires may { MayDo table.now key pass.old }
     ensures replaces { Replaces table.now key was value pass.old pass.new result }
     ensures others { result ≡ Err Busy → IsOthersDoing table.now 1 pass.old pass.new }
-    ensures steps { Took pass.old pass.new (round_steps (deepest table.now.plan)) }
+    ensures steps { TookIn table.now.plan pass.old pass.new (round_steps_in table.now.plan) }
     ensures counted { CountsTries 1 pass.old pass.new }
-    ensures cards { SpendsCards key 1 pass.old pass.new (whether_done result) }
+    ensures cards { table.now.plan.slots ≡ None → SpendsCards key 1 pass.old pass.new (whether_done result) }
 {
     let Some(was) = was else {
         return add(table, pass, key, value, gate);
@@ -114,13 +114,13 @@ fn add<A: Allocator + Copy, G: StepGate>(
     value: u64,
     gate: &G,
 ) -> Result<Replaced, NotDone>
-    requires plain { table.now.plan.slots ≡ None }
+    requires flat { table.now.plan.slots ≢ None → table.now.plan.flat ≡ true }
     requires may { MayDo table.now key pass.old }
     ensures replaces { Replaces table.now key None value pass.old pass.new result }
     ensures others { result ≡ Err Busy → IsOthersDoing table.now 1 pass.old pass.new }
-    ensures steps { Took pass.old pass.new (round_steps (deepest table.now.plan)) }
+    ensures steps { TookIn table.now.plan pass.old pass.new (round_steps_in table.now.plan) }
     ensures counted { CountsTries 1 pass.old pass.new }
-    ensures cards { SpendsCards key 1 pass.old pass.new (whether_done result) }
+    ensures cards { table.now.plan.slots ≡ None → SpendsCards key 1 pass.old pass.new (whether_done result) }
 {
     match change(table, pass, Op::Insert(key, value), 1, gate)? {
         Some(_) => Ok(Replaced::Done),

@@ -1,5 +1,7 @@
 //! Deletes (paper of 2010, figure 9: Delete).
-ghost use Rattle.std.specs.Prelude.{◌≡◌, ◌≤◌, ◌+◌, ℕ, Some, None};
+ghost use Rattle.ell_cards.specs.Guards.{MayFill};
+ghost use Rattle.ell_cards.specs.Stepping.{IsWholeIn};
+ghost use Rattle.std.specs.Prelude.{true, ◌≢◌, ◌≡◌, ◌≤◌, ◌+◌, ℕ, Some, None};
 ghost use Rattle.std.specs.Bool.{OnTrue, OnFalse};
 ghost use Rattle.ell_ops.specs.declared.op.Op.TheVariants.{Delete};
 ghost use Rattle.ell_word.specs.Link.{IsLink};
@@ -11,12 +13,12 @@ ghost use Rattle.ell_layout.specs.Cards.{delete_filling};
 ghost use Rattle.ell_cards.specs.declared.view.Told.TheVariants.{Info};
 ghost use Rattle.ell_cards.specs.Models.{IsTold, Knows};
 ghost use Rattle.ell_tree.specs.CardsTaken.{TakesNoCard, TryTakes};
-ghost use Rattle.ell_tree.specs.Ends.{rest_steps, try_steps};
+ghost use Rattle.ell_tree.specs.Ends.{try_steps_in, delete_stores, rest_steps_in, rest_steps, try_steps};
 ghost use Rattle.ell_tree.specs.Helps.{IsBacked, IsParent, help_steps};
 ghost use Rattle.ell_tree.specs.Hindrances.{Meets};
 ghost use Rattle.ell_tree.specs.Keeping.{Keeps, IsInnerMet, KeepsAllButMet};
 ghost use Rattle.ell_tree.specs.Searches.{AtRoot, HasSearched, node_with};
-ghost use Rattle.ell_tree.specs.Tries.{Fills, Flags, HasCard, TryEnds, TryTook, TryTookThis};
+ghost use Rattle.ell_tree.specs.Tries.{HasSlotOf, Fills, Flags, HasCard, TryEnds, TryTook, TryTookThis};
 ghost use Rattle.ell_cards.specs.Depths.{deepest};
 
 use crate::gate::{Kind, StepGate};
@@ -39,14 +41,14 @@ pub(crate) fn try_delete<A: Allocator + Copy, G: StepGate>(
     key: u64,
     gate: &G,
 ) -> Tried
-    requires plain { table.now.plan.slots ≡ None }
+    requires flat { table.now.plan.slots ≢ None → table.now.plan.flat ≡ true }
     requires own { pass.old.table ≡ table.now.id }
     requires root { AtRoot (Delete key) pass.old.view }
-    ensures steps { pass.new.steps + 1 ≤ pass.old.steps + try_steps (deepest table.now.plan) }
-    ensures made { pass.new.view.made + 1 ≤ pass.old.view.made + try_steps (deepest table.now.plan) }
+    ensures steps { pass.new.steps + 1 ≤ pass.old.steps + try_steps_in table.now.plan }
+    ensures made { table.now.plan.slots ≡ None → pass.new.view.made + 1 ≤ pass.old.view.made + try_steps_in table.now.plan }
     ensures ends { TryEnds table.now (Delete key) pass.old pass.new result }
     ensures took { TryTook table.now key pass.old pass.new result }
-    ensures taken { TryTakes (Delete key) pass.old pass.new result }
+    ensures taken { table.now.plan.slots ≡ None → TryTakes (Delete key) pass.old pass.new result }
     ensures least { pass.old.view.next_at_least ≤ pass.new.view.next_at_least }
     ensures hindered { pass.new.view.hindered ≡ pass.old.view.hindered }
 {
@@ -66,16 +68,16 @@ pub(crate) fn delete_at<A: Allocator + Copy, G: StepGate>(
     place: Place,
     gate: &G,
 ) -> Tried
-    requires plain { table.now.plan.slots ≡ None }
+    requires flat { table.now.plan.slots ≢ None → table.now.plan.flat ≡ true }
     requires own { pass.old.table ≡ table.now.id }
     requires searched { HasSearched table.now.plan (Delete key) place pass.old.view }
     requires key { place.key ≡ key }
-    ensures steps { pass.new.steps + 1 ≤ pass.old.steps + rest_steps (deepest table.now.plan) }
-    ensures made { pass.new.view.made + 1 ≤ pass.old.view.made + rest_steps (deepest table.now.plan) }
+    ensures steps { pass.new.steps + 1 ≤ pass.old.steps + rest_steps_in table.now.plan }
+    ensures made { table.now.plan.slots ≡ None → pass.new.view.made + 1 ≤ pass.old.view.made + rest_steps_in table.now.plan }
     ensures ends { TryEnds table.now (Delete key) pass.old pass.new result }
     ensures took { TryTook table.now key pass.old pass.new result }
     ensures value { TryTookThis place.value result }
-    ensures taken { TryTakes (Delete key) pass.old pass.new result }
+    ensures taken { table.now.plan.slots ≡ None → TryTakes (Delete key) pass.old pass.new result }
     ensures least { pass.old.view.next_at_least ≤ pass.new.view.next_at_least }
     ensures hindered { pass.new.view.hindered ≡ pass.old.view.hindered }
 {
@@ -119,15 +121,15 @@ fn flag_delete<A: Allocator + Copy, G: StepGate>(
     place: Place,
     gate: &G,
 ) -> Result<(), Update>
-    requires plain { table.now.plan.slots ≡ None }
     requires own { pass.old.table ≡ table.now.id }
     requires above { place.grandparent ≡ Some above }
     requires limit { place.parent.update.card ≤ greatest_number }
     requires link { IsLink (node_with place above.tag) }
+    requires slot { HasSlotOf table.now.plan card pass.old }
     requires card { (key : ℕ) × HasCard (Delete key) place above.tag
         (delete_filling above.node place.parent.node place.node (packed place.parent.update)) pass.old.view card }
     requires node { IsInnerMet table.now.plan.last_card pass.old.view above.node }
-    ensures keeps { Keeps pass.old pass.new 5 }
+    ensures keeps { Keeps pass.old pass.new (delete_stores table.now.plan.slots + 1) }
     ensures taken { TakesNoCard pass.old pass.new }
     ensures flags { Flags table.now.plan.last_card DFlagged card above.node pass.old pass.new result }
 {
@@ -146,13 +148,14 @@ fn fill_delete<A: Allocator + Copy, G: StepGate>(
     place: Place,
     gate: &G,
 )
-    requires plain { table.now.plan.slots ≡ None }
     requires own { pass.old.table ≡ table.now.id }
     requires limit { place.parent.update.card ≤ greatest_number }
     requires link { IsLink (node_with place above.tag) }
+    requires slot { HasSlotOf table.now.plan card pass.old }
     requires card { (key : ℕ) × HasCard (Delete key) place above.tag
         (delete_filling above.node place.parent.node place.node (packed place.parent.update)) pass.old.view card }
-    ensures { Fills pass.old pass.new 4 }
+    ensures fills { Fills pass.old pass.new (delete_stores table.now.plan.slots) }
+    ensures whole { table.now.plan.slots ≢ None → IsWholeIn pass.new card }
 {
     fill(table, pass, card, Field::Gp, above.node, gate);
     fill(table, pass, card, Field::P, place.parent.node, gate);
@@ -160,6 +163,31 @@ fn fill_delete<A: Allocator + Copy, G: StepGate>(
     fill(table, pass, card, Field::L, leaf, gate);
     let was = pack(place.parent.update);
     fill(table, pass, card, Field::Was, was, gate);
+    clear_rest(table, pass, card, gate);
+}
+
+// Stores 0 in the eight words of the card in hand that a delete does not use, where cards lie in slots: they may have those
+// of another card.
+fn clear_rest<A: Allocator + Copy, G: StepGate>(
+    table: &CardTable<A>,
+    pass: &mut Pass<A>,
+    card: u64,
+    gate: &G,
+)
+    requires own { pass.old.table ≡ table.now.id }
+    requires may { MayFill pass.old.view card }
+    requires slot { HasSlotOf table.now.plan card pass.old }
+{
+    if table.has_places() {
+        fill(table, pass, card, Field::Key, 0, gate);
+        fill(table, pass, card, Field::Left, 0, gate);
+        fill(table, pass, card, Field::Right, 0, gate);
+        fill(table, pass, card, Field::Update, 0, gate);
+        fill(table, pass, card, Field::LeftLeafKey, 0, gate);
+        fill(table, pass, card, Field::RightLeafKey, 0, gate);
+        fill(table, pass, card, Field::LeftValue, 0, gate);
+        fill(table, pass, card, Field::RightValue, 0, gate);
+    }
 }
 
 // HelpDelete of the call's own card, whose flag was won. Returns whether its parent was cut out.

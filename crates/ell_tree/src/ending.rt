@@ -45,6 +45,7 @@ impl<A: Allocator + Copy> Tree<A> {
     /// allocation fails, tree and pass come back as they were.
     pub fn close(self, pass: Pass<A>) -> Result<Vec<(u64, u64), A>, (Tree<A>, Pass<A>, NoMemory)>
         requires may { IsIdlePassOf self pass }
+        requires plain { self.plan.slots ≡ None }
         requires all { All (λ k. Owns pass k) self.plan.keys }
         requires whole { self.plan.shared ≡ true → pass.view.share ≡ whole_share }
         // The pairs are those of the tree to which a run led, strictly ascending by their keys: of the keys that may

@@ -1,14 +1,16 @@
 //! Inserts (paper of 2010, figure 8: Insert), and swaps, which work the same way.
-ghost use Rattle.std.specs.Prelude.{◌≡◌, ◌≤◌, ◌+◌, Some, None};
+ghost use Rattle.ell_cards.specs.Guards.{MayFill};
+ghost use Rattle.ell_cards.specs.Stepping.{IsWholeIn};
+ghost use Rattle.std.specs.Prelude.{true, ◌≢◌, ◌≡◌, ◌≤◌, ◌+◌, Some, None};
 ghost use Rattle.ell_word.specs.Link.{IsLink};
 ghost use Rattle.ell_word.specs.Node.{greatest_number};
 ghost use Rattle.ell_core.specs.acts.Searching.{put_of};
 ghost use Rattle.ell_core.specs.declared.fact.Fact.TheVariants.{IFlagged};
 ghost use Rattle.ell_tree.specs.CardsTaken.{TakesNoCard, TryTakes};
-ghost use Rattle.ell_tree.specs.Ends.{try_steps};
+ghost use Rattle.ell_tree.specs.Ends.{try_steps_in, put_stores, try_steps};
 ghost use Rattle.ell_tree.specs.Keeping.{Keeps, IsInnerMet};
 ghost use Rattle.ell_tree.specs.Searches.{AtRoot, node_with};
-ghost use Rattle.ell_tree.specs.Tries.{told_of_put, put_reply, Fills, Flags, HasCardToPut, TryEnds};
+ghost use Rattle.ell_tree.specs.Tries.{HasSlotOf, told_of_put, put_reply, Fills, Flags, HasCardToPut, TryEnds};
 ghost use Rattle.ell_core.specs.tree.Flat.{IsNodeKey};
 ghost use Rattle.ell_cards.specs.Models.{flat_from};
 ghost use Rattle.ell_cards.specs.Depths.{deepest};
@@ -35,14 +37,14 @@ pub(crate) fn try_put<A: Allocator + Copy, G: StepGate>(
     what: Put,
     gate: &G,
 ) -> Tried
-    requires plain { table.now.plan.slots ≡ None }
+    requires flat { table.now.plan.slots ≢ None → table.now.plan.flat ≡ true }
     requires own { pass.old.table ≡ table.now.id }
     requires puts { put_of op ≡ Some what }
     requires root { AtRoot op pass.old.view }
-    ensures steps { pass.new.steps + 1 ≤ pass.old.steps + try_steps (deepest table.now.plan) }
-    ensures made { pass.new.view.made + 1 ≤ pass.old.view.made + try_steps (deepest table.now.plan) }
+    ensures steps { pass.new.steps + 1 ≤ pass.old.steps + try_steps_in table.now.plan }
+    ensures made { table.now.plan.slots ≡ None → pass.new.view.made + 1 ≤ pass.old.view.made + try_steps_in table.now.plan }
     ensures ends { TryEnds table.now op pass.old pass.new result }
-    ensures taken { TryTakes op pass.old pass.new result }
+    ensures taken { table.now.plan.slots ≡ None → TryTakes op pass.old pass.new result }
     ensures least { pass.old.view.next_at_least ≤ pass.new.view.next_at_least }
     ensures hindered { pass.new.view.hindered ≡ pass.old.view.hindered }
 {
@@ -121,13 +123,13 @@ fn flag_insert<A: Allocator + Copy, G: StepGate>(
     node_key: u64,
     gate: &G,
 ) -> Result<(), Update>
-    requires plain { table.now.plan.slots ≡ None }
     requires own { pass.old.table ≡ table.now.id }
     requires limit { card ≤ greatest_number }
+    requires slot { HasSlotOf table.now.plan card pass.old }
     requires link { IsLink (node_with place place.parent.tag) }
     requires card { HasCardToPut what place node_key pass.old.view card }
     requires node { IsInnerMet table.now.plan.last_card pass.old.view place.parent.node }
-    ensures keeps { Keeps pass.old pass.new 11 }
+    ensures keeps { Keeps pass.old pass.new (put_stores table.now.plan.slots + 1) }
     ensures taken { TakesNoCard pass.old pass.new }
     ensures flags { Flags table.now.plan.last_card IFlagged card place.parent.node pass.old pass.new result }
 {
@@ -148,12 +150,13 @@ fn fill_insert<A: Allocator + Copy, G: StepGate>(
     node_key: u64,
     gate: &G,
 )
-    requires plain { table.now.plan.slots ≡ None }
     requires own { pass.old.table ≡ table.now.id }
     requires limit { card ≤ greatest_number }
+    requires slot { HasSlotOf table.now.plan card pass.old }
     requires link { IsLink (node_with place place.parent.tag) }
     requires card { HasCardToPut what place node_key pass.old.view card }
-    ensures { Fills pass.old pass.new 10 }
+    ensures fills { Fills pass.old pass.new (put_stores table.now.plan.slots) }
+    ensures whole { table.now.plan.slots ≢ None → IsWholeIn pass.new card }
 {
     let Put { key, value, was: _ } = what;
     let (lesser, greater) = (key.min(place.key), key.max(place.key));
@@ -175,4 +178,23 @@ fn fill_insert<A: Allocator + Copy, G: StepGate>(
     fill(table, pass, card, Field::RightLeafKey, greater, gate);
     fill(table, pass, card, Field::LeftValue, left_value, gate);
     fill(table, pass, card, Field::RightValue, right_value, gate);
+    clear_rest(table, pass, card, gate);
+}
+
+// Stores 0 in the two words of the card in hand that an insert or a swap does not use, where cards lie in slots: they may
+// have those of another card.
+fn clear_rest<A: Allocator + Copy, G: StepGate>(
+    table: &CardTable<A>,
+    pass: &mut Pass<A>,
+    card: u64,
+    gate: &G,
+)
+    requires own { pass.old.table ≡ table.now.id }
+    requires may { MayFill pass.old.view card }
+    requires slot { HasSlotOf table.now.plan card pass.old }
+{
+    if table.has_places() {
+        fill(table, pass, card, Field::Gp, 0, gate);
+        fill(table, pass, card, Field::Was, 0, gate);
+    }
 }

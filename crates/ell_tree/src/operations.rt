@@ -9,7 +9,7 @@ ghost use Rattle.ell_cards.specs.Changes.{tries_hindered};
 ghost use Rattle.ell_cards.specs.Models.{Does};
 ghost use Rattle.ell_tree.specs.CardsTaken.{TakesNoCard, TryTakes};
 ghost use Rattle.ell_tree.specs.Counts.{Took};
-ghost use Rattle.ell_tree.specs.Ends.{Answers, Ends, TakesIfDelete, changed_by, find_steps, replied_by, try_steps};
+ghost use Rattle.ell_tree.specs.Ends.{try_steps_in, Answers, Ends, TakesIfDelete, changed_by, find_steps, replied_by, try_steps};
 ghost use Rattle.ell_tree.specs.Hindrances.{way_of};
 ghost use Rattle.ell_tree.specs.declared.operations.NotDone.TheVariants.{Busy};
 ghost use Rattle.ell_tree.specs.Promises.{IsOthersDoing, IsQuiet, IsWithin, MayDo, SpendsCards};
@@ -74,7 +74,7 @@ pub(crate) fn change<A: Allocator + Copy, G: StepGate>(
     tries: u32,
     gate: &G,
 ) -> Result<Option<u64>, NotDone>
-    requires plain { table.now.plan.slots ≡ None }
+    requires flat { table.now.plan.slots ≢ None → table.now.plan.flat ≡ true }
     requires may { MayDo table.now (key_of op) pass.old }
     requires change { IsChange op }
     requires tries { 1 ≤ tries }
@@ -82,7 +82,7 @@ pub(crate) fn change<A: Allocator + Copy, G: StepGate>(
     ensures takes { IfOk result (TakesIfDelete table.now op pass.old pass.new) }
     ensures others { result ≡ Err Busy → IsOthersDoing table.now tries pass.old pass.new }
     ensures steps { IsWithin table.now tries pass.old pass.new }
-    ensures cards { SpendsCards (key_of op) tries pass.old pass.new (changed_by op result) }
+    ensures cards { table.now.plan.slots ≡ None → SpendsCards (key_of op) tries pass.old pass.new (changed_by op result) }
     ensures enough { 2 * table.now.plan.last_card < tries → result ≢ Err Busy }
 {
     let label = pass.label();
@@ -133,18 +133,18 @@ fn try_once<A: Allocator + Copy, G: StepGate>(
     op: Op,
     gate: &G,
 ) -> Tried
-    requires plain { table.now.plan.slots ≡ None }
+    requires flat { table.now.plan.slots ≢ None → table.now.plan.flat ≡ true }
     requires own { pass.old.table ≡ table.now.id }
     requires change { IsChange op }
     requires root { AtRoot op pass.old.view }
     // It makes at most `7 * depth + 26` steps.
-    ensures steps { pass.new.steps + 1 ≤ pass.old.steps + try_steps (deepest table.now.plan) }
-    ensures made { pass.new.view.made + 1 ≤ pass.old.view.made + try_steps (deepest table.now.plan) }
+    ensures steps { pass.new.steps + 1 ≤ pass.old.steps + try_steps_in table.now.plan }
+    ensures made { table.now.plan.slots ≡ None → pass.new.view.made + 1 ≤ pass.old.view.made + try_steps_in table.now.plan }
     // It is answered as the operation, or has met something in its way and learned of a milestone, or finds no card
     // left. It takes one card at most.
     ensures ends { TryEnds table.now op pass.old pass.new result }
     ensures takes { TryTakesValue table.now op pass.old pass.new result }
-    ensures taken { TryTakes op pass.old pass.new result }
+    ensures taken { table.now.plan.slots ≡ None → TryTakes op pass.old pass.new result }
     ensures least { pass.old.view.next_at_least ≤ pass.new.view.next_at_least }
     ensures hindered { pass.new.view.hindered ≡ pass.old.view.hindered }
 {

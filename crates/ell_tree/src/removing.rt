@@ -1,8 +1,8 @@
 //! A call that removes a key if it has a certain value, in one atomic step.
-ghost use Rattle.std.specs.Prelude.{◌≡◌, ◌≢◌, ◌<◌, ◌≤◌, ◌*◌, Err, IfOk, IfErr, None};
-ghost use Rattle.ell_tree.specs.Computing.{AreTriedOrRead, IsNotDone, RemovesIf, RemovesOnce, RemovesOrReads, round_steps, update_steps, whether_done};
-ghost use Rattle.ell_tree.specs.Counts.{Took};
-ghost use Rattle.ell_tree.specs.Ends.{CountsTries, change_steps, is_value, whether_swapped};
+ghost use Rattle.std.specs.Prelude.{true, ◌≡◌, ◌≢◌, ◌<◌, ◌≤◌, ◌*◌, Err, IfOk, IfErr, None};
+ghost use Rattle.ell_tree.specs.Computing.{round_steps_in, update_steps_in, AreTriedOrRead, IsNotDone, RemovesIf, RemovesOnce, RemovesOrReads, round_steps, update_steps, whether_done};
+ghost use Rattle.ell_tree.specs.Counts.{TookIn, Took};
+ghost use Rattle.ell_tree.specs.Ends.{change_steps_in, CountsTries, change_steps, is_value, whether_swapped};
 ghost use Rattle.ell_tree.specs.Ledgers.{Owns};
 ghost use Rattle.ell_tree.specs.Promises.{IsOthersDoing, MayDo, SpendsCards};
 ghost use Rattle.ell_tree.specs.declared.operations.NotDone.TheVariants.{Busy};
@@ -30,16 +30,16 @@ pub(crate) fn remove_if<A: Allocator + Copy, G: StepGate>(
     tries: u32,
     gate: &G,
 ) -> Result<Option<u64>, NotDone>
-    requires plain { table.now.plan.slots ≡ None }
+    requires flat { table.now.plan.slots ≢ None → table.now.plan.flat ≡ true }
     requires may { MayDo table.now key pass.old }
     requires tries { 1 ≤ tries }
     ensures removes { IfOk result (RemovesIf table.now key was pass.old pass.new) }
     ensures not_done { IfErr result (IsNotDone table.now key pass.old pass.new) }
     ensures tried { result ≡ Err Busy → AreTriedOrRead tries pass.old pass.new }
     ensures others { Owns pass.old key → result ≡ Err Busy → IsOthersDoing table.now tries pass.old pass.new }
-    ensures steps { Took pass.old pass.new (update_steps (deepest table.now.plan) tries) }
+    ensures steps { TookIn table.now.plan pass.old pass.new (update_steps_in table.now.plan tries) }
     ensures counted { CountsTries tries pass.old pass.new }
-    ensures cards { SpendsCards key tries pass.old pass.new (whether_swapped was result) }
+    ensures cards { table.now.plan.slots ≡ None → SpendsCards key tries pass.old pass.new (whether_swapped was result) }
     ensures enough { Owns pass.old key → 2 * table.now.plan.last_card < tries → result ≢ Err Busy }
 {
     let mut there = find(table, pass, key, gate);
@@ -79,13 +79,13 @@ fn remove_or_read<A: Allocator + Copy, G: StepGate>(
     was: u64,
     gate: &G,
 ) -> Result<Replaced, NotDone>
-    requires plain { table.now.plan.slots ≡ None }
+    requires flat { table.now.plan.slots ≢ None → table.now.plan.flat ≡ true }
     requires may { MayDo table.now key pass.old }
     ensures removes { RemovesOrReads table.now key was pass.old pass.new result }
     ensures others { result ≡ Err Busy → IsOthersDoing table.now 1 pass.old pass.new }
-    ensures steps { Took pass.old pass.new (round_steps (deepest table.now.plan)) }
+    ensures steps { TookIn table.now.plan pass.old pass.new (round_steps_in table.now.plan) }
     ensures counted { CountsTries 1 pass.old pass.new }
-    ensures cards { SpendsCards key 1 pass.old pass.new (whether_done result) }
+    ensures cards { table.now.plan.slots ≡ None → SpendsCards key 1 pass.old pass.new (whether_done result) }
 {
     if remove_once(table, pass, key, was, gate)? {
         Ok(Replaced::Done)
@@ -103,13 +103,13 @@ fn remove_once<A: Allocator + Copy, G: StepGate>(
     was: u64,
     gate: &G,
 ) -> Result<bool, NotDone>
-    requires plain { table.now.plan.slots ≡ None }
+    requires flat { table.now.plan.slots ≢ None → table.now.plan.flat ≡ true }
     requires may { MayDo table.now key pass.old }
     ensures removes { RemovesOnce table.now key was pass.old pass.new result }
     ensures others { result ≡ Err Busy → IsOthersDoing table.now 1 pass.old pass.new }
-    ensures steps { Took pass.old pass.new (change_steps (deepest table.now.plan) 1) }
+    ensures steps { TookIn table.now.plan pass.old pass.new (change_steps_in table.now.plan 1) }
     ensures counted { CountsTries 1 pass.old pass.new }
-    ensures cards { SpendsCards key 1 pass.old pass.new result }
+    ensures cards { table.now.plan.slots ≡ None → SpendsCards key 1 pass.old pass.new result }
 {
     let op = Op::Delete(key);
     let label = pass.label();

@@ -13,8 +13,8 @@ ghost use Rattle.ell_cards.specs.Models.{IsCardCount, MayPart, RefusesCards, Spl
 ghost use Rattle.ell_tree.specs.Called.{IsCalled, IsDeleteCalled, IsPutCalled, IsRemoveCalled, IsTakeCalled, IsUpdateCalled};
 ghost use Rattle.ell_tree.specs.CardsLeft.{AreLeftAtMost, ReadsCardsLeft};
 ghost use Rattle.ell_tree.specs.CardsTaken.{TakesNoCard};
-ghost use Rattle.ell_tree.specs.Computing.{AreTried, AreTriedOrRead, IsNotDone, IsSum, PutsValue, RemovesIf, UpdatesValue, update_steps, whether_put};
-ghost use Rattle.ell_tree.specs.Counts.{Took};
+ghost use Rattle.ell_tree.specs.Computing.{update_steps_in, AreTried, AreTriedOrRead, IsNotDone, IsSum, PutsValue, RemovesIf, UpdatesValue, update_steps, whether_put};
+ghost use Rattle.ell_tree.specs.Counts.{TookIn, Took};
 ghost use Rattle.ell_tree.specs.Ends.{Answers, CountsTries, Ends, TakesValue, find_steps, found_or_not_done, replied, whether, whether_swapped};
 ghost use Rattle.ell_tree.specs.Milestones.{milestones_known};
 ghost use Rattle.ell_tree.specs.declared.operations.NotDone.TheVariants.{Busy};
@@ -56,7 +56,7 @@ impl<A: Allocator + Copy> Model for Tree<A> {
 
     ghost view = { λ t. t.table };
 
-    ghost invariant = { λ t. t.table.plan.slots ≡ None };
+    ghost invariant = { λ t. t.table.plan.slots ≢ None → t.table.plan.flat ≡ true };
 }
 
 impl<A: Allocator + Copy> Tree<A> {
@@ -80,10 +80,11 @@ impl<A: Allocator + Copy> Tree<A> {
         ensures called { IfOk result (λ parts. (parts.0.view.answers ≡ pass.view.answers)
             × (parts.1.view.answers ≡ inherited pass.view.answers)) }
         // `TooManyPasses` is returned exactly if the tree shares keys and the share is the least one, and otherwise
-        // only `NoMemory`. After either error the pass comes back as it was.
+        // only `NoMemory`; in a tree whose cards come back, also if there are as many passes as places. After either
+        // error the pass comes back as it was.
         ensures may { OnOk result (MayPart pass.view) }
         ensures refused { IfErr result (λ refused. refused.0 ≡ pass) }
-        ensures why { IfErr result (λ refused. SplitRefuses None pass.view refused.1) }
+        ensures why { IfErr result (λ refused. SplitRefuses self.now.plan.slots pass.view refused.1) }
     {
         self.table.split(pass, left_keys)
     }
@@ -386,7 +387,7 @@ impl<A: Allocator + Copy> Tree<A> {
         ensures steps { IsWithin self.now tries pass.old pass.new }
         // It takes one card if it changes the map, at most one more for each hindered try, and never more than `tries`.
         // If it changes nothing of a key of the pass, it takes none.
-        ensures cards { SpendsCards key tries pass.old pass.new result }
+        ensures cards { self.now.plan.slots ≡ None → SpendsCards key tries pass.old pass.new result }
         // With more than `2 * cards` tries it is never `Busy`.
         ensures enough { 2 * self.now.plan.last_card < tries → result ≢ Err Busy }
     {
@@ -422,7 +423,7 @@ impl<A: Allocator + Copy> Tree<A> {
         ensures steps { IsWithin self.now tries pass.old pass.new }
         // It takes one card if it finds `was`, at most one more for each hindered try, and never more than `tries`. If
         // it changes nothing of a key of the pass, it takes none.
-        ensures cards { SpendsCards key tries pass.old pass.new (whether_swapped was result) }
+        ensures cards { self.now.plan.slots ≡ None → SpendsCards key tries pass.old pass.new (whether_swapped was result) }
         // With more than `2 * cards` tries it is never `Busy`.
         ensures enough { 2 * self.now.plan.last_card < tries → result ≢ Err Busy }
     {
@@ -464,10 +465,10 @@ impl<A: Allocator + Copy> Tree<A> {
         // On a key of the pass, a `Busy` call counts each of its tries as hindered, because of what others did.
         ensures others { Owns pass.old key → result ≡ Err Busy → IsOthersDoing self.now tries pass.old pass.new }
         // It makes at most `3 * depth + 7` steps, and `10 * depth + 35` for each try. It counts at most `tries` tries.
-        ensures steps { Took pass.old pass.new (update_steps (deepest self.now.plan) tries) }
+        ensures steps { TookIn self.now.plan pass.old pass.new (update_steps_in self.now.plan tries) }
         ensures counted { CountsTries tries pass.old pass.new }
         // It takes one card if it puts a value, at most one more for each hindered try, and never more than `tries`.
-        ensures cards { SpendsCards key tries pass.old pass.new (whether_put result) }
+        ensures cards { self.now.plan.slots ≡ None → SpendsCards key tries pass.old pass.new (whether_put result) }
         // On a key of the pass, it is never `Busy` with more than `2 * cards` tries.
         ensures enough { Owns pass.old key → 2 * self.now.plan.last_card < tries → result ≢ Err Busy }
     {
@@ -504,10 +505,10 @@ impl<A: Allocator + Copy> Tree<A> {
         // On a key of the pass, a `Busy` call counts each of its tries as hindered, because of what others did.
         ensures others { Owns pass.old key → result ≡ Err Busy → IsOthersDoing self.now tries pass.old pass.new }
         // It makes at most `3 * depth + 7` steps, and `10 * depth + 35` for each try. It counts at most `tries` tries.
-        ensures steps { Took pass.old pass.new (update_steps (deepest self.now.plan) tries) }
+        ensures steps { TookIn self.now.plan pass.old pass.new (update_steps_in self.now.plan tries) }
         ensures counted { CountsTries tries pass.old pass.new }
         // It takes one card if it puts a value, at most one more for each hindered try, and never more than `tries`.
-        ensures cards { SpendsCards key tries pass.old pass.new (whether result) }
+        ensures cards { self.now.plan.slots ≡ None → SpendsCards key tries pass.old pass.new (whether result) }
         // On a key of the pass, it is never `Busy` with more than `2 * cards` tries.
         ensures enough { Owns pass.old key → 2 * self.now.plan.last_card < tries → result ≢ Err Busy }
     {
@@ -546,10 +547,10 @@ impl<A: Allocator + Copy> Tree<A> {
         // On a key of the pass, a `Busy` call counts each of its tries as hindered, because of what others did.
         ensures others { Owns pass.old key → result ≡ Err Busy → IsOthersDoing self.now tries pass.old pass.new }
         // It makes at most `3 * depth + 7` steps, and `10 * depth + 35` for each try. It counts at most `tries` tries.
-        ensures steps { Took pass.old pass.new (update_steps (deepest self.now.plan) tries) }
+        ensures steps { TookIn self.now.plan pass.old pass.new (update_steps_in self.now.plan tries) }
         ensures counted { CountsTries tries pass.old pass.new }
         // It takes one card if it puts a value, at most one more for each hindered try, and never more than `tries`.
-        ensures cards { SpendsCards key tries pass.old pass.new (whether result) }
+        ensures cards { self.now.plan.slots ≡ None → SpendsCards key tries pass.old pass.new (whether result) }
         // On a key of the pass, it is never `Busy` with more than `2 * cards` tries.
         ensures enough { Owns pass.old key → 2 * self.now.plan.last_card < tries → result ≢ Err Busy }
     {
@@ -589,7 +590,7 @@ impl<A: Allocator + Copy> Tree<A> {
         ensures steps { IsWithin self.now tries pass.old pass.new }
         // It takes one card if it changes the map, at most one more for each hindered try, and never more than `tries`.
         // If it changes nothing of a key of the pass, it takes none.
-        ensures cards { SpendsCards key tries pass.old pass.new result }
+        ensures cards { self.now.plan.slots ≡ None → SpendsCards key tries pass.old pass.new result }
         // With more than `2 * cards` tries it is never `Busy`.
         ensures enough { 2 * self.now.plan.last_card < tries → result ≢ Err Busy }
     {
@@ -627,7 +628,7 @@ impl<A: Allocator + Copy> Tree<A> {
         ensures steps { IsWithin self.now tries pass.old pass.new }
         // It takes one card if it changes the map, at most one more for each hindered try, and never more than `tries`.
         // If it changes nothing of a key of the pass, it takes none.
-        ensures cards { SpendsCards key tries pass.old pass.new (whether result) }
+        ensures cards { self.now.plan.slots ≡ None → SpendsCards key tries pass.old pass.new (whether result) }
         // With more than `2 * cards` tries it is never `Busy`.
         ensures enough { 2 * self.now.plan.last_card < tries → result ≢ Err Busy }
     {
@@ -664,11 +665,11 @@ impl<A: Allocator + Copy> Tree<A> {
         // On a key of the pass, a `Busy` call counts each of its tries as hindered, because of what others did.
         ensures others { Owns pass.old key → result ≡ Err Busy → IsOthersDoing self.now tries pass.old pass.new }
         // It makes at most `3 * depth + 7` steps, and `10 * depth + 35` for each try. It counts at most `tries` tries.
-        ensures steps { Took pass.old pass.new (update_steps (deepest self.now.plan) tries) }
+        ensures steps { TookIn self.now.plan pass.old pass.new (update_steps_in self.now.plan tries) }
         ensures counted { CountsTries tries pass.old pass.new }
         // It takes one card if it removes the key, at most one more for each hindered try, and never more than `tries`.
         // If it removes nothing of a key of the pass, it takes none.
-        ensures cards { SpendsCards key tries pass.old pass.new (whether_swapped was result) }
+        ensures cards { self.now.plan.slots ≡ None → SpendsCards key tries pass.old pass.new (whether_swapped was result) }
         // On a key of the pass, it is never `Busy` with more than `2 * cards` tries.
         ensures enough { Owns pass.old key → 2 * self.now.plan.last_card < tries → result ≢ Err Busy }
     {

@@ -1,14 +1,15 @@
 //! One try of an insert, a delete or a swap: how it ends, and its card.
-ghost use Rattle.std.specs.Prelude.{◌≡◌, ◌≤◌, None};
+ghost use Rattle.ell_tree.specs.Ends.{claim_steps};
+ghost use Rattle.std.specs.Prelude.{true, ◌≢◌, ◌≡◌, ◌≤◌, None};
 ghost use Rattle.ell_word.specs.declared.update.State.TheVariants.{Clean};
 ghost use Rattle.ell_word.specs.Node.{greatest_number};
 ghost use Rattle.ell_cards.specs.Models.{Does, Steps, flat_from};
 ghost use Rattle.ell_cards.specs.Guards.{MayFill, Wants};
 ghost use Rattle.ell_cards.specs.Changes.{after_fill};
-ghost use Rattle.ell_tree.specs.CardsTaken.{AskTakes};
-ghost use Rattle.ell_tree.specs.Keeping.{Keeps};
+ghost use Rattle.ell_tree.specs.CardsTaken.{NextTakes, AskTakes};
+ghost use Rattle.ell_tree.specs.Keeping.{KeepsIn, Keeps};
 ghost use Rattle.ell_tree.specs.Searches.{IsAt};
-ghost use Rattle.ell_tree.specs.Tries.{Claims};
+ghost use Rattle.ell_tree.specs.Tries.{HasSlotOf, ClaimsNext, HoldsAside, Claims};
 
 use crate::gate::{Kind, StepGate};
 use crate::searching::Place;
@@ -39,8 +40,22 @@ pub(crate) enum Claimed {
     Lost,
 }
 
+/// What came of claiming the next card.
+#[derive(Clone, Copy)]
+enum Next {
+    /// It is in hand, with its slot if cards lie in slots.
+    Taken(u64),
+    /// All cards are given out.
+    NoneLeft,
+    /// Another pass took it.
+    Lost,
+    /// It is in hand, and has no slot, or one that is in use.
+    InUse,
+}
+
 /// Takes the next card for an operation whose search ended at a place, if one is left and no other pass takes it first.
-/// The node of an insert's or a swap's card gets this key.
+/// The node of an insert's or a swap's card gets this key. Where cards lie in slots, it goes on to the card behind while
+/// the slot of a card is in use, until it has asked for each slot.
 pub(crate) fn take_card<A: Allocator + Copy, G: StepGate>(
     table: &CardTable<A>,
     pass: &mut Pass<A>,
@@ -49,29 +64,72 @@ pub(crate) fn take_card<A: Allocator + Copy, G: StepGate>(
     node_key: u64,
     gate: &G,
 ) -> Claimed
-    requires plain { table.now.plan.slots ≡ None }
+    requires flat { table.now.plan.slots ≢ None → table.now.plan.flat ≡ true }
     requires own { pass.old.table ≡ table.now.id }
     requires busy { Does pass.old.view op }
     requires no_card { pass.old.view.worker.card ≡ None }
     requires at { IsAt pass.old.view place }
     requires calm { place.parent.update.state ≡ Clean }
     requires wants { Wants (flat_from table.now.plan) pass.old.view op place.parent.node place.node place.key node_key }
-    ensures keeps { Keeps pass.old pass.new 2 }
-    ensures claims { Claims table.now.plan.last_card op place node_key pass.old pass.new result }
-    ensures taken { AskTakes pass.old pass.new result }
+    ensures keeps { KeepsIn table.now.plan pass.old pass.new (claim_steps table.now.plan.slots) }
+    ensures claims { Claims table.now.plan op place node_key pass.old pass.new result }
+    ensures taken { table.now.plan.slots ≡ None → AskTakes pass.old pass.new result }
+    ensures limit { table.now.plan.last_card ≤ greatest_number }
+{
+    for _ in 0..table.most_claims() {
+        match claim_next(table, pass, op, place, node_key, gate) {
+            Next::Taken(card) => return Claimed::Card(card),
+            Next::NoneLeft => return Claimed::NoneLeft,
+            Next::Lost => return Claimed::Lost,
+            Next::InUse => {}
+        }
+    }
+    Claimed::NoneLeft
+}
+
+// Claims the next card, if one is left, and takes its slot, if cards lie in slots and it is free. If the next card has no
+// slot, all numbers of its turn are claimed at once. A card that is in hand already is laid aside.
+fn claim_next<A: Allocator + Copy, G: StepGate>(
+    table: &CardTable<A>,
+    pass: &mut Pass<A>,
+    op: Op,
+    place: Place,
+    node_key: u64,
+    gate: &G,
+) -> Next
+    requires flat { table.now.plan.slots ≢ None → table.now.plan.flat ≡ true }
+    requires own { pass.old.table ≡ table.now.id }
+    requires busy { Does pass.old.view op }
+    requires hand { HoldsAside table.now.plan pass.old }
+    requires at { IsAt pass.old.view place }
+    requires calm { place.parent.update.state ≡ Clean }
+    requires wants { Wants (flat_from table.now.plan) pass.old.view op place.parent.node place.node place.key node_key }
+    ensures keeps { KeepsIn table.now.plan pass.old pass.new 2 }
+    ensures claims { ClaimsNext table.now.plan op place node_key pass.old pass.new result }
+    ensures taken { table.now.plan.slots ≡ None → NextTakes pass.old pass.new result }
     ensures limit { table.now.plan.last_card ≤ greatest_number }
 {
     let label = pass.label();
     gate.before(label, Kind::Look);
     let card = table.next(pass);
     if card > table.last_card() {
-        return Claimed::NoneLeft;
+        return Next::NoneLeft;
     }
     gate.before(label, Kind::Exchange(Exchange::Claim));
-    if table.claim(pass, card, node_key) {
-        Claimed::Card(card)
+    if !table.has_slot(card) {
+        return if table.skip_turn(pass, card, node_key) {
+            Next::InUse
+        } else {
+            Next::Lost
+        };
+    }
+    if !table.claim(pass, card, node_key) {
+        return Next::Lost;
+    }
+    if table.take_slot(pass, card) {
+        Next::Taken(card)
     } else {
-        Claimed::Lost
+        Next::InUse
     }
 }
 
@@ -84,9 +142,9 @@ pub(crate) fn fill<A: Allocator + Copy, G: StepGate>(
     value: u64,
     gate: &G,
 )
-    requires plain { table.now.plan.slots ≡ None }
     requires own { pass.old.table ≡ table.now.id }
     requires may { MayFill pass.old.view card }
+    requires slot { HasSlotOf table.now.plan card pass.old }
     ensures { Steps pass.old pass.new (after_fill field value pass.old.view) }
 {
     gate.before(pass.label(), Kind::Fill);

@@ -124,6 +124,7 @@ rows_keep zero c node_key v = subst (λ m. IsAfterRow c m node_key v (after_row 
   claimed = λ d low most. subst (λ x. Has ((exchange.Claim, c) ∷ v.won) (exchange.Claim, x)) (omega arith) (latest (exchange.Claim, c) v.won);
   made = omega arith;
   told = told_on c node_key v;
+  values = values_on c node_key v;
   says = claim_says c (expected_tag v) (filling_of c node_key v) v.told;
   only = λ e h. elim (claim_only c (expected_tag v) (filling_of c node_key v) v.told e h) [
     | inl old ↦ inl old
@@ -166,6 +167,7 @@ rows_keep (suc n) c node_key v =
       ];
       made = let more = h.made in omega arith;
       told = λ e was. h.told e (told_on c node_key v e was);
+      values = h.values ∙ values_on c node_key v;
       says = λ e has. h.says e (subst (λ es. Has es e) (sym (same (c + 1 + n))) has);
       only = λ e has. elim (h.only e has) [
         | inl old ↦ elim (claim_only c (expected_tag v) (filling_of c node_key v) v.told e old) [
@@ -189,7 +191,7 @@ pub row_share : (n c node_key : ℕ) (v : View) → SameShare v (after_row n c n
 row_share n c node_key v = let h = rows_keep n c node_key v in record { share = h.share; ownable = h.shared }
 
 -- a pass that was told what it was told before, and whose search stands where it stood, wants the same
-wants_same : (from : ℕ) (v w : View) → ((e : Told) → IsTold v e → IsTold w e) → w.worker.search ≡ v.worker.search
+pub wants_same : (from : ℕ) (v w : View) → ((e : Told) → IsTold v e → IsTold w e) → w.worker.search ≡ v.worker.search
     → (op : Op) (parent x key node_key : ℕ) → Wants from v op parent x key node_key → Wants from w op parent x key node_key
 wants_same from v w more same (Find k) parent x key node_key h = h
 wants_same from v w more same (Insert k value) parent x key node_key h = record {

@@ -1,4 +1,4 @@
-use Rattle.std.proofs.Common.{◌≡◌, ◌==◌, ℕ, if◌then◌else◌, true, Option, Some, None, inl, refl, sym, ap, subst, unwrap_or, nat_le, eq-eqb}
+use Rattle.std.proofs.Common.{◌≡◌, ◌≢◌, ◌==◌, ℕ, if◌then◌else◌, true, Option, Some, None, refl, sym, ap, subst, unwrap_or, nat_le, eq-eqb}
 use Rattle.ell_ops.specs.declared.op.Op.{Op}
 use Rattle.ell_ops.specs.declared.op.Op.TheVariants.{Find, Insert, Delete, Swap}
 use Rattle.ell_ops.specs.Meaning.{key_of}
@@ -6,8 +6,7 @@ use Rattle.ell_word.specs.declared.update.Update.{Update}
 use Rattle.ell_word.specs.Node.{IsInternal}
 use Rattle.ell_word.specs.Word.{packed}
 use Rattle.ell_core.specs.declared.view.Seen.{Seen}
-use Rattle.ell_core.specs.acts.Searching.{IsClean}
-use Rattle.ell_core.proofs.lemmas.outcomes.Decide.{some_not_none}
+use Rattle.ell_core.specs.acts.Searching.{IsClean, MayTake}
 use Rattle.ell_cards.specs.declared.view.View.{View}
 use Rattle.ell_cards.specs.Models.{PassModel, Sees, Steps, Does, StandsAt}
 use Rattle.ell_cards.specs.Changes.{after_upd, is_this, value_told, filling_for, filling_of}
@@ -43,18 +42,18 @@ may_go_down a b op x u key k s same busy stands inner told no_card =
     })
 
 -- the claim word was read where a search ended, behind a parent that was read clean, and a claim may be made
-pub may_claim : (from : ℕ) (a b : PassModel) (op : Op) (c below key node_key : ℕ) (parent : Seen) → Steps a b (after_next c a.view) → Does a.view op → a.view.worker.card ≡ None
-    → StandsAt a.view below → a.view.here ≡ Some key → a.view.worker.search.parent ≡ Some parent → IsClean parent.word
+pub may_claim : (from : ℕ) (a b : PassModel) (op : Op) (c below key node_key : ℕ) (parent : Seen) → Steps a b (after_next c a.view) → Does a.view op → a.view.worker.card ≢ Some c
+    → MayTake from a.view.worker → StandsAt a.view below → a.view.here ≡ Some key → a.view.worker.search.parent ≡ Some parent → IsClean parent.word
     → Wants from a.view op parent.node below key node_key → MayClaim from b.view c node_key
-may_claim from a b op c below key node_key parent s busy no_card stands told behind calm wants =
+may_claim from a b op c below key node_key parent s busy other ready stands told behind calm wants =
     subst (λ (w : View). MayClaim from w c node_key) (sym (view_after a b (after_next c a.view) s)) (record {
       op = op;
       below = below;
       key = key;
       parent = parent;
       read = refl;
-      other = λ e. some_not_none e no_card;
-      ready = inl no_card;
+      other = other;
+      ready = ready;
       busy = busy;
       stands = stands;
       told = told;
