@@ -7,6 +7,7 @@ mod holding;
 mod neighbors;
 mod parting;
 mod racing;
+mod returning;
 mod scanning;
 mod swapping;
 mod telling;

@@ -1,5 +1,5 @@
 //! How a tree begins.
-ghost use Rattle.std.specs.Prelude.{◌≡◌, ◌≤◌, [], true, false, length, None, IfOk, IfErr, OnOk};
+ghost use Rattle.std.specs.Prelude.{◌≡◌, ◌≤◌, [], true, false, length, None, Some, IfOk, IfErr, OnOk};
 ghost use Rattle.std.specs.List.{All};
 ghost use Rattle.std.specs.List.Sorted.{IsStrictlyIncreasing};
 ghost use Rattle.std.specs.Map.{keys_of};
@@ -9,6 +9,8 @@ ghost use Rattle.ell_word.specs.Node.{most_start};
 ghost use Rattle.ell_core.specs.state.Opening.{last_card};
 ghost use Rattle.ell_cards.specs.Models.{IsCardCount, RefusesCards};
 ghost use Rattle.ell_tree.specs.PassParts.{IsFirst};
+ghost use Rattle.ell_cards.specs.Starts.{most_places};
+ghost use Rattle.ell_word.specs.Node.{greatest_number};
 
 use crate::tree::Tree;
 use ell_cards::{CardFault, CardTable, Pass, TableKind};
@@ -169,6 +171,58 @@ impl<A: Allocator + Copy> Tree<A> {
             places: 0,
         };
         let (table, pass) = CardTable::reserve(alloc, start, keys, cards, flat)?;
+        Ok((Tree { table, alloc }, pass))
+    }
+
+    /// Returns a flat tree, as `reserve_flat` does, whose cards come back, for at most this many passes at a time. A card
+    /// lies in a slot, of which there are as many as cards are asked for and start keys given, and one more. Once the nodes
+    /// of a card are out of the tree, and no call that might know of them is under way, its slot is free for another card:
+    /// so the tree goes on for as long as its keys fit into the slots. A slot is held back while a call that began before
+    /// it became free goes on. An insert or another change returns `Spent` if each slot was in use when it asked for it,
+    /// and may be made again. Each try of a change makes at most `2 * s + 10` steps more than in another flat tree, if `s`
+    /// is the number of the last slot, and beside these some that are not counted, by which slots are set free and taken
+    /// again. A split also returns `TooManyPasses` if there are as many passes as were asked for. The tree has no end yet:
+    /// `close` is for trees whose cards do not come back. Errors and conditions are otherwise those of `reserve_flat`, and
+    /// there are 1 to 1,000,000 passes.
+    pub fn reserve_reusing(
+        alloc: A,
+        start: &[(u64, u64)],
+        keys: &[u64],
+        cards: u64,
+        passes: u64,
+    ) -> Result<(Tree<A>, Pass<A>), CardFault>
+        requires ascending { IsStrictlyIncreasing keys.now }
+        requires real { All (λ k. k ≤ greatest_key) keys.now }
+        requires start_ascending { IsStrictlyIncreasing (keys_of start.now) }
+        requires start_real { All (λ k. k ≤ greatest_key) (keys_of start.now) }
+        requires few { length start.now ≤ most_start }
+        requires some { 1 ≤ passes }
+        requires places { passes ≤ most_places }
+        // It succeeds only with 1 to 1,000,000 cards.
+        ensures cards { OnOk result (IsCardCount cards) }
+        // The tree is flat, has the start pairs and shares each other key. The number of its last slot is `cards` plus the
+        // number of start keys, and that of its last card the greatest there is.
+        ensures tree { IfOk result (λ made. made.0.plan ≡ record {
+          keys = keys.now;
+          start = start.now;
+          last_card = greatest_number;
+          shared = true;
+          flat = true;
+          slots = Some (record { last = last_card start.now cards; places = passes });
+        }) }
+        // The pass owns these keys, of which the start keys are present, has the whole share, and has made no step.
+        ensures pass { IfOk result (λ made. IsFirst made.0 made.1) }
+        // It was answered nothing.
+        ensures called { IfOk result (λ made. made.1.view.answers ≡ []) }
+        // `BadCards` is returned exactly if the number of cards is not 1 to 1,000,000, and otherwise only `NoMemory`.
+        ensures refused { IfErr result (RefusesCards cards) }
+    {
+        let reusing = TableKind {
+            shared: true,
+            flat: true,
+            places: passes,
+        };
+        let (table, pass) = CardTable::reserve(alloc, start, keys, cards, reusing)?;
         Ok((Tree { table, alloc }, pass))
     }
 }
