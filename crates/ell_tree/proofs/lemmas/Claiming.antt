@@ -35,7 +35,7 @@ use Rattle.ell_tree.specs.Keeping.{LosesNothing, Keeps, KeepsIn}
 use Rattle.ell_tree.specs.Searches.{seen, IsAt}
 use Rattle.ell_tree.specs.Tries.{Claims, ClaimsInVain, HasCard, HasNone, HasSlotOf, HoldsAside}
 use Rattle.ell_tree.specs.Milestones.{GivesOut}
-use Rattle.ell_tree.proofs.lemmas.Keeping.{keeps_step, keeps_trans, loses_trans, next_keeps}
+use Rattle.ell_tree.proofs.lemmas.Keeping.{keeps_step, keeps_trans, keeps_all_none, loses_trans, next_keeps}
 
 -- a row of claims loses nothing
 row_keeps : (first last node_key : ℕ) (v w : View) → IsAfterRow first last node_key v w → v.next_at_least ≤ first → first ≤ last → LosesNothing v w
@@ -62,11 +62,7 @@ won_keeps c node_key v low = row_keeps c c node_key v (after_claim true c node_k
 lost_keeps : (c node_key : ℕ) (v : View) → v.next_at_least ≤ c → LosesNothing v (after_claim false c node_key v)
 lost_keeps c node_key v low = record { ledger = refl; operation = refl; answers = refl; share = record { share = refl; ownable = refl }; knows = λ f h. h; told = λ e h. h; before = refl; least = omega arith; hindered = refl; earlier = λ hs e. ap (λ hs. Claim c ∷ hs) e }
 
--- a pass that has no card may take one
-pub nothing_aside : (plan : TablePlan) (p : PassModel) → p.view.worker.card ≡ None → HoldsAside plan p
-nothing_aside plan p none = record { ready = inl none; below = λ c holds. absurd (some_not_none holds none) }
-
--- a card that it lays aside is not flagged
+-- a card that may be laid aside is not flagged
 aside_unflagged : (plan : TablePlan) (p : PassModel) (c : ℕ) → HoldsAside plan p → p.view.worker.card ≡ Some c → p.view.worker.flagged ≡ false
 aside_unflagged plan p c hand holds = elim hand.ready [
   | inl none ↦ absurd (some_not_none holds none)
@@ -218,3 +214,154 @@ module _ (a b d : PassModel) (c node_key : ℕ) (read : Steps a b (after_next c 
 pub has_places : (o : Option Slots) (c : ℕ) → has_slot o c ≡ false → o ≢ None
 has_places None c none empty = absurd cc
 has_places (Some s) c none empty = absurd cc
+
+-- so many cards were claimed in vain, one after the other: there were slots then, of which each was in use
+pub record HasAsked (plan : TablePlan) (n : ℕ) (old new : PassModel) : Type 0 where
+  pub keeps : KeepsIn plan old new (2 * n)
+  pub hand : HoldsAside plan new
+  pub search : new.view.worker.search ≡ old.view.worker.search
+  pub here : new.view.here ≡ old.view.here
+  pub values : value_told new.view.told ≡ value_told old.view.told
+  pub hindrances : new.view.hindrances ≡ old.view.hindrances
+  pub slots : 0 < n → plan.slots ≢ None
+  pub taken : plan.slots ≡ None → TakesNoCard old new
+
+-- none was at first
+pub asked_none : (plan : TablePlan) (p : PassModel) → p.view.worker.card ≡ None → HasAsked plan 0 p p
+asked_none plan p none = record {
+  keeps = keeps_in plan p p 0 (keeps_all_none p 0).keeps;
+  hand = record { ready = inl none; below = λ c holds. absurd (some_not_none holds none) };
+  search = refl;
+  here = refl;
+  values = refl;
+  hindrances = refl;
+  slots = λ some. absurd (omega (arith, some));
+  taken = λ empty. refl;
+}
+
+-- steps of a table, and then others
+keeps_in_trans : (plan : TablePlan) (a b c : PassModel) (m n k : ℕ) → KeepsIn plan a b m → KeepsIn plan b c n → m + n ≤ k → KeepsIn plan a c k
+keeps_in_trans plan a b c m n k h h' le = record {
+  table = h'.table ∙ h.table;
+  label = h'.label ∙ h.label;
+  view = loses_trans a.view b.view c.view h.view h'.view;
+  took = record {
+    steps = omega (arith, h.took.steps, h'.took.steps, le);
+    made = λ empty. omega (arith, h.took.made empty, h'.took.made empty, le);
+  };
+}
+
+keeps_in_within : (plan : TablePlan) (a b : PassModel) (m n : ℕ) → KeepsIn plan a b m → m ≤ n → KeepsIn plan a b n
+keeps_in_within plan a b m n h le = record {
+  table = h.table;
+  label = h.label;
+  view = h.view;
+  took = record { steps = omega (arith, h.took.steps, le); made = λ empty. omega (arith, h.took.made empty, le) };
+}
+
+-- one more was
+pub asked_more : (plan : TablePlan) (n : ℕ) (old mid new : PassModel) → HasAsked plan n old mid → KeepsIn plan mid new 2 → ClaimsInVain plan mid new → HasAsked plan (n + 1) old new
+asked_more plan n old mid new h keeps vain = record {
+  keeps = keeps_in_trans plan old mid new (2 * n) 2 (2 * (n + 1)) h.keeps keeps (omega arith);
+  hand = vain.hand;
+  search = vain.search ∙ h.search;
+  here = vain.here ∙ h.here;
+  values = vain.values ∙ h.values;
+  hindrances = vain.hindrances ∙ h.hindrances;
+  slots = λ some. vain.slots;
+  taken = λ empty. absurd (vain.slots empty);
+}
+
+-- a pass that stood at a place stands there still, and wants what it wanted
+pub asked_at : (plan : TablePlan) (n : ℕ) (old mid : PassModel) (place : Place) → HasAsked plan n old mid → IsAt old.view place → IsAt mid.view place
+asked_at plan n old mid place h at = record {
+  search = h.search ∙ at.search;
+  told = h.here ∙ at.told;
+  leaf = λ outer. h.keeps.view.told _ (at.leaf outer);
+  value = ap (λ (told : ℕ → ℕ). told place.node) h.values ∙ at.value;
+}
+
+pub asked_wants : (plan : TablePlan) (n : ℕ) (old mid : PassModel) (op : Op) (parent x key node_key : ℕ) → HasAsked plan n old mid
+    → Wants (flat_from plan) old.view op parent x key node_key → Wants (flat_from plan) mid.view op parent x key node_key
+asked_wants plan n old mid op parent x key node_key h wants = wants_same (flat_from plan) old.view mid.view h.keeps.view.told h.search op parent x key node_key wants
+
+-- what comes of the last claim comes of all of them
+module _ (plan : TablePlan) (n : ℕ) (old mid new : PassModel) (h : HasAsked plan n old mid) where
+  -- a card is to expect the tag that it was to expect, and is filled with what it was to be filled with
+  same_tag : expected_tag mid.view ≡ expected_tag old.view
+  same_tag = λ t. tag_of_claim (h.keeps.view.operation t) (h.search t).parent (h.search t).grandparent
+
+  same_filling : (c node_key : ℕ) → filling_of c node_key mid.view ≡ filling_of c node_key old.view
+  same_filling c node_key = λ t.
+      filling_for c node_key (h.keeps.view.operation t) (h.search t).node (h.search t).parent (h.search t).grandparent (unwrap_or (h.here t) 0) (h.values t)
+
+  given_before : GivesOut plan.last_card mid.view new.view → GivesOut plan.last_card old.view new.view
+  given_before gives = record {
+    card = gives.card;
+    first = gives.first;
+    last = gives.last;
+    before = omega (arith, gives.before, h.keeps.view.least);
+    after = gives.after;
+  }
+
+  pub asked_claims : (op : Op) (place : Place) (node_key : ℕ) (said : Claimed) → Claims plan op place node_key mid new said → Claims plan op place node_key old new said
+  asked_claims op place node_key (claimed.Card c) claims = (
+    subst (λ (filling : List (Field × ℕ)). HasCard op place (expected_tag old.view) filling new.view c) (same_filling c node_key)
+        (subst (λ (tag : ℕ). HasCard op place tag (filling_of c node_key mid.view) new.view c) same_tag claims.0),
+    claims.1,
+    claims.2 ∙ h.hindrances,
+    given_before claims.3,
+    claims.4,
+  )
+  asked_claims op place node_key claimed.NoneLeft claims = (
+    record { unflagged = claims.0.unflagged; search = claims.0.search ∙ h.search },
+    claims.1,
+    claims.2 ∙ h.hindrances,
+  )
+  asked_claims op place node_key claimed.Lost claims = (
+    record { unflagged = claims.0.unflagged; search = claims.0.search ∙ h.search },
+    record {
+      met = claims.1.met;
+      list = claims.1.list ∙ ap (λ (hs : List Hindrance). claims.1.met ++ hs) h.hindrances;
+      over = claims.1.over;
+      knows = λ f known. claims.1.knows f (h.keeps.view.knows f known);
+    },
+    omega (arith, claims.2, ap (λ (hs : List Hindrance). length hs) h.hindrances),
+    given_before claims.3,
+  )
+
+  -- and takes what it takes
+  pub asked_takes : (said : Claimed) → (plan.slots ≡ None → AskTakes mid new said) → plan.slots ≡ None → AskTakes old new said
+  asked_takes (claimed.Card c) takes empty = omega (arith, takes empty, h.taken empty)
+  asked_takes claimed.NoneLeft takes empty = takes empty ∙ h.taken empty
+  asked_takes claimed.Lost takes empty = takes empty ∙ h.taken empty
+
+-- so many claims take no more steps than a try may take for them
+claims_within : (o : Option Slots) (n : ℕ) → n ≤ most_claims o → 2 * n ≤ claim_steps o
+claims_within None n few = omega arith
+claims_within (Some s) n few = omega arith
+
+pub asked_all : (plan : TablePlan) (n : ℕ) (old mid : PassModel) → HasAsked plan n old mid → n ≤ most_claims plan.slots → KeepsIn plan old mid (claim_steps plan.slots)
+asked_all plan n old mid h few = keeps_in_within plan old mid (2 * n) (claim_steps plan.slots) h.keeps (claims_within plan.slots n few)
+
+pub asked_keeps : (plan : TablePlan) (n : ℕ) (old mid new : PassModel) → HasAsked plan n old mid → KeepsIn plan mid new 2 → n < most_claims plan.slots → KeepsIn plan old new (claim_steps plan.slots)
+asked_keeps plan n old mid new h keeps few =
+    let most = claims_within plan.slots (n + 1) (omega (arith, few)) in
+    keeps_in_trans plan old mid new (2 * n) 2 (claim_steps plan.slots) h.keeps keeps (omega (arith, most))
+
+-- a try claims one at least
+pub claims_some : (o : Option Slots) → 0 < most_claims o
+claims_some None = omega arith
+claims_some (Some s) = omega arith
+
+-- so once it has claimed as many as it may, there are slots
+asked_slots : (plan : TablePlan) (n : ℕ) (old mid : PassModel) → HasAsked plan n old mid → n ≡ most_claims plan.slots → plan.slots ≢ None
+asked_slots plan n old mid h all = h.slots (let some = claims_some plan.slots in omega (arith, all, some))
+
+pub asked_in_vain : (plan : TablePlan) (n : ℕ) (old mid : PassModel) (op : Op) (place : Place) (node_key : ℕ) → HasAsked plan n old mid → n ≡ most_claims plan.slots
+    → Claims plan op place node_key old mid claimed.NoneLeft
+asked_in_vain plan n old mid op place node_key h all = (
+  record { unflagged = λ c holds. aside_unflagged plan mid c h.hand holds; search = h.search },
+  λ empty. absurd (asked_slots plan n old mid h all empty),
+  h.hindrances,
+)
