@@ -7,7 +7,7 @@ ghost use Rattle.ell_cards.specs.Models.{Does, Steps, flat_from};
 ghost use Rattle.ell_cards.specs.Guards.{MayFill, Wants};
 ghost use Rattle.ell_cards.specs.Changes.{after_fill};
 ghost use Rattle.ell_tree.specs.CardsTaken.{NextTakes, AskTakes};
-ghost use Rattle.ell_tree.specs.Keeping.{KeepsIn, Keeps};
+ghost use Rattle.ell_tree.specs.Keeping.{KeepsIn};
 ghost use Rattle.ell_tree.specs.Searches.{IsAt};
 ghost use Rattle.ell_tree.specs.Tries.{HasSlotOf, ClaimsNext, HoldsAside, Claims};
 

@@ -25,10 +25,7 @@ use Rattle.ell_cards.proofs.lemmas.words.Updates.{clean_word}
 use Rattle.ell_tree.specs.declared.searching.Place.{Place}
 use Rattle.ell_tree.specs.declared.trying.Claimed.{Claimed}
 use Rattle.ell_tree.specs.declared.trying.Claimed.TheVariants as claimed
-use Rattle.ell_tree.specs.declared.trying.Next.{Next}
-use Rattle.ell_tree.specs.declared.trying.Next.TheVariants as next
-use Rattle.ell_tree.specs.CardsTaken.{claims_in, AskTakes, TakesNoCard, TakesOneCard}
-use Rattle.ell_tree.specs.Counts.{TookIn}
+use Rattle.ell_tree.specs.CardsTaken.{AskTakes, TakesNoCard}
 use Rattle.ell_tree.specs.Ends.{claim_steps}
 use Rattle.ell_tree.specs.Hindrances.{Meets}
 use Rattle.ell_tree.specs.Keeping.{LosesNothing, Keeps, KeepsIn}
@@ -59,9 +56,6 @@ won_row c node_key v = subst (λ m. IsAfterRow c m node_key v (after_claim true 
 won_keeps : (c node_key : ℕ) (v : View) → v.next_at_least ≤ c → LosesNothing v (after_claim true c node_key v)
 won_keeps c node_key v low = row_keeps c c node_key v (after_claim true c node_key v) (won_row c node_key v) low (omega arith)
 
-lost_keeps : (c node_key : ℕ) (v : View) → v.next_at_least ≤ c → LosesNothing v (after_claim false c node_key v)
-lost_keeps c node_key v low = record { ledger = refl; operation = refl; answers = refl; share = record { share = refl; ownable = refl }; knows = λ f h. h; told = λ e h. h; before = refl; least = omega arith; hindered = refl; earlier = λ hs e. ap (λ hs. Claim c ∷ hs) e }
-
 -- a card that may be laid aside is not flagged
 aside_unflagged : (plan : TablePlan) (p : PassModel) (c : ℕ) → HoldsAside plan p → p.view.worker.card ≡ Some c → p.view.worker.flagged ≡ false
 aside_unflagged plan p c hand holds = elim hand.ready [
@@ -77,19 +71,16 @@ may_claim_at plan old new c node_key op place s busy hand low at calm wants =
     may_claim (flat_from plan) old new op c place.node place.key node_key (seen place.parent) s busy (λ holds. omega (arith, hand.below c holds)) hand.ready
     (ap (λ (r : Search). r.node) at.search) at.told (ap (λ (r : Search). r.parent) at.search) (clean_word place.parent.update.state place.parent.update.card calm) wants
 
--- the steps of a pass are as many if it takes a slot, or looks for one, after them
+-- a pass that takes a slot after its steps, or finds it in use, keeps what it kept
 pub keeps_slot : (plan : TablePlan) (a d e : PassModel) (n : ℕ) → Keeps a d n → e ≡ record d { slot = e.slot; safe = e.safe } → KeepsIn plan a e n
 keeps_slot plan a d e n k same = record {
   table = ap (λ (p : PassModel). p.table) same ∙ k.table;
   label = ap (λ (p : PassModel). p.label) same ∙ k.label;
   view = subst (LosesNothing a.view) (sym (ap (λ (p : PassModel). p.view) same)) k.view;
   took = (let steps = ap (λ (p : PassModel). p.steps) same in
-    let made = ap (λ (p : PassModel). p.view.made) same in
-    record { steps = omega (arith, k.took.steps, steps); made = λ none. omega (arith, k.took.made, made) });
+      let made = ap (λ (p : PassModel). p.view.made) same in
+      record { steps = omega (arith, k.took.steps, steps); made = λ none. omega (arith, k.took.made, made) });
 }
-
-pub keeps_in : (plan : TablePlan) (a d : PassModel) (n : ℕ) → Keeps a d n → KeepsIn plan a d n
-keeps_in plan a d n k = keeps_slot plan a d d n k refl
 
 module _ (a b d : PassModel) (c node_key : ℕ) (read : Steps a b (after_next c a.view)) (low : a.view.next_at_least ≤ c) where
   low_there : b.view.next_at_least ≤ c
@@ -115,7 +106,7 @@ module _ (a b d : PassModel) (c node_key : ℕ) (read : Steps a b (after_next c 
       (keeps_step b d (after_claim true c node_key b.view) s (won_keeps c node_key b.view low_there) refl) (omega arith)
 
   -- the card is in hand then
-  pub has_card : (op : Op) (place : Place) → Steps b d (after_claim true c node_key b.view) → Does a.view op → IsAt a.view place
+  has_card : (op : Op) (place : Place) → Steps b d (after_claim true c node_key b.view) → Does a.view op → IsAt a.view place
       → HasCard op place (expected_tag a.view) (filling_of c node_key a.view) d.view c
   has_card op place s busy at =
       let row = won_row c node_key (after_next c a.view) in
@@ -133,24 +124,8 @@ module _ (a b d : PassModel) (c node_key : ℕ) (read : Steps a b (after_next c 
         expects = row.says _ (latest _ _);
       })
 
-  -- and the pass took it
-  pub won_takes : Steps b d (after_claim true c node_key b.view) → TakesOneCard a d
-  won_takes s =
-      ap (λ (w : View). claims_in w.won)
-      (view_after b d (after_claim true c node_key b.view) s ∙ ap (after_claim true c node_key) (view_after a b (after_next c a.view) read))
-
-  pub lost_takes : Steps b d (after_claim false c node_key b.view) → TakesNoCard a d
-  lost_takes s =
-      ap (λ (w : View). claims_in w.won)
-      (view_after b d (after_claim false c node_key b.view) s ∙ ap (after_claim false c node_key) (view_after a b (after_next c a.view) read))
-
-  pub lost_goes : Steps b d (after_claim false c node_key b.view) → Keeps a d 2
-  lost_goes s =
-      keeps_trans a b d 1 1 2 (keeps_step a b (after_next c a.view) read (next_keeps c a.view) refl)
-      (keeps_step b d (after_claim false c node_key b.view) s (lost_keeps c node_key b.view low_there) refl) (omega arith)
-
   -- and nothing was in the way
-  pub won_calm : Steps b d (after_claim true c node_key b.view) → d.view.hindrances ≡ a.view.hindrances
+  won_calm : Steps b d (after_claim true c node_key b.view) → d.view.hindrances ≡ a.view.hindrances
   won_calm s =
       ap (λ (w : View). w.hindrances)
       (view_after b d (after_claim true c node_key b.view) s ∙ ap (after_claim true c node_key) (view_after a b (after_next c a.view) read))
@@ -210,12 +185,13 @@ module _ (a b d : PassModel) (c node_key : ℕ) (read : Steps a b (after_next c 
         hindrances = ap (λ (w : View). w.hindrances) is ∙ row.hindrances;
       }
 
--- a card that has no slot lies in a table with slots
+-- where a card has no slot, cards lie in slots
 pub has_places : (o : Option Slots) (c : ℕ) → has_slot o c ≡ false → o ≢ None
 has_places None c none empty = absurd cc
 has_places (Some s) c none empty = absurd cc
 
--- so many cards were claimed in vain, one after the other: there were slots then, of which each was in use
+-- so many cards were claimed in vain, one after the other: where any was, cards lie in slots; and the pass stands where it
+-- stood, and may claim the next one
 pub record HasAsked (plan : TablePlan) (n : ℕ) (old new : PassModel) : Type 0 where
   pub keeps : KeepsIn plan old new (2 * n)
   pub hand : HoldsAside plan new
@@ -229,7 +205,7 @@ pub record HasAsked (plan : TablePlan) (n : ℕ) (old new : PassModel) : Type 0 
 -- none was at first
 pub asked_none : (plan : TablePlan) (p : PassModel) → p.view.worker.card ≡ None → HasAsked plan 0 p p
 asked_none plan p none = record {
-  keeps = keeps_in plan p p 0 (keeps_all_none p 0).keeps;
+  keeps = keeps_slot plan p p p 0 (keeps_all_none p 0).keeps refl;
   hand = record { ready = inl none; below = λ c holds. absurd (some_not_none holds none) };
   search = refl;
   here = refl;
@@ -336,7 +312,7 @@ module _ (plan : TablePlan) (n : ℕ) (old mid new : PassModel) (h : HasAsked pl
   asked_takes claimed.NoneLeft takes empty = takes empty ∙ h.taken empty
   asked_takes claimed.Lost takes empty = takes empty ∙ h.taken empty
 
--- so many claims take no more steps than a try may take for them
+-- claims take no more steps than a try may take for them
 claims_within : (o : Option Slots) (n : ℕ) → n ≤ most_claims o → 2 * n ≤ claim_steps o
 claims_within None n few = omega arith
 claims_within (Some s) n few = omega arith

@@ -1,8 +1,5 @@
-use Rattle.std.proofs.Common.{rules, ◌≡◌, ◌≤◌, true, false, sym, ◌∙◌, ap, subst, arith}
-use Rattle.ell_cards.specs.Models.{PassModel}
+use Rattle.std.proofs.Common.{rules, false, arith}
 use Rattle.ell_cards.specs.Skipping.{skipped}
-use Rattle.ell_tree.specs.Tries.{HasCard}
-use Rattle.ell_tree.specs.Milestones.{GivesOut}
 use Rattle.ell_tree.proofs.lemmas.Claiming.{may_claim_at, keeps_slot, given_out, won_goes, taken_claims, lost_claims, row_goes, row_in_vain, has_places}
 use Rattle.ell_tree.proofs.trying.claim_next.Goals as goal
 

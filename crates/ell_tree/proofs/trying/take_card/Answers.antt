@@ -1,5 +1,4 @@
-use Rattle.std.proofs.Common.{◌≡◌, ◌<◌, refl, arith}
-use Rattle.ell_cards.specs.Periods.{most_claims}
+use Rattle.std.proofs.Common.{refl, arith}
 use Rattle.ell_tree.specs.declared.trying.Claimed.TheVariants as claimed
 use Rattle.ell_tree.proofs.lemmas.Claiming.{asked_none, asked_more, asked_at, asked_wants, asked_claims, asked_takes, asked_all, asked_keeps, asked_in_vain, claims_some}
 use Rattle.ell_tree.proofs.trying.take_card.Goals as goal
