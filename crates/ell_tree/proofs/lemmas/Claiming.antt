@@ -64,8 +64,8 @@ aside_unflagged plan p c hand holds = elim hand.ready [
 ]
 
 -- where a search stands at a node, and the claim word was read, a claim may be made
-pub may_claim_at : (plan : TablePlan) (old new : PassModel) (c node_key : ℕ) (op : Op) (place : Place) → Steps old new (after_next c old.view) → Does old.view op → HoldsAside plan old
-    → old.view.next_at_least ≤ c → IsAt old.view place → place.parent.update.state ≡ state.Clean
+pub may_claim_at : (plan : TablePlan) (old new : PassModel) (c node_key : ℕ) (op : Op) (place : Place) → Steps old new (after_next c old.view) → Does old.view op
+    → HoldsAside plan old → old.view.next_at_least ≤ c → IsAt old.view place → place.parent.update.state ≡ state.Clean
     → Wants (flat_from plan) old.view op place.parent.node place.node place.key node_key → MayClaim (flat_from plan) new.view c node_key
 may_claim_at plan old new c node_key op place s busy hand low at calm wants =
     may_claim (flat_from plan) old new op c place.node place.key node_key (seen place.parent) s busy (λ holds. omega (arith, hand.below c holds)) hand.ready
@@ -131,8 +131,8 @@ module _ (a b d : PassModel) (c node_key : ℕ) (read : Steps a b (after_next c 
       (view_after b d (after_claim true c node_key b.view) s ∙ ap (after_claim true c node_key) (view_after a b (after_next c a.view) read))
 
   -- also once its slot is taken
-  pub taken_claims : (plan : TablePlan) (op : Op) (place : Place) (e : PassModel) → Steps b d (after_claim true c node_key b.view) → Does a.view op → IsAt a.view place → 1 ≤ c → c ≤ plan.last_card
-      → e ≡ record d { slot = e.slot; safe = e.safe } → HasSlotOf plan c e → Claims plan op place node_key a e (claimed.Card c)
+  pub taken_claims : (plan : TablePlan) (op : Op) (place : Place) (e : PassModel) → Steps b d (after_claim true c node_key b.view) → Does a.view op → IsAt a.view place
+      → 1 ≤ c → c ≤ plan.last_card → e ≡ record d { slot = e.slot; safe = e.safe } → HasSlotOf plan c e → Claims plan op place node_key a e (claimed.Card c)
   taken_claims plan op place e s busy at first last same slot =
       let view = ap (λ (p : PassModel). p.view) same in (
         subst (λ (w : View). HasCard op place (expected_tag a.view) (filling_of c node_key a.view) w c) (sym view) (has_card op place s busy at),
@@ -236,7 +236,8 @@ keeps_in_within plan a b m n h le = record {
 }
 
 -- one more was
-pub asked_more : (plan : TablePlan) (n : ℕ) (old mid new : PassModel) → HasAsked plan n old mid → KeepsIn plan mid new 2 → ClaimsInVain plan mid new → HasAsked plan (n + 1) old new
+pub asked_more : (plan : TablePlan) (n : ℕ) (old mid new : PassModel) → HasAsked plan n old mid → KeepsIn plan mid new 2 → ClaimsInVain plan mid new
+    → HasAsked plan (n + 1) old new
 asked_more plan n old mid new h keeps vain = record {
   keeps = keeps_in_trans plan old mid new (2 * n) 2 (2 * (n + 1)) h.keeps keeps (omega arith);
   hand = vain.hand;
@@ -320,7 +321,8 @@ claims_within (Some s) n few = omega arith
 pub asked_all : (plan : TablePlan) (n : ℕ) (old mid : PassModel) → HasAsked plan n old mid → n ≤ most_claims plan.slots → KeepsIn plan old mid (claim_steps plan.slots)
 asked_all plan n old mid h few = keeps_in_within plan old mid (2 * n) (claim_steps plan.slots) h.keeps (claims_within plan.slots n few)
 
-pub asked_keeps : (plan : TablePlan) (n : ℕ) (old mid new : PassModel) → HasAsked plan n old mid → KeepsIn plan mid new 2 → n < most_claims plan.slots → KeepsIn plan old new (claim_steps plan.slots)
+pub asked_keeps : (plan : TablePlan) (n : ℕ) (old mid new : PassModel) → HasAsked plan n old mid → KeepsIn plan mid new 2 → n < most_claims plan.slots
+    → KeepsIn plan old new (claim_steps plan.slots)
 asked_keeps plan n old mid new h keeps few =
     let most = claims_within plan.slots (n + 1) (omega (arith, few)) in
     keeps_in_trans plan old mid new (2 * n) 2 (claim_steps plan.slots) h.keeps keeps (omega (arith, most))
