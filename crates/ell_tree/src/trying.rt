@@ -7,7 +7,7 @@ ghost use Rattle.ell_cards.specs.Models.{Does, Steps, flat_from};
 ghost use Rattle.ell_cards.specs.Guards.{MayFill, Wants};
 ghost use Rattle.ell_cards.specs.Changes.{after_fill};
 ghost use Rattle.ell_tree.specs.CardsTaken.{NextTakes, AskTakes};
-ghost use Rattle.ell_tree.specs.Keeping.{KeepsIn, Keeps};
+ghost use Rattle.ell_tree.specs.Keeping.{KeepsIn};
 ghost use Rattle.ell_tree.specs.Searches.{IsAt};
 ghost use Rattle.ell_tree.specs.Tries.{HasSlotOf, ClaimsNext, HoldsAside, Claims};
 
@@ -54,8 +54,8 @@ enum Next {
 }
 
 /// Takes the next card for an operation whose search ended at a place, if one is left and no other pass takes it first.
-/// The node of an insert's or a swap's card gets this key. Where cards lie in slots, it goes on to the card behind while
-/// the slot of a card is in use, until it has asked for each slot.
+/// The node of an insert's or a swap's card gets this key. Where cards lie in slots, it goes on to the card behind
+/// while the slot of a card is in use, until it has asked for each slot.
 pub(crate) fn take_card<A: Allocator + Copy, G: StepGate>(
     table: &CardTable<A>,
     pass: &mut Pass<A>,
@@ -87,8 +87,8 @@ pub(crate) fn take_card<A: Allocator + Copy, G: StepGate>(
     Claimed::NoneLeft
 }
 
-// Claims the next card, if one is left, and takes its slot, if cards lie in slots and it is free. If the next card has no
-// slot, all numbers of its turn are claimed at once. A card that is in hand already is laid aside.
+// Claims the next card, if one is left, and takes its slot, if cards lie in slots and it is free. If the next card has
+// no slot, all numbers of its turn are claimed at once. A card that is in hand already is laid aside.
 fn claim_next<A: Allocator + Copy, G: StepGate>(
     table: &CardTable<A>,
     pass: &mut Pass<A>,

@@ -1,53 +1,88 @@
-use Rattle.std.proofs.Common.{Bool, true, false, ap, subst, arith}
-use Rattle.ell_cards.specs.Models.{Steps, flat_from, last_slot_of}
-use Rattle.ell_cards.specs.Changes.{after_claim}
-use Rattle.ell_tree.proofs.lemmas.Claiming.{may_claim_at, won_goes, won_calm, won_takes, given_out, has_card, lost_goes, lost_takes, lost_claims}
+use Rattle.std.proofs.Common.{refl, arith}
+use Rattle.ell_tree.specs.declared.trying.Claimed.TheVariants as claimed
+use Rattle.ell_tree.proofs.lemmas.Claiming.{asked_none, asked_more, asked_at, asked_wants, asked_claims, asked_takes, asked_all, asked_keeps, asked_in_vain, claims_some}
 use Rattle.ell_tree.proofs.trying.take_card.Goals as goal
 
-pub claim-requires-clause-may : goal.claim-requires-clause-may
-claim-requires-clause-may g c =
-    may_claim_at (flat_from c.args.table.now.plan) c.args.pass.now c.next-card.new.pass c.next-card.result c.args.node_key c.args.op c.args.place c.next-card.ensures.step c.requires.busy c.requires.no_card
-    c.requires.at c.requires.calm c.requires.wants
+pub loop-init : goal.loop-init
+loop-init g c = record {
+  same = (refl, refl, refl, refl);
+  end = c.most_claims-end.ensures;
+  asked = asked_none c.args.table.now.plan c.args.pass.now c.requires.no_card;
+  limit = λ some. absurd (omega (arith, some));
+}
 
-pub claim-requires-clause-room : goal.claim-requires-clause-room
-claim-requires-clause-room g c =
-    let all = ap (λ o. last_slot_of o c.args.table.now.plan.last_card) c.requires.plain in
-    let last = c.last_card.ensures.cards in
-    let low = c.if-card-last_card.false in
-    omega arith
+pub claim_next-requires-clause-at : goal.claim_next-requires-clause-at
+claim_next-requires-clause-at g c =
+    asked_at c.args.table.now.plan c.loop.counter c.args.pass.now c.loop.pass c.args.place c.loop.invariant.asked c.requires.at
 
-pub returns-then-claim : goal.returns-then-claim
-returns-then-claim g c =
-    let a = c.args.pass.now in
-    let b = c.next-card.new.pass in
-    let card = c.next-card.result in
-    let won = subst (λ (w : Bool). Steps b c.claim.new.pass (after_claim w card c.args.node_key b.view)) c.if-claim.true c.claim.ensures.step in
-    record {
-      keeps = won_goes a b c.claim.new.pass card c.args.node_key c.next-card.ensures.step c.next-card.ensures.least won;
-      claims = (
-        has_card a b c.claim.new.pass card c.args.node_key c.next-card.ensures.step c.next-card.ensures.least c.args.op c.args.place won c.requires.busy c.requires.at,
-        omega (arith, c.last_card.ensures.cards),
-        won_calm a b c.claim.new.pass card c.args.node_key c.next-card.ensures.step c.next-card.ensures.least won,
-        given_out a b c.claim.new.pass card c.args.node_key c.next-card.ensures.step c.next-card.ensures.least true c.args.table.now.plan.last_card won c.next-card.ensures.some (omega (arith, c.last_card.ensures.cards)),
-      );
-      taken = won_takes a b c.claim.new.pass card c.args.node_key c.next-card.ensures.step c.next-card.ensures.least won;
-      limit = omega (arith, c.last_card.ensures.cards, c.last_card.ensures.limit);
-    }
+pub claim_next-requires-clause-wants : goal.claim_next-requires-clause-wants
+claim_next-requires-clause-wants g c =
+    asked_wants c.args.table.now.plan c.loop.counter c.args.pass.now c.loop.pass c.args.op c.args.place.parent.node c.args.place.node c.args.place.key c.args.node_key c.loop.invariant.asked
+    c.requires.wants
 
-pub returns-else-claim : goal.returns-else-claim
-returns-else-claim g c =
-    let a = c.args.pass.now in
-    let b = c.next-card.new.pass in
-    let card = c.next-card.result in
-    let lost = subst (λ (w : Bool). Steps b c.claim.new.pass (after_claim w card c.args.node_key b.view)) c.if-claim.false c.claim.ensures.step in
-    record {
-      keeps = lost_goes a b c.claim.new.pass card c.args.node_key c.next-card.ensures.step c.next-card.ensures.least lost;
-      claims = let claims = lost_claims a b c.claim.new.pass card c.args.node_key c.next-card.ensures.step c.next-card.ensures.least lost c.requires.no_card in (
-        claims.0,
-        claims.1,
-        claims.2,
-        given_out a b c.claim.new.pass card c.args.node_key c.next-card.ensures.step c.next-card.ensures.least false c.args.table.now.plan.last_card lost c.next-card.ensures.some (omega (arith, c.last_card.ensures.cards)),
-      );
-      taken = lost_takes a b c.claim.new.pass card c.args.node_key c.next-card.ensures.step c.next-card.ensures.least lost;
-      limit = omega (arith, c.last_card.ensures.cards, c.last_card.ensures.limit);
-    }
+-- a card was claimed in vain
+pub loop-preserved : goal.loop-preserved
+loop-preserved g c = record {
+  same = (refl, refl, refl, refl);
+  end = c.most_claims-end.ensures;
+  asked = asked_more c.args.table.now.plan c.loop.counter c.args.pass.now c.loop.pass c.claim_next.new.pass c.loop.invariant.asked c.claim_next.ensures.keeps c.in-InUse.ensures.claims;
+  limit = λ some. c.claim_next.ensures.limit;
+}
+
+-- a card is in hand, with its slot
+pub returns-in-Taken-clause-keeps : goal.returns-in-Taken-clause-keeps
+returns-in-Taken-clause-keeps g c =
+    asked_keeps c.args.table.now.plan c.loop.counter c.args.pass.now c.loop.pass c.claim_next.new.pass c.loop.invariant.asked c.claim_next.ensures.keeps
+    (omega (arith, c.loop-test.true, c.loop.invariant.end))
+
+pub returns-in-Taken-clause-claims : goal.returns-in-Taken-clause-claims
+returns-in-Taken-clause-claims g c =
+    asked_claims c.args.table.now.plan c.loop.counter c.args.pass.now c.loop.pass c.claim_next.new.pass c.loop.invariant.asked c.args.op c.args.place c.args.node_key
+    (claimed.Card c.in-Taken.card) c.in-Taken.ensures.claims
+
+pub returns-in-NoneLeft-clause-keeps : goal.returns-in-NoneLeft-clause-keeps
+returns-in-NoneLeft-clause-keeps g c =
+    asked_keeps c.args.table.now.plan c.loop.counter c.args.pass.now c.loop.pass c.claim_next.new.pass c.loop.invariant.asked c.claim_next.ensures.keeps
+    (omega (arith, c.loop-test.true, c.loop.invariant.end))
+
+pub returns-in-NoneLeft-clause-claims : goal.returns-in-NoneLeft-clause-claims
+returns-in-NoneLeft-clause-claims g c =
+    asked_claims c.args.table.now.plan c.loop.counter c.args.pass.now c.loop.pass c.claim_next.new.pass c.loop.invariant.asked c.args.op c.args.place c.args.node_key
+    claimed.NoneLeft c.in-NoneLeft.ensures.claims
+
+pub returns-in-Lost-clause-keeps : goal.returns-in-Lost-clause-keeps
+returns-in-Lost-clause-keeps g c =
+    asked_keeps c.args.table.now.plan c.loop.counter c.args.pass.now c.loop.pass c.claim_next.new.pass c.loop.invariant.asked c.claim_next.ensures.keeps
+    (omega (arith, c.loop-test.true, c.loop.invariant.end))
+
+pub returns-in-Lost-clause-claims : goal.returns-in-Lost-clause-claims
+returns-in-Lost-clause-claims g c =
+    asked_claims c.args.table.now.plan c.loop.counter c.args.pass.now c.loop.pass c.claim_next.new.pass c.loop.invariant.asked c.args.op c.args.place c.args.node_key
+    claimed.Lost c.in-Lost.ensures.claims
+
+-- what it takes
+pub returns-in-Taken-clause-taken : goal.returns-in-Taken-clause-taken
+returns-in-Taken-clause-taken g c =
+    asked_takes c.args.table.now.plan c.loop.counter c.args.pass.now c.loop.pass c.claim_next.new.pass c.loop.invariant.asked (claimed.Card c.in-Taken.card) c.in-Taken.ensures.taken
+
+pub returns-in-NoneLeft-clause-taken : goal.returns-in-NoneLeft-clause-taken
+returns-in-NoneLeft-clause-taken g c =
+    asked_takes c.args.table.now.plan c.loop.counter c.args.pass.now c.loop.pass c.claim_next.new.pass c.loop.invariant.asked claimed.NoneLeft c.in-NoneLeft.ensures.taken
+
+pub returns-in-Lost-clause-taken : goal.returns-in-Lost-clause-taken
+returns-in-Lost-clause-taken g c =
+    asked_takes c.args.table.now.plan c.loop.counter c.args.pass.now c.loop.pass c.claim_next.new.pass c.loop.invariant.asked claimed.Lost c.in-Lost.ensures.taken
+
+-- each slot was asked for
+pub returns-clause-keeps : goal.returns-clause-keeps
+returns-clause-keeps g c =
+    asked_all c.args.table.now.plan c.loop.counter c.args.pass.now c.loop.pass c.loop.invariant.asked (omega (arith, c.loop.auto.counter-end, c.loop.invariant.end))
+
+pub returns-clause-claims : goal.returns-clause-claims
+returns-clause-claims g c =
+    asked_in_vain c.args.table.now.plan c.loop.counter c.args.pass.now c.loop.pass c.args.op c.args.place c.args.node_key c.loop.invariant.asked
+    (omega (arith, c.loop-test.false, c.loop.auto.counter-end, c.loop.invariant.end))
+
+pub returns-clause-limit : goal.returns-clause-limit
+returns-clause-limit g c =
+    c.loop.invariant.limit (omega (arith, claims_some c.args.table.now.plan.slots, c.loop-test.false, c.loop.invariant.end))
