@@ -1,7 +1,7 @@
 //! Deletes (paper of 2010, figure 9: Delete).
 ghost use Rattle.ell_cards.specs.Guards.{MayFill};
 ghost use Rattle.ell_cards.specs.Stepping.{IsWholeIn};
-ghost use Rattle.std.specs.Prelude.{true, ◌≢◌, ◌≡◌, ◌≤◌, ◌+◌, ℕ, Some, None};
+ghost use Rattle.std.specs.Prelude.{[], ◌∷◌, true, ◌≢◌, ◌≡◌, ◌≤◌, ◌+◌, ℕ, Some, None};
 ghost use Rattle.std.specs.Bool.{OnTrue, OnFalse};
 ghost use Rattle.ell_ops.specs.declared.op.Op.TheVariants.{Delete};
 ghost use Rattle.ell_word.specs.Link.{IsLink};
@@ -13,12 +13,12 @@ ghost use Rattle.ell_layout.specs.Cards.{delete_filling};
 ghost use Rattle.ell_cards.specs.declared.view.Told.TheVariants.{Info};
 ghost use Rattle.ell_cards.specs.Models.{IsTold, Knows};
 ghost use Rattle.ell_tree.specs.CardsTaken.{TakesNoCard, TryTakes};
-ghost use Rattle.ell_tree.specs.Ends.{try_steps_in, delete_stores, rest_steps_in, rest_steps, try_steps};
+ghost use Rattle.ell_tree.specs.Ends.{try_steps_in, delete_stores, rest_steps_in};
 ghost use Rattle.ell_tree.specs.Helps.{IsBacked, IsParent, help_steps};
 ghost use Rattle.ell_tree.specs.Hindrances.{Meets};
 ghost use Rattle.ell_tree.specs.Keeping.{Keeps, IsInnerMet, KeepsAllButMet};
 ghost use Rattle.ell_tree.specs.Searches.{AtRoot, HasSearched, node_with};
-ghost use Rattle.ell_tree.specs.Tries.{HasSlotOf, Fills, Flags, HasCard, TryEnds, TryTook, TryTookThis};
+ghost use Rattle.ell_tree.specs.Tries.{cleared, HasSlotOf, Fills, Flags, HasCard, TryEnds, TryTook, TryTookThis};
 ghost use Rattle.ell_cards.specs.Depths.{deepest};
 
 use crate::gate::{Kind, StepGate};
@@ -177,6 +177,8 @@ fn clear_rest<A: Allocator + Copy, G: StepGate>(
     requires own { pass.old.table ≡ table.now.id }
     requires may { MayFill pass.old.view card }
     requires slot { HasSlotOf table.now.plan card pass.old }
+    ensures { pass.new ≡ cleared table.now.plan.slots (field.RightValue ∷ field.LeftValue ∷ field.RightLeafKey ∷
+        field.LeftLeafKey ∷ field.Update ∷ field.Right ∷ field.Left ∷ field.Key ∷ []) pass.old }
 {
     if table.has_places() {
         fill(table, pass, card, Field::Key, 0, gate);
