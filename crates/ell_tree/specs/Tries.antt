@@ -209,7 +209,8 @@ ClaimsNext plan op place node_key old new next.InUse = ClaimsInVain plan old new
 -- a pass that stored 0 in these fields of the card in hand, the last one first, a step each
 abbrev pub zeroed : List Field → PassModel → PassModel
 zeroed [] p = p
-zeroed (f ∷ fs) p = record (zeroed fs p) { view = after_fill f 0 (zeroed fs p).view; steps = one_more (zeroed fs p).steps }
+zeroed (f ∷ fs) p =
+    record (zeroed fs p) { view = after_fill f 0 (zeroed fs p).view; steps = one_more (zeroed fs p).steps }
 
 -- it did so where cards lie in slots, and nothing where they do not
 abbrev pub cleared : Option Slots → List Field → PassModel → PassModel

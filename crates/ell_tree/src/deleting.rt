@@ -45,7 +45,8 @@ pub(crate) fn try_delete<A: Allocator + Copy, G: StepGate>(
     requires own { pass.old.table ≡ table.now.id }
     requires root { AtRoot (Delete key) pass.old.view }
     ensures steps { pass.new.steps + 1 ≤ pass.old.steps + try_steps_in table.now.plan }
-    ensures made { table.now.plan.slots ≡ None → pass.new.view.made + 1 ≤ pass.old.view.made + try_steps_in table.now.plan }
+    ensures made { table.now.plan.slots ≡ None →
+        pass.new.view.made + 1 ≤ pass.old.view.made + try_steps_in table.now.plan }
     ensures ends { TryEnds table.now (Delete key) pass.old pass.new result }
     ensures took { TryTook table.now key pass.old pass.new result }
     ensures taken { table.now.plan.slots ≡ None → TryTakes (Delete key) pass.old pass.new result }
@@ -73,7 +74,8 @@ pub(crate) fn delete_at<A: Allocator + Copy, G: StepGate>(
     requires searched { HasSearched table.now.plan (Delete key) place pass.old.view }
     requires key { place.key ≡ key }
     ensures steps { pass.new.steps + 1 ≤ pass.old.steps + rest_steps_in table.now.plan }
-    ensures made { table.now.plan.slots ≡ None → pass.new.view.made + 1 ≤ pass.old.view.made + rest_steps_in table.now.plan }
+    ensures made { table.now.plan.slots ≡ None →
+        pass.new.view.made + 1 ≤ pass.old.view.made + rest_steps_in table.now.plan }
     ensures ends { TryEnds table.now (Delete key) pass.old pass.new result }
     ensures took { TryTook table.now key pass.old pass.new result }
     ensures value { TryTookThis place.value result }
@@ -166,8 +168,8 @@ fn fill_delete<A: Allocator + Copy, G: StepGate>(
     clear_rest(table, pass, card, gate);
 }
 
-// Stores 0 in the eight words of the card in hand that a delete does not use, where cards lie in slots: they may have those
-// of another card.
+// Stores 0 in the eight words of the card in hand that a delete does not use, where cards lie in slots: they may have
+// those of another card.
 fn clear_rest<A: Allocator + Copy, G: StepGate>(
     table: &CardTable<A>,
     pass: &mut Pass<A>,
