@@ -17,9 +17,10 @@ use Rattle.ell_cards.specs.declared.view.Told.{Told}
 use Rattle.ell_cards.specs.declared.view.Told.TheVariants.{Expects}
 use Rattle.ell_cards.specs.declared.view.Hindrance.{Hindrance}
 use Rattle.ell_cards.specs.declared.view.Hindrance.TheVariants.{Found}
+use Rattle.ell_cards.specs.declared.view.Slots.{Slots}
 use Rattle.ell_cards.specs.declared.view.View.{View}
-use Rattle.ell_cards.specs.Models.{flat_from, TablePlan, PassModel, Has, IsTold, Knows, Does, StandsAt}
-use Rattle.ell_cards.specs.Changes.{value_told, expected_tag, told_filling, filling_of, tagged, with_stores, tries_hindered}
+use Rattle.ell_cards.specs.Models.{one_more, flat_from, TablePlan, PassModel, Has, IsTold, Knows, Does, StandsAt}
+use Rattle.ell_cards.specs.Changes.{after_fill, value_told, expected_tag, told_filling, filling_of, tagged, with_stores, tries_hindered}
 use Rattle.ell_cards.specs.Guards.{IsFilled, MayFill}
 use Rattle.ell_tree.specs.declared.searching.Place.{Place}
 use Rattle.ell_tree.specs.declared.trying.Claimed.{Claimed}
@@ -204,6 +205,17 @@ ClaimsNext plan op place node_key old new (next.Taken c) = Claims plan op place 
 ClaimsNext plan op place node_key old new next.NoneLeft = Claims plan op place node_key old new claimed.NoneLeft
 ClaimsNext plan op place node_key old new next.Lost = Claims plan op place node_key old new claimed.Lost
 ClaimsNext plan op place node_key old new next.InUse = ClaimsInVain plan old new
+
+-- a pass that stored 0 in these fields of the card in hand, the last one first, a step each
+abbrev pub zeroed : List Field → PassModel → PassModel
+zeroed [] p = p
+zeroed (f ∷ fs) p =
+    record (zeroed fs p) { view = after_fill f 0 (zeroed fs p).view; steps = one_more (zeroed fs p).steps }
+
+-- it did so where cards lie in slots, and nothing where they do not
+abbrev pub cleared : Option Slots → List Field → PassModel → PassModel
+cleared None fields p = p
+cleared (Some s) fields p = zeroed fields p
 
 -- the card in hand was filled in so many steps, and nothing else was done
 pub record Fills (old new : PassModel) (n : ℕ) : Type 0 where

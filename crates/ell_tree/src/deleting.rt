@@ -1,7 +1,7 @@
 //! Deletes (paper of 2010, figure 9: Delete).
 ghost use Rattle.ell_cards.specs.Guards.{MayFill};
 ghost use Rattle.ell_cards.specs.Stepping.{IsWholeIn};
-ghost use Rattle.std.specs.Prelude.{true, ◌≢◌, ◌≡◌, ◌≤◌, ◌+◌, ℕ, Some, None};
+ghost use Rattle.std.specs.Prelude.{[], ◌∷◌, true, ◌≢◌, ◌≡◌, ◌≤◌, ◌+◌, ℕ, Some, None};
 ghost use Rattle.std.specs.Bool.{OnTrue, OnFalse};
 ghost use Rattle.ell_ops.specs.declared.op.Op.TheVariants.{Delete};
 ghost use Rattle.ell_word.specs.Link.{IsLink};
@@ -13,12 +13,12 @@ ghost use Rattle.ell_layout.specs.Cards.{delete_filling};
 ghost use Rattle.ell_cards.specs.declared.view.Told.TheVariants.{Info};
 ghost use Rattle.ell_cards.specs.Models.{IsTold, Knows};
 ghost use Rattle.ell_tree.specs.CardsTaken.{TakesNoCard, TryTakes};
-ghost use Rattle.ell_tree.specs.Ends.{try_steps_in, delete_stores, rest_steps_in, rest_steps, try_steps};
+ghost use Rattle.ell_tree.specs.Ends.{try_steps_in, delete_stores, rest_steps_in};
 ghost use Rattle.ell_tree.specs.Helps.{IsBacked, IsParent, help_steps};
 ghost use Rattle.ell_tree.specs.Hindrances.{Meets};
 ghost use Rattle.ell_tree.specs.Keeping.{Keeps, IsInnerMet, KeepsAllButMet};
 ghost use Rattle.ell_tree.specs.Searches.{AtRoot, HasSearched, node_with};
-ghost use Rattle.ell_tree.specs.Tries.{HasSlotOf, Fills, Flags, HasCard, TryEnds, TryTook, TryTookThis};
+ghost use Rattle.ell_tree.specs.Tries.{cleared, HasSlotOf, Fills, Flags, HasCard, TryEnds, TryTook, TryTookThis};
 ghost use Rattle.ell_cards.specs.Depths.{deepest};
 
 use crate::gate::{Kind, StepGate};
@@ -45,7 +45,8 @@ pub(crate) fn try_delete<A: Allocator + Copy, G: StepGate>(
     requires own { pass.old.table ≡ table.now.id }
     requires root { AtRoot (Delete key) pass.old.view }
     ensures steps { pass.new.steps + 1 ≤ pass.old.steps + try_steps_in table.now.plan }
-    ensures made { table.now.plan.slots ≡ None → pass.new.view.made + 1 ≤ pass.old.view.made + try_steps_in table.now.plan }
+    ensures made { table.now.plan.slots ≡ None →
+        pass.new.view.made + 1 ≤ pass.old.view.made + try_steps_in table.now.plan }
     ensures ends { TryEnds table.now (Delete key) pass.old pass.new result }
     ensures took { TryTook table.now key pass.old pass.new result }
     ensures taken { table.now.plan.slots ≡ None → TryTakes (Delete key) pass.old pass.new result }
@@ -73,7 +74,8 @@ pub(crate) fn delete_at<A: Allocator + Copy, G: StepGate>(
     requires searched { HasSearched table.now.plan (Delete key) place pass.old.view }
     requires key { place.key ≡ key }
     ensures steps { pass.new.steps + 1 ≤ pass.old.steps + rest_steps_in table.now.plan }
-    ensures made { table.now.plan.slots ≡ None → pass.new.view.made + 1 ≤ pass.old.view.made + rest_steps_in table.now.plan }
+    ensures made { table.now.plan.slots ≡ None →
+        pass.new.view.made + 1 ≤ pass.old.view.made + rest_steps_in table.now.plan }
     ensures ends { TryEnds table.now (Delete key) pass.old pass.new result }
     ensures took { TryTook table.now key pass.old pass.new result }
     ensures value { TryTookThis place.value result }
@@ -166,8 +168,8 @@ fn fill_delete<A: Allocator + Copy, G: StepGate>(
     clear_rest(table, pass, card, gate);
 }
 
-// Stores 0 in the eight words of the card in hand that a delete does not use, where cards lie in slots: they may have those
-// of another card.
+// Stores 0 in the eight words of the card in hand that a delete does not use, where cards lie in slots: they may have
+// those of another card.
 fn clear_rest<A: Allocator + Copy, G: StepGate>(
     table: &CardTable<A>,
     pass: &mut Pass<A>,
@@ -177,6 +179,8 @@ fn clear_rest<A: Allocator + Copy, G: StepGate>(
     requires own { pass.old.table ≡ table.now.id }
     requires may { MayFill pass.old.view card }
     requires slot { HasSlotOf table.now.plan card pass.old }
+    ensures { pass.new ≡ cleared table.now.plan.slots (field.RightValue ∷ field.LeftValue ∷ field.RightLeafKey ∷
+        field.LeftLeafKey ∷ field.Update ∷ field.Right ∷ field.Left ∷ field.Key ∷ []) pass.old }
 {
     if table.has_places() {
         fill(table, pass, card, Field::Key, 0, gate);

@@ -1,19 +1,19 @@
 //! Inserts (paper of 2010, figure 8: Insert), and swaps, which work the same way.
 ghost use Rattle.ell_cards.specs.Guards.{MayFill};
 ghost use Rattle.ell_cards.specs.Stepping.{IsWholeIn};
-ghost use Rattle.std.specs.Prelude.{true, ◌≢◌, ◌≡◌, ◌≤◌, ◌+◌, Some, None};
+ghost use Rattle.std.specs.Prelude.{[], ◌∷◌, true, ◌≢◌, ◌≡◌, ◌≤◌, ◌+◌, Some, None};
 ghost use Rattle.ell_word.specs.Link.{IsLink};
 ghost use Rattle.ell_word.specs.Node.{greatest_number};
 ghost use Rattle.ell_core.specs.acts.Searching.{put_of};
+ghost use Rattle.ell_layout.specs.declared.field.Field.TheVariants as field;
 ghost use Rattle.ell_core.specs.declared.fact.Fact.TheVariants.{IFlagged};
 ghost use Rattle.ell_tree.specs.CardsTaken.{TakesNoCard, TryTakes};
-ghost use Rattle.ell_tree.specs.Ends.{try_steps_in, put_stores, try_steps};
+ghost use Rattle.ell_tree.specs.Ends.{try_steps_in, put_stores};
 ghost use Rattle.ell_tree.specs.Keeping.{Keeps, IsInnerMet};
 ghost use Rattle.ell_tree.specs.Searches.{AtRoot, node_with};
-ghost use Rattle.ell_tree.specs.Tries.{HasSlotOf, told_of_put, put_reply, Fills, Flags, HasCardToPut, TryEnds};
+ghost use Rattle.ell_tree.specs.Tries.{cleared, HasSlotOf, told_of_put, put_reply, Fills, Flags, HasCardToPut, TryEnds};
 ghost use Rattle.ell_core.specs.tree.Flat.{IsNodeKey};
 ghost use Rattle.ell_cards.specs.Models.{flat_from};
-ghost use Rattle.ell_cards.specs.Depths.{deepest};
 
 use crate::gate::{Kind, StepGate};
 use crate::helping::{finish_insert, help};
@@ -42,7 +42,8 @@ pub(crate) fn try_put<A: Allocator + Copy, G: StepGate>(
     requires puts { put_of op ≡ Some what }
     requires root { AtRoot op pass.old.view }
     ensures steps { pass.new.steps + 1 ≤ pass.old.steps + try_steps_in table.now.plan }
-    ensures made { table.now.plan.slots ≡ None → pass.new.view.made + 1 ≤ pass.old.view.made + try_steps_in table.now.plan }
+    ensures made { table.now.plan.slots ≡ None →
+        pass.new.view.made + 1 ≤ pass.old.view.made + try_steps_in table.now.plan }
     ensures ends { TryEnds table.now op pass.old pass.new result }
     ensures taken { table.now.plan.slots ≡ None → TryTakes op pass.old pass.new result }
     ensures least { pass.old.view.next_at_least ≤ pass.new.view.next_at_least }
@@ -181,8 +182,8 @@ fn fill_insert<A: Allocator + Copy, G: StepGate>(
     clear_rest(table, pass, card, gate);
 }
 
-// Stores 0 in the two words of the card in hand that an insert or a swap does not use, where cards lie in slots: they may
-// have those of another card.
+// Stores 0 in the two words of the card in hand that an insert or a swap does not use, where cards lie in slots: they
+// may have those of another card.
 fn clear_rest<A: Allocator + Copy, G: StepGate>(
     table: &CardTable<A>,
     pass: &mut Pass<A>,
@@ -192,6 +193,7 @@ fn clear_rest<A: Allocator + Copy, G: StepGate>(
     requires own { pass.old.table ≡ table.now.id }
     requires may { MayFill pass.old.view card }
     requires slot { HasSlotOf table.now.plan card pass.old }
+    ensures { pass.new ≡ cleared table.now.plan.slots (field.Was ∷ field.Gp ∷ []) pass.old }
 {
     if table.has_places() {
         fill(table, pass, card, Field::Gp, 0, gate);

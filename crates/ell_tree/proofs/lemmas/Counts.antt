@@ -1,8 +1,8 @@
 use Rattle.std.proofs.Math.Nat.{mul-le-mul_right}
 use Rattle.std.proofs.Common.{◌≡◌, ℕ, ◌+◌, ◌*◌, ◌≤◌, ◌<◌, zero, suc, refl, sym, ap, ap₂, ◌∙◌, ◌-◌, arith}
 use Rattle.ell_cards.specs.declared.view.View.{View}
-use Rattle.ell_cards.specs.Models.{PassModel, Counts, Sees, one_more, some_more}
-use Rattle.ell_tree.specs.Counts.{CountsAll, HasUncounted, Took}
+use Rattle.ell_cards.specs.Models.{TablePlan, PassModel, Counts, Sees, one_more, some_more}
+use Rattle.ell_tree.specs.Counts.{CountsAll, HasUncounted, Took, TookIn}
 
 -- no steps
 pub took_none : (a : PassModel) (n : ℕ) → Took a a n
@@ -45,6 +45,16 @@ took_within a b m n h le = record { steps = omega (arith, h.steps, le); made = o
 
 pub took_trans : (a b c : PassModel) (m n k : ℕ) → Took a b m → Took b c n → m + n ≤ k → Took a c k
 took_trans a b c m n k h h' le = record { steps = omega (arith, h.steps, h'.steps, le); made = omega (arith, h.made, h'.made, le) }
+
+-- the same in a table
+pub took_in : (plan : TablePlan) (a b : PassModel) (n : ℕ) → Took a b n → TookIn plan a b n
+took_in plan a b n h = record { steps = h.steps; made = λ plain. h.made }
+
+pub took_in_trans : (plan : TablePlan) (a b c : PassModel) (m n k : ℕ) → TookIn plan a b m → TookIn plan b c n → m + n ≤ k → TookIn plan a c k
+took_in_trans plan a b c m n k h h' le = record {
+  steps = omega (arith, h.steps, h'.steps, le);
+  made = λ plain. let few = h.made plain in let more = h'.made plain in omega (arith, few, more, le);
+}
 
 -- so many rounds of so many steps at most; before the first, the step that takes an operation in hand
 pub record TookRounds (rounds most : ℕ) (old new : PassModel) : Type 0 where

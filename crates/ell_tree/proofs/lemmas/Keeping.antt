@@ -11,7 +11,7 @@ use Rattle.ell_core.specs.state.Facts.{known_of}
 use Rattle.ell_cards.specs.declared.view.Told.{Told}
 use Rattle.ell_cards.specs.declared.view.Told.TheVariants.{Met, Info}
 use Rattle.ell_cards.specs.declared.view.View.{View}
-use Rattle.ell_cards.specs.Models.{PassModel, Counts, Sees, Steps, some_more, Has, latest, earlier, IsTold, Knows}
+use Rattle.ell_cards.specs.Models.{TablePlan, PassModel, Counts, Sees, Steps, some_more, Has, latest, earlier, IsTold, Knows}
 use Rattle.ell_cards.specs.Depths.{depth_of}
 use Rattle.ell_word.specs.Link.{link_in}
 use Rattle.ell_cards.specs.Changes.{depth_there, facts_by, places_by, with_fact, exchanged, after_upd}
@@ -20,10 +20,10 @@ use Rattle.ell_cards.proofs.lemmas.views.Facts.{knows_new, knows_more, facts_by_
 use Rattle.ell_cards.proofs.lemmas.views.Depths.{met_more}
 use Rattle.ell_cards.proofs.lemmas.views.Entries.{places_more, info_more}
 use Rattle.ell_cards.specs.Stepping.{SameShare}
-use Rattle.ell_tree.proofs.lemmas.Counts.{took_none, took_one, took_unseen, took_counted, took_within, took_trans}
+use Rattle.ell_tree.proofs.lemmas.Counts.{took_none, took_one, took_unseen, took_counted, took_within, took_trans, took_in, took_in_trans}
 use Rattle.ell_tree.specs.Counts.{HasUncounted}
 use Rattle.ell_tree.specs.CardsTaken.{claims_in}
-use Rattle.ell_tree.specs.Keeping.{LosesNothing, Keeps, KeepsAllButSearch, KeepsAllButMet, KeepsAll, IsInnerMet, TellsPlace, IsSeenAt}
+use Rattle.ell_tree.specs.Keeping.{LosesNothing, Keeps, KeepsIn, KeepsAllButSearch, KeepsAllButMet, KeepsAll, IsInnerMet, TellsPlace, IsSeenAt}
 
 -- a share that is the same in two steps is the same
 pub share_trans : (u v w : View) → SameShare u v → SameShare v w → SameShare u w
@@ -49,6 +49,18 @@ keeps_trans a b c m n k h h' le = record {
   label = h'.label ∙ h.label;
   view = loses_trans a.view b.view c.view h.view h'.view;
   took = took_trans a b c m n k h.took h'.took le;
+}
+
+-- the same in a table
+pub keeps_in : (plan : TablePlan) (a b : PassModel) (n : ℕ) → Keeps a b n → KeepsIn plan a b n
+keeps_in plan a b n h = record { table = h.table; label = h.label; view = h.view; took = took_in plan a b n h.took }
+
+pub keeps_in_trans : (plan : TablePlan) (a b c : PassModel) (m n k : ℕ) → KeepsIn plan a b m → KeepsIn plan b c n → m + n ≤ k → KeepsIn plan a c k
+keeps_in_trans plan a b c m n k h h' le = record {
+  table = h'.table ∙ h.table;
+  label = h'.label ∙ h.label;
+  view = loses_trans a.view b.view c.view h.view h'.view;
+  took = took_in_trans plan a b c m n k h.took h'.took le;
 }
 
 pub keeps_but_search_trans : (a b c : PassModel) (m n k : ℕ) → KeepsAllButSearch a b m → KeepsAllButSearch b c n → m + n ≤ k → KeepsAllButSearch a c k

@@ -21,7 +21,7 @@ use Rattle.ell_tree.specs.declared.trying.Tried.TheVariants.{Answered}
 use Rattle.ell_tree.specs.Called.{ByItsDeed}
 use Rattle.ell_tree.specs.Ends.{Answers, TakesIfDelete, TakesValue}
 use Rattle.ell_tree.specs.Tries.{TryTakesValue}
-use Rattle.ell_tree.specs.Keeping.{Keeps}
+use Rattle.ell_tree.specs.Keeping.{Keeps, KeepsIn}
 use Rattle.ell_tree.specs.Ledgers.{Owns, TreeModel, present_in}
 use Rattle.ell_tree.specs.Searches.{EndsAt, there_at}
 use Rattle.ell_tree.proofs.lemmas.Called.{take_before}
@@ -74,6 +74,9 @@ takes_before_it t (Swap key was value) had p q r same count h = tt
 
 pub keeps_answers : (t : TreeModel) (op : Op) (said : Reply) (p q r : PassModel) (n : ℕ) → Keeps p q n → Answers t op said q r → Answers t op said p r
 keeps_answers t op said p q r n keeps h = answers_before t op said p q r keeps.table keeps.label keeps.view.ledger keeps.view.answers keeps.view.share h
+
+pub keeps_in_answers : (t : TreeModel) (op : Op) (said : Reply) (p q r : PassModel) (n : ℕ) → KeepsIn t.plan p q n → Answers t op said q r → Answers t op said p r
+keeps_in_answers t op said p q r n keeps h = answers_before t op said p q r keeps.table keeps.label keeps.view.ledger keeps.view.answers keeps.view.share h
 
 -- an insert whose search ended at another key would add its own; a swap whose search ended at its key and its first value would swap it; a delete
 -- whose search ended at its key would take it away

@@ -12,9 +12,9 @@ use Rattle.ell_tree.specs.Keeping.{KeepsAllButMet}
 use Rattle.ell_tree.specs.Searches.{seen_any, below, node_with}
 use Rattle.ell_tree.proofs.lemmas.Called.{answered_taking, takes_told}
 use Rattle.ell_tree.proofs.lemmas.Keeping.{inner_kept, share_trans}
-use Rattle.ell_tree.proofs.lemmas.Owning.{keeps_answers, had_value, would_delete}
+use Rattle.ell_tree.proofs.lemmas.Owning.{keeps_answers, keeps_in_answers, had_value, would_delete}
 use Rattle.ell_tree.proofs.lemmas.Meeting.{meets_trans, meets_more, above_way, parent_way, nowhere_way, way_over, way_free, no_way}
-use Rattle.ell_tree.proofs.lemmas.Halting.{keeps_meets, said_meets, flag_lost}
+use Rattle.ell_tree.proofs.lemmas.Halting.{keeps_meets, keeps_in_meets, said_meets, flag_lost}
 use Rattle.ell_tree.proofs.lemmas.Filling.{delete_card, delete_wants, told_grandparent, told_leaf, told_parent, told_was}
 use Rattle.ell_tree.proofs.lemmas.Links.{has_word}
 use Rattle.ell_tree.proofs.lemmas.Milestones.{sees_end, gives_out}
@@ -185,7 +185,7 @@ returns-in-NoneLeft-clause-ends g c =
         ledger = search rules;
         answers = search rules;
         share = c.take_card.ensures.keeps.view.share;
-        meets = keeps_meets a new 2 c.in-NoneLeft.ensures.keeps claims.2;
+        meets = keeps_in_meets c.args.table.now.plan a new _ c.in-NoneLeft.ensures.keeps claims.2;
         in_try = c.take_card.ensures.keeps.view.earlier a.view.hindrances (searched_in_try c.args.table.now.plan (Delete c.args.key) place a.view c.requires.searched);
         way = way;
         would = would_delete c.args.table.now.plan a a refl place c.args.key ends c.requires.key;
@@ -237,7 +237,7 @@ returns-in-Err-clause-ends g c =
     let help = c.help-in-Err in
     let new = help.new.pass in
     let flags = c.in-Err.ensures.flags in
-    let taken = keeps_meets a t 2 c.take_card.ensures.keeps c.in-Card.ensures.claims.2 in
+    let taken = keeps_in_meets c.args.table.now.plan a t _ c.take_card.ensures.keeps c.in-Card.ensures.claims.2 in
     let lost = flag_lost cards c.in-Some.above.node c.in-Err.found t.view f.view new.view flags c.flag_delete.ensures.keeps.view.knows
     help.ensures.meets help.ensures.ended in
     let way = no_way new.view (way_of (Delete c.args.key) new.view)
@@ -273,12 +273,12 @@ returns-clause-ends g c =
     let met : KeepsAllButMet f m (help_steps (deepest c.args.table.now.plan) + 2) = rw c.retire_deleted.ensures.same c.finish_own.ensures.keeps_but_met in
     let said = c.answer in
     let op = Delete c.args.key in
-    let taken = keeps_meets a t 2 c.take_card.ensures.keeps c.in-Card.ensures.claims.2 in
-    let flagged = meets_trans a.view t.view f.view taken (keeps_meets t f 5 c.flag_delete.ensures.keeps c.in_default-flag_delete.ensures.flags.hindrances) in
+    let taken = keeps_in_meets c.args.table.now.plan a t _ c.take_card.ensures.keeps c.in-Card.ensures.claims.2 in
+    let flagged = meets_trans a.view t.view f.view taken (keeps_meets t f _ c.flag_delete.ensures.keeps c.in_default-flag_delete.ensures.flags.hindrances) in
     let meets : Meets f.view m.view = rw c.retire_deleted.ensures.same c.finish_own.ensures.meets in
     let finished = meets_trans a.view f.view m.view flagged meets in
     let answers = said.ensures.answers op (search rules) in (
-      keeps_answers c.args.table.now op _ a t said.new.pass _ c.take_card.ensures.keeps
+      keeps_in_answers c.args.table.now op _ a t said.new.pass _ c.take_card.ensures.keeps
           (keeps_answers c.args.table.now op _ t f said.new.pass _ c.flag_delete.ensures.keeps
           (keeps_answers c.args.table.now op _ f m said.new.pass _ met.keeps answers)),
       meets_trans a.view m.view said.new.pass.view finished (said_meets m.view said.new.pass.view said.ensures.hindrances said.ensures.facts),
@@ -315,28 +315,30 @@ returns-clause-took g c =
 
 -- the cards of each
 pub returns-then-ne-clause-taken : goal.returns-then-ne-clause-taken
-returns-then-ne-clause-taken g c =
+returns-then-ne-clause-taken g c = λ plain.
     let taken = c.help.ensures.keeps_but_met.taken in
     record { least = omega (arith, taken); most = omega (arith, taken) }
 
 pub returns-then-ne-2-clause-taken : goal.returns-then-ne-2-clause-taken
-returns-then-ne-2-clause-taken g c =
+returns-then-ne-2-clause-taken g c = λ plain.
     let taken = c.help-then-ne-2.ensures.keeps_but_met.taken in
     record { least = omega (arith, taken); most = omega (arith, taken) }
 
 pub returns-in-Lost-clause-taken : goal.returns-in-Lost-clause-taken
-returns-in-Lost-clause-taken g c =
-    let taken = c.in-Lost.ensures.taken in
+returns-in-Lost-clause-taken g c = λ plain.
+    let taken = c.in-Lost.ensures.taken plain in
     record { least = omega (arith, taken); most = omega (arith, taken) }
 
 pub returns-in-Err-clause-taken : goal.returns-in-Err-clause-taken
-returns-in-Err-clause-taken g c =
+returns-in-Err-clause-taken g c = λ plain.
+    let one = c.in-Card.ensures.taken plain in
     let taken : cards_taken c.help-in-Err.new.pass ≡ cards_taken c.args.pass.now + 1 =
-    omega (arith, c.help-in-Err.ensures.keeps_but_met.taken, c.flag_delete.ensures.taken, c.in-Card.ensures.taken) in
+    omega (arith, c.help-in-Err.ensures.keeps_but_met.taken, c.flag_delete.ensures.taken, one) in
     record { least = omega (arith, taken); most = omega (arith, taken) }
 
 pub returns-clause-taken : goal.returns-clause-taken
-returns-clause-taken g c =
+returns-clause-taken g c = λ plain.
     let said : TakesNoCard c.finish_own.new.pass c.answer.new.pass =
     c.answer.ensures.taken ∙ ap (λ (p : PassModel). cards_taken p) c.retire_deleted.ensures.same in
-    omega (arith, said, c.finish_own.ensures.keeps_but_met.taken, c.flag_delete.ensures.taken, c.in-Card.ensures.taken)
+    let one = c.in-Card.ensures.taken plain in
+    omega (arith, said, c.finish_own.ensures.keeps_but_met.taken, c.flag_delete.ensures.taken, one)

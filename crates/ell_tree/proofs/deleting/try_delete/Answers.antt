@@ -49,6 +49,6 @@ returns-clause-took g c =
     took_after c.args.pass.now s.new.pass c.delete_at.new.pass _ s.ensures.keeps_but_search c.args.table.now c.args.key c.delete_at.result c.delete_at.ensures.took
 
 pub returns-clause-taken : goal.returns-clause-taken
-returns-clause-taken g c =
+returns-clause-taken g c = λ plain.
     let s = c.search-place in
-    takes_after c.args.pass.now s.new.pass c.delete_at.new.pass _ s.ensures.keeps_but_search (Delete c.args.key) c.delete_at.result c.delete_at.ensures.taken
+    takes_after c.args.pass.now s.new.pass c.delete_at.new.pass _ s.ensures.keeps_but_search (Delete c.args.key) c.delete_at.result (c.delete_at.ensures.taken plain)

@@ -15,9 +15,9 @@ use Rattle.ell_tree.proofs.lemmas.Searches.{may_answer}
 use Rattle.ell_tree.proofs.lemmas.Filling.{put_card, is_insert}
 use Rattle.ell_tree.proofs.lemmas.Links.{has_word}
 use Rattle.ell_tree.proofs.lemmas.Keeping.{share_trans}
-use Rattle.ell_tree.proofs.lemmas.Owning.{keeps_answers, would_put}
+use Rattle.ell_tree.proofs.lemmas.Owning.{keeps_answers, keeps_in_answers, would_put}
 use Rattle.ell_tree.proofs.lemmas.Meeting.{meets_trans, meets_more, put_way, nowhere_way, way_over, way_free, no_way}
-use Rattle.ell_tree.proofs.lemmas.Halting.{keeps_meets, seek_meets, walk_meets, said_meets, flag_lost}
+use Rattle.ell_tree.proofs.lemmas.Halting.{keeps_meets, keeps_in_meets, seek_meets, walk_meets, said_meets, flag_lost}
 use Rattle.ell_tree.proofs.lemmas.Hindrances.{root_in_try}
 use Rattle.ell_tree.proofs.lemmas.Putting.{put_wants, put_refused, put_done, refused_outer}
 use Rattle.ell_tree.proofs.lemmas.Retiring.{has_put}
@@ -112,7 +112,7 @@ returns-then-not-may_replace-clause-ends g c =
     )
 
 pub returns-then-not-may_replace-clause-taken : goal.returns-then-not-may_replace-clause-taken
-returns-then-not-may_replace-clause-taken g c =
+returns-then-not-may_replace-clause-taken g c = λ plain.
     let refused = put_refused c.search-place.result c.args.op c.args.what c.requires.puts
     (λ takes. false≢true (sym c.if-not-may_replace.true ∙ c.may_replace.ensures.1 takes)) in
     subst (λ b. TakesOneIf b c.args.pass.now c.answer.new.pass) (sym (ap (changes_by c.args.op) c.told_of_put-found.ensures ∙ refused.changes))
@@ -161,7 +161,7 @@ returns-in-NoneLeft-clause-ends g c =
     let claims = c.in-NoneLeft.ensures.claims in
     let calm : update.state ≡ Clean = search rules in
     let meets = meets_trans a.view s.new.pass.view new.view (seek_meets a s.new.pass _ s.ensures.keeps_but_search)
-    (keeps_meets s.new.pass new 2 c.in-NoneLeft.ensures.keeps claims.2) in
+    (keeps_in_meets c.args.table.now.plan s.new.pass new _ c.in-NoneLeft.ensures.keeps claims.2) in
     let way = way_free new.view update.state update.card (way_of c.args.op new.view)
     (put_way c.args.op c.args.what c.requires.puts place.node place.parent place.grandparent new.view (claims.0.search ∙ s.ensures.ends.at.search)) calm in (
       record {
@@ -220,8 +220,8 @@ returns-in-Ok-clause-ends g c =
     let kept : KeepsAll f m 3 = rw c.retire_put.ensures.same c.finish_insert.ensures.keeps_all in
     let said = c.answer-in-Ok in
     let taken = meets_trans a.view s.new.pass.view t.view (seek_meets a s.new.pass _ s.ensures.keeps_but_search)
-    (keeps_meets s.new.pass t 2 c.take_card.ensures.keeps c.in-Card.ensures.claims.2) in
-    let flagged = meets_trans a.view t.view f.view taken (keeps_meets t f 11 c.flag_insert.ensures.keeps c.in-Ok.ensures.flags.hindrances) in
+    (keeps_in_meets c.args.table.now.plan s.new.pass t _ c.take_card.ensures.keeps c.in-Card.ensures.claims.2) in
+    let flagged = meets_trans a.view t.view f.view taken (keeps_meets t f _ c.flag_insert.ensures.keeps c.in-Ok.ensures.flags.hindrances) in
     let finished = meets_trans a.view f.view m.view flagged (walk_meets f m 3 kept) in
     let done = put_done c.args.op c.args.what c.requires.puts in
     let reply : c.reply_once_done.result ≡ reply_by c.args.op (Some c.unwrap_or.result) =
@@ -229,7 +229,7 @@ returns-in-Ok-clause-ends g c =
     let answers = said.ensures.answers c.args.op (search rules) in (
       subst (λ r. Answers c.args.table.now c.args.op r a said.new.pass) reply
           (keeps_answers c.args.table.now c.args.op _ a s.new.pass said.new.pass _ s.ensures.keeps_but_search.keeps
-          (keeps_answers c.args.table.now c.args.op _ s.new.pass t said.new.pass _ c.take_card.ensures.keeps
+          (keeps_in_answers c.args.table.now c.args.op _ s.new.pass t said.new.pass _ c.take_card.ensures.keeps
           (keeps_answers c.args.table.now c.args.op _ t f said.new.pass _ c.flag_insert.ensures.keeps
           (keeps_answers c.args.table.now c.args.op _ f m said.new.pass _ kept.keeps answers)))),
       meets_trans a.view m.view said.new.pass.view finished (said_meets m.view said.new.pass.view said.ensures.hindrances said.ensures.facts),
@@ -247,7 +247,7 @@ returns-in-Err-clause-ends g c =
     let new = help.new.pass in
     let flags = c.in-Err.ensures.flags in
     let taken = meets_trans a.view s.new.pass.view t.view (seek_meets a s.new.pass _ s.ensures.keeps_but_search)
-    (keeps_meets s.new.pass t 2 c.take_card.ensures.keeps c.in-Card.ensures.claims.2) in
+    (keeps_in_meets c.args.table.now.plan s.new.pass t _ c.take_card.ensures.keeps c.in-Card.ensures.claims.2) in
     let lost = flag_lost c.args.table.now.plan.last_card s.result.parent.node c.in-Err.found t.view f.view new.view flags c.flag_insert.ensures.keeps.view.knows
     help.ensures.meets help.ensures.ended in
     let meets = meets_trans a.view t.view new.view taken lost.0 in
@@ -277,27 +277,29 @@ returns-in-Err-clause-ends g c =
 
 -- the cards of each
 pub returns-then-ne-clause-taken : goal.returns-then-ne-clause-taken
-returns-then-ne-clause-taken g c =
+returns-then-ne-clause-taken g c = λ plain.
     let taken = c.help.ensures.keeps_but_met.taken ∙ c.search-place.ensures.keeps_but_search.taken in
     record { least = omega (arith, taken); most = omega (arith, taken) }
 
 pub returns-in-Lost-clause-taken : goal.returns-in-Lost-clause-taken
-returns-in-Lost-clause-taken g c =
-    let taken = c.in-Lost.ensures.taken ∙ c.search-place.ensures.keeps_but_search.taken in
+returns-in-Lost-clause-taken g c = λ plain.
+    let taken = c.in-Lost.ensures.taken plain ∙ c.search-place.ensures.keeps_but_search.taken in
     record { least = omega (arith, taken); most = omega (arith, taken) }
 
 pub returns-in-Ok-clause-taken : goal.returns-in-Ok-clause-taken
-returns-in-Ok-clause-taken g c =
+returns-in-Ok-clause-taken g c = λ plain.
     let said : TakesNoCard c.finish_insert.new.pass c.answer-in-Ok.new.pass =
     c.answer-in-Ok.ensures.taken ∙ ap (λ (p : PassModel). cards_taken p) c.retire_put.ensures.same in
+    let one = c.in-Card.ensures.taken plain in
     let taken : TakesOneCard c.args.pass.now c.answer-in-Ok.new.pass =
-    omega (arith, said, c.finish_insert.ensures.keeps_all.taken, c.flag_insert.ensures.taken, c.in-Card.ensures.taken, c.search-place.ensures.keeps_but_search.taken) in
+    omega (arith, said, c.finish_insert.ensures.keeps_all.taken, c.flag_insert.ensures.taken, one, c.search-place.ensures.keeps_but_search.taken) in
     let done = put_done c.args.op c.args.what c.requires.puts in
     subst (λ b. TakesOneIf b c.args.pass.now c.answer-in-Ok.new.pass)
     (sym (ap (λ v. changes_by c.args.op (Some v)) (search rules) ∙ done.changes)) taken
 
 pub returns-in-Err-clause-taken : goal.returns-in-Err-clause-taken
-returns-in-Err-clause-taken g c =
+returns-in-Err-clause-taken g c = λ plain.
+    let one = c.in-Card.ensures.taken plain in
     let taken : cards_taken c.help-in-Err.new.pass ≡ cards_taken c.args.pass.now + 1 =
-    omega (arith, c.help-in-Err.ensures.keeps_but_met.taken, c.flag_insert.ensures.taken, c.in-Card.ensures.taken, c.search-place.ensures.keeps_but_search.taken) in
+    omega (arith, c.help-in-Err.ensures.keeps_but_met.taken, c.flag_insert.ensures.taken, one, c.search-place.ensures.keeps_but_search.taken) in
     record { least = omega (arith, taken); most = omega (arith, taken) }
