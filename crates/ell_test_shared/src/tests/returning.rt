@@ -6,7 +6,8 @@ use super::calling::answer;
 use super::parting::{joined, parted};
 use ell_ops::Op::{self, Delete, Find, Insert, Swap};
 use ell_ops::{Reply, apply_all};
-use ell_tree::{NoGate, NotDone, Pass, Tree};
+use ell_test_gates::{Counting, Weaving, two_threads_meet};
+use ell_tree::{NoGate, Pass, StepGate, Tree};
 use std::alloc::Global;
 use std::process::Abort;
 use std::thread::{Threads, join};
@@ -78,81 +79,60 @@ fn a_tree_answers_as_a_map_long_after_each_slot_was_taken(rt: HostRuntime) {
     assert!(&rt; said == replies);
 }
 
-// The key to which all threads add.
+// The key to which all threads add, how often each does, and how often a call is made at most until it is answered.
 const COUNTER: u64 = 1_000_000;
 
-// How often each thread adds to it, and has a key of its own come and go, and how often a call is made at most until it
-// gets a slot.
-const ROUNDS: u64 = 4_000;
+const ROUNDS: u64 = 1_000;
 
-const MOST_CALLS: u64 = 10_000;
+const MOST_CALLS: u64 = 100_000_000;
 
-// Makes a call until it is answered: how often it found each slot in use.
+// Makes a call until it is answered. A thread that stands still in a call holds slots back, and meanwhile others find each
+// slot in use, or lose cards to each other.
 fn surely(
     rt: &impl Abort,
     tree: &Tree<Global>,
     pass: &mut Pass<Global>,
     call: KeyCall,
     wanted: Option<Reply>,
-) -> u64
+)
     requires { IsSharer tree.now pass.old }
     ensures { IsSharer tree.now pass.new }
 {
-    for calls in 0..MOST_CALLS {
-        match answer(rt, tree, pass, &[], call, &NoGate) {
-            Ok(reply) => {
-                assert!(rt; wanted.is_none() || wanted == Some(reply), "another reply");
-                return calls;
-            }
-            Err(why) => assert!(rt; why == NotDone::Spent, "a call that is hindered always"),
+    for _ in 0..MOST_CALLS {
+        if let Ok(reply) = answer(rt, tree, pass, &[], call, &NoGate) {
+            assert!(rt; wanted.is_none() || wanted == Some(reply), "another reply");
+            return;
         }
     }
     assert!(rt; false, "no slot comes back");
-    0
 }
 
-// What a thread does: its pass, and how often it found each slot in use.
+// What a thread does: keys of its own come and go, and it adds to the counter.
 fn come_and_go(
     rt: &impl Abort,
     tree: &Tree<Global>,
     pass: Pass<Global>,
     number: u64,
-) -> (Pass<Global>, u64)
+) -> Pass<Global>
     requires { IsSharer tree.now pass }
-    ensures { IsSharer tree.now result.0 }
+    ensures { IsSharer tree.now result }
 {
     let mut pass = pass;
-    let mut in_use: u64 = 0;
     for round in 0..ROUNDS {
         let key = number.wrapping_mul(100).wrapping_add(round % 7);
-        let came = surely(
-            rt,
-            tree,
-            &mut pass,
-            Ask(Insert(key, round)),
-            Some(Reply::Yes),
-        );
-        let added = surely(rt, tree, &mut pass, Add(COUNTER, 1), None);
-        let went = surely(rt, tree, &mut pass, Ask(Delete(key)), Some(Reply::Yes));
-        in_use = in_use
-            .wrapping_add(came)
-            .wrapping_add(added)
-            .wrapping_add(went);
+        let yes = Some(Reply::Yes);
+        surely(rt, tree, &mut pass, Ask(Insert(key, round)), yes);
+        surely(rt, tree, &mut pass, Add(COUNTER, 1), None);
+        surely(rt, tree, &mut pass, Ask(Delete(key)), yes);
     }
-    (pass, in_use)
+    pass
 }
 
 // Threads share a tree of so many cards: none of their sums is lost, and each of their keys comes and goes.
 fn share_slots<R: Threads + Abort + AllocGlobal + Sync>(rt: &R, cards: u64) {
     let (tree, pass) = opened_reusing(rt, cards, 4);
     let mut pass = pass;
-    let _ = surely(
-        rt,
-        &tree,
-        &mut pass,
-        Ask(Insert(COUNTER, 0)),
-        Some(Reply::Yes),
-    );
+    surely(rt, &tree, &mut pass, Ask(Insert(COUNTER, 0)), None);
     let (one, two) = parted(rt, &tree, pass, &[], &[]);
     let (one, three) = parted(rt, &tree, one, &[], &[]);
     let (two, four) = parted(rt, &tree, two, &[], &[]);
@@ -174,22 +154,155 @@ fn share_slots<R: Threads + Abort + AllocGlobal + Sync>(rt: &R, cards: u64) {
             )
         },
     );
-    let left = joined(rt, &tree, &[], one.0, two.0);
-    let right = joined(rt, &tree, &[], three.0, four.0);
+    let left = joined(rt, &tree, &[], one, two);
+    let right = joined(rt, &tree, &[], three, four);
     let mut pass = joined(rt, &tree, &[], left, right);
     let said = answer(rt, &tree, &mut pass, &[], Look(COUNTER), &NoGate);
     assert!(rt; said == Ok(Reply::Found(4 * ROUNDS)));
-    let in_use = one
-        .1
-        .wrapping_add(two.1)
-        .wrapping_add(three.1)
-        .wrapping_add(four.1);
-    assert!(rt; in_use < ROUNDS, "{in_use} calls without a slot");
 }
 
 #[test]
 fn threads_share_the_slots_of_a_tree(rt: HostRuntime) {
     for cards in [64, 200] {
         share_slots(&rt, cards);
+    }
+}
+
+// How many operations are made beside one that is held, and of how many keys; and how many cards their tree is asked for.
+const BESIDE: u64 = 60;
+
+const KEYS: u64 = 5;
+
+const FEW: u64 = 12;
+
+// Has keys come and go, each operation once, from a state in which none is there: its pass, and how many operations found
+// each slot in use. No other pass changes these keys, so each answer is a map's.
+fn churn<G: StepGate>(
+    rt: &impl Abort,
+    tree: &Tree<Global>,
+    pass: Pass<Global>,
+    operations: u64,
+    gate: &G,
+) -> (Pass<Global>, u64)
+    requires { IsSharer tree.now pass }
+    ensures { IsSharer tree.now result.0 }
+{
+    let mut pass = pass;
+    let mut present: u64 = 0;
+    let mut in_use: u64 = 0;
+    for number in 0..operations {
+        let bit = 1 << (number % KEYS);
+        let key = 10 + number % KEYS;
+        let op = if present & bit == 0 {
+            Insert(key, number)
+        } else {
+            Delete(key)
+        };
+        match answer(rt, tree, &mut pass, &[], Ask(op), gate) {
+            Ok(reply) => {
+                assert!(rt; reply == Reply::Yes, "another reply");
+                present ^= bit;
+            }
+            Err(_) => in_use = in_use.wrapping_add(1),
+        }
+    }
+    (pass, in_use)
+}
+
+// A call of worker 1 alone, which is told to the gate as over: its pass and what it is answered.
+fn call_once<G: StepGate>(
+    rt: &impl Abort,
+    tree: &Tree<Global>,
+    pass: Pass<Global>,
+    call: KeyCall,
+    gate: &G,
+) -> (Pass<Global>, Option<Reply>)
+    requires { IsSharer tree.now pass }
+    ensures { IsSharer tree.now result.0 }
+{
+    let mut pass = pass;
+    let said = answer(rt, tree, &mut pass, &[], call, gate).ok();
+    if let Look(_) = call {
+        gate.after(pass.label(), true);
+    }
+    (pass, said)
+}
+
+// A tree of few slots, with keys 1 to 3, and its pass.
+fn opened_with_three(rt: &(impl Abort + AllocGlobal)) -> (Tree<Global>, Pass<Global>)
+    ensures { IsSharer result.0 result.1 }
+{
+    let (tree, pass) = opened_reusing(rt, FEW, 2);
+    let mut pass = pass;
+    for key in 1..4 {
+        surely(rt, &tree, &mut pass, Ask(Insert(key, 10 * key)), None);
+    }
+    (tree, pass)
+}
+
+// How many steps a call takes, with its begin, if nobody changes the tree.
+fn count_steps(rt: &(impl Abort + AllocGlobal), call: KeyCall) -> u64 {
+    let gate = Counting::new(rt.alloc(), 1, NoGate).expect(rt, "memory");
+    let (tree, pass) = opened_with_three(rt);
+    call_once(rt, &tree, pass, call, &gate);
+    let tally = gate.tally(0);
+    tally.begun.saturating_add(tally.steps)
+}
+
+// Holds a call before a step of this number, while keys come and go beside it: how many operations found each slot in use
+// meanwhile. The call is answered as if it were alone, or finds each slot in use too and is made again; and once it is over,
+// slots come back.
+fn hold<R: Threads + Abort + AllocGlobal + Sync>(
+    rt: &R,
+    call: KeyCall,
+    wanted: Reply,
+    step: u64,
+) -> u64 {
+    let gate = Weaving::new(step, 0, BESIDE);
+    let (tree, pass) = opened_with_three(rt);
+    let (zero, mut one) = parted(rt, &tree, pass, &[], &[]);
+    one.relabel(1);
+    let (shared, told) = (&tree, &gate);
+    let ((zero, in_use), (one, said)) = join(
+        rt,
+        move || churn(rt, shared, zero, BESIDE, told),
+        move || call_once(rt, shared, one, call, told),
+    );
+    let mut pass = joined(rt, &tree, &[], zero, one);
+    assert!(rt; gate.woven().is_some(), "held at {step}");
+    match said {
+        Some(said) => assert!(rt; said == wanted, "held at {step}"),
+        None => surely(rt, &tree, &mut pass, call, Some(wanted)),
+    }
+    for key in 10..10 + KEYS {
+        surely(rt, &tree, &mut pass, Ask(Delete(key)), None);
+    }
+    let (_, after) = churn(rt, &tree, pass, BESIDE, &NoGate);
+    assert!(rt;
+        after == 0,
+        "{after} without a slot behind one held at {step}"
+    );
+    in_use
+}
+
+#[test]
+fn a_call_that_is_held_holds_slots_back_until_it_is_over(rt: HostRuntime) {
+    if !two_threads_meet(&rt) {
+        return;
+    }
+    for (call, wanted) in [
+        (Ask(Insert(5, 50)), Reply::Yes),
+        (Ask(Delete(2)), Reply::Yes),
+        (Ask(Swap(2, 20, 21)), Reply::Found(20)),
+        (Ask(Find(2)), Reply::Found(20)),
+        (Look(3), Reply::Found(30)),
+    ] {
+        let before = hold(&rt, call, wanted, 1);
+        assert!(&rt; before == 0, "{before} without a slot before it began");
+        for step in 2..=count_steps(&rt, call) {
+            hold(&rt, call, wanted, step);
+        }
+        let amid = hold(&rt, call, wanted, 4);
+        assert!(&rt; 0 < amid, "nothing is held back");
     }
 }
