@@ -1,4 +1,4 @@
-use Rattle.std.proofs.Common.{rules, ◌≡◌, ◌≢◌, ◌*◌, ◌+◌, Some, Ok, inl, refl, sym, ◌∙◌, arith}
+use Rattle.std.proofs.Common.{rules, ◌≡◌, ◌≢◌, ◌*◌, ◌+◌, None, Some, Ok, inl, refl, sym, ◌∙◌, arith}
 use Rattle.ell_ops.specs.declared.op.Op.TheVariants.{Delete, Find}
 use Rattle.ell_ops.specs.declared.reply.Reply.TheVariants.{Yes}
 use Rattle.ell_ops.specs.Meaning.{found}
