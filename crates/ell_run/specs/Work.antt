@@ -1,4 +1,4 @@
-use Rattle.std.specs.Prelude.{◌≡◌, ◌⊎◌, ℕ, ◌+◌, ◌*◌, ◌<◌, ◌≤◌, ◌↔◌, false, Some, List, [], ◌∷◌, length, All, Vec}
+use Rattle.std.specs.Prelude.{◌≡◌, ◌⊎◌, ℕ, ◌+◌, ◌*◌, ◌<◌, ◌≤◌, ◌↔◌, false, None, Some, List, [], ◌∷◌, length, All, Vec}
 use Rattle.std.specs.List.{list_any, sum_by}
 use Rattle.std.specs.List.Sorted.{IsStrictlyIncreasing}
 use Rattle.ell_ops.specs.declared.op.Op.{Op}
@@ -21,10 +21,11 @@ OwnsKeysOf pass items = All (λ item. Owns pass (key_of item.1)) items
 abbrev pub keys_for : PartedOps → List ℕ → KeySet
 keys_for parting workers = λ key. list_any (λ worker. keys_of_part (part parting worker) key) workers
 
--- the tree begins with these pairs, and shares no key
+-- the tree begins with these pairs, and shares no key; each card has words of its own
 pub record IsUnsharedFrom (start : List (ℕ × ℕ)) (tree : TreeModel) : Type 0 where
   pub begins : tree.plan.start ≡ start
   pub unshared : tree.plan.shared ≡ false
+  pub plain : tree.plan.slots ≡ None
 
 -- workers can set to work on their parts with a pass
 pub record AreReady (tree : TreeModel) (parting : PartedOps) (workers : List ℕ) (pass : PassModel) : Type 0 where
@@ -49,14 +50,14 @@ pub record HasNoCards (cards : ℕ) (pass : PassModel) : Type 0 where
   pub past : cards < next
 
 -- why so many operations were not done: something was in the way of each of them at each of its tries, or all cards are
--- given out, as the pass that comes back has read
-abbrev pub AreNotDone : ℕ → ℕ → ℕ → PassModel → PassModel → Type 0
-AreNotDone cards tries count before after =
-    HasNoCards cards after ⊎ (hindrances before + tries * count ≤ hindrances after)
+-- given out, as the pass that comes back has read; where cards lie in slots, each slot may have been in use instead
+abbrev pub AreNotDone : TablePlan → ℕ → ℕ → PassModel → PassModel → Type 0
+AreNotDone plan tries count before after =
+    (plan.slots ≡ None → HasNoCards plan.last_card after) ⊎ (hindrances before + tries * count ≤ hindrances after)
 
 -- a front of numbered operations was done with a pass, and this piece answers it; the operation behind it, if there is
 -- one, was not done
-pub record IsWorkedOff (cards tries : ℕ) (items : List (ℕ × Op)) (before after : PassModel)
+pub record IsWorkedOff (plan : TablePlan) (tries : ℕ) (items : List (ℕ × Op)) (before after : PassModel)
     (piece : List (ℕ × Reply)) : Type 0 where
   pub table : after.table ≡ before.table
   pub label : after.label ≡ before.label
@@ -65,11 +66,11 @@ pub record IsWorkedOff (cards tries : ℕ) (items : List (ℕ × Op)) (before af
   pub map : present_in after ≡ final (present_in before) (ops_in (front items piece))
   pub owned : (key : ℕ) → Owns after key ↔ Owns before key
   pub answers : answers after ≡ answers before + length piece
-  pub not_done : AreNotDone cards tries (one_not_done items piece) before after
+  pub not_done : AreNotDone plan tries (one_not_done items piece) before after
 
 -- workers have worked with a pass, and left these pieces: the pass has the map that what they did leaves, one worker's
 -- operations after the other's; each operation behind a piece was not done
-pub record IsWorked (cards tries : ℕ) (parting : PartedOps) (workers : List ℕ) (before after : PassModel)
+pub record IsWorked (plan : TablePlan) (tries : ℕ) (parting : PartedOps) (workers : List ℕ) (before after : PassModel)
     (pieces : List (List (ℕ × Reply))) : Type 0 where
   pub table : after.table ≡ before.table
   pub idle : IsIdle after
@@ -77,7 +78,7 @@ pub record IsWorked (cards tries : ℕ) (parting : PartedOps) (workers : List �
   pub map : present_in after ≡ final (present_in before) (ops_done parting workers pieces)
   pub owned : (key : ℕ) → Owns after key ↔ Owns before key
   pub answers : answers after ≡ answers before + sum_by length pieces
-  pub not_done : AreNotDone cards tries (all_not_done parting workers pieces) before after
+  pub not_done : AreNotDone plan tries (all_not_done parting workers pieces) before after
 
 -- the label of a pass that workers have worked with, each under its number: the first one's, or what it was if there is
 -- none
@@ -88,7 +89,7 @@ label_after before (worker ∷ workers) = worker
 -- workers have worked with a pass, and made no more steps than they may
 pub record IsWorkedWithin (plan : TablePlan) (tries : ℕ) (parting : PartedOps) (workers : List ℕ) (before after : PassModel)
     (pieces : List (List (ℕ × Reply))) : Type 0 where
-  pub worked : IsWorked plan.last_card tries parting workers before after pieces
+  pub worked : IsWorked plan tries parting workers before after pieces
   pub within : AreWithin plan parting workers before after
   pub label : after.label ≡ label_after before workers
 
@@ -102,6 +103,6 @@ HaveWorked tree tries parting workers before done =
 -- something to do may make
 pub record AllHaveWorked {Z : Type 0} (tree : TreeModel) (tries more : ℕ) (parting : PartedOps) (before : PassModel)
     (done : PassModel × Vec (Vec (ℕ × Reply) Z) Z) : Type 0 where
-  pub worked : IsWorked tree.plan.last_card tries parting (all_workers parting) before done.0 (lists_of done.1.items)
+  pub worked : IsWorked tree.plan tries parting (all_workers parting) before done.0 (lists_of done.1.items)
   pub bounded : done.0.steps ≤ before.steps + work_steps tree.plan parting (busy parting) + more
-  pub total : done.0.view.made ≤ before.view.made + total_steps tree.plan parting (busy parting) + more
+  pub total : tree.plan.slots ≡ None → done.0.view.made ≤ before.view.made + total_steps tree.plan parting (busy parting) + more

@@ -1,7 +1,8 @@
 //! What one worker does on its part, with a pass of the shared tree, and the pieces that workers leave.
 ghost use Rattle.std.specs.Prelude.{◌≡◌, ◌≤◌, ◌+◌, ℕ, IfOk, length};
 ghost use Rattle.ell_ops.specs.Meaning.{key_of};
-ghost use Rattle.ell_tree.specs.Counts.{Took};
+ghost use Rattle.ell_cards.specs.Models.{TablePlan};
+ghost use Rattle.ell_tree.specs.Counts.{TookIn};
 ghost use Rattle.ell_tree.specs.Ends.{Ends};
 ghost use Rattle.ell_tree.specs.Ledgers.{IsIdlePassOf, PassModel};
 ghost use Rattle.ell_tree.specs.Promises.{MayDo};
@@ -33,10 +34,10 @@ pub(crate) fn work_off<A: Allocator + Copy, G: StepGate>(
     // The piece has the right replies to a prefix of the part, and the pass has the map after it. The next operation,
     // if there is one, was not done.
     ensures worked { IfOk result (λ piece.
-        IsWorkedOff tree.now.plan.last_card tries part.now pass.old pass.new piece.items) }
+        IsWorkedOff tree.now.plan tries part.now pass.old pass.new piece.items) }
     // It makes at most the steps of its part's operations, in a row and in all.
     ensures bounded { IfOk result (λ piece.
-        Took pass.old pass.new (worker_steps tree.now.plan (length part.now))) }
+        TookIn tree.now.plan pass.old pass.new (worker_steps tree.now.plan (length part.now))) }
 {
     let mut piece = Vec::with_capacity(alloc, part.len())?;
     for (position, op) in part {
@@ -80,9 +81,9 @@ pub(crate) fn with_empty_pieces<A: Allocator + Copy>(
     mut pieces: Vec<Piece<A>, A>,
 ) -> Result<Vec<Piece<A>, A>, NoMemory>
     requires { length pieces.items ≡ length (busy parts.now) }
-    ensures { (cards tries : ℕ) (before after : PassModel) →
-        IsWorked cards tries parts.now (busy parts.now) before after (lists_of pieces.items) →
-        IfOk result (λ all. IsWorked cards tries parts.now (all_workers parts.now) before after (lists_of all.items)) }
+    ensures { (plan : TablePlan) (tries : ℕ) (before after : PassModel) →
+        IsWorked plan tries parts.now (busy parts.now) before after (lists_of pieces.items) →
+        IfOk result (λ all. IsWorked plan tries parts.now (all_workers parts.now) before after (lists_of all.items)) }
 {
     for worker in 0..parts.workers() {
         if parts.part(worker).is_empty() {

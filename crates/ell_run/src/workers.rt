@@ -23,11 +23,11 @@ use std::thread::{Threads, join};
 /// tries, or all cards are given out. Returns the pass, with all its keys, and a piece for each worker, in their order:
 /// its replies, with their positions. The pass then has the number of the first worker with operations as its label, or
 /// its own label if there is none. After a fault the pass is gone; `TooManyPasses` is returned only for a tree that
-/// shares keys. However many tries there are, and however the workers' steps fall, a worker with n operations makes at
-/// most `n * (7 * depth + 28) + 2 * cards * (7 * depth + 27)` steps, `cards` and `depth` as for `Tree`; the
-/// pass that comes back has counted no more than the worker with the most operations may, and two for each busy worker
-/// other than the first. All workers together make at most the sum of what each may, and two for each busy worker other
-/// than the first: its split and its join (`total`).
+/// shares keys, or whose cards lie in slots. However many tries there are, and however the workers' steps fall, a worker
+/// with n operations makes at most `n * (7 * depth + 28) + 2 * cards * (7 * depth + 27)` steps, `cards` and `depth` as
+/// for `Tree`, where each card has words of its own; the pass that comes back has counted no more than the worker with
+/// the most operations may, and two for each busy worker other than the first. All workers together make at most the sum
+/// of what each may, and two for each busy worker other than the first: its split and its join (`total`).
 pub fn work<R: Threads + Sync, A: Allocator + Copy + Send + Sync, G: StepGate + Sync>(
     rt: &R,
     alloc: A,
@@ -47,8 +47,8 @@ pub fn work<R: Threads + Sync, A: Allocator + Copy + Send + Sync, G: StepGate + 
     ensures worked { IfOk result (AllHaveWorked tree.now tries 0 parts.now pass) }
     // The label is the number of the first worker that has something to do, or as it was if none has.
     ensures label { IfOk result (λ done. done.0.label ≡ label_after pass (busy parts.now)) }
-    // `TooManyPasses` is returned only if the tree shares keys.
-    ensures why { IfErr result (StopsWork pass) }
+    // `TooManyPasses` is returned only if the tree shares keys, or its cards lie in slots.
+    ensures why { IfErr result (StopsWork tree.now.plan pass) }
 {
     let workers = busy_workers(alloc, parts)?;
     let (pass, pieces) = do_workers(rt, alloc, tree, pass, parts, &workers, tries, gate)?;
@@ -74,8 +74,8 @@ pub(crate) fn work_apart<R: Threads + Sync, A: Allocator + Copy + Send + Sync, G
     requires tries { 1 ≤ tries }
     // The pass and the pieces are as after `work`; each bound of steps is two more.
     ensures worked { IfOk result (AllHaveWorked tree.now tries 2 parts.now pass) }
-    // `TooManyPasses` is returned only if the tree shares keys.
-    ensures why { IfErr result (StopsWork pass) }
+    // `TooManyPasses` is returned only if the tree shares keys, or its cards lie in slots.
+    ensures why { IfErr result (StopsWork tree.now.plan pass) }
 {
     if pass.keys().len() == keys.len() {
         return work(rt, alloc, tree, pass, parts, tries, gate);
@@ -124,7 +124,7 @@ fn do_workers<R: Threads + Sync, A: Allocator + Copy + Send + Sync, G: StepGate 
     requires ready { AreReady tree.now parts.now workers.now pass }
     requires tries { 1 ≤ tries }
     ensures worked { IfOk result (HaveWorked tree.now tries parts.now workers.now pass) }
-    ensures why { IfErr result (StopsWork pass) }
+    ensures why { IfErr result (StopsWork tree.now.plan pass) }
 {
     if workers.len() < 2 {
         return Ok(do_one(alloc, tree, pass, parts, workers, tries, gate)?);
@@ -135,13 +135,13 @@ fn do_workers<R: Threads + Sync, A: Allocator + Copy + Send + Sync, G: StepGate 
         requires { IsSync R.row × IsSync G.row × IsSend A.row × IsSync A.row × Frees A.Allocator A.dealloc_token
             × AreReady tree.now parts.now low.now left × (1 ≤ tries) }
         ensures worked { IfOk result (HaveWorked tree.entry.now tries parts.entry.now low.entry.now left) }
-        ensures why { IfErr result (StopsWork left) }
+        ensures why { IfErr result (StopsWork tree.entry.now.plan left) }
     { do_workers(rt, alloc, tree, left, parts, low, tries, gate) };
     let back = move || -> Result<(Pass<A>, Vec<Piece<A>, A>), WorkFault>
         requires { IsSync R.row × IsSync G.row × IsSend A.row × IsSync A.row × Frees A.Allocator A.dealloc_token
             × AreReady tree.now parts.now high.now right × (1 ≤ tries) }
         ensures worked { IfOk result (HaveWorked tree.entry.now tries parts.entry.now high.entry.now right) }
-        ensures why { IfErr result (StopsWork right) }
+        ensures why { IfErr result (StopsWork tree.entry.now.plan right) }
     { do_workers(rt, alloc, tree, right, parts, high, tries, gate) };
     let (first, second) = join(rt, front, back);
     Ok(both(tree, first?, second?)?)
@@ -186,7 +186,7 @@ fn halves<A: Allocator + Copy>(
     ensures left { IfOk result (λ parted. AreReady tree.now parts.now low.now parted.0) }
     ensures right { (high : List ℕ) → AreReady tree.now parts.now (low.now ++ high) pass →
         IfOk result (λ parted. AreReady tree.now parts.now high parted.1) }
-    ensures why { IfErr result (StopsWork pass) }
+    ensures why { IfErr result (StopsWork tree.now.plan pass) }
 {
     let keys = keys_for(alloc, parts, low)?;
     match tree.split(pass, &keys) {

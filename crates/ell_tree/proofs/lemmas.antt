@@ -60,3 +60,5 @@ pub mod Rounds
 pub mod Stretching
 -- what a scan has found and gathered as it goes on
 pub mod Scans
+-- what is so where each card has words of its own
+pub mod Plain

@@ -5,7 +5,7 @@
 //! falls.
 #![tactic(auto)]
 
-ghost use Rattle.std.specs.Prelude.{◌≡◌, IfOk, false};
+ghost use Rattle.std.specs.Prelude.{◌≡◌, IfOk, None, false};
 ghost use Rattle.ell_tree.specs.Ledgers.{IsIdle, IsIdlePassOf, Owns};
 
 use anyhow::{Result, bail, ensure};
@@ -147,6 +147,7 @@ fn close(board: Tree<Global>, pass: Pass<Global>, players: &[u64]) -> Result<Vec
     requires idle { IsIdle pass }
     requires players { board.plan.keys ≡ players.now }
     requires unshared { board.plan.shared ≡ false }
+    requires plain { board.plan.slots ≡ None }
 {
     let owns_all = players.iter().all(|player| pass.owns(*player));
     ensure!(owns_all, "a player has no owner");

@@ -4,7 +4,7 @@
 //! neighbor has stalled halfway through a change, a thread finishes that change and goes on.
 #![tactic(auto)]
 
-ghost use Rattle.std.specs.Prelude.{◌≡◌, IfOk, false};
+ghost use Rattle.std.specs.Prelude.{◌≡◌, IfOk, None, false};
 ghost use Rattle.ell_tree.specs.Ledgers.{IsIdle, IsIdlePassOf};
 
 use anyhow::{Result, bail, ensure};
@@ -87,6 +87,7 @@ fn close(scores: Tree<Global>, pass: Pass<Global>, players: &[u64]) -> Result<Ve
     requires idle { IsIdle pass }
     requires players { scores.plan.keys ≡ players.now }
     requires unshared { scores.plan.shared ≡ false }
+    requires plain { scores.plan.slots ≡ None }
 {
     let owns_all = players.iter().all(|player| pass.owns(*player));
     ensure!(owns_all, "a player has no owner");

@@ -4,6 +4,7 @@ use Rattle.std.proofs.lemmas.List.{append-nil}
 use Rattle.ell_ops.specs.KeySet.{Lists, set_of}
 use Rattle.ell_ops.specs.Meaning.{key_of}
 use Rattle.ell_parts.specs.PartedOps.{PartedOps, IsLawful, keys_of_ops}
+use Rattle.ell_cards.specs.Models.{TablePlan}
 use Rattle.ell_tree.specs.Ledgers.{PassModel, TreeModel, Owns, IsIdle, ledger}
 use Rattle.ell_tree.specs.PassParts.{IsLeftPart, IsRightPart, IsUnion}
 use Rattle.ell_run.specs.Pieces.{all_workers}
@@ -15,15 +16,15 @@ use Rattle.ell_run.proofs.lemmas.Opened.{all_ready, finds_key, owns_ops}
 use Rattle.ell_ops.specs.declared.reply.Reply.{Reply}
 
 -- no workers have worked with a pass that was left as it is
-rest_worked : (cards tries : ℕ) (parting : PartedOps) (rest : PassModel) → IsIdle rest → IsWorked cards tries parting [] rest rest []
-rest_worked cards tries parting rest idle = record {
+rest_worked : (plan : TablePlan) (tries : ℕ) (parting : PartedOps) (rest : PassModel) → IsIdle rest → IsWorked plan tries parting [] rest rest []
+rest_worked plan tries parting rest idle = record {
   table = refl;
   idle = idle;
   told = tt;
   map = refl;
   owned = λ key. (λ own. own, λ own. own);
   answers = omega arith;
-  not_done = none_not_done cards tries 0 rest rest refl (omega arith);
+  not_done = none_not_done plan tries 0 rest rest refl (omega arith);
 }
 
 module _ (parting : PartedOps) (keys : List ℕ) (pass left right : PassModel) (listed : Lists (keys_of_ops parting.ops) keys) (owned : All (λ key. Owns pass key) keys)
@@ -37,16 +38,16 @@ module _ (parting : PartedOps) (keys : List ℕ) (pass left right : PassModel) (
       owned j d below (sym (on_left.ledger key ∙ cond-true (set_of keys key) (ledger pass key) None (finds_key keys j d below)) ∙ none))
 
   -- workers who have worked with it alone have worked as with the whole pass
-  pub worked_apart : (tree : TreeModel) (cards tries : ℕ) (first both : PassModel) (pieces : List (List (ℕ × Reply))) → IsLawful parting → pass.table ≡ tree.id → IsIdle pass →
-      IsRightPart keys pass right → IsWorked cards tries parting (all_workers parting) left first pieces → IsUnion first right both →
-      IsWorked cards tries parting (all_workers parting) pass both pieces
-  worked_apart tree cards tries first both pieces lawful own idle on_right did union =
+  pub worked_apart : (tree : TreeModel) (plan : TablePlan) (tries : ℕ) (first both : PassModel) (pieces : List (List (ℕ × Reply))) → IsLawful parting → pass.table ≡ tree.id → IsIdle pass →
+      IsRightPart keys pass right → IsWorked plan tries parting (all_workers parting) left first pieces → IsUnion first right both →
+      IsWorked plan tries parting (all_workers parting) pass both pieces
+  worked_apart tree plan tries first both pieces lawful own idle on_right did union =
       let workers = all_workers parting in
       let ready : AreReady tree parting (workers ++ []) pass =
       subst (λ row. AreReady tree parting row pass) (sym (append-nil workers)) (all_ready tree parting pass lawful own idle (owns_ops pass parting.ops keys listed owned)) in
       let halves : AreHalves parting workers pass left right =
       record { keys = keys; listed = subst (λ set. Lists set keys) (sym (all_keys parting lawful)) listed; on_left = on_left; on_right = on_right } in
-      subst (λ row. IsWorked cards tries parting row pass both pieces) (append-nil workers)
-      (subst (IsWorked cards tries parting (workers ++ []) pass both) (append-nil pieces)
-      (worked_both tree parting workers [] pass left right ready halves cards tries first right both pieces [] did
-      (rest_worked cards tries parting right on_right.idle) union))
+      subst (λ row. IsWorked plan tries parting row pass both pieces) (append-nil workers)
+      (subst (IsWorked plan tries parting (workers ++ []) pass both) (append-nil pieces)
+      (worked_both tree parting workers [] pass left right ready halves plan tries first right both pieces [] did
+      (rest_worked plan tries parting right on_right.idle) union))

@@ -11,7 +11,7 @@ use Rattle.ell_ops.specs.declared.reply.Reply.{Reply}
 
 -- what workers leave on a tree that is closed behind them
 pub left_behind : (start : Contents) (tree : TreeModel) (tries : ℕ) (parting : PartedOps) (first last : PassModel) (pieces : List (List (ℕ × Reply))) (pairs : List (ℕ × ℕ)) →
-    tree.plan.shared ≡ false → present_in first ≡ start → IsWorked tree.plan.last_card tries parting (all_workers parting) first last pieces → ClosesTo tree last pairs → AreLeft start parting pieces pairs
+    tree.plan.shared ≡ false → present_in first ≡ start → IsWorked tree.plan tries parting (all_workers parting) first last pieces → ClosesTo tree last pairs → AreLeft start parting pieces pairs
 left_behind start tree tries parting first last pieces pairs unshared same did closes =
     let listed = closes.all unshared in record {
       told = subst (λ s. ArePieces s parting (all_workers parting) pieces) same did.told;

@@ -9,6 +9,7 @@ use Rattle.ell_ops.specs.declared.op.Op.{Op}
 use Rattle.ell_ops.specs.Contents.{Contents}
 use Rattle.ell_ops.specs.Meaning.{final}
 use Rattle.ell_parts.specs.PartedOps.{PartedOps, part}
+use Rattle.ell_cards.specs.Models.{TablePlan}
 use Rattle.ell_tree.specs.Ledgers.{PassModel, present_in}
 use Rattle.ell_run.specs.ByParts.{ops_in}
 use Rattle.ell_run.specs.Pieces.{ArePieces, IsPiece, all_workers, busy, front, ops_done}
@@ -99,9 +100,9 @@ sum-insert ps n =
       sum_by-take-drop (λ (p : List (ℕ × Reply)). length p) ps n,
     )
 
-worked-insert : (cards tries : ℕ) (parting : PartedOps) (xs ys : List ℕ) (worker : ℕ) (before after : PassModel) (ps : List (List (ℕ × Reply))) → part parting worker ≡ [] →
-    IsWorked cards tries parting (xs ++ ys) before after ps → IsWorked cards tries parting (xs ++ worker ∷ ys) before after (insert ps (length xs) [])
-worked-insert cards tries parting xs ys worker before after ps none h =
+worked-insert : (plan : TablePlan) (tries : ℕ) (parting : PartedOps) (xs ys : List ℕ) (worker : ℕ) (before after : PassModel) (ps : List (List (ℕ × Reply))) → part parting worker ≡ [] →
+    IsWorked plan tries parting (xs ++ ys) before after ps → IsWorked plan tries parting (xs ++ worker ∷ ys) before after (insert ps (length xs) [])
+worked-insert plan tries parting xs ys worker before after ps none h =
     let answered = h.answers in
     record {
       table = h.table;
@@ -111,23 +112,23 @@ worked-insert cards tries parting xs ys worker before after ps none h =
       owned = h.owned;
       answers = omega (arith, sum-insert ps (length xs));
       not_done =
-          subst (λ n. AreNotDone cards tries n before after)
+          subst (λ n. AreNotDone plan tries n before after)
           (sym (all_not_done-insert (present_in before) parting xs ys worker ps none h.told)) h.not_done;
     }
 
 -- one worker more with nothing to do: its empty piece comes to its place
-pub worked_idle : (cards tries : ℕ) (parting : PartedOps) (worker : ℕ) (items : List (ℕ × Op)) (before after : PassModel) (ps : List (List (ℕ × Reply))) → worker < parting.workers →
+pub worked_idle : (plan : TablePlan) (tries : ℕ) (parting : PartedOps) (worker : ℕ) (items : List (ℕ × Op)) (before after : PassModel) (ps : List (List (ℕ × Reply))) → worker < parting.workers →
     items ≡ part parting worker → true ≡ eqb (length items) 0 →
-    IsWorked cards tries parting (mixed parting worker) before after ps →
-    IsWorked cards tries parting (mixed parting (worker + 1)) before after (insert ps worker [])
-worked_idle cards tries parting worker items before after ps below same none h =
+    IsWorked plan tries parting (mixed parting worker) before after ps →
+    IsWorked plan tries parting (mixed parting (worker + 1)) before after (insert ps worker [])
+worked_idle plan tries parting worker items before after ps below same none h =
     let idle : is_busy parting worker ≡ false = ap (λ l. nat_lt 0 (length l)) (sym same) ∙ none_left (length items) none in
-    let old : IsWorked cards tries parting (range_with_len 0 worker ++ busy_from parting (worker + 1)) before after ps =
-    subst (λ workers. IsWorked cards tries parting workers before after ps) (mixed_idle parting worker below idle) h in
-    let new : IsWorked cards tries parting (range_with_len 0 worker ++ worker ∷ busy_from parting (worker + 1)) before after (insert ps (length (range_with_len 0 worker)) []) =
-    worked-insert cards tries parting (range_with_len 0 worker) (busy_from parting (worker + 1)) worker before after ps (no_items (part parting worker) idle) old in
-    subst (λ workers. IsWorked cards tries parting workers before after (insert ps worker [])) (sym (mixed_filled parting worker))
-    (subst (λ n. IsWorked cards tries parting (range_with_len 0 worker ++ worker ∷ busy_from parting (worker + 1)) before after (insert ps n [])) (length-range_with_len 0 worker) new)
+    let old : IsWorked plan tries parting (range_with_len 0 worker ++ busy_from parting (worker + 1)) before after ps =
+    subst (λ workers. IsWorked plan tries parting workers before after ps) (mixed_idle parting worker below idle) h in
+    let new : IsWorked plan tries parting (range_with_len 0 worker ++ worker ∷ busy_from parting (worker + 1)) before after (insert ps (length (range_with_len 0 worker)) []) =
+    worked-insert plan tries parting (range_with_len 0 worker) (busy_from parting (worker + 1)) worker before after ps (no_items (part parting worker) idle) old in
+    subst (λ workers. IsWorked plan tries parting workers before after (insert ps worker [])) (sym (mixed_filled parting worker))
+    (subst (λ n. IsWorked plan tries parting (range_with_len 0 worker ++ worker ∷ busy_from parting (worker + 1)) before after (insert ps n [])) (length-range_with_len 0 worker) new)
 
 pub length-mixed_idle : (parting : PartedOps) (worker : ℕ) (items : List (ℕ × Op)) → worker < parting.workers → items ≡ part parting worker →
     true ≡ eqb (length items) 0 → length (mixed parting (worker + 1)) ≡ length (mixed parting worker) + 1

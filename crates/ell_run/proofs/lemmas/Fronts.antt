@@ -7,6 +7,7 @@ use Rattle.std.proofs.lemmas.Option.{slice_get_within, get_or_from_slice_get}
 use Rattle.ell_ops.specs.declared.op.Op.{Op}
 use Rattle.ell_ops.specs.Contents.{Contents}
 use Rattle.ell_ops.specs.Meaning.{key_of, reply_of, final}
+use Rattle.ell_cards.specs.Models.{TablePlan}
 use Rattle.ell_tree.specs.Effects.{reply_of_change}
 use Rattle.ell_ops.specs.Meaning.{after as after_op}
 use Rattle.ell_tree.specs.declared.operations.NotDone.{NotDone}
@@ -71,9 +72,9 @@ front_more tree items i d before mid after piece reply below owned h a meets =
     }
 
 -- all operations are done
-pub front_all : (cards tries : ℕ) (items : List (ℕ × Op)) (i : ℕ) (before after : PassModel) (piece : List (ℕ × Reply)) → length items ≤ i →
-    IsFrontDone items i before after piece → IsWorkedOff cards tries items before after piece
-front_all cards tries items i before after piece all h =
+pub front_all : (plan : TablePlan) (tries : ℕ) (items : List (ℕ × Op)) (i : ℕ) (before after : PassModel) (piece : List (ℕ × Reply)) → length items ≤ i →
+    IsFrontDone items i before after piece → IsWorkedOff plan tries items before after piece
+front_all plan tries items i before after piece all h =
     let few = h.few in
     let count = h.count in
     let answered = h.answered in
@@ -92,15 +93,15 @@ front_all cards tries items i before after piece all h =
       answers = omega arith;
       not_done =
           let whole : length items ≤ length piece = omega arith in
-          none_not_done cards tries (one_not_done items piece) before after
+          none_not_done plan tries (one_not_done items piece) before after
           (cond-false (nat_lt (length piece) (length items)) 1 0 (le-ltb (length piece) (length items) whole)) h.grows;
     }
 
 -- the next operation is not done
-pub front_not_done : (tree : TreeModel) (cards tries : ℕ) (items : List (ℕ × Op)) (i : ℕ) (d : ℕ × Op) (before mid after : PassModel) (piece : List (ℕ × Reply)) (why : NotDone) →
-    i < length items → OwnsKeysOf before items → IsFrontDone items i before mid piece → LaidDown tree (get_or items i d).1 mid after → NotDoneFor cards tries mid after why →
-    IsWorkedOff cards tries items before after piece
-front_not_done tree cards tries items i d before mid after piece why below owned h l not_done_for =
+pub front_not_done : (tree : TreeModel) (tries : ℕ) (items : List (ℕ × Op)) (i : ℕ) (d : ℕ × Op) (before mid after : PassModel) (piece : List (ℕ × Reply)) (why : NotDone) →
+    i < length items → OwnsKeysOf before items → IsFrontDone items i before mid piece → LaidDown tree (get_or items i d).1 mid after → NotDoneFor tree.plan tries mid after why →
+    IsWorkedOff tree.plan tries items before after piece
+front_not_done tree tries items i d before mid after piece why below owned h l not_done_for =
     let few = h.few in
     let count = h.count in
     let answered = h.answered in
@@ -126,29 +127,29 @@ front_not_done tree cards tries items i d before mid after piece why below owned
       answers = omega arith;
       not_done =
           let short : length piece < length items = omega arith in
-          once_not_done cards tries (one_not_done items piece) before mid after why
+          once_not_done tree.plan tries (one_not_done items piece) before mid after why
           (cond-true (nat_lt (length piece) (length items)) 1 0 (lt-ltb (length piece) (length items) short)) h.grows not_done_for;
     }
 
 -- one worker has worked its part off, by a pass that got another label
-pub one_worked : (cards tries : ℕ) (parting : PartedOps) (workers : List ℕ) (d label : ℕ) (before told after : PassModel) (items : List (ℕ × Op)) (piece : List (ℕ × Reply))
+pub one_worked : (plan : TablePlan) (tries : ℕ) (parting : PartedOps) (workers : List ℕ) (d label : ℕ) (before told after : PassModel) (items : List (ℕ × Op)) (piece : List (ℕ × Reply))
     (pieces : List (List (ℕ × Reply))) → 0 < length workers → length workers < 2 → told ≡ record before { label = label } →
-    items ≡ part parting (get_or workers 0 d) → IsWorkedOff cards tries items told after piece → pieces ≡ piece ∷ [] →
-    IsWorked cards tries parting workers before after pieces
-one_worked cards tries parting [] d label before told after items piece pieces some few same own h is = absurd (omega arith)
-one_worked cards tries parting (w ∷ v ∷ ws) d label before told after items piece pieces some few same own h is = absurd (omega arith)
-one_worked cards tries parting (w ∷ []) d label before told after items piece pieces some few same own h is =
-    let off : IsWorkedOff cards tries (part parting w) (record before { label = label }) after piece =
-    subst (λ all. IsWorkedOff cards tries all (record before { label = label }) after piece) own
-    (subst (λ p. IsWorkedOff cards tries items p after piece) same h) in
-    subst (IsWorked cards tries parting (w ∷ []) before after) (sym is) (record {
+    items ≡ part parting (get_or workers 0 d) → IsWorkedOff plan tries items told after piece → pieces ≡ piece ∷ [] →
+    IsWorked plan tries parting workers before after pieces
+one_worked plan tries parting [] d label before told after items piece pieces some few same own h is = absurd (omega arith)
+one_worked plan tries parting (w ∷ v ∷ ws) d label before told after items piece pieces some few same own h is = absurd (omega arith)
+one_worked plan tries parting (w ∷ []) d label before told after items piece pieces some few same own h is =
+    let off : IsWorkedOff plan tries (part parting w) (record before { label = label }) after piece =
+    subst (λ all. IsWorkedOff plan tries all (record before { label = label }) after piece) own
+    (subst (λ p. IsWorkedOff plan tries items p after piece) same h) in
+    subst (IsWorked plan tries parting (w ∷ []) before after) (sym is) (record {
       table = off.table;
       idle = off.idle;
       told = (off.told, tt);
       map = off.map ∙ ap (final (present_in before)) (sym (append-nil (ops_in (front (part parting w) piece))));
       owned = off.owned;
       answers = let counted = off.answers in omega arith;
-      not_done = subst (λ n. AreNotDone cards tries n before after) (sym (add-zero (one_not_done (part parting w) piece))) off.not_done;
+      not_done = subst (λ n. AreNotDone plan tries n before after) (sym (add-zero (one_not_done (part parting w) piece))) off.not_done;
     })
 
 -- the label after workers, of whom there are some, is the first one's number

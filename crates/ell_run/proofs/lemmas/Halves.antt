@@ -14,6 +14,7 @@ use Rattle.ell_ops.specs.declared.op.Op.TheVariants.{Find}
 use Rattle.ell_ops.specs.KeySet.{Lists}
 use Rattle.ell_ops.specs.Meaning.{key_of, final}
 use Rattle.ell_parts.specs.PartedOps.{PartedOps, IsLawful, part, keys_of_part}
+use Rattle.ell_cards.specs.Models.{TablePlan}
 use Rattle.ell_tree.specs.Ledgers.{PassModel, TreeModel, Owns, ledger, present_in, Entry}
 use Rattle.ell_tree.specs.PassParts.{IsUnion, or_else}
 use Rattle.ell_run.specs.Pieces.{all_not_done, ops_done}
@@ -193,8 +194,8 @@ module _ (tree : TreeModel) (parting : PartedOps) (low high : List ℕ) (pass le
         (owns_alike right pass (key_of (get_or (part parting (get_or high j d)) k e).1) (own_right j d below k e within)).1 (owned k e within);
   }
 
-  module _ (cards tries : ℕ) (first second both : PassModel) (ps qs : List (List (ℕ × Reply)))
-      (did : IsWorked cards tries parting low left first ps) (other : IsWorked cards tries parting high right second qs)
+  module _ (plan : TablePlan) (tries : ℕ) (first second both : PassModel) (ps qs : List (List (ℕ × Reply)))
+      (did : IsWorked plan tries parting low left first ps) (other : IsWorked plan tries parting high right second qs)
       (union : IsUnion first second both) where
     -- the ledger of both at a key is that of its half
     ledger_at_left : (key : ℕ) → IsLeft parting high pass left right key → ledger both key ≡ ledger first key
@@ -238,7 +239,7 @@ module _ (tree : TreeModel) (parting : PartedOps) (low high : List ℕ) (pass le
         (key_cases tree parting low high pass left right ready h key)
 
     -- two rows of workers, each with its half, have worked as one with the whole
-    pub worked_both : IsWorked cards tries parting (low ++ high) pass both (ps ++ qs)
+    pub worked_both : IsWorked plan tries parting (low ++ high) pass both (ps ++ qs)
     worked_both =
         let first_told = pieces_alike (present_in left) (present_in pass) parting low ps
         (λ j d below k e within. present_alike left pass (key_of (get_or (part parting (get_or low j d)) k e).1) (own_left j d below k e within)) did.told in
@@ -257,9 +258,9 @@ module _ (tree : TreeModel) (parting : PartedOps) (low high : List ℕ) (pass le
           owned = owned_at;
           answers = omega (arith, sum_by-append (λ (piece : List (ℕ × Reply)). length piece) ps qs);
           not_done =
-              subst (λ n. AreNotDone cards tries n pass both)
+              subst (λ n. AreNotDone plan tries n pass both)
               (sym (all_not_done-append (present_in pass) parting low high ps qs first_told))
-              (both_not_done cards tries (all_not_done parting low ps) (all_not_done parting high qs) pass left right first second both
+              (both_not_done plan tries (all_not_done parting low ps) (all_not_done parting high qs) pass left right first second both
               h.on_left.hindrances h.on_right.hindrances union.hindrances union.next did.not_done other.not_done);
         }
 

@@ -3,6 +3,7 @@ use Rattle.std.specs.List.{insert}
 use Rattle.std.proofs.Math.Nat.{mul-add, mul-one, mul-zero, zero-add}
 use Rattle.std.proofs.lemmas.List.{length-append}
 use Rattle.ell_parts.specs.PartedOps.{PartedOps, part}
+use Rattle.ell_cards.specs.Models.{TablePlan}
 use Rattle.ell_tree.specs.PassParts.{later_reading}
 use Rattle.ell_tree.specs.declared.operations.NotDone.{NotDone}
 use Rattle.ell_tree.specs.declared.operations.NotDone.TheVariants.{Busy, Spent}
@@ -21,17 +22,18 @@ hindrances_grow before after m =
     omega (arith, length-append m.met before.view.hindrances)
 
 -- all were done
-pub none_not_done : (cards tries count : ℕ) (before after : PassModel) → count ≡ 0 → hindrances before ≤ hindrances after →
-    AreNotDone cards tries count before after
-none_not_done cards tries count before after none grows =
+pub none_not_done : (plan : TablePlan) (tries count : ℕ) (before after : PassModel) → count ≡ 0 → hindrances before ≤ hindrances after →
+    AreNotDone plan tries count before after
+none_not_done plan tries count before after none grows =
     inr (subst (λ n. hindrances before + tries * n ≤ hindrances after) (sym none) (omega (arith, mul-zero tries)))
 
 -- one was not done, after others
-pub once_not_done : (cards tries count : ℕ) (before mid after : PassModel) (why : NotDone) → count ≡ 1 → hindrances before ≤ hindrances mid →
-    NotDoneFor cards tries mid after why → AreNotDone cards tries count before after
-once_not_done cards tries count before mid after Busy one grows h =
+pub once_not_done : (plan : TablePlan) (tries count : ℕ) (before mid after : PassModel) (why : NotDone) → count ≡ 1 → hindrances before ≤ hindrances mid →
+    NotDoneFor plan tries mid after why → AreNotDone plan tries count before after
+once_not_done plan tries count before mid after Busy one grows h =
     inr (subst (λ n. hindrances before + tries * n ≤ hindrances after) (sym one) (omega (arith, mul-one tries)))
-once_not_done cards tries count before mid after Spent one grows h = inl (record { next = cards + 1; read = h; past = omega arith })
+once_not_done plan tries count before mid after Spent one grows h =
+    inl (λ plain. record { next = plan.last_card + 1; read = h plain; past = omega arith })
 
 later_left : (cards n : ℕ) (other : Option ℕ) (both : PassModel) → cards < n → both.view.next ≡ later_reading (Some n) other → HasNoCards cards both
 later_left cards n None both past e = record { next = n; read = e; past = past }
@@ -42,14 +44,16 @@ later_right cards n None both past e = record { next = n; read = e; past = past 
 later_right cards n (Some m) both past e = record { next = max m n; read = e; past = omega arith }
 
 -- why operations of two passes were not done is told by the one that both come together in
-pub both_not_done : (cards tries a b : ℕ) (pass left right first second both : PassModel) → hindrances left ≡ hindrances pass → hindrances right ≡ 0 →
+pub both_not_done : (plan : TablePlan) (tries a b : ℕ) (pass left right first second both : PassModel) → hindrances left ≡ hindrances pass → hindrances right ≡ 0 →
     hindrances both ≡ hindrances first + hindrances second → both.view.next ≡ later_reading first.view.next second.view.next →
-    AreNotDone cards tries a left first → AreNotDone cards tries b right second → AreNotDone cards tries (a + b) pass both
-both_not_done cards tries a b pass left right first second both kept anew sum next on_left on_right =
+    AreNotDone plan tries a left first → AreNotDone plan tries b right second → AreNotDone plan tries (a + b) pass both
+both_not_done plan tries a b pass left right first second both kept anew sum next on_left on_right =
     ⊎_elim
-    (λ spent. inl (later_left cards spent.next second.view.next both spent.past (next ∙ ap (λ n. later_reading n second.view.next) spent.read)))
+    (λ spent. inl (λ plain. let none = spent plain in
+        later_left plan.last_card none.next second.view.next both none.past (next ∙ ap (λ n. later_reading n second.view.next) none.read)))
     (λ few. ⊎_elim
-    (λ spent. inl (later_right cards spent.next first.view.next both spent.past (next ∙ ap (later_reading first.view.next) spent.read)))
+    (λ spent. inl (λ plain. let none = spent plain in
+        later_right plan.last_card none.next first.view.next both none.past (next ∙ ap (later_reading first.view.next) none.read)))
     (λ more. inr (omega (arith, mul-add tries a b)))
     on_right)
     on_left

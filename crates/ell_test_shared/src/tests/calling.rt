@@ -1,5 +1,5 @@
 //! Calls of passes of a tree of shared keys, some of which may have owners.
-ghost use Rattle.std.specs.Prelude.{◌≡◌, ◌≤◌};
+ghost use Rattle.std.specs.Prelude.{◌≡◌, ◌≤◌, None};
 ghost use Rattle.ell_ops.specs.KeySet.{set_of};
 ghost use Rattle.ell_tree.specs.Promises.{MayDo};
 ghost use Rattle.ell_test_shared.specs.Sharing.{IsMember};
@@ -239,6 +239,7 @@ pub fn close(
 ) -> Vec<(u64, u64)>
     requires member { IsMember owned.now tree pass }
     requires keys { tree.plan.keys ≡ owned.now }
+    requires plain { tree.plan.slots ≡ None }
 {
     assert!(rt; owned.iter().all(|key| pass.owns(*key)) && pass.has_whole_share());
     tree.close(pass).ok().expect(rt, "memory")

@@ -1,6 +1,6 @@
 //! Flat trees: keys that come in any order; and calls that are held before each of their steps in turn, while another
 //! pass changes what is above and below an internal node, above which inserts put their nodes.
-ghost use Rattle.std.specs.Prelude.{◌≡◌, []};
+ghost use Rattle.std.specs.Prelude.{◌≡◌, [], None};
 ghost use Rattle.ell_test_shared.specs.Sharing.{IsSharer};
 
 use super::calling::KeyCall::{self, Ask, Look};
@@ -21,6 +21,7 @@ const KEYS: u64 = 300;
 fn opened_flat(rt: &(impl Abort + AllocGlobal)) -> (Tree<Global>, Pass<Global>)
     ensures sharer { IsSharer result.0 result.1 }
     ensures keys { result.0.plan.keys ≡ [] }
+    ensures plain { result.0.plan.slots ≡ None }
 {
     Tree::reserve_flat(rt.alloc(), &[], &[], 10_000).expect(rt, "tree")
 }

@@ -1,5 +1,5 @@
 //! Trees of shared keys, and the calls that tell of many keys: what each tells, in one form.
-ghost use Rattle.std.specs.Prelude.{◌≡◌, ◌≤◌};
+ghost use Rattle.std.specs.Prelude.{◌≡◌, ◌≤◌, None};
 ghost use Rattle.ell_test_shared.specs.Sharing.{IsMember, IsSharer};
 ghost use Rattle.ell_tree.specs.Ledgers.{IsIdlePassOf};
 ghost use Rattle.ell_tree.specs.Meaning.{greatest_key};
@@ -54,6 +54,7 @@ pub fn opened_for(
 ) -> (Tree<Global>, Pass<Global>)
     ensures member { IsMember owned.now result.0 result.1 }
     ensures keys { result.0.plan.keys ≡ owned.now }
+    ensures plain { result.0.plan.slots ≡ None }
 {
     assert!(rt; ascend(start) && all_fit(start) && start.len() <= START_MAX as usize);
     assert!(rt; ascend(owned) && all_fit(owned));

@@ -1,6 +1,6 @@
-use Rattle.std.proofs.Common.{◌≡◌, ◌≢◌, ℕ, false, not, Ok, Option, Some, None, is_some, inl, inr, refl, sym, ap, ◌∙◌, arith, List, [], ◌∷◌, ◌++◌, length}
+use Rattle.std.proofs.Common.{◌≡◌, ◌≢◌, ℕ, true, false, not, Ok, Option, Some, None, is_some, inl, inr, refl, sym, ap, subst, ◌∙◌, arith, List, [], ◌∷◌, ◌++◌, length}
 use Rattle.std.proofs.lemmas.List.{append_assoc}
-use Rattle.std.proofs.lemmas.Bool.{ne_eqb, eq-eqb, false≢true}
+use Rattle.std.proofs.lemmas.Bool.{ne_eqb, eq-eqb, eqb-true, false≢true}
 use Rattle.std.proofs.Common.{eqb}
 use Rattle.std.specs.Option.{option_eq}
 use Rattle.ell_ops.specs.declared.op.Op.{Op}
@@ -222,6 +222,18 @@ not_there t key value p q h owns = is_there (present_in p key) (h.says owns)
 -- a test that finds an option to be no certain value
 pub not_one : (o : Option ℕ) (was : ℕ) → option_eq eqb o (Some was) ≡ false → o ≢ Some was
 not_one o was test e = false≢true (sym test ∙ (ap (λ a. option_eq eqb a (Some was)) e ∙ eq-eqb was was refl))
+
+-- and one that finds it to be that value
+pub is_one : (o : Option ℕ) (was : ℕ) → option_eq eqb o (Some was) ≡ true → o ≡ Some was
+is_one None was test = absurd (false≢true test)
+is_one (Some v) was test = ap Some (eqb-true v was test)
+
+-- so a swap has put its value
+pub swapped : (t : TreeModel) (key value : ℕ) (before there : Option ℕ) (was : ℕ) (p q : PassModel) → before ≡ Some was → there ≡ Some was
+    → Answers t (Swap key was value) (found there) p q → Answers t (put_by key value before) (reply_of_change (put_by key value before)) p q
+swapped t key value before there was p q is same said =
+    subst (λ o. Answers t (put_by key value o) (reply_of_change (put_by key value o)) p q) (sym is)
+    (subst (λ o. Answers t (Swap key was value) (found o) p q) same said)
 
 -- what a pass may change it still may
 pub may_still : (t : TreeModel) (key : ℕ) (p q : PassModel) → IsUntouched p q → MayDo t key p → MayDo t key q

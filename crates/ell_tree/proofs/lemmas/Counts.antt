@@ -1,5 +1,5 @@
 use Rattle.std.proofs.Math.Nat.{mul-le-mul_right}
-use Rattle.std.proofs.Common.{◌≡◌, ℕ, ◌+◌, ◌*◌, ◌≤◌, ◌<◌, zero, suc, refl, sym, ap, ap₂, ◌∙◌, ◌-◌, arith}
+use Rattle.std.proofs.Common.{◌≡◌, None, ℕ, ◌+◌, ◌*◌, ◌≤◌, ◌<◌, zero, suc, refl, sym, ap, ap₂, ◌∙◌, ◌-◌, arith}
 use Rattle.ell_cards.specs.declared.view.View.{View}
 use Rattle.ell_cards.specs.Models.{TablePlan, PassModel, Counts, Sees, one_more, some_more}
 use Rattle.ell_tree.specs.Counts.{CountsAll, HasUncounted, Took, TookIn}
@@ -46,9 +46,13 @@ took_within a b m n h le = record { steps = omega (arith, h.steps, le); made = o
 pub took_trans : (a b c : PassModel) (m n k : ℕ) → Took a b m → Took b c n → m + n ≤ k → Took a c k
 took_trans a b c m n k h h' le = record { steps = omega (arith, h.steps, h'.steps, le); made = omega (arith, h.made, h'.made, le) }
 
--- the same in a table
+-- what is so of any table is so of each
 pub took_in : (plan : TablePlan) (a b : PassModel) (n : ℕ) → Took a b n → TookIn plan a b n
 took_in plan a b n h = record { steps = h.steps; made = λ plain. h.made }
+
+pub took_in_within : (plan : TablePlan) (a b : PassModel) (m n : ℕ) → TookIn plan a b m → m ≤ n → TookIn plan a b n
+took_in_within plan a b m n h le =
+    record { steps = omega (arith, h.steps, le); made = λ plain. let made = h.made plain in omega (arith, made, le) }
 
 pub took_in_trans : (plan : TablePlan) (a b c : PassModel) (m n k : ℕ) → TookIn plan a b m → TookIn plan b c n → m + n ≤ k → TookIn plan a c k
 took_in_trans plan a b c m n k h h' le = record {
@@ -57,27 +61,34 @@ took_in_trans plan a b c m n k h h' le = record {
 }
 
 -- so many rounds of so many steps at most; before the first, the step that takes an operation in hand
-pub record TookRounds (rounds most : ℕ) (old new : PassModel) : Type 0 where
-  pub first : rounds ≡ 0 → Took old new 1
-  pub later : 1 ≤ rounds → Took old new (rounds * most)
+pub record TookRounds (plan : TablePlan) (rounds most : ℕ) (old new : PassModel) : Type 0 where
+  pub first : rounds ≡ 0 → TookIn plan old new 1
+  pub later : 1 ≤ rounds → TookIn plan old new (rounds * most)
 
-pub rounds_first : (most : ℕ) (old new : PassModel) → Took old new 1 → TookRounds 0 most old new
-rounds_first most old new h = record { first = λ none. h; later = λ some. absurd (omega (arith, some)) }
+pub rounds_first : (plan : TablePlan) (most : ℕ) (old new : PassModel) → Took old new 1 → TookRounds plan 0 most old new
+rounds_first plan most old new h = record { first = λ none. took_in plan old new 1 h; later = λ some. absurd (omega (arith, some)) }
 
-pub rounds_later : (r most : ℕ) (old new : PassModel) → Took old new ((r + 1) * most) → TookRounds (r + 1) most old new
-rounds_later r most old new h = record { first = λ none. absurd (omega (arith, none)); later = λ some. h }
+pub rounds_later : (plan : TablePlan) (r most : ℕ) (old new : PassModel) → TookIn plan old new ((r + 1) * most) → TookRounds plan (r + 1) most old new
+rounds_later plan r most old new h = record { first = λ none. absurd (omega (arith, none)); later = λ some. h }
 
 -- the steps after one more round; the first starts at the root already
-pub round_steps : (r most : ℕ) (start before begun after : PassModel) → TookRounds r most start before → Took before begun 1 → (r ≡ 0 → begun ≡ before)
-    → after.steps + 1 ≤ begun.steps + most → after.view.made + 1 ≤ begun.view.made + most → Took start after ((r + 1) * most)
-round_steps zero most start before begun after rounds again same steps made =
+pub round_steps : (plan : TablePlan) (r most : ℕ) (start before begun after : PassModel) → TookRounds plan r most start before → Took before begun 1
+    → (r ≡ 0 → begun ≡ before) → after.steps + 1 ≤ begun.steps + most → (plan.slots ≡ None → after.view.made + 1 ≤ begun.view.made + most)
+    → TookIn plan start after ((r + 1) * most)
+round_steps plan zero most start before begun after rounds again same steps made =
     let few = rounds.first refl in
     let row = ap (λ (p : PassModel). p.steps) (same refl) in
     let all = ap (λ (p : PassModel). p.view.made) (same refl) in
-    record { steps = omega (arith, few.steps, row, steps); made = omega (arith, few.made, all, made) }
-round_steps (suc r) most start before begun after rounds again same steps made =
+    record {
+      steps = omega (arith, few.steps, row, steps);
+      made = λ plain. let one = few.made plain in let more = made plain in omega (arith, one, all, more);
+    }
+round_steps plan (suc r) most start before begun after rounds again same steps made =
     let few = rounds.later (omega arith) in
-    record { steps = omega (arith, few.steps, again.steps, steps); made = omega (arith, few.made, again.made, made) }
+    record {
+      steps = omega (arith, few.steps, again.steps, steps);
+      made = λ plain. let one = few.made plain in let more = made plain in omega (arith, one, again.made, more);
+    }
 
 -- no more than of all rounds
 pub rounds_steps : (r tries most : ℕ) → r < tries → (r + 1) * most ≤ tries * most

@@ -9,11 +9,10 @@ use Rattle.ell_core.specs.state.Facts.{known_of, same_fact}
 use Rattle.ell_cards.specs.declared.view.View.{View}
 use Rattle.ell_cards.specs.Models.{TablePlan, PassModel, EndedBy, EndWasUnknown, Knows, knows_end}
 use Rattle.ell_cards.proofs.lemmas.views.Facts.{ended_test, test_ended}
-use Rattle.ell_tree.specs.Counts.{IsAmortized, Took}
-use Rattle.ell_tree.specs.Ends.{try_steps}
+use Rattle.ell_tree.specs.Counts.{IsAmortized, TookIn}
+use Rattle.ell_tree.specs.Ends.{try_steps_in}
 use Rattle.ell_tree.specs.Hindrances.{IsEnded}
 use Rattle.ell_tree.specs.Milestones.{GivesOut, SeesMilestone, ends_known, milestones_known}
-use Rattle.ell_cards.specs.Depths.{deepest}
 
 -- what was known stays known
 ended_still : (f g : List Fact) → ((x : Fact) → known_of f x ≡ true → known_of g x ≡ true) → (c : ℕ) → EndedBy f c → EndedBy g c
@@ -134,13 +133,13 @@ amortized_steps a b r start after most on steps =
     omega (arith, steps, all)
 
 pub amortized : (plan : TablePlan) (r : ℕ) (old new : PassModel) → milestones_known plan.last_card old.view + r ≤ milestones_known plan.last_card new.view
-    → Took old new ((r + 1) * try_steps (deepest plan) + 1) → IsAmortized plan old new
+    → TookIn plan old new ((r + 1) * try_steps_in plan + 1) → IsAmortized plan old new
 amortized plan r old new on took =
     let a = milestones_known plan.last_card old.view in
     let b = milestones_known plan.last_card new.view in
     record {
-      steps = amortized_steps a b r old.steps new.steps (try_steps (deepest plan)) on took.steps;
-      made = amortized_steps a b r old.view.made new.view.made (try_steps (deepest plan)) on took.made;
+      steps = amortized_steps a b r old.steps new.steps (try_steps_in plan) on took.steps;
+      made = λ plain. amortized_steps a b r old.view.made new.view.made (try_steps_in plan) on (took.made plain);
     }
 
 -- a pass that knows nothing

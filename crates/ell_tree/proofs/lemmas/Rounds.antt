@@ -4,20 +4,18 @@ use Rattle.ell_tree.specs.CardsTaken.{TakesAtMost, TakesByHindered}
 use Rattle.ell_tree.specs.declared.operations.NotDone.{NotDone}
 use Rattle.ell_tree.specs.Ledgers.{Owns}
 use Rattle.ell_tree.specs.Promises.{SpendsCards}
-use Rattle.ell_tree.specs.Ends.{find_steps}
-use Rattle.ell_tree.specs.Computing.{round_steps, update_steps}
 use Rattle.ell_tree.proofs.lemmas.Counts.{rounds_steps}
 
 -- one round more is one of all rounds
-pub rounds_within : (cards round tries : ℕ) → round < tries → find_steps cards + round * round_steps cards + round_steps cards ≤ update_steps cards tries
-rounds_within cards round tries less =
-    let one : (round + 1) * round_steps cards ≡ round * round_steps cards + round_steps cards = omega arith in
-    let all = rounds_steps round tries (round_steps cards) less in
+pub rounds_within : (start most round tries : ℕ) → round < tries → start + round * most + most ≤ start + tries * most
+rounds_within start most round tries less =
+    let one : (round + 1) * most ≡ round * most + most = omega arith in
+    let all = rounds_steps round tries most less in
     omega (arith, one, all)
 
-pub one_round_more : (cards round : ℕ) → find_steps cards + round * round_steps cards + round_steps cards ≤ find_steps cards + (round + 1) * round_steps cards
-one_round_more cards round =
-    let one : (round + 1) * round_steps cards ≡ round * round_steps cards + round_steps cards = omega arith in
+pub one_round_more : (start most round : ℕ) → start + round * most + most ≤ start + (round + 1) * most
+one_round_more start most round =
+    let one : (round + 1) * most ≡ round * most + most = omega arith in
     omega (arith, one)
 
 -- a call that has put nothing has taken no card but those of hindered tries, and of an own key none

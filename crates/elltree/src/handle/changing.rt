@@ -62,6 +62,7 @@ impl Handle {
 
     /// Removes a key if its value is `current`, in one atomic step. Returns the value that the key had, if it was
     /// present, so it was removed exactly if that is `current`. Refusals and cards are as for `put`.
+    #[tactic(auto, using(crate::proofs::lemmas::May::updates_of))]
     pub fn remove_if(&mut self, key: u64, current: u64, tries: u32) -> Result<Option<u64>, Refusal>
         // The outcome is that of the tree's `remove_if`.
         ensures { Outcome key tries (Removes key current tries) self.old self.new result }
@@ -77,6 +78,7 @@ impl Handle {
     /// if it was present. `NoTries` and `BadKey` are as for `insert`. A try fails if something was in its way, or if
     /// another handle has changed the key since it was read. Returns `Busy` if all tries fail this way, and `Spent` if a
     /// try finds all cards given out. A put takes a card, and at most one more for each try that something hindered.
+    #[tactic(auto, using(crate::proofs::lemmas::May::updates_of))]
     pub fn put(&mut self, key: u64, value: u64, tries: u32) -> Result<Option<u64>, Refusal>
         // The outcome is that of the tree's `put`.
         ensures { Outcome key tries (Puts key value tries) self.old self.new result }
@@ -87,6 +89,7 @@ impl Handle {
 
     /// Adds to the value of a key in one atomic step, and returns the value that it had. A sum above `u64::MAX` wraps
     /// around. A key that is absent stays absent. Refusals and cards are as for `put`.
+    #[tactic(auto, using(crate::proofs::lemmas::May::updates_of))]
     pub fn fetch_add(&mut self, key: u64, addend: u64, tries: u32) -> Result<Option<u64>, Refusal>
         // The outcome is that of the tree's `fetch_add`.
         ensures { Outcome key tries (Adds key addend tries) self.old self.new result }

@@ -11,7 +11,7 @@ loop-worker-init g c =
     let parting = c.args.parts.now in
     record {
       count = c.requires ∙ ap length (sym (mixed_none parting));
-      worked = λ cards tries before after h. subst (λ workers. IsWorked cards tries parting workers before after (map (λ piece. piece.items) c.args.pieces.items)) (sym (mixed_none parting)) h;
+      worked = λ plan tries before after h. subst (λ workers. IsWorked plan tries parting workers before after (map (λ piece. piece.items) c.args.pieces.items)) (sym (mixed_none parting)) h;
     }
 
 pub insert-requires : goal.insert-requires
@@ -33,30 +33,30 @@ loop-worker-preserved g c =
               length-insert ps worker w.new.result (omega (arith, mixed_room parting worker)),
               length-mixed_idle parting worker c.part.result.now below c.part.ensures none,
             );
-            worked = λ cards tries before after h.
-                subst (IsWorked cards tries parting (mixed parting (worker + 1)) before after)
+            worked = λ plan tries before after h.
+                subst (IsWorked plan tries parting (mixed parting (worker + 1)) before after)
                 (sym (ap (map (λ piece. piece.items)) items ∙ map-insert (λ piece. piece.items) ps worker w.new.result
                 ∙ ap (insert (map (λ piece. piece.items) ps) worker) w.new.ensures.items))
-                (worked_idle cards tries parting worker c.part.result.now before after (map (λ piece. piece.items) ps) below c.part.ensures none
-                (c.loop-worker.invariant.worked cards tries before after h));
+                (worked_idle plan tries parting worker c.part.result.now before after (map (λ piece. piece.items) ps) below c.part.ensures none
+                (c.loop-worker.invariant.worked plan tries before after h));
           }
       | else-is_empty w ↦
           let same = ap (λ pieces. pieces.items) w.pieces-is in
           let here = busy_here parting worker c.part.result.now below c.part.ensures w.if-is_empty.ensures in record {
             count = ap length same ∙ count ∙ ap length (sym here);
-            worked = λ cards tries before after h.
-                subst (λ workers. IsWorked cards tries parting workers before after (map (λ piece. piece.items) c.if-is_empty.pieces.items)) (sym here)
-                (subst (IsWorked cards tries parting (mixed parting worker) before after) (sym (ap (map (λ piece. piece.items)) same))
-                (c.loop-worker.invariant.worked cards tries before after h));
+            worked = λ plan tries before after h.
+                subst (λ workers. IsWorked plan tries parting workers before after (map (λ piece. piece.items) c.if-is_empty.pieces.items)) (sym here)
+                (subst (IsWorked plan tries parting (mixed parting worker) before after) (sym (ap (map (λ piece. piece.items)) same))
+                (c.loop-worker.invariant.worked plan tries before after h));
           }
     ]
 
 pub returns : goal.returns
-returns g c = λ cards tries before after h.
+returns g c = λ plan tries before after h.
     let parting = c.args.parts.now in
     let end = c.workers-worker-end.ensures.value in
     let past = c.loop-worker-test.false in
     let within = c.loop-worker.auto.worker-end in
     let all : c.loop-worker.worker ≡ parting.workers = omega arith in
-    subst (λ workers. IsWorked cards tries parting workers before after (map (λ piece. piece.items) c.loop-worker.pieces.items)) (mixed_all parting c.loop-worker.worker all)
-    (c.loop-worker.invariant.worked cards tries before after h)
+    subst (λ workers. IsWorked plan tries parting workers before after (map (λ piece. piece.items) c.loop-worker.pieces.items)) (mixed_all parting c.loop-worker.worker all)
+    (c.loop-worker.invariant.worked plan tries before after h)

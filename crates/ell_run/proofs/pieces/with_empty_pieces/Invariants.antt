@@ -1,4 +1,5 @@
 use Rattle.std.proofs.Common.{◌≡◌, ℕ, length, map}
+use Rattle.ell_cards.specs.Models.{TablePlan}
 use Rattle.ell_tree.specs.Ledgers.{PassModel}
 use Rattle.ell_run.specs.Pieces.{busy}
 use Rattle.ell_run.specs.Work.{IsWorked}
@@ -9,6 +10,6 @@ use Rattle.ell_run.proofs.pieces.with_empty_pieces.Given as goal
 abbrev pub invariant-loop-worker : goal.invariant-loop-worker
 invariant-loop-worker g l = record {
   count : length l.pieces.items ≡ length (mixed l.parts l.worker);
-  worked : (cards tries : ℕ) (before after : PassModel) → IsWorked cards tries l.parts (busy l.parts) before after (map (λ piece. piece.items) l.initial.pieces.items) →
-      IsWorked cards tries l.parts (mixed l.parts l.worker) before after (map (λ piece. piece.items) l.pieces.items);
+  worked : (plan : TablePlan) (tries : ℕ) (before after : PassModel) → IsWorked plan tries l.parts (busy l.parts) before after (map (λ piece. piece.items) l.initial.pieces.items) →
+      IsWorked plan tries l.parts (mixed l.parts l.worker) before after (map (λ piece. piece.items) l.pieces.items);
 }

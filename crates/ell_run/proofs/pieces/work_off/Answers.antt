@@ -14,7 +14,7 @@ loop-position-preserved g c = (
 
 pub returns-clause-worked : goal.returns-clause-worked
 returns-clause-worked g c =
-    front_all c.args.tree.now.plan.last_card c.args.tries c.args.part.now c.loop-position.position-index c.args.pass.now c.loop-position.pass c.loop-position.piece.items
+    front_all c.args.tree.now.plan c.args.tries c.args.part.now c.loop-position.position-index c.args.pass.now c.loop-position.pass c.loop-position.piece.items
     c.loop-position-test.false c.loop-position.invariant.0
 
 pub returns-clause-bounded : goal.returns-clause-bounded
@@ -26,7 +26,7 @@ returns-clause-bounded g c =
 
 pub returns-in_default-clause-worked : goal.returns-in_default-clause-worked
 returns-in_default-clause-worked g c =
-    front_not_done c.args.tree.now c.args.tree.now.plan.last_card c.args.tries c.args.part.now c.loop-position.position-index (0, Find 0) c.args.pass.now c.loop-position.pass c.do_op.new.pass c.loop-position.piece.items
+    front_not_done c.args.tree.now c.args.tries c.args.part.now c.loop-position.position-index (0, Find 0) c.args.pass.now c.loop-position.pass c.do_op.new.pass c.loop-position.piece.items
     c.in_default.field-0 c.loop-position-test.true c.requires.owned c.loop-position.invariant.0 c.in_default.ensures.ends.0 c.in_default.ensures.ends.1
 
 pub returns-in_default-clause-bounded : goal.returns-in_default-clause-bounded

@@ -26,4 +26,5 @@ pub returns-in-Ok-clause-tree : goal.returns-in-Ok-clause-tree
 returns-in-Ok-clause-tree g c = record {
   begins = ap (λ plan. plan.start) c.in-Ok.ensures.tree;
   unshared = ap (λ plan. plan.shared) c.in-Ok.ensures.tree;
+  plain = ap (λ plan. plan.slots) c.in-Ok.ensures.tree;
 }

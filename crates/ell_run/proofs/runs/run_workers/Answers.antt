@@ -39,7 +39,7 @@ close-requires-clause-all g c =
 
 pub only_memory-requires : goal.only_memory-requires
 only_memory-requires g c =
-    unshared_stops c.in_ok-tree.tree c.in_ok-tree.pass c.in-Err.fault c.in_ok-tree.ensures.pass c.in_ok-tree.ensures.tree.unshared c.in-Err.ensures.why
+    unshared_stops c.in_ok-tree.tree c.in_ok-tree.pass c.in-Err.fault c.in_ok-tree.ensures.pass c.in_ok-tree.ensures.tree.unshared c.in_ok-tree.ensures.tree.plain c.in-Err.ensures.why
 
 pub close-requires-clause-whole : goal.close-requires-clause-whole
 close-requires-clause-whole g c = λ shared. absurd (true≢false (sym shared ∙ c.in_ok-tree.ensures.tree.unshared))

@@ -8,7 +8,7 @@ returns g c =
     let pushed = c.in_ok-push.ensures.items ∙ ap (λ pieces. pieces ++ c.in_ok-piece.piece ∷ []) c.new-pieces.ensures.items in
     record {
       worked =
-          one_worked c.args.tree.now.plan.last_card c.args.tries c.args.parts.now c.args.workers.now 0 _ c.args.pass c.relabel.new.self c.work_off.new.pass c.part.result.now c.in_ok-piece.piece.items
+          one_worked c.args.tree.now.plan c.args.tries c.args.parts.now c.args.workers.now 0 _ c.args.pass c.relabel.new.self c.work_off.new.pass c.part.result.now c.in_ok-piece.piece.items
           (map (λ piece. piece.items) c.push.new.self.items) (omega (arith, c.in-len1.len_at_least)) (omega (arith, c.in-len1.len_below))
           c.relabel.ensures c.part.ensures c.in_ok-piece.ensures.worked (ap (map (λ piece. piece.items)) pushed);
       within =

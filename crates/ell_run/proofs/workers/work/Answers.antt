@@ -26,11 +26,11 @@ returns-clause-worked g c =
     let within = subst (λ workers. AreWithin plan parting workers c.args.pass c.in_ok-pass.pass) same c.in_ok-pass.ensures.worked.within in
     record {
       worked =
-          c.in_ok-with_empty_pieces.ensures plan.last_card c.args.tries c.args.pass c.in_ok-pass.pass
-          (subst (λ workers. IsWorked plan.last_card c.args.tries parting workers c.args.pass c.in_ok-pass.pass (map (λ piece. piece.items) c.in_ok-pass.pieces.items)) same
+          c.in_ok-with_empty_pieces.ensures plan c.args.tries c.args.pass c.in_ok-pass.pass
+          (subst (λ workers. IsWorked plan c.args.tries parting workers c.args.pass c.in_ok-pass.pass (map (λ piece. piece.items) c.in_ok-pass.pieces.items)) same
           c.in_ok-pass.ensures.worked.worked);
       bounded = omega (arith, within.bounded);
-      total = omega (arith, within.total);
+      total = λ plain. let all = within.total plain in omega (arith, all);
     }
 
 pub returns-clause-label : goal.returns-clause-label

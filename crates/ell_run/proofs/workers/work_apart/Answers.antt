@@ -19,8 +19,8 @@ returns-in-Ok-join-clause-worked g c =
     let union = c.in-Ok-join.ensures.joined in record {
       worked =
           worked_apart c.args.parts.now c.args.keys.now c.args.pass c.in-Ok.parted.0 c.in-Ok.parted.1 c.requires.keys c.requires.owned left
-          c.args.tree.now c.args.tree.now.plan.last_card c.args.tries c.in_ok-ours.ours c.in-Ok-join.pass (map (λ piece. piece.items) c.in_ok-ours.pieces.items)
+          c.args.tree.now c.args.tree.now.plan c.args.tries c.in_ok-ours.ours c.in-Ok-join.pass (map (λ piece. piece.items) c.in_ok-ours.pieces.items)
           c.requires.lawful c.requires.idle.0 c.requires.idle.1 right did.worked union;
       bounded = omega (arith, left.steps, right.steps, did.bounded, union.steps);
-      total = omega (arith, left.made, right.made, did.total, union.made);
+      total = λ plain. let all = did.total plain in omega (arith, left.made, right.made, all, union.made);
     }

@@ -4,14 +4,14 @@ use Rattle.ell_ops.specs.Meaning.{found}
 use Rattle.ell_core.specs.statements.Effects.{reply_of_change}
 use Rattle.ell_cards.proofs.lemmas.runs.Tries.{more_tries}
 use Rattle.ell_tree.specs.Called.{put_by, tries_in}
-use Rattle.ell_tree.specs.Computing.{IsUntouched, ReadsValue, round_steps}
+use Rattle.ell_tree.specs.Computing.{IsUntouched, ReadsValue, round_steps_in}
 use Rattle.ell_tree.specs.Ends.{LaidDown, find_steps}
 use Rattle.ell_tree.specs.Ledgers.{Owns, present_in}
 use Rattle.ell_tree.specs.Promises.{IsOthersDoing}
 use Rattle.ell_tree.specs.CardsTaken.{TakesByHindered}
 use Rattle.ell_core.proofs.lemmas.outcomes.Decide.{some_not_none}
 use Rattle.ell_tree.proofs.lemmas.Computing.{untouched_by, untouched_laid, untouched_self, untouched_trans, concludes, find_leaves, found_not_yes, reads_own, reads_after, reads_last, laid_last, may_still}
-use Rattle.ell_tree.proofs.lemmas.Counts.{took_within, took_trans}
+use Rattle.ell_tree.proofs.lemmas.Counts.{took_in, took_in_within, took_in_trans}
 use Rattle.ell_tree.proofs.lemmas.Milestones.{milestones_most}
 use Rattle.ell_tree.proofs.lemmas.Rounds.{rounds_within, one_round_more, spends_none, by_rounds, not_some}
 use Rattle.ell_tree.proofs.computing.compute.Goals as goal
@@ -37,14 +37,14 @@ loop-round-init g c =
       makes = search rules;
       own = reads_own t key was old new reads;
       last = λ some. absurd (omega arith);
-      took = took_within old new (find_steps (deepest t.plan)) _ finds.steps (omega arith);
+      took = took_in_within t.plan old new (find_steps (deepest t.plan)) _ (took_in t.plan old new (find_steps (deepest t.plan)) finds.steps) (omega arith);
       counted = record { least = omega (arith, finds.quiet.hindered); most = omega (arith, finds.quiet.hindered) };
       hindered = λ owns. omega (arith, finds.quiet.hindered);
       milestones = λ owns. omega (arith, finds.quiet.milestones);
       tried = λ owns some. absurd (omega arith);
       made = let same = ap tries_in finds.answers.called in omega (arith, same, finds.quiet.hindered);
-      cards = record { least = omega (arith, finds.cards); most = omega (arith, finds.cards) };
-      few = omega (arith, finds.cards, finds.quiet.hindered);
+      cards = λ plain. record { least = omega (arith, finds.cards); most = omega (arith, finds.cards) };
+      few = λ plain. omega (arith, finds.cards, finds.quiet.hindered);
     }
 
 -- another pass had changed the key, which is not the pass's own: what is there now was read
@@ -66,7 +66,7 @@ loop-round-preserved g c = elim c.match-replace.branch [
       let apart : ¬ Owns old key = λ owns. lost.2 ((i.untouched.owned key).1 owns) (i.untouched.map key ∙ i.own owns) in
       let spends = c.replace.ensures.cards in
       let counts = c.replace.ensures.counted in
-      let each : TakesByHindered l.pass new = search rules in
+      let each : t.plan.slots ≡ None → TakesByHindered l.pass new = λ plain. (let one = (spends plain).each in search (rules, one)) in
       record {
         same = (refl, refl, refl, refl);
         may = may_still t key old new kept c.requires.may;
@@ -75,14 +75,16 @@ loop-round-preserved g c = elim c.match-replace.branch [
         makes = rw (w.was-is, w.made-is) w.make-made-in-Ok-Lost.ensures;
         own = λ owns. absurd (apart owns);
         last = λ some made. reads_last t key there old new reads;
-        took = took_trans old l.pass new (find_steps (deepest c.args.table.now.plan) + l._round * round_steps (deepest c.args.table.now.plan)) (round_steps (deepest c.args.table.now.plan)) _ i.took c.replace.ensures.steps (one_round_more (deepest c.args.table.now.plan) l._round);
+        took = took_in_trans t.plan old l.pass new (find_steps (deepest t.plan) + l._round * round_steps_in t.plan) (round_steps_in t.plan) _ i.took c.replace.ensures.steps
+            (one_round_more (find_steps (deepest t.plan)) (round_steps_in t.plan) l._round);
         counted = record { least = omega (arith, counts.least, i.counted.least); most = omega (arith, counts.most, i.counted.most) };
         hindered = λ owns. absurd (apart owns);
         milestones = λ owns. absurd (apart owns);
         tried = λ owns. absurd (apart owns);
         made = omega (arith, lost.3, counts.least, i.made);
-        cards = record { least = omega (arith, spends.most.least, i.cards.least); most = omega (arith, spends.most.most, i.cards.most) };
-        few = omega (arith, each, i.few);
+        cards = λ plain. let some = (spends plain).most in let all = i.cards plain in
+            record { least = omega (arith, some.least, all.least); most = omega (arith, some.most, all.most) };
+        few = λ plain. let one = each plain in let all = i.few plain in omega (arith, one, all);
       }
   | in-Err-Busy w ↦
       let t = c.args.table.now in
@@ -99,7 +101,7 @@ loop-round-preserved g c = elim c.match-replace.branch [
       let some : c.match-replace.made ≢ None = λ none. some_not_none w.made-is none in
       let spends = c.replace.ensures.cards in
       let counts = c.replace.ensures.counted in
-      let each : TakesByHindered l.pass new = search rules in
+      let each : t.plan.slots ≡ None → TakesByHindered l.pass new = λ plain. (let one = (spends plain).each in search (rules, one)) in
       record {
         same = (refl, refl, refl, refl);
         may = may_still t key old new kept c.requires.may;
@@ -108,14 +110,16 @@ loop-round-preserved g c = elim c.match-replace.branch [
         makes = rw (w.was-is, w.made-is, ← c.in-Some.is) i.makes;
         own = λ owns. i.own owns ∙ sym w.was-is;
         last = λ more made. laid_last t key c.in-Some.value l.was l.pass new laid;
-        took = took_trans old l.pass new (find_steps (deepest c.args.table.now.plan) + l._round * round_steps (deepest c.args.table.now.plan)) (round_steps (deepest c.args.table.now.plan)) _ i.took c.replace.ensures.steps (one_round_more (deepest c.args.table.now.plan) l._round);
+        took = took_in_trans t.plan old l.pass new (find_steps (deepest t.plan) + l._round * round_steps_in t.plan) (round_steps_in t.plan) _ i.took c.replace.ensures.steps
+            (one_round_more (find_steps (deepest t.plan)) (round_steps_in t.plan) l._round);
         counted = record { least = omega (arith, counts.least, i.counted.least); most = omega (arith, counts.most, i.counted.most) };
         hindered = λ owns. omega (arith, others.each, i.hindered owns);
         milestones = λ owns. omega (arith, others.milestones, i.milestones owns);
         tried = λ owns more. some;
         made = let same = ap tries_in laid.called in omega (arith, same, others.each, i.made);
-        cards = record { least = omega (arith, spends.most.least, i.cards.least); most = omega (arith, spends.most.most, i.cards.most) };
-        few = omega (arith, each, i.few);
+        cards = λ plain. let some = (spends plain).most in let all = i.cards plain in
+            record { least = omega (arith, some.least, all.least); most = omega (arith, some.most, all.most) };
+        few = λ plain. let one = each plain in let all = i.few plain in omega (arith, one, all);
       }
 ]
 
@@ -129,22 +133,22 @@ returns-in-Ok-Done-clause-computes g c =
 pub returns-in-Ok-Done-clause-steps : goal.returns-in-Ok-Done-clause-steps
 returns-in-Ok-Done-clause-steps g c =
     let l = c.loop-round in
-    let cards = c.args.table.now.plan.last_card in
-    took_trans c.args.pass.now l.pass c.replace.new.pass (find_steps (deepest c.args.table.now.plan) + l._round * round_steps (deepest c.args.table.now.plan)) (round_steps (deepest c.args.table.now.plan)) _ l.invariant.took
-    c.replace.ensures.steps (rounds_within (deepest c.args.table.now.plan) l._round c.args.tries c.loop-round-test.true)
+    let plan = c.args.table.now.plan in
+    took_in_trans plan c.args.pass.now l.pass c.replace.new.pass (find_steps (deepest plan) + l._round * round_steps_in plan) (round_steps_in plan) _ l.invariant.took
+    c.replace.ensures.steps (rounds_within (find_steps (deepest plan)) (round_steps_in plan) l._round c.args.tries c.loop-round-test.true)
 
 -- what was found last is to stay as it is
 pub returns-in_default-clause-cards : goal.returns-in_default-clause-cards
-returns-in_default-clause-cards g c =
+returns-in_default-clause-cards g c = λ plain.
     let i = c.loop-round.invariant in
-    spends_none c.args.key c.args.tries c.loop-round._round c.args.pass.now c.loop-round.pass c.loop-round.made i.cards i.few
+    spends_none c.args.key c.args.tries c.loop-round._round c.args.pass.now c.loop-round.pass c.loop-round.made (i.cards plain) (i.few plain)
     (omega (arith, c.loop-round-test.true)) (search rules) (λ owns. by_rounds c.loop-round._round (i.tried owns) (search rules))
 
 pub returns-clause-cards : goal.returns-clause-cards
-returns-clause-cards g c =
+returns-clause-cards g c = λ plain.
     let i = c.loop-round.invariant in
     let none : c.loop-round.made ≡ None = not_some c.loop-round.made (sym c.is_some.ensures ∙ c.if-is_some.false) in
-    spends_none c.args.key c.args.tries c.loop-round._round c.args.pass.now c.loop-round.pass c.loop-round.made i.cards i.few
+    spends_none c.args.key c.args.tries c.loop-round._round c.args.pass.now c.loop-round.pass c.loop-round.made (i.cards plain) (i.few plain)
     (omega (arith, c.loop-round.auto._round-end)) none (λ owns. by_rounds c.loop-round._round (i.tried owns) none)
 
 -- all tries were hindered

@@ -1,8 +1,8 @@
 use Rattle.std.proofs.Common.{◌≡◌, ◌≢◌, ◌≤◌, ◌*◌, ◌+◌, None}
 use Rattle.ell_tree.specs.Called.{tries_in}
 use Rattle.ell_tree.specs.CardsTaken.{TakesAtMost, TakesByHindered}
-use Rattle.ell_tree.specs.Computing.{IsUntouched, LastChangesNothing, ReadsValue, round_steps}
-use Rattle.ell_tree.specs.Counts.{Took}
+use Rattle.ell_tree.specs.Computing.{IsUntouched, LastChangesNothing, ReadsValue, round_steps_in}
+use Rattle.ell_tree.specs.Counts.{TookIn}
 use Rattle.ell_tree.specs.Ends.{CountsTries, find_steps}
 use Rattle.ell_tree.specs.Ledgers.{Owns, present_in}
 use Rattle.ell_tree.specs.Milestones.{milestones_known}
@@ -20,13 +20,13 @@ invariant-loop-round g l = record {
   makes : goal.F-post g l.fn.make l.was l.made;
   own : Owns l.fn.pass l.fn.key → present_in l.fn.pass l.fn.key ≡ l.was;
   last : 1 ≤ l._round → l.made ≢ None → LastChangesNothing l.fn.table l.fn.key l.pass.view;
-  took : Took l.fn.pass l.pass (find_steps (deepest l.fn.table.plan) + l._round * round_steps (deepest l.fn.table.plan));
+  took : TookIn l.fn.table.plan l.fn.pass l.pass (find_steps (deepest l.fn.table.plan) + l._round * round_steps_in l.fn.table.plan);
   counted : CountsTries l._round l.fn.pass l.pass;
   hindered : Owns l.fn.pass l.fn.key → l.pass.view.hindered ≡ l.fn.pass.view.hindered + l._round;
   milestones : Owns l.fn.pass l.fn.key
       → milestones_known l.fn.table.plan.last_card l.fn.pass.view + l._round ≤ milestones_known l.fn.table.plan.last_card l.pass.view;
   tried : Owns l.fn.pass l.fn.key → 1 ≤ l._round → l.made ≢ None;
   made : l.fn.pass.view.hindered + tries_in l.fn.pass.view.answers + l._round ≤ l.pass.view.hindered + tries_in l.pass.view.answers;
-  cards : TakesAtMost l._round l.fn.pass l.pass;
-  few : TakesByHindered l.fn.pass l.pass;
+  cards : l.fn.table.plan.slots ≡ None → TakesAtMost l._round l.fn.pass l.pass;
+  few : l.fn.table.plan.slots ≡ None → TakesByHindered l.fn.pass l.pass;
 }

@@ -2,9 +2,9 @@ use Rattle.std.proofs.Common.{◌≡◌, ◌+◌, ◌*◌, ◌∙◌, ap, length
 use Rattle.ell_cards.proofs.lemmas.runs.Tries.{more_tries}
 use Rattle.ell_cards.proofs.lemmas.runs.LayingDown.{laid_down_last_changes_nothing}
 use Rattle.ell_cards.specs.Accounts.{own_calls}
-use Rattle.ell_tree.specs.Ends.{changes_by, try_steps}
+use Rattle.ell_tree.specs.Ends.{changes_by, try_steps_in}
 use Rattle.ell_tree.specs.Hindrances.{way_of}
-use Rattle.ell_tree.proofs.lemmas.Counts.{took_within, took_trans, rounds_first, rounds_later, round_steps, rounds_steps}
+use Rattle.ell_tree.proofs.lemmas.Counts.{took_in, took_in_within, took_in_trans, rounds_first, rounds_later, round_steps, rounds_steps}
 use Rattle.ell_tree.proofs.lemmas.Halting.{begun_meets, begun_count}
 use Rattle.ell_tree.proofs.lemmas.Hindrances.{root_hindered, one_hindered, halts_hindered}
 use Rattle.ell_tree.proofs.lemmas.Meeting.{meets_trans}
@@ -13,7 +13,6 @@ use Rattle.ell_tree.proofs.lemmas.CardsTaken.{answers_first, answered_most, answ
 use Rattle.ell_tree.proofs.lemmas.Keeping.{share_trans}
 use Rattle.ell_tree.proofs.lemmas.Owning.{answers_before, would_before, takes_before_it}
 use Rattle.ell_tree.proofs.operations.change.Goals as goal
-use Rattle.ell_cards.specs.Depths.{deepest}
 
 pub try_once-requires-clause-root : goal.try_once-requires-clause-root
 try_once-requires-clause-root g c =
@@ -27,8 +26,8 @@ loop-round-preserved g c =
     let i = l.invariant in
     let op = c.args.op in
     let begins = c.restart.ensures.begins op i.stops.busy (λ none. i.root (eqb-true l.round 0 none)) in
-    let most = try_steps (deepest c.args.table.now.plan) in
-    let few = round_steps l.round most c.args.pass.now l.pass c.restart.new.pass c.try_once.new.pass i.rounds
+    let most = try_steps_in c.args.table.now.plan in
+    let few = round_steps c.args.table.now.plan l.round most c.args.pass.now l.pass c.restart.new.pass c.try_once.new.pass i.rounds
     begins.took (λ none. c.restart.ensures.first (eq-eqb l.round 0 none)) c.try_once.ensures.steps c.try_once.ensures.made in
     let halts = c.in-Hindered.ensures.ends.0 in
     let hindered = c.in-Hindered.ensures.ends.1 in
@@ -53,11 +52,9 @@ loop-round-preserved g c =
       milestones = let one = milestones_one c.args.table.now.plan.last_card l.pass.view c.restart.new.pass.view c.try_once.new.pass.view begins.before begins.least
           (λ f h. halts.meets.knows f (begins.knows f h)) c.in-Hindered.ensures.ends.2 in
           omega (arith, one, i.milestones);
-      taken = record {
-        least = omega (arith, c.in-Hindered.ensures.taken.least, begins.taken, i.taken.least);
-        most = omega (arith, c.in-Hindered.ensures.taken.most, begins.taken, i.taken.most);
-      };
-      rounds = rounds_later l.round most c.args.pass.now c.try_once.new.pass few;
+      taken = λ plain. let few = i.taken plain in let one = c.in-Hindered.ensures.taken plain in
+          record { least = omega (arith, one.least, begins.taken, few.least); most = omega (arith, one.most, begins.taken, few.most) };
+      rounds = rounds_later c.args.table.now.plan l.round most c.args.pass.now c.try_once.new.pass few;
     }
 
 pub loop-round-init : goal.loop-round-init
@@ -80,8 +77,8 @@ loop-round-init g c =
       hindrances = search rules;
       hindered = let none = root_hindered c.args.op c.begin.new.pass.view start.root in omega (arith, none, start.hindered);
       milestones = omega (arith, still);
-      taken = record { least = omega (arith, start.taken); most = omega (arith, start.taken) };
-      rounds = rounds_first (try_steps (deepest c.args.table.now.plan)) c.args.pass.now c.begin.new.pass start.took;
+      taken = λ plain. record { least = omega (arith, start.taken); most = omega (arith, start.taken) };
+      rounds = rounds_first c.args.table.now.plan (try_steps_in c.args.table.now.plan) c.args.pass.now c.begin.new.pass start.took;
     }
 
 pub returns-in-Answered-clause-steps : goal.returns-in-Answered-clause-steps
@@ -92,16 +89,16 @@ returns-in-Answered-clause-steps g c =
     let tried = c.try_once.new.pass in
     let begins = c.restart.ensures.begins c.args.op i.stops.busy (λ none. i.root (eqb-true l.round 0 none)) in
     let cards = c.args.table.now.plan.last_card in
-    let most = try_steps (deepest c.args.table.now.plan) in
-    let few = round_steps l.round most start l.pass c.restart.new.pass tried i.rounds
+    let most = try_steps_in c.args.table.now.plan in
+    let few = round_steps c.args.table.now.plan l.round most start l.pass c.restart.new.pass tried i.rounds
     begins.took (λ none. c.restart.ensures.first (eq-eqb l.round 0 none)) c.try_once.ensures.steps c.try_once.ensures.made in
     let all = rounds_steps l.round c.args.tries most c.loop-round-test.true in
     let on = milestones_more cards l.pass.view tried.view
     (λ f h. c.in-Answered.ensures.ends.1.knows f (begins.knows f h)) (omega (arith, begins.least, c.try_once.ensures.least)) in
     record {
-      most = took_within start tried ((l.round + 1) * most) (c.args.tries * most + 1) few (omega (arith, all));
+      most = took_in_within c.args.table.now.plan start tried ((l.round + 1) * most) (c.args.tries * most + 1) few (omega (arith, all));
       amortized = amortized c.args.table.now.plan l.round start tried (omega (arith, on, i.milestones))
-          (took_within start tried ((l.round + 1) * most) ((l.round + 1) * most + 1) few (omega arith));
+          (took_in_within c.args.table.now.plan start tried ((l.round + 1) * most) ((l.round + 1) * most + 1) few (omega arith));
       counted = record {
         least = omega (arith, c.try_once.ensures.hindered, begins.hindered, i.hindered);
         most = omega (arith, c.try_once.ensures.hindered, begins.hindered, i.hindered, c.loop-round-test.true);
@@ -118,8 +115,8 @@ returns-in-Spent-clause-steps g c =
     let left = c.leave.new.pass in
     let begins = c.restart.ensures.begins op i.stops.busy (λ none. i.root (eqb-true l.round 0 none)) in
     let cards = c.args.table.now.plan.last_card in
-    let most = try_steps (deepest c.args.table.now.plan) in
-    let few = round_steps l.round most start l.pass c.restart.new.pass tried i.rounds
+    let most = try_steps_in c.args.table.now.plan in
+    let few = round_steps c.args.table.now.plan l.round most start l.pass c.restart.new.pass tried i.rounds
     begins.took (λ none. c.restart.ensures.first (eq-eqb l.round 0 none)) c.try_once.ensures.steps c.try_once.ensures.made in
     let all = rounds_steps l.round c.args.tries most c.loop-round-test.true in
     let halts = c.in-Spent.ensures.ends.0 in
@@ -129,9 +126,9 @@ returns-in-Spent-clause-steps g c =
     let same = milestones_same cards tried.view left.view lays.facts lays.least in
     let one = one_hindered tried.view in
     record {
-      most = took_trans start tried left ((l.round + 1) * most) 1 (c.args.tries * most + 1) few lays.took (omega (arith, all));
+      most = took_in_trans c.args.table.now.plan start tried left ((l.round + 1) * most) 1 (c.args.tries * most + 1) few (took_in c.args.table.now.plan tried left 1 lays.took) (omega (arith, all));
       amortized = amortized c.args.table.now.plan l.round start left (omega (arith, on, same, i.milestones))
-          (took_trans start tried left ((l.round + 1) * most) 1 ((l.round + 1) * most + 1) few lays.took (omega arith));
+          (took_in_trans c.args.table.now.plan start tried left ((l.round + 1) * most) 1 ((l.round + 1) * most + 1) few (took_in c.args.table.now.plan tried left 1 lays.took) (omega arith));
       counted = record {
         least = omega (arith, one.0, lays.hindered, c.try_once.ensures.hindered, begins.hindered, i.hindered);
         most = omega (arith, one.1, lays.hindered, c.try_once.ensures.hindered, begins.hindered, i.hindered, c.loop-round-test.true);
@@ -145,16 +142,16 @@ returns-clause-steps g c =
     let start = c.args.pass.now in
     let left = c.leave-2.new.pass in
     let cards = c.args.table.now.plan.last_card in
-    let most = try_steps (deepest c.args.table.now.plan) in
+    let most = try_steps_in c.args.table.now.plan in
     let few = i.rounds.later (omega (arith, c.requires.tries, c.loop-round-test.false, l.auto.round-end)) in
     let all : l.round ≡ c.args.tries = omega (arith, c.loop-round-test.false, l.auto.round-end) in
     let rounds = ap (λ n. n * most) all in
     let lays = c.leave-2.ensures.lays c.args.op i.stops.busy in
     let same = milestones_same cards l.pass.view left.view lays.facts lays.least in
     record {
-      most = took_trans start l.pass left (l.round * most) 1 (c.args.tries * most + 1) few lays.took (omega (arith, rounds));
+      most = took_in_trans c.args.table.now.plan start l.pass left (l.round * most) 1 (c.args.tries * most + 1) few (took_in c.args.table.now.plan l.pass left 1 lays.took) (omega (arith, rounds));
       amortized = amortized c.args.table.now.plan l.round start left (omega (arith, same, i.milestones))
-          (took_trans start l.pass left (l.round * most) 1 ((l.round + 1) * most + 1) few lays.took (omega arith));
+          (took_in_trans c.args.table.now.plan start l.pass left (l.round * most) 1 ((l.round + 1) * most + 1) few (took_in c.args.table.now.plan l.pass left 1 lays.took) (omega arith));
       counted = record { least = omega (arith, lays.hindered, i.hindered); most = omega (arith, lays.hindered, all, i.hindered) };
     }
 
@@ -257,7 +254,7 @@ returns-in-Answered-clause-takes g c =
     c.in-Answered.ensures.takes
 
 pub returns-in-Answered-clause-cards : goal.returns-in-Answered-clause-cards
-returns-in-Answered-clause-cards g c =
+returns-in-Answered-clause-cards g c = λ plain.
     let l = c.loop-round in
     let i = l.invariant in
     let op = c.args.op in
@@ -265,45 +262,49 @@ returns-in-Answered-clause-cards g c =
     let begun = c.restart.new.pass in
     let after = c.try_once.new.pass in
     let begins = c.restart.ensures.begins op i.stops.busy (λ none. i.root (eqb-true l.round 0 none)) in
-    let one = answered_most op had begun after c.in-Answered.ensures.taken in
+    let few = i.taken plain in
+    let takes = c.in-Answered.ensures.taken plain in
+    let one = answered_most op had begun after takes in
     record {
       most = record {
-        least = omega (arith, one.least, begins.taken, i.taken.least);
-        most = omega (arith, one.most, begins.taken, i.taken.most, c.loop-round-test.true);
+        least = omega (arith, one.least, begins.taken, few.least);
+        most = omega (arith, one.most, begins.taken, few.most, c.loop-round-test.true);
       };
-      each = answered_cards op had l.round c.args.pass.now l.pass begun after i.taken begins.taken c.in-Answered.ensures.taken
+      each = answered_cards op had l.round c.args.pass.now l.pass begun after few begins.taken takes
           (omega (arith, c.try_once.ensures.hindered, begins.hindered, i.hindered));
-      unchanged = λ owns none. unchanged_cards l.round c.args.pass.now l.pass begun after i.taken begins.taken
-          (taken_none op had begun after c.in-Answered.ensures.taken (same_Ok (changes_by op had) none))
+      unchanged = λ owns none. unchanged_cards l.round c.args.pass.now l.pass begun after few begins.taken
+          (taken_none op had begun after takes (same_Ok (changes_by op had) none))
           (answers_first c.args.table.now op had l.round c.args.pass.now begun after c.requires.change c.in-Answered.ensures.ends.0 (begins.ledger ∙ i.ledger)
           i.would owns (same_Ok (changes_by op had) none));
     }
 
 pub returns-in-Spent-clause-cards : goal.returns-in-Spent-clause-cards
-returns-in-Spent-clause-cards g c =
+returns-in-Spent-clause-cards g c = λ plain.
     let l = c.loop-round in
     let i = l.invariant in
     let begins = c.restart.ensures.begins c.args.op i.stops.busy (λ none. i.root (eqb-true l.round 0 none)) in
     let lays = c.leave.ensures.lays c.args.op c.in-Spent.ensures.ends.0.stops.busy in
     let one = one_hindered c.try_once.new.pass.view in
-    let none = c.in-Spent.ensures.taken in
+    let few = i.taken plain in
+    let none = c.in-Spent.ensures.taken plain in
     record {
       most = record {
-        least = omega (arith, lays.taken, none, begins.taken, i.taken.least);
-        most = omega (arith, lays.taken, none, begins.taken, i.taken.most, c.loop-round-test.true);
+        least = omega (arith, lays.taken, none, begins.taken, few.least);
+        most = omega (arith, lays.taken, none, begins.taken, few.most, c.loop-round-test.true);
       };
-      each = omega (arith, lays.taken, none, begins.taken, i.taken.most, one.0, lays.hindered, c.try_once.ensures.hindered, begins.hindered, i.hindered);
+      each = omega (arith, lays.taken, none, begins.taken, few.most, one.0, lays.hindered, c.try_once.ensures.hindered, begins.hindered, i.hindered);
       unchanged = λ owns not_done. absurd cc;
     }
 
 pub returns-clause-cards : goal.returns-clause-cards
-returns-clause-cards g c =
+returns-clause-cards g c = λ plain.
     let l = c.loop-round in
     let i = l.invariant in
     let lays = c.leave-2.ensures.lays c.args.op i.stops.busy in
     let all : l.round ≡ c.args.tries = omega (arith, c.loop-round-test.false, l.auto.round-end) in
+    let few = i.taken plain in
     record {
-      most = record { least = omega (arith, lays.taken, i.taken.least); most = omega (arith, lays.taken, i.taken.most, all) };
-      each = omega (arith, lays.taken, i.taken.most, lays.hindered, i.hindered);
+      most = record { least = omega (arith, lays.taken, few.least); most = omega (arith, lays.taken, few.most, all) };
+      each = omega (arith, lays.taken, few.most, lays.hindered, i.hindered);
       unchanged = λ owns not_done. absurd cc;
     }

@@ -1,8 +1,8 @@
-use Rattle.std.proofs.Common.{◌≡◌, ◌+◌, ◌≤◌, length}
+use Rattle.std.proofs.Common.{◌≡◌, ◌+◌, ◌≤◌, None, length}
 use Rattle.ell_ops.specs.Meaning.{key_of, reply_of}
 use Rattle.ell_cards.specs.Changes.{tries_hindered}
 use Rattle.ell_tree.specs.CardsTaken.{TakesAtMost}
-use Rattle.ell_tree.specs.Ends.{try_steps}
+use Rattle.ell_tree.specs.Ends.{try_steps_in}
 use Rattle.ell_tree.specs.Hindrances.{AreOver, Meets, way_of}
 use Rattle.ell_tree.specs.Ledgers.{Owns, present_in}
 use Rattle.ell_cards.specs.Stepping.{SameShare}
@@ -12,7 +12,6 @@ use Rattle.ell_tree.specs.Milestones.{milestones_known}
 use Rattle.ell_tree.proofs.lemmas.Counts.{TookRounds}
 use Rattle.ell_tree.proofs.operations.change.Given as goal
 use Rattle.ell_core.specs.statements.Effects.{reply_of_change}
-use Rattle.ell_cards.specs.Depths.{deepest}
 
 -- each try so far met something in its way
 abbrev pub invariant-loop-round : goal.invariant-loop-round
@@ -31,6 +30,6 @@ invariant-loop-round g l = record {
   hindrances : length l.fn.pass.view.hindrances + l.round ≤ length (way_of l.op l.pass.view) + length l.pass.view.hindrances;
   hindered : tries_hindered l.pass.view ≡ l.fn.pass.view.hindered + l.round;
   milestones : milestones_known l.table.plan.last_card l.fn.pass.view + l.round ≤ milestones_known l.table.plan.last_card l.pass.view;
-  taken : TakesAtMost l.round l.fn.pass l.pass;
-  rounds : TookRounds l.round (try_steps (deepest l.table.plan)) l.fn.pass l.pass;
+  taken : l.table.plan.slots ≡ None → TakesAtMost l.round l.fn.pass l.pass;
+  rounds : TookRounds l.table.plan l.round (try_steps_in l.table.plan) l.fn.pass l.pass;
 }

@@ -1,16 +1,16 @@
-use Rattle.std.proofs.Common.{rules, ◌≡◌, ◌≢◌, ◌*◌, ◌+◌, Some, Ok, inl, refl, sym, ◌∙◌, arith}
+use Rattle.std.proofs.Common.{rules, ◌≡◌, ◌≢◌, ◌*◌, ◌+◌, None, Some, Ok, inl, refl, sym, ◌∙◌, arith}
 use Rattle.ell_ops.specs.declared.op.Op.TheVariants.{Delete, Find}
 use Rattle.ell_ops.specs.declared.reply.Reply.TheVariants.{Yes}
 use Rattle.ell_ops.specs.Meaning.{found}
 use Rattle.ell_cards.proofs.lemmas.runs.Tries.{more_tries}
 use Rattle.ell_tree.specs.Called.{IsTakeCalled}
-use Rattle.ell_tree.specs.Computing.{Concludes, IsUntouched, round_steps}
-use Rattle.ell_tree.specs.Ends.{Answers, LaidDown, TakesValue, find_steps}
+use Rattle.ell_tree.specs.Computing.{Concludes, IsUntouched, round_steps_in}
+use Rattle.ell_tree.specs.Ends.{Answers, AreGivenOut, LaidDown, TakesValue, find_steps}
 use Rattle.ell_tree.specs.Ledgers.{Owns, present_in}
 use Rattle.ell_tree.specs.Promises.{IsOthersDoing}
 use Rattle.ell_tree.specs.CardsTaken.{TakesByHindered}
 use Rattle.ell_tree.proofs.lemmas.Computing.{untouched_by, untouched_laid, untouched_self, untouched_trans, concludes, concludes_after, find_leaves, found_last, found_not_yes, found_own, may_still}
-use Rattle.ell_tree.proofs.lemmas.Counts.{took_within, took_trans}
+use Rattle.ell_tree.proofs.lemmas.Counts.{took_in, took_in_within, took_in_trans}
 use Rattle.ell_tree.proofs.lemmas.Milestones.{milestones_most}
 use Rattle.ell_tree.proofs.lemmas.Removing.{is_that, removes}
 use Rattle.ell_tree.proofs.lemmas.Rounds.{one_round_more}
@@ -35,14 +35,14 @@ loop-round-init g c =
       reads = λ other. reads;
       own = found_own t key there old new reads;
       last = λ some. absurd (omega arith);
-      took = took_within old new (find_steps (deepest t.plan)) _ finds.steps (omega arith);
+      took = took_in_within t.plan old new (find_steps (deepest t.plan)) _ (took_in t.plan old new (find_steps (deepest t.plan)) finds.steps) (omega arith);
       counted = record { least = omega (arith, finds.quiet.hindered); most = omega (arith, finds.quiet.hindered) };
       hindered = λ owns. omega (arith, finds.quiet.hindered);
       milestones = λ owns. omega (arith, finds.quiet.milestones);
       tried = λ owns some. absurd (omega arith);
       made = omega (arith, finds.answers.answered, finds.quiet.hindered);
-      cards = record { least = omega (arith, finds.cards); most = omega (arith, finds.cards) };
-      few = omega (arith, finds.cards, finds.quiet.hindered);
+      cards = λ plain. record { least = omega (arith, finds.cards); most = omega (arith, finds.cards) };
+      few = λ plain. omega (arith, finds.cards, finds.quiet.hindered);
     }
 
 -- another pass had changed the key, which is not the pass's own: what is there now was read
@@ -64,7 +64,7 @@ loop-round-preserved g c = elim c.match-remove_or_read.branch [
       let apart : ¬ Owns old key = λ owns. lost.2 ((i.untouched.owned key).1 owns) (i.untouched.map key ∙ (i.own owns ∙ that)) in
       let spends = c.remove_or_read.ensures.cards in
       let counts = c.remove_or_read.ensures.counted in
-      let each : TakesByHindered l.pass new = search rules in
+      let each : t.plan.slots ≡ None → TakesByHindered l.pass new = λ plain. (let one = (spends plain).each in search (rules, one)) in
       record {
         same = (refl, refl, refl, refl);
         may = may_still t key old new kept c.requires.may;
@@ -72,14 +72,16 @@ loop-round-preserved g c = elim c.match-remove_or_read.branch [
         reads = λ other. reads;
         own = λ owns. absurd (apart owns);
         last = λ some is. found_last t key there old new reads;
-        took = took_trans old l.pass new (find_steps (deepest c.args.table.now.plan) + l._round * round_steps (deepest c.args.table.now.plan)) (round_steps (deepest c.args.table.now.plan)) _ i.took c.remove_or_read.ensures.steps (one_round_more (deepest c.args.table.now.plan) l._round);
+        took = took_in_trans t.plan old l.pass new (find_steps (deepest t.plan) + l._round * round_steps_in t.plan) (round_steps_in t.plan) _ i.took c.remove_or_read.ensures.steps
+            (one_round_more (find_steps (deepest t.plan)) (round_steps_in t.plan) l._round);
         counted = record { least = omega (arith, counts.least, i.counted.least); most = omega (arith, counts.most, i.counted.most) };
         hindered = λ owns. absurd (apart owns);
         milestones = λ owns. absurd (apart owns);
         tried = λ owns. absurd (apart owns);
         made = omega (arith, lost.1.answered, counts.least, i.made);
-        cards = record { least = omega (arith, spends.most.least, i.cards.least); most = omega (arith, spends.most.most, i.cards.most) };
-        few = omega (arith, each, i.few);
+        cards = λ plain. let some = (spends plain).most in let all = i.cards plain in
+            record { least = omega (arith, some.least, all.least); most = omega (arith, some.most, all.most) };
+        few = λ plain. let one = each plain in let all = i.few plain in omega (arith, one, all);
       }
   | in-Err-Busy w ↦
       let t = c.args.table.now in
@@ -96,7 +98,7 @@ loop-round-preserved g c = elim c.match-remove_or_read.branch [
       let kept = untouched_trans old l.pass new i.untouched (untouched_laid t (Delete key) l.pass new laid) in
       let spends = c.remove_or_read.ensures.cards in
       let counts = c.remove_or_read.ensures.counted in
-      let each : TakesByHindered l.pass new = search rules in
+      let each : t.plan.slots ≡ None → TakesByHindered l.pass new = λ plain. (let one = (spends plain).each in search (rules, one)) in
       record {
         same = (refl, refl, refl, refl);
         may = may_still t key old new kept c.requires.may;
@@ -104,14 +106,16 @@ loop-round-preserved g c = elim c.match-remove_or_read.branch [
         reads = λ other. absurd (other still);
         own = λ owns. i.own owns ∙ sym w.there-is;
         last = λ more is. record { op = Delete key; on = refl; nothing = inl laid.nothing };
-        took = took_trans old l.pass new (find_steps (deepest c.args.table.now.plan) + l._round * round_steps (deepest c.args.table.now.plan)) (round_steps (deepest c.args.table.now.plan)) _ i.took c.remove_or_read.ensures.steps (one_round_more (deepest c.args.table.now.plan) l._round);
+        took = took_in_trans t.plan old l.pass new (find_steps (deepest t.plan) + l._round * round_steps_in t.plan) (round_steps_in t.plan) _ i.took c.remove_or_read.ensures.steps
+            (one_round_more (find_steps (deepest t.plan)) (round_steps_in t.plan) l._round);
         counted = record { least = omega (arith, counts.least, i.counted.least); most = omega (arith, counts.most, i.counted.most) };
         hindered = λ owns. omega (arith, others.each, i.hindered owns);
         milestones = λ owns. omega (arith, others.milestones, i.milestones owns);
         tried = λ owns more. still;
         made = omega (arith, laid.answered, others.each, i.made);
-        cards = record { least = omega (arith, spends.most.least, i.cards.least); most = omega (arith, spends.most.most, i.cards.most) };
-        few = omega (arith, each, i.few);
+        cards = λ plain. let some = (spends plain).most in let all = i.cards plain in
+            record { least = omega (arith, some.least, all.least); most = omega (arith, some.most, all.most) };
+        few = λ plain. let one = each plain in let all = i.few plain in omega (arith, one, all);
       }
 ]
 
@@ -134,7 +138,7 @@ returns-in-Err-Spent-clause-not_done g c =
     let op = Delete c.args.key in
     let l = c.loop-round in
     let new = c.remove_or_read.new.pass in
-    let laid : LaidDown t op l.pass new × (new.view.next ≡ Some (t.plan.last_card + 1)) = search rules in
+    let laid : LaidDown t op l.pass new × AreGivenOut t.plan new = search rules in
     record {
       untouched = untouched_trans c.args.pass.now l.pass new l.invariant.untouched (untouched_laid t op l.pass new laid.0);
       last = record { op = op; on = refl; nothing = inl laid.0.nothing };

@@ -1,9 +1,9 @@
-use Rattle.std.proofs.Common.{◌≡◌, ◌≢◌, ◌<◌, ◌≤◌, ◌*◌, ◌+◌, Some}
+use Rattle.std.proofs.Common.{◌≡◌, ◌≢◌, ◌<◌, ◌≤◌, ◌*◌, ◌+◌, None, Some}
 use Rattle.ell_ops.specs.declared.op.Op.TheVariants.{Find}
 use Rattle.ell_ops.specs.Meaning.{found}
 use Rattle.ell_tree.specs.CardsTaken.{TakesAtMost, TakesByHindered}
-use Rattle.ell_tree.specs.Computing.{Concludes, IsUntouched, LastChangesNothing, round_steps}
-use Rattle.ell_tree.specs.Counts.{Took}
+use Rattle.ell_tree.specs.Computing.{Concludes, IsUntouched, LastChangesNothing, round_steps_in}
+use Rattle.ell_tree.specs.Counts.{TookIn}
 use Rattle.ell_tree.specs.Ends.{CountsTries, find_steps}
 use Rattle.ell_tree.specs.Ledgers.{Owns, answers, present_in}
 use Rattle.ell_tree.specs.Milestones.{milestones_known}
@@ -20,13 +20,13 @@ invariant-loop-round g l = record {
   reads : l.there ≢ Some l.fn.was → Concludes l.fn.table (Find l.fn.key) (found l.there) l.fn.pass l.pass;
   own : Owns l.fn.pass l.fn.key → present_in l.fn.pass l.fn.key ≡ l.there;
   last : 1 ≤ l._round → l.there ≡ Some l.fn.was → LastChangesNothing l.fn.table l.fn.key l.pass.view;
-  took : Took l.fn.pass l.pass (find_steps (deepest l.fn.table.plan) + l._round * round_steps (deepest l.fn.table.plan));
+  took : TookIn l.fn.table.plan l.fn.pass l.pass (find_steps (deepest l.fn.table.plan) + l._round * round_steps_in l.fn.table.plan);
   counted : CountsTries l._round l.fn.pass l.pass;
   hindered : Owns l.fn.pass l.fn.key → l.pass.view.hindered ≡ l.fn.pass.view.hindered + l._round;
   milestones : Owns l.fn.pass l.fn.key
       → milestones_known l.fn.table.plan.last_card l.fn.pass.view + l._round ≤ milestones_known l.fn.table.plan.last_card l.pass.view;
   tried : Owns l.fn.pass l.fn.key → 1 ≤ l._round → l.there ≡ Some l.fn.was;
   made : l.fn.pass.view.hindered + answers l.fn.pass + l._round < l.pass.view.hindered + answers l.pass;
-  cards : TakesAtMost l._round l.fn.pass l.pass;
-  few : TakesByHindered l.fn.pass l.pass;
+  cards : l.fn.table.plan.slots ≡ None → TakesAtMost l._round l.fn.pass l.pass;
+  few : l.fn.table.plan.slots ≡ None → TakesByHindered l.fn.pass l.pass;
 }

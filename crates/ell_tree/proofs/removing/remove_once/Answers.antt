@@ -45,7 +45,7 @@ returns-then-not-is_value-clause-steps g c =
     let start = c.begin.ensures.took in
     record {
       steps = omega (arith, start.steps, keeps.took.steps, lays.took.steps);
-      made = omega (arith, start.made, keeps.took.made, lays.took.made);
+      made = λ plain. omega (arith, start.made, keeps.took.made, lays.took.made);
     }
 
 pub returns-then-not-is_value-clause-counted : goal.returns-then-not-is_value-clause-counted
@@ -59,7 +59,7 @@ returns-then-not-is_value-clause-counted g c =
     }
 
 pub returns-then-not-is_value-clause-cards : goal.returns-then-not-is_value-clause-cards
-returns-then-not-is_value-clause-cards g c =
+returns-then-not-is_value-clause-cards g c = λ plain.
     let kept = c.search-place.ensures.keeps_but_search in
     let lays = c.leave.ensures.lays (Delete c.args.key) (kept.keeps.view.operation ∙ c.begin.ensures.root.busy) in
     let one = one_hindered c.search-place.new.pass.view in
@@ -102,7 +102,7 @@ returns-in-Spent-clause-removes g c =
     let d = c.delete_at.new.pass in
     let ended = ends_after b s.new.pass d _ s.ensures.keeps_but_search t op Spent c.in-Spent.ensures.ends in
     let lays = c.leave-in-Spent.ensures.lays op ended.0.stops.busy in
-    (halts_laid t op c.args.pass.now b d c.leave-in-Spent.new.pass _ c.begin.ensures ended.0 lays, lays.next ∙ ended.1)
+    (halts_laid t op c.args.pass.now b d c.leave-in-Spent.new.pass _ c.begin.ensures ended.0 lays, λ plain. lays.next ∙ ended.1 plain)
 
 pub returns-in-Hindered-clause-removes : goal.returns-in-Hindered-clause-removes
 returns-in-Hindered-clause-removes g c =
@@ -146,7 +146,7 @@ returns-in-Spent-clause-steps g c =
     let start = c.begin.ensures.took in
     record {
       steps = omega (arith, start.steps, keeps.took.steps, c.delete_at.ensures.steps, lays.took.steps);
-      made = omega (arith, start.made, keeps.took.made, c.delete_at.ensures.made, lays.took.made);
+      made = λ plain. let rest = c.delete_at.ensures.made plain in omega (arith, start.made, keeps.took.made, rest, lays.took.made);
     }
 
 pub returns-in-Hindered-clause-steps : goal.returns-in-Hindered-clause-steps
@@ -156,7 +156,7 @@ returns-in-Hindered-clause-steps g c =
     let start = c.begin.ensures.took in
     record {
       steps = omega (arith, start.steps, keeps.took.steps, c.delete_at.ensures.steps, lays.took.steps);
-      made = omega (arith, start.made, keeps.took.made, c.delete_at.ensures.made, lays.took.made);
+      made = λ plain. let rest = c.delete_at.ensures.made plain in omega (arith, start.made, keeps.took.made, rest, lays.took.made);
     }
 
 pub returns-in-Spent-clause-counted : goal.returns-in-Spent-clause-counted
@@ -180,11 +180,11 @@ returns-in-Hindered-clause-counted g c =
     }
 
 pub returns-in-Spent-clause-cards : goal.returns-in-Spent-clause-cards
-returns-in-Spent-clause-cards g c =
+returns-in-Spent-clause-cards g c = λ plain.
     let kept = c.search-place.ensures.keeps_but_search in
     let lays = c.leave-in-Spent.ensures.lays (Delete c.args.key) c.in-Spent.ensures.ends.0.stops.busy in
     let one = one_hindered c.delete_at.new.pass.view in
-    let none = lays.taken ∙ (c.in-Spent.ensures.taken ∙ (kept.taken ∙ c.begin.ensures.taken)) in
+    let none = lays.taken ∙ (c.in-Spent.ensures.taken plain ∙ (kept.taken ∙ c.begin.ensures.taken)) in
     record {
       most = record { least = omega (arith, none); most = omega (arith, none) };
       each = omega (arith, none, one.0, lays.hindered, c.delete_at.ensures.hindered, kept.keeps.view.hindered, c.begin.ensures.hindered);
@@ -192,7 +192,7 @@ returns-in-Spent-clause-cards g c =
     }
 
 pub returns-in-Hindered-clause-cards : goal.returns-in-Hindered-clause-cards
-returns-in-Hindered-clause-cards g c =
+returns-in-Hindered-clause-cards g c = λ plain.
     let op = Delete c.args.key in
     let b = c.begin.new.pass in
     let s = c.search-place in
@@ -201,7 +201,7 @@ returns-in-Hindered-clause-cards g c =
     let ended = ends_after b s.new.pass d _ kept c.args.table.now op Hindered c.in-Hindered.ensures.ends in
     let lays = c.leave-in-Hindered.ensures.lays op ended.0.stops.busy in
     let counts = halts_hindered op b d ended.0 ended.1 in
-    let few = c.in-Hindered.ensures.taken in
+    let few = c.in-Hindered.ensures.taken plain in
     let none = kept.taken ∙ c.begin.ensures.taken in
     record {
       most = record { least = omega (arith, lays.taken, few.least, none); most = omega (arith, lays.taken, few.most, none) };

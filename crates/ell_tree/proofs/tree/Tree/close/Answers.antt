@@ -7,8 +7,9 @@ use Rattle.ell_tree.proofs.tree.Tree.close.Goals as goal
 
 pub pairs_of_tree-requires-clause-pairs_room : goal.pairs_of_tree-requires-clause-pairs_room
 pairs_of_tree-requires-clause-pairs_room g c =
-    let ends = subst (λ (t : TreeModel). TableEnds t.plan c.args.pass.view c.close-closed.result) c.self.view_is (c.close-closed.ensures.ends c.self.invariant) in
-    let cards = c.close-closed.ensures.cards ∙ (ap (λ o. last_slot_of o c.self.inside.table.plan.last_card) c.self.invariant ∙ ap (λ (t : TreeModel). t.plan.last_card) c.self.view_is) in
+    let plain = ap (λ (t : TreeModel). t.plan.slots) c.self.view_is ∙ c.requires.plain in
+    let ends = subst (λ (t : TreeModel). TableEnds t.plan c.args.pass.view c.close-closed.result) c.self.view_is (c.close-closed.ensures.ends plain) in
+    let cards = c.close-closed.ensures.cards ∙ (ap (λ o. last_slot_of o c.self.inside.table.plan.last_card) plain ∙ ap (λ (t : TreeModel). t.plan.last_card) c.self.view_is) in
     let same = ap length c.keys.ensures.keys in
     holds_keys c.args.self c.args.pass c.close-closed.result ends c.requires.all _
     (room_for c.args.self.plan.shared c.args.self.plan.last_card c.close-closed.result.last_card (length c.keys.result.now) _ _ _
@@ -17,11 +18,13 @@ pairs_of_tree-requires-clause-pairs_room g c =
 
 pub returns-clause-pairs : goal.returns-clause-pairs
 returns-clause-pairs g c =
-    let ends = subst (λ (t : TreeModel). TableEnds t.plan c.args.pass.view c.close-closed.result) c.self.view_is (c.close-closed.ensures.ends c.self.invariant) in
-    let cards = c.close-closed.ensures.cards ∙ (ap (λ o. last_slot_of o c.self.inside.table.plan.last_card) c.self.invariant ∙ ap (λ (t : TreeModel). t.plan.last_card) c.self.view_is) in
+    let plain = ap (λ (t : TreeModel). t.plan.slots) c.self.view_is ∙ c.requires.plain in
+    let ends = subst (λ (t : TreeModel). TableEnds t.plan c.args.pass.view c.close-closed.result) c.self.view_is (c.close-closed.ensures.ends plain) in
+    let cards = c.close-closed.ensures.cards ∙ (ap (λ o. last_slot_of o c.self.inside.table.plan.last_card) plain ∙ ap (λ (t : TreeModel). t.plan.last_card) c.self.view_is) in
     closes c.args.self c.args.pass c.close-closed.result ends c.requires.all c.pairs_of_tree.result.items c.pairs_of_tree.ensures cards
 
 pub returns-clause-thread : goal.returns-clause-thread
 returns-clause-thread g c =
-    let ends = subst (λ (t : TreeModel). TableEnds t.plan c.args.pass.view c.close-closed.result) c.self.view_is (c.close-closed.ensures.ends c.self.invariant) in
+    let plain = ap (λ (t : TreeModel). t.plan.slots) c.self.view_is ∙ c.requires.plain in
+    let ends = subst (λ (t : TreeModel). TableEnds t.plan c.args.pass.view c.close-closed.result) c.self.view_is (c.close-closed.ensures.ends plain) in
     of_thread c.args.self c.args.pass c.close-closed.result ends c.requires.all c.pairs_of_tree.result.items c.pairs_of_tree.ensures c.requires.may.1 c.requires.whole
