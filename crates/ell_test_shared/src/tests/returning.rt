@@ -82,7 +82,7 @@ fn a_tree_answers_as_a_map_long_after_each_slot_was_taken(rt: HostRuntime) {
 // The key to which all threads add, how often each does, and how often a call is made at most until it is answered.
 const COUNTER: u64 = 1_000_000;
 
-const ROUNDS: u64 = 1_000;
+const ROUNDS: u64 = 2_000;
 
 const MOST_CALLS: u64 = 100_000_000;
 
@@ -98,7 +98,7 @@ fn surely(
     requires { IsSharer tree.now pass.old }
     ensures { IsSharer tree.now pass.new }
 {
-    for _ in 0..MOST_CALLS {
+    for _call in 0..MOST_CALLS {
         if let Ok(reply) = answer(rt, tree, pass, &[], call, &NoGate) {
             assert!(rt; wanted.is_none() || wanted == Some(reply), "another reply");
             return;
@@ -128,42 +128,26 @@ fn come_and_go(
     pass
 }
 
-// Threads share a tree of so many cards: none of their sums is lost, and each of their keys comes and goes.
+// Two threads share a tree of so many cards: none of their sums is lost, and each of their keys comes and goes.
 fn share_slots<R: Threads + Abort + AllocGlobal + Sync>(rt: &R, cards: u64) {
-    let (tree, pass) = opened_reusing(rt, cards, 4);
+    let (tree, pass) = opened_reusing(rt, cards, 2);
     let mut pass = pass;
     surely(rt, &tree, &mut pass, Ask(Insert(COUNTER, 0)), None);
     let (one, two) = parted(rt, &tree, pass, &[], &[]);
-    let (one, three) = parted(rt, &tree, one, &[], &[]);
-    let (two, four) = parted(rt, &tree, two, &[], &[]);
     let shared = &tree;
-    let ((one, two), (three, four)) = join(
+    let (one, two) = join(
         rt,
-        move || {
-            join(
-                rt,
-                move || come_and_go(rt, shared, one, 1),
-                move || come_and_go(rt, shared, two, 2),
-            )
-        },
-        move || {
-            join(
-                rt,
-                move || come_and_go(rt, shared, three, 3),
-                move || come_and_go(rt, shared, four, 4),
-            )
-        },
+        move || come_and_go(rt, shared, one, 1),
+        move || come_and_go(rt, shared, two, 2),
     );
-    let left = joined(rt, &tree, &[], one, two);
-    let right = joined(rt, &tree, &[], three, four);
-    let mut pass = joined(rt, &tree, &[], left, right);
+    let mut pass = joined(rt, &tree, &[], one, two);
     let said = answer(rt, &tree, &mut pass, &[], Look(COUNTER), &NoGate);
-    assert!(rt; said == Ok(Reply::Found(4 * ROUNDS)));
+    assert!(rt; said == Ok(Reply::Found(2 * ROUNDS)));
 }
 
 #[test]
 fn threads_share_the_slots_of_a_tree(rt: HostRuntime) {
-    for cards in [64, 200] {
+    for cards in [30, 200] {
         share_slots(&rt, cards);
     }
 }
@@ -209,6 +193,16 @@ fn churn<G: StepGate>(
     (pass, in_use)
 }
 
+// Deletes the keys that came and went.
+fn delete_all(rt: &impl Abort, tree: &Tree<Global>, pass: &mut Pass<Global>)
+    requires { IsSharer tree.now pass.old }
+    ensures { IsSharer tree.now pass.new }
+{
+    for key in 10..10 + KEYS {
+        surely(rt, tree, pass, Ask(Delete(key)), None);
+    }
+}
+
 // A call of worker 1 alone, which is told to the gate as over: its pass and what it is answered.
 fn call_once<G: StepGate>(
     rt: &impl Abort,
@@ -234,9 +228,9 @@ fn opened_with_three(rt: &(impl Abort + AllocGlobal)) -> (Tree<Global>, Pass<Glo
 {
     let (tree, pass) = opened_reusing(rt, FEW, 2);
     let mut pass = pass;
-    for key in 1..4 {
-        surely(rt, &tree, &mut pass, Ask(Insert(key, 10 * key)), None);
-    }
+    surely(rt, &tree, &mut pass, Ask(Insert(1, 10)), None);
+    surely(rt, &tree, &mut pass, Ask(Insert(2, 20)), None);
+    surely(rt, &tree, &mut pass, Ask(Insert(3, 30)), None);
     (tree, pass)
 }
 
@@ -274,9 +268,7 @@ fn hold<R: Threads + Abort + AllocGlobal + Sync>(
         Some(said) => assert!(rt; said == wanted, "held at {step}"),
         None => surely(rt, &tree, &mut pass, call, Some(wanted)),
     }
-    for key in 10..10 + KEYS {
-        surely(rt, &tree, &mut pass, Ask(Delete(key)), None);
-    }
+    delete_all(rt, &tree, &mut pass);
     let (_, after) = churn(rt, &tree, pass, BESIDE, &NoGate);
     assert!(rt;
         after == 0,
