@@ -1,4 +1,5 @@
-use Rattle.std.proofs.Common.{◌≡◌, ℕ, All, None, List, [], ◌++◌, get_or, arith, refl, sym, subst, ◌∙◌}
+use Rattle.std.proofs.Common.{◌≡◌, ℕ, ◌≤◌, All, None, List, [], ◌∷◌, ◌++◌, Result, Ok, Err, IfErr, length, get_or, arith, refl, sym, subst, ◌∙◌}
+use Rattle.std.specs.Result.{IsErrAnd}
 use Rattle.std.proofs.lemmas.Bool.{cond-true}
 use Rattle.std.proofs.lemmas.List.{append-nil}
 use Rattle.ell_ops.specs.KeySet.{Lists, set_of}
@@ -8,7 +9,10 @@ use Rattle.ell_cards.specs.Models.{TablePlan}
 use Rattle.ell_tree.specs.Ledgers.{PassModel, TreeModel, Owns, IsIdle, ledger}
 use Rattle.ell_tree.specs.PassParts.{IsLeftPart, IsRightPart, IsUnion}
 use Rattle.ell_run.specs.Pieces.{all_workers}
-use Rattle.ell_run.specs.Work.{AreHalves, AreReady, IsWorked}
+use Rattle.ell_run.specs.Work.{AreHalves, AreReady, IsWorked, IsWorkedWithin}
+use Rattle.ell_run.specs.WorkFault.{StopsWork}
+use Rattle.ell_run.specs.declared.faults.WorkFault.{WorkFault}
+use Rattle.ell_run.specs.declared.faults.WorkFault.TheVariants.{NoMemory, TooManyPasses}
 use Rattle.ell_run.proofs.lemmas.Halves.{worked_both}
 use Rattle.ell_run.proofs.lemmas.NotDone.{none_not_done}
 use Rattle.ell_run.proofs.lemmas.Keys.{all_keys}
@@ -26,6 +30,28 @@ rest_worked plan tries parting rest idle = record {
   answers = omega arith;
   not_done = none_not_done plan tries 0 rest rest refl (omega arith);
 }
+
+-- nor have they made a step
+pub none_worked : (plan : TablePlan) (tries : ℕ) (parting : PartedOps) (workers : List ℕ) (pass : PassModel) → length workers ≤ 0 → IsIdle pass
+    → IsWorkedWithin plan tries parting workers pass pass []
+none_worked plan tries parting [] pass none idle = record {
+  worked = rest_worked plan tries parting pass idle;
+  within = record { bounded = omega arith; total = λ plain. omega arith };
+  label = refl;
+}
+none_worked plan tries parting (w ∷ ws) pass none idle = absurd (omega (arith, none))
+
+-- workers that began with a part of a pass stop as those do that began with the pass
+pub stops_of : {A : Type 0} (plan : TablePlan) (pass some : PassModel) (r : Result A WorkFault) → some.view.worker.shared ≡ pass.view.worker.shared
+    → IfErr r (StopsWork plan some) → IfErr r (StopsWork plan pass)
+stops_of plan pass some (Ok done) same stops = stops
+stops_of plan pass some (Err TooManyPasses) same stops = λ plain none. stops plain (same ∙ none)
+stops_of plan pass some (Err NoMemory) same stops = tt
+
+-- what is so of a fault is so of an answer that is it
+pub err_is : {A : Type 0} (r : Result A WorkFault) (fault : WorkFault) → IsErrAnd r (λ e. e ≡ fault) → (So : WorkFault → Type 0) → So fault → IfErr r So
+err_is (Ok done) fault is So h = absurd is
+err_is (Err why) fault is So h = subst So (sym is) h
 
 module _ (parting : PartedOps) (keys : List ℕ) (pass left right : PassModel) (listed : Lists (keys_of_ops parting.ops) keys) (owned : All (λ key. Owns pass key) keys)
     (on_left : IsLeftPart keys pass left) where

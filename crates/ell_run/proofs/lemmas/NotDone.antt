@@ -50,10 +50,10 @@ pub both_not_done : (plan : TablePlan) (tries a b : ℕ) (pass left right first 
 both_not_done plan tries a b pass left right first second both kept anew sum next on_left on_right =
     ⊎_elim
     (λ spent. inl (λ plain. let none = spent plain in
-        later_left plan.last_card none.next second.view.next both none.past (next ∙ ap (λ n. later_reading n second.view.next) none.read)))
+    later_left plan.last_card none.next second.view.next both none.past (next ∙ ap (λ n. later_reading n second.view.next) none.read)))
     (λ few. ⊎_elim
     (λ spent. inl (λ plain. let none = spent plain in
-        later_right plan.last_card none.next first.view.next both none.past (next ∙ ap (later_reading first.view.next) none.read)))
+    later_right plan.last_card none.next first.view.next both none.past (next ∙ ap (later_reading first.view.next) none.read)))
     (λ more. inr (omega (arith, mul-add tries a b)))
     on_right)
     on_left

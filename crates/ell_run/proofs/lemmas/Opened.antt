@@ -1,4 +1,4 @@
-use Rattle.std.proofs.Common.{◌≡◌, ◌↔◌, ℕ, ◌<◌, ◌≤◌, ◌⊎◌, inl, inr, ⊎_elim, ◌||◌, Bool, true, false, cond, All, None, Some, List, eqb, length, get_or, map, arith, refl, ap, sym, subst, ◌∙◌}
+use Rattle.std.proofs.Common.{◌≡◌, ◌↔◌, ℕ, ◌<◌, ◌≤◌, ◌⊎◌, inl, inr, ⊎_elim, ◌||◌, Bool, true, false, cond, All, None, Some, List, eqb, length, get_or, map, arith, refl, ap, sym, ◌∙◌}
 use Rattle.std.specs.List.{Contains}
 use Rattle.std.specs.List.Sorted.{IsStrictlyIncreasing}
 use Rattle.std.specs.Map.{keys_of as keys_in}
@@ -14,14 +14,11 @@ use Rattle.ell_ops.specs.declared.op.Op.TheVariants.{Find}
 use Rattle.ell_ops.specs.KeySet.{Lists, set_of, union}
 use Rattle.ell_ops.specs.Meaning.{Fits, greatest_key, key_of}
 use Rattle.ell_parts.specs.PartedOps.{PartedOps, IsLawful, keys_of_ops, part}
-use Rattle.ell_cards.specs.Models.{SplitRefuses, TablePlan}
-use Rattle.ell_cards.specs.declared.fault.SplitFault.{SplitFault}
-use Rattle.ell_cards.specs.declared.fault.SplitFault.TheVariants as split
 use Rattle.ell_tree.specs.Ledgers.{PassModel, TreeModel, Owns, IsIdle, ledger, Entry}
 use Rattle.ell_tree.specs.PassParts.{IsFirst, ownable_if, start_entry}
 use Rattle.ell_run.specs.Pieces.{all_workers, busy}
 use Rattle.ell_run.specs.Work.{AreReady}
-use Rattle.ell_run.specs.WorkFault.{StopsWork, of_split}
+use Rattle.ell_run.specs.WorkFault.{StopsWork}
 use Rattle.ell_run.specs.declared.faults.WorkFault.{WorkFault}
 use Rattle.ell_run.specs.declared.faults.WorkFault.TheVariants.{TooManyPasses, NoMemory}
 use Rattle.ell_run.proofs.lemmas.Busy.{all_ascend, all_known, busy_known, is_busy}
@@ -136,9 +133,3 @@ pub unshared_stops : (tree : TreeModel) (pass : PassModel) (fault : WorkFault) �
     → StopsWork tree.plan pass fault → fault ≡ NoMemory
 unshared_stops tree pass TooManyPasses first unshared plain stops = absurd (stops plain (first.ownable ∙ ap (λ shared. ownable_if shared tree.plan.keys) unshared))
 unshared_stops tree pass NoMemory first unshared plain stops = refl
-
--- a split that fails stops workers
-pub split_stops : (plan : TablePlan) (pass : PassModel) (fault : SplitFault) → SplitRefuses plan.slots pass.view fault → StopsWork plan pass (of_split fault)
-split_stops plan pass split.TooManyPasses refuses = λ plain none.
-    subst (λ slots. SplitRefuses slots pass.view split.TooManyPasses) plain refuses (λ shared. absurd (shared none))
-split_stops plan pass split.NoMemory refuses = tt
