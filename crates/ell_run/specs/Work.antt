@@ -105,4 +105,5 @@ pub record AllHaveWorked {Z : Type 0} (tree : TreeModel) (tries more : ℕ) (par
     (done : PassModel × Vec (Vec (ℕ × Reply) Z) Z) : Type 0 where
   pub worked : IsWorked tree.plan tries parting (all_workers parting) before done.0 (lists_of done.1.items)
   pub bounded : done.0.steps ≤ before.steps + work_steps tree.plan parting (busy parting) + more
-  pub total : tree.plan.slots ≡ None → done.0.view.made ≤ before.view.made + total_steps tree.plan parting (busy parting) + more
+  pub total : tree.plan.slots ≡ None
+      → done.0.view.made ≤ before.view.made + total_steps tree.plan parting (busy parting) + more

@@ -23,11 +23,11 @@ use std::thread::{Threads, join};
 /// tries, or all cards are given out. Returns the pass, with all its keys, and a piece for each worker, in their order:
 /// its replies, with their positions. The pass then has the number of the first worker with operations as its label, or
 /// its own label if there is none. After a fault the pass is gone; `TooManyPasses` is returned only for a tree that
-/// shares keys, or whose cards lie in slots. However many tries there are, and however the workers' steps fall, a worker
-/// with n operations makes at most `n * (7 * depth + 28) + 2 * cards * (7 * depth + 27)` steps, `cards` and `depth` as
-/// for `Tree`, where each card has words of its own; the pass that comes back has counted no more than the worker with
-/// the most operations may, and two for each busy worker other than the first. All workers together make at most the sum
-/// of what each may, and two for each busy worker other than the first: its split and its join (`total`).
+/// shares keys, or whose cards lie in slots. However many tries there are, and however the workers' steps fall, a
+/// worker with n operations makes at most `n * (7 * depth + 28) + 2 * cards * (7 * depth + 27)` steps, `cards` and
+/// `depth` as for `Tree`, where each card has words of its own; the pass that comes back has counted no more than the
+/// worker with the most operations may, and two for each busy worker other than the first. All workers together make at
+/// most the sum of what each may, and two for each busy worker other than the first: its split and its join (`total`).
 pub fn work<R: Threads + Sync, A: Allocator + Copy + Send + Sync, G: StepGate + Sync>(
     rt: &R,
     alloc: A,
