@@ -143,8 +143,8 @@ rest_steps most = 4 * most + 22
 abbrev pub change_steps : ℕ → ℕ → ℕ
 change_steps most tries = tries * try_steps most + 1
 
--- the most steps in which a try asks for a card: two, where each card has words of its own; where cards lie in slots, two
--- for each slot, and two more for the numbers of a turn that have none, and for the first slot of the turn behind
+-- the most steps in which a try asks for a card: two, where each card has words of its own; where cards lie in slots,
+-- two for each slot, and two for the numbers of a turn that have none
 abbrev pub claim_steps : Option Slots → ℕ
 claim_steps None = 2
 claim_steps (Some s) = 2 * s.last + 4

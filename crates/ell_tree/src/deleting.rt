@@ -1,6 +1,4 @@
 //! Deletes (paper of 2010, figure 9: Delete).
-ghost use Rattle.ell_cards.specs.Guards.{MayFill};
-ghost use Rattle.ell_cards.specs.Stepping.{IsWholeIn};
 ghost use Rattle.std.specs.Prelude.{[], ◌∷◌, true, ◌≢◌, ◌≡◌, ◌≤◌, ◌+◌, ℕ, Some, None};
 ghost use Rattle.std.specs.Bool.{OnTrue, OnFalse};
 ghost use Rattle.ell_ops.specs.declared.op.Op.TheVariants.{Delete};
@@ -20,6 +18,8 @@ ghost use Rattle.ell_tree.specs.Keeping.{Keeps, IsInnerMet, KeepsAllButMet};
 ghost use Rattle.ell_tree.specs.Searches.{AtRoot, HasSearched, node_with};
 ghost use Rattle.ell_tree.specs.Tries.{cleared, HasSlotOf, Fills, Flags, HasCard, TryEnds, TryTook, TryTookThis};
 ghost use Rattle.ell_cards.specs.Depths.{deepest};
+ghost use Rattle.ell_cards.specs.Guards.{MayFill};
+ghost use Rattle.ell_cards.specs.Stepping.{IsWholeIn};
 
 use crate::gate::{Kind, StepGate};
 use crate::helping::{DeleteFlag, Ending, finish_delete, help, help_delete};

@@ -1,6 +1,4 @@
 //! Inserts (paper of 2010, figure 8: Insert), and swaps, which work the same way.
-ghost use Rattle.ell_cards.specs.Guards.{MayFill};
-ghost use Rattle.ell_cards.specs.Stepping.{IsWholeIn};
 ghost use Rattle.std.specs.Prelude.{[], ◌∷◌, true, ◌≢◌, ◌≡◌, ◌≤◌, ◌+◌, Some, None};
 ghost use Rattle.ell_word.specs.Link.{IsLink};
 ghost use Rattle.ell_word.specs.Node.{greatest_number};
@@ -14,6 +12,8 @@ ghost use Rattle.ell_tree.specs.Searches.{AtRoot, node_with};
 ghost use Rattle.ell_tree.specs.Tries.{cleared, HasSlotOf, told_of_put, put_reply, Fills, Flags, HasCardToPut, TryEnds};
 ghost use Rattle.ell_core.specs.tree.Flat.{IsNodeKey};
 ghost use Rattle.ell_cards.specs.Models.{flat_from};
+ghost use Rattle.ell_cards.specs.Guards.{MayFill};
+ghost use Rattle.ell_cards.specs.Stepping.{IsWholeIn};
 
 use crate::gate::{Kind, StepGate};
 use crate::helping::{finish_insert, help};

@@ -174,16 +174,17 @@ impl<A: Allocator + Copy> Tree<A> {
         Ok((Tree { table, alloc }, pass))
     }
 
-    /// Returns a flat tree, as `reserve_flat` does, whose cards come back, for at most this many passes at a time. A card
-    /// lies in a slot, of which there are as many as cards are asked for and start keys given, and one more. Once the nodes
-    /// of a card are out of the tree, and no call that might know of them is under way, its slot is free for another card:
-    /// so the tree goes on for as long as its keys fit into the slots. A slot is held back while a call that began before
-    /// it became free goes on. An insert or another change returns `Spent` if each slot was in use when it asked for it,
-    /// and may be made again. Each try of a change makes at most `2 * s + 10` steps more than in another flat tree, if `s`
-    /// is the number of the last slot, and beside these some that are not counted, by which slots are set free and taken
-    /// again. A split also returns `TooManyPasses` if there are as many passes as were asked for. The tree has no end yet:
-    /// `close` is for trees whose cards do not come back. Errors and conditions are otherwise those of `reserve_flat`, and
-    /// there are 1 to 1,000,000 passes.
+    /// Returns a flat tree, as `reserve_flat` does, whose cards come back, for at most this many passes at a time. A
+    /// card lies in a slot, of which there are as many as cards are asked for and start keys given, and one more. Once
+    /// the nodes of a card are out of the tree, and no call that might know of them is under way, its slot is free for
+    /// another card: so the tree goes on for as long as its keys fit into the slots, for which twice as many slots as
+    /// keys, and some more, are enough. A slot is held back while a call that began before it became free goes on. An
+    /// insert or another change returns `Spent` if each slot was in use when it asked for it, and may be made again.
+    /// Each try of a change makes at most `2 * s + 10` steps more than in another flat tree, if `s` is the number of
+    /// the last slot, and beside these some that are not counted, by which slots are set free and taken again. A split
+    /// also returns `TooManyPasses` if it finds no place for one more pass. The tree has no end yet: `close` is for
+    /// trees whose cards do not come back. Errors and conditions are otherwise those of `reserve_flat`, and there are 1
+    /// to 1,000,000 passes.
     pub fn reserve_reusing(
         alloc: A,
         start: &[(u64, u64)],
@@ -200,8 +201,8 @@ impl<A: Allocator + Copy> Tree<A> {
         requires places { passes ≤ most_places }
         // It succeeds only with 1 to 1,000,000 cards.
         ensures cards { OnOk result (IsCardCount cards) }
-        // The tree is flat, has the start pairs and shares each other key. The number of its last slot is `cards` plus the
-        // number of start keys, and that of its last card the greatest there is.
+        // The tree is flat, has the start pairs and shares each other key. The number of its last slot is `cards` plus
+        // the number of start keys, and that of its last card the greatest there is.
         ensures tree { IfOk result (λ made. made.0.plan ≡ record {
           keys = keys.now;
           start = start.now;

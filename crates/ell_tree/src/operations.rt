@@ -82,7 +82,8 @@ pub(crate) fn change<A: Allocator + Copy, G: StepGate>(
     ensures takes { IfOk result (TakesIfDelete table.now op pass.old pass.new) }
     ensures others { result ≡ Err Busy → IsOthersDoing table.now tries pass.old pass.new }
     ensures steps { IsWithin table.now tries pass.old pass.new }
-    ensures cards { table.now.plan.slots ≡ None → SpendsCards (key_of op) tries pass.old pass.new (changed_by op result) }
+    ensures cards { table.now.plan.slots ≡ None →
+        SpendsCards (key_of op) tries pass.old pass.new (changed_by op result) }
     ensures enough { 2 * table.now.plan.last_card < tries → result ≢ Err Busy }
 {
     let label = pass.label();
@@ -139,7 +140,8 @@ fn try_once<A: Allocator + Copy, G: StepGate>(
     requires root { AtRoot op pass.old.view }
     // It makes at most `7 * depth + 26` steps.
     ensures steps { pass.new.steps + 1 ≤ pass.old.steps + try_steps_in table.now.plan }
-    ensures made { table.now.plan.slots ≡ None → pass.new.view.made + 1 ≤ pass.old.view.made + try_steps_in table.now.plan }
+    ensures made { table.now.plan.slots ≡ None →
+        pass.new.view.made + 1 ≤ pass.old.view.made + try_steps_in table.now.plan }
     // It is answered as the operation, or has met something in its way and learned of a milestone, or finds no card
     // left. It takes one card at most.
     ensures ends { TryEnds table.now op pass.old pass.new result }

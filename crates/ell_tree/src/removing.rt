@@ -39,7 +39,8 @@ pub(crate) fn remove_if<A: Allocator + Copy, G: StepGate>(
     ensures others { Owns pass.old key → result ≡ Err Busy → IsOthersDoing table.now tries pass.old pass.new }
     ensures steps { TookIn table.now.plan pass.old pass.new (update_steps_in table.now.plan tries) }
     ensures counted { CountsTries tries pass.old pass.new }
-    ensures cards { table.now.plan.slots ≡ None → SpendsCards key tries pass.old pass.new (whether_swapped was result) }
+    ensures cards { table.now.plan.slots ≡ None →
+        SpendsCards key tries pass.old pass.new (whether_swapped was result) }
     ensures enough { Owns pass.old key → 2 * table.now.plan.last_card < tries → result ≢ Err Busy }
 {
     let mut there = find(table, pass, key, gate);

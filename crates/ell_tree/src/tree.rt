@@ -423,7 +423,8 @@ impl<A: Allocator + Copy> Tree<A> {
         ensures steps { IsWithin self.now tries pass.old pass.new }
         // It takes one card if it finds `was`, at most one more for each hindered try, and never more than `tries`. If
         // it changes nothing of a key of the pass, it takes none.
-        ensures cards { self.now.plan.slots ≡ None → SpendsCards key tries pass.old pass.new (whether_swapped was result) }
+        ensures cards { self.now.plan.slots ≡ None →
+            SpendsCards key tries pass.old pass.new (whether_swapped was result) }
         // With more than `2 * cards` tries it is never `Busy`.
         ensures enough { 2 * self.now.plan.last_card < tries → result ≢ Err Busy }
     {
@@ -468,7 +469,8 @@ impl<A: Allocator + Copy> Tree<A> {
         ensures steps { TookIn self.now.plan pass.old pass.new (update_steps_in self.now.plan tries) }
         ensures counted { CountsTries tries pass.old pass.new }
         // It takes one card if it puts a value, at most one more for each hindered try, and never more than `tries`.
-        ensures cards { self.now.plan.slots ≡ None → SpendsCards key tries pass.old pass.new (whether_put result) }
+        ensures cards { self.now.plan.slots ≡ None →
+            SpendsCards key tries pass.old pass.new (whether_put result) }
         // On a key of the pass, it is never `Busy` with more than `2 * cards` tries.
         ensures enough { Owns pass.old key → 2 * self.now.plan.last_card < tries → result ≢ Err Busy }
     {
@@ -669,7 +671,8 @@ impl<A: Allocator + Copy> Tree<A> {
         ensures counted { CountsTries tries pass.old pass.new }
         // It takes one card if it removes the key, at most one more for each hindered try, and never more than `tries`.
         // If it removes nothing of a key of the pass, it takes none.
-        ensures cards { self.now.plan.slots ≡ None → SpendsCards key tries pass.old pass.new (whether_swapped was result) }
+        ensures cards { self.now.plan.slots ≡ None →
+            SpendsCards key tries pass.old pass.new (whether_swapped was result) }
         // On a key of the pass, it is never `Busy` with more than `2 * cards` tries.
         ensures enough { Owns pass.old key → 2 * self.now.plan.last_card < tries → result ≢ Err Busy }
     {

@@ -1,5 +1,4 @@
 //! One try of an insert, a delete or a swap: how it ends, and its card.
-ghost use Rattle.ell_tree.specs.Ends.{claim_steps};
 ghost use Rattle.std.specs.Prelude.{true, ◌≢◌, ◌≡◌, ◌≤◌, None};
 ghost use Rattle.ell_word.specs.declared.update.State.TheVariants.{Clean};
 ghost use Rattle.ell_word.specs.Node.{greatest_number};
@@ -10,6 +9,7 @@ ghost use Rattle.ell_tree.specs.CardsTaken.{NextTakes, AskTakes};
 ghost use Rattle.ell_tree.specs.Keeping.{KeepsIn};
 ghost use Rattle.ell_tree.specs.Searches.{IsAt};
 ghost use Rattle.ell_tree.specs.Tries.{HasSlotOf, ClaimsNext, HoldsAside, Claims};
+ghost use Rattle.ell_tree.specs.Ends.{claim_steps};
 
 use crate::gate::{Kind, StepGate};
 use crate::searching::Place;

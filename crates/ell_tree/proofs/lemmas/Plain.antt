@@ -1,4 +1,4 @@
-use Rattle.std.proofs.Common.{◌≡◌, None, ℕ, ◌+◌, ◌*◌, arith, ap}
+use Rattle.std.proofs.Common.{◌≡◌, None, ℕ, ◌*◌, arith, ap}
 use Rattle.ell_cards.specs.Depths.{deepest}
 use Rattle.ell_cards.specs.Models.{PassModel, TablePlan}
 use Rattle.ell_tree.specs.Computing.{round_steps, round_steps_in, update_steps, update_steps_in}

@@ -1,4 +1,4 @@
-use Rattle.std.proofs.Common.{◌≡◌, ◌≢◌, ℕ, ◌<◌, ◌≤◌, Some, inl, inr, refl, ◌∙◌, subst, max, min, true, arith}
+use Rattle.std.proofs.Common.{◌≡◌, ◌≢◌, ◌⊎◌, ℕ, ◌<◌, ◌≤◌, Some, inl, inr, refl, ◌∙◌, subst, max, min, true, arith}
 use Rattle.ell_ops.specs.declared.op.Op.{Op}
 use Rattle.ell_word.specs.Node.{IsInternal, card, left_leaf, right_leaf}
 use Rattle.ell_core.specs.declared.fact.Fact.TheVariants as fact
@@ -55,58 +55,40 @@ module _ (what : Put) (place : Place) (v : View) (c : ℕ) (h : HasPut what plac
       )
 
   -- above an internal node the leaf of that node's key is not used
-  other_key : IsInternal place.node → place.key ≢ what.key
-  other_key inner = λ same. h.outer same inner
+  unused_dead : (x : ℕ) → IsInternal place.node → card x ≡ c
+      → ((x ≡ left_leaf c) × IsTold v (Info c field.LeftLeafKey place.key)) ⊎ ((x ≡ right_leaf c) × IsTold v (Info c field.RightLeafKey place.key))
+      → KnowsDeadNode v x
+  unused_dead x inner on told = (
+    c,
+    inr (
+      on,
+      inr (
+        h.over,
+        inr (record {
+          op = h.op;
+          below = place.node;
+          key = place.key;
+          busy = h.busy;
+          holds = h.card;
+          flagged = h.flagged;
+          goes = h.below;
+          inner = inner;
+          told = told;
+          other = λ same. h.outer (same ∙ put_key h.op what h.puts) inner;
+        }),
+      ),
+    ),
+  )
 
   pub right_dead : IsInternal place.node → what.key < place.key → KnowsDeadNode v (right_leaf c)
   right_dead inner less =
       let greater : max what.key place.key ≡ place.key = omega (arith, less) in
-      let on : card (right_leaf c) ≡ c = omega arith in (
-        c,
-        inr (
-          on,
-          inr (
-            h.over,
-            inr (record {
-              op = h.op;
-              below = place.node;
-              key = place.key;
-              busy = h.busy;
-              holds = h.card;
-              flagged = h.flagged;
-              goes = h.below;
-              inner = inner;
-              told = inr (refl, subst (λ k. IsTold v (Info c field.RightLeafKey k)) greater h.right_key);
-              other = λ same. other_key inner (same ∙ put_key h.op what h.puts);
-            }),
-          ),
-        ),
-      )
+      unused_dead (right_leaf c) inner (omega arith) (inr (refl, subst (λ k. IsTold v (Info c field.RightLeafKey k)) greater h.right_key))
 
   pub left_dead : IsInternal place.node → place.key ≤ what.key → KnowsDeadNode v (left_leaf c)
   left_dead inner most =
       let lesser : min what.key place.key ≡ place.key = omega (arith, most) in
-      let on : card (left_leaf c) ≡ c = omega arith in (
-        c,
-        inr (
-          on,
-          inr (
-            h.over,
-            inr (record {
-              op = h.op;
-              below = place.node;
-              key = place.key;
-              busy = h.busy;
-              holds = h.card;
-              flagged = h.flagged;
-              goes = h.below;
-              inner = inner;
-              told = inl (refl, subst (λ k. IsTold v (Info c field.LeftLeafKey k)) lesser h.left_key);
-              other = λ same. other_key inner (same ∙ put_key h.op what h.puts);
-            }),
-          ),
-        ),
-      )
+      unused_dead (left_leaf c) inner (omega arith) (inl (refl, subst (λ k. IsTold v (Info c field.LeftLeafKey k)) lesser h.left_key))
 
 -- what was known of the card of an insert or a swap when its flag stood is known once it is over
 pub has_put : (f m : View) (c : ℕ) (op : Op) (what : Put) (place : Place) → put_of op ≡ Some what → LosesNothing f m → Does f op → m.worker.card ≡ Some c
