@@ -12,16 +12,8 @@ use Rattle.ell_cards.specs.Models.{TablePlan, Has, IsTold}
 use Rattle.ell_cards.specs.Changes.{after_claim, expected_tag, filling_of, tagged, told_filling, value_told}
 use Rattle.ell_cards.specs.Calls.{after}
 use Rattle.ell_cards.specs.Shown.{shown}
-use Rattle.ell_cards.specs.SlotWords.{turn_of}
 use Rattle.ell_cards.specs.Stepping.{IsInside}
 use Rattle.ell_cards.specs.Whole.{IsWhole}
-
--- the last number of the turn of a card, and how many come after the card up to that
-abbrev pub last_of_turn : ℕ → ℕ
-last_of_turn c = 2097152 * (turn_of c + 1) - 1
-
-abbrev pub skipped : ℕ → ℕ
-skipped c = last_of_turn c - c
 
 -- what a pass knows once it has claimed a card, and then read the claim word
 abbrev pub after_one : ℕ → ℕ → View → View
@@ -37,10 +29,6 @@ after_row (suc n) c node_key v = after_row n (c + 1) node_key (after_one c node_
 abbrev pub after_claimed_row : Bool → ℕ → ℕ → ℕ → View → View
 after_claimed_row won first last node_key v =
     if won then after_row (last - first) first node_key v else after_claim false first node_key v
-
--- once it has claimed all of the turn from this card on, or else lost the claim
-abbrev pub after_skip : Bool → ℕ → ℕ → View → View
-after_skip won c node_key v = after_claimed_row won c (last_of_turn c) node_key v
 
 -- what is told of a card that is claimed
 abbrev pub told_of_claim : ℕ → ℕ → View → List Told

@@ -39,15 +39,6 @@ pub(crate) fn turn_of(card: u64) -> u64
     card / NUMBERS_PER_TURN
 }
 
-/// Returns the first number of the turn behind that of a card.
-#[inline(always)]
-pub(crate) fn first_behind_turn(card: u64) -> u64
-    requires { card ≤ greatest_number }
-    ensures { result ≡ 2097152 * (turn_of card + 1) }
-{
-    NUMBERS_PER_TURN * (turn_of(card) + 1)
-}
-
 // Returns the turn of the card in a slot, by the slot's word.
 #[inline(always)]
 fn turn_in(word: u64) -> u64

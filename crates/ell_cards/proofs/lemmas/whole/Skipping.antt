@@ -19,7 +19,7 @@ use Rattle.ell_cards.specs.Models.{TablePlan, TableModel, PassModel, StandsAt, f
 use Rattle.ell_cards.specs.Naming.{IsPlaced}
 use Rattle.ell_cards.specs.Periods.{whole_size, WholeState}
 use Rattle.ell_cards.specs.Shown.{IsWord, cut_word, shown}
-use Rattle.ell_cards.specs.Skipping.{last_of_turn, after_one, after_row, after_claimed_row, MayStepOn, RowTells}
+use Rattle.ell_cards.specs.Skipping.{after_one, after_row, after_claimed_row, MayStepOn, RowTells}
 use Rattle.ell_cards.specs.Starts.{SlotsFit}
 use Rattle.ell_cards.specs.Stepping.{IsInside, KeepsPass, SameShare}
 use Rattle.ell_cards.specs.Turns.{found_by}
@@ -209,18 +209,6 @@ row_keeps_pass plan v first last node_key n w h = by (n == first) h.0
     )
     by false is =
         (ap (λ (u : View). ledger_keys u.worker.ledger) is, subst (SameShare v) (sym is) (record { share = refl; ownable = refl }), h.1)
-
--- a table with places has all numbers of each turn of which it has one
-pub turn_fits : (plan : TablePlan) (o : Option Slots) → SlotsFit plan o → o ≢ None → (c : ℕ) → c ≤ plan.last_card
-    → (last_of_turn c ≤ plan.last_card) × (c ≤ greatest_number)
-turn_fits plan None fit there c low = absurd (there refl)
-turn_fits plan (Some s) fit there c low = let all = fit.2 in (omega arith, omega arith)
-
--- the same of a table as its callers see it
-pub turn_fits_there : (t u : TableModel) → t ≡ u → SlotsFit t.plan t.plan.slots → u.plan.slots ≢ None → (c : ℕ) → c ≤ u.plan.last_card
-    → (last_of_turn c ≤ u.plan.last_card) × (c ≤ greatest_number)
-turn_fits_there t u same fit = subst (λ (m : TableModel). m.plan.slots ≢ None → (c : ℕ) → c ≤ m.plan.last_card → (last_of_turn c ≤ m.plan.last_card) × (c ≤ greatest_number)) same
-    (turn_fits t.plan t.plan.slots fit)
 
 -- what a step on the claim word owes that the rule allows, by what its caller says of the table and the pass
 module _ (t u : TableModel) (p q : PassModel) (same_table : t ≡ u) (same_pass : p ≡ q) (own : q.table ≡ u.id) (size : t.id.words ≡ whole_size t.plan) (fit : SlotsFit t.plan t.plan.slots) where
