@@ -1,5 +1,4 @@
--- A pass takes the numbers of cards from one to the last one of its turn at once, where the slots of a table end before a
--- turn does.
+-- A pass takes the numbers of cards from one to another at once, where only the last one's slot is one that it may take.
 use Rattle.std.specs.Prelude.{◌≡◌, ◌⊎◌, ℕ, zero, suc, ◌+◌, ◌-◌, ◌*◌, ◌≤◌, ◌==◌, List, [], ◌∷◌, if◌then◌else◌, Bool, true, false, Some}
 use Rattle.atomic_table.specs.Table.{Allows}
 use Rattle.ell_core.specs.declared.exchange.Exchange.{Exchange}
@@ -13,16 +12,8 @@ use Rattle.ell_cards.specs.Models.{TablePlan, Has, IsTold}
 use Rattle.ell_cards.specs.Changes.{after_claim, expected_tag, filling_of, tagged, told_filling, value_told}
 use Rattle.ell_cards.specs.Calls.{after}
 use Rattle.ell_cards.specs.Shown.{shown}
-use Rattle.ell_cards.specs.SlotWords.{turn_of}
 use Rattle.ell_cards.specs.Stepping.{IsInside}
 use Rattle.ell_cards.specs.Whole.{IsWhole}
-
--- the last number of the turn of a card, and how many come after the card up to that
-abbrev pub last_of_turn : ℕ → ℕ
-last_of_turn c = 2097152 * (turn_of c + 1) - 1
-
-abbrev pub skipped : ℕ → ℕ
-skipped c = last_of_turn c - c
 
 -- what a pass knows once it has claimed a card, and then read the claim word
 abbrev pub after_one : ℕ → ℕ → View → View
@@ -34,10 +25,10 @@ abbrev pub after_row : ℕ → ℕ → ℕ → View → View
 after_row zero c node_key v = after_claim true c node_key v
 after_row (suc n) c node_key v = after_row n (c + 1) node_key (after_one c node_key v)
 
--- once it has claimed all of the turn from this card on, or else lost the claim
-abbrev pub after_skip : Bool → ℕ → ℕ → View → View
-after_skip won c node_key v =
-    if won then after_row (skipped c) c node_key v else after_claim false c node_key v
+-- once it has claimed all cards from a first one to a last one, or else lost the claim
+abbrev pub after_claimed_row : Bool → ℕ → ℕ → ℕ → View → View
+after_claimed_row won first last node_key v =
+    if won then after_row (last - first) first node_key v else after_claim false first node_key v
 
 -- what is told of a card that is claimed
 abbrev pub told_of_claim : ℕ → ℕ → View → List Told
@@ -93,7 +84,8 @@ MayStepOn plan v i f told =
     (k : Known) → shown k.tree ≡ v → (id : ℕ) → Allows (IsWhole plan) 0 id (k, []) i f
     (λ n me. told n (shown me.0.tree) × (me.0.period ≡ k.period) × (me.1 ≡ []))
 
--- an exchange of the claim word that found this, and takes all numbers of a turn from a card on where it is won, leaves
--- of a pass what it is to know, and that names what is in its table
-abbrev pub SkipTells : TablePlan → ℕ → ℕ → View → ℕ → View → Type 0
-SkipTells plan c node_key v n w = (w ≡ after_skip (n == c) c node_key v) × IsInside plan w
+-- an exchange of the claim word that found this, and takes all numbers from a first card to a last one if it is won,
+-- leaves of a pass what it is to know, and that names what is in its table
+abbrev pub RowTells : TablePlan → ℕ → ℕ → ℕ → View → ℕ → View → Type 0
+RowTells plan first last node_key v n w =
+    (w ≡ after_claimed_row (n == first) first last node_key v) × IsInside plan w

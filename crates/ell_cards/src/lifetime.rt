@@ -15,7 +15,7 @@ ghost use Rattle.ell_cards.specs.Models.{flat_from, Steps, StepsOut, IsFree, IsC
 ghost use Rattle.ell_cards.specs.Changes.{left_view, right_view, joined_view};
 ghost use Rattle.ell_cards.specs.Inside.{IsNewTable};
 ghost use Rattle.ell_cards.specs.Stepping.{MaySplit, MayHave, PartsShare};
-ghost use Rattle.ell_cards.specs.Periods.{has_slot, most_claims, last_for, slots_of, whole_size, whole_words};
+ghost use Rattle.ell_cards.specs.Periods.{most_claims, last_for, slots_of, whole_size, whole_words};
 ghost use Rattle.ell_cards.specs.Shown.{IsWord};
 ghost use Rattle.ell_cards.specs.Starts.{MayStart, OpensBy, most_places};
 ghost use Rattle.ell_cards.specs.Whole.{IsWhole, first_known};
@@ -26,7 +26,6 @@ use crate::pass::{Pass, Standing};
 use crate::period::last_slot;
 use crate::rule::{CardRule, Joined, PartedBy, SplitBy};
 use crate::share::{Share, WHOLE_SHARE};
-use crate::slots::slot_of;
 use crate::table::CardTable;
 use crate::view::{Known, Plan, Slots, TableKind};
 use atomic_table::{Seat, Table};
@@ -149,19 +148,6 @@ impl<A: Allocator + Copy> CardTable<A> {
         ensures { result ≡ is_some self.now.plan.slots }
     {
         self.slots.is_some()
-    }
-
-    /// Returns `true` if a card has a slot: without places each has one of its own, and with places those that lie in one of the
-    /// table's slots, as the numbers at the end of each turn do not.
-    #[inline(always)]
-    pub fn has_slot(&self, card: u64) -> bool
-        // Returns `true` exactly if the card has a slot.
-        ensures { result ≡ has_slot self.now.plan.slots card }
-    {
-        match self.slots {
-            None => true,
-            Some(slots) => slot_of(card) <= slots.last,
-        }
     }
 
     /// Returns how many cards to claim at most until the slot of one may be taken: one, if there are no places.

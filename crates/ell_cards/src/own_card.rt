@@ -5,7 +5,7 @@ ghost use Rattle.ell_word.specs.Word.{packed};
 ghost use Rattle.ell_core.specs.declared.exchange.Exchange.TheVariants as exchange;
 ghost use Rattle.ell_cards.specs.Models.{Steps, flat_from};
 ghost use Rattle.ell_cards.specs.Changes.{after_claim, after_fill, after_flag, if_won, exchanged, found_update, found_word};
-ghost use Rattle.ell_cards.specs.Skipping.{after_skip};
+ghost use Rattle.ell_cards.specs.Skipping.{after_claimed_row};
 ghost use Rattle.ell_cards.specs.Stepping.{IsWholeIn};
 ghost use Rattle.ell_cards.specs.Guards.{MayClaim, MayFill, MayIFlag, MayDFlag};
 
@@ -13,7 +13,6 @@ use crate::call::Call;
 use crate::outcomes::update_outcome;
 use crate::pass::Pass;
 use crate::places::{field_address, update_address};
-use crate::slots::first_behind_turn;
 use crate::table::CardTable;
 use ell_layout::{Field, update_word};
 use ell_word::{State, Update, pack};
@@ -36,23 +35,22 @@ impl<A: Allocator + Copy> CardTable<A> {
         self.exchange(pass, Call::Claim(card, node_key), 0, card, card + 1) == card
     }
 
-    /// Takes all numbers from the card that `next` read in this try to the last one of the card's turn at once, if the card
-    /// is still the next one. Returns `true` if it did: then each of them was laid aside but the last one, which is in
-    /// hand, as after so many claims in a row with `next` between two of them. With that, the next card is the first
-    /// one of the turn behind, which lies in slot 0. A pass may have a card in hand, as for `claim`.
+    /// Takes all numbers from the card that `next` read in this try to a later one at once, if the card is still the next
+    /// one. Returns `true` if it did: then each of them was laid aside but the last one, which is in hand, as after so many
+    /// claims in a row with `next` between two of them. A pass may have a card in hand, as for `claim`.
     #[inline(always)]
-    pub fn skip_turn(&self, pass: &mut Pass<A>, card: u64, node_key: u64) -> bool
+    pub fn claim_row(&self, pass: &mut Pass<A>, first: u64, last: u64, node_key: u64) -> bool
         requires own { pass.old.table ≡ self.now.id }
-        requires may { MayClaim (flat_from self.now.plan) pass.old.view card node_key }
+        requires may { MayClaim (flat_from self.now.plan) pass.old.view first node_key }
         requires flat { self.now.plan.flat ≡ true }
         requires places { self.now.plan.slots ≢ None }
-        requires room { card ≤ self.now.plan.last_card }
+        requires order { first ≤ last }
+        requires room { last ≤ self.now.plan.last_card }
         // It makes one step and counts it. The pass then knows exactly what these claims tell.
-        ensures step { Steps pass.old pass.new (after_skip result card node_key pass.old.view) }
+        ensures step { Steps pass.old pass.new (after_claimed_row result first last node_key pass.old.view) }
     {
         let _ = &self.table;
-        let next = first_behind_turn(card);
-        self.exchange_claim::<Brand>(pass, card, node_key, next) == card
+        self.exchange_claim::<Brand>(pass, first, node_key, last + 1) == first
     }
 
     /// Stores a word of the card in hand, which is not flagged. If the table has places, the pass has taken the card's

@@ -1,11 +1,11 @@
 //! Slots: a card lies in one, at one of the turns there. The word of a slot notes which of the three nodes of its card are dead.
 //! Once all three are, the slot is set free, with a reading of the clock as its stamp, and a pass takes it for the card of a later
 //! turn once that stamp is safe. The steps are not counted.
-ghost use Rattle.std.specs.Prelude.{◌≡◌, ◌≢◌, ◌+◌, ◌*◌, ◌<◌, ◌≤◌, ◌%◌, None, Some, [], true, false};
+ghost use Rattle.std.specs.Prelude.{◌≡◌, ◌≢◌, ◌+◌, ◌*◌, ◌<◌, ◌≤◌, ◌%◌, IfSome, None, Some, [], true, false};
 ghost use Rattle.ell_word.specs.Node.{greatest_card, greatest_number, card};
 ghost use Rattle.ell_cards.specs.Ages.{KnowsDeadNode, MayStamp};
 ghost use Rattle.ell_cards.specs.Guards.{MayFill};
-ghost use Rattle.ell_cards.specs.Periods.{StandsAs, after_own, after_read, after_stamp, after_taking, last_reading, slot_word};
+ghost use Rattle.ell_cards.specs.Periods.{StandsAs, after_own, after_read, after_stamp, after_taking, has_slot, last_reading, slot_word};
 ghost use Rattle.ell_cards.specs.SlotWords.{bit_of, card_by, is_noted, slot_of, stamp_in, turn_in, turn_of};
 ghost use Rattle.ell_cards.specs.Tied.{HoldsWaiting};
 
@@ -37,15 +37,6 @@ pub(crate) fn turn_of(card: u64) -> u64
     ensures { result ≡ turn_of card }
 {
     card / NUMBERS_PER_TURN
-}
-
-/// Returns the first number of the turn behind that of a card.
-#[inline(always)]
-pub(crate) fn first_behind_turn(card: u64) -> u64
-    requires { card ≤ greatest_number }
-    ensures { result ≡ 2097152 * (turn_of card + 1) }
-{
-    NUMBERS_PER_TURN * (turn_of(card) + 1)
 }
 
 // Returns the turn of the card in a slot, by the slot's word.
@@ -88,6 +79,20 @@ impl Slots {
     #[inline(always)]
     fn takings_per_look(self) -> u64 {
         (self.last / 8).clamp(1, 64)
+    }
+
+    /// Returns the least number of a card that has a slot, from this card on: the first one of the turn behind, if the card has none.
+    #[inline(always)]
+    fn next_with_slot(self, card: u64) -> u64
+        requires { card ≤ greatest_number + 1 }
+        ensures from { card ≤ result }
+        ensures slot { slot_of result ≤ self.last }
+    {
+        if slot_of(card) <= self.last {
+            card
+        } else {
+            NUMBERS_PER_TURN * (turn_of(card) + 1)
+        }
     }
 
     /// Returns the address of the word of a slot: behind the places.
@@ -338,6 +343,72 @@ impl<A: Allocator + Copy> CardTable<A> {
         if slots.takings_per_look() <= pass.standing.takings {
             pass.standing.takings = 0;
             self.safe_number(pass);
+        }
+    }
+
+    // Reads the word of the slot of a card. Returns `true` if the pass could take the slot for that card: it is a slot of the
+    // card's turn already, and not free, or it was set free with a stamp below the pass's safe number.
+    fn is_takeable(&self, pass: &mut Pass<A>, slots: Slots, card: u64) -> bool
+        requires own { pass.old.table ≡ self.now.id }
+        requires slots { self.now.plan.slots ≡ Some slots }
+        requires slot { slot_of card ≤ slots.last }
+        ensures { pass.new ≡ pass.old }
+    {
+        let word = self.read_slot(&mut pass.seat, slots, slot_of(card));
+        if word % 8 == 7 {
+            stamp_in(word) < pass.standing.safe
+        } else {
+            turn_in(word) == turn_of(card)
+        }
+    }
+
+    // Returns the least number of a card, from this card on, whose slot the pass could take. It reads the word of each slot once.
+    fn seek_takeable(&self, pass: &mut Pass<A>, slots: Slots, card: u64) -> Option<u64>
+        requires own { pass.old.table ≡ self.now.id }
+        requires slots { self.now.plan.slots ≡ Some slots }
+        requires room { card ≤ self.now.plan.last_card }
+        ensures same { pass.new ≡ pass.old }
+        ensures found { IfSome result (λ c. (card ≤ c) × (c ≤ self.now.plan.last_card) × (slot_of c ≤ slots.last)) }
+    {
+        let _ = &self.table;
+        let mut next = slots.next_with_slot(card);
+        for _ in 0..=slots.last {
+            if self.last_card < next {
+                return None;
+            }
+            if self.is_takeable(pass, slots, next) {
+                return Some(next);
+            }
+            next = slots.next_with_slot(next + 1);
+        }
+        None
+    }
+
+    /// Returns the least number of a card, from this card on, whose slot the pass could take by `take_slot` as it read the slots'
+    /// words: at most one round of them, and one more if there was none, and the places then tell of a greater safe number. Returns
+    /// `None` if there is none, or none that the table has. Without places, each card has words of its own, and this is the card
+    /// itself. Its steps are not counted.
+    pub fn next_takeable(&self, pass: &mut Pass<A>, card: u64) -> Option<u64>
+        requires own { pass.old.table ≡ self.now.id }
+        requires room { card ≤ self.now.plan.last_card }
+        // What the pass knows of the tree is as it was, and it has made no step that is counted.
+        ensures same { pass.new ≡ record (pass.old) { safe = pass.new.safe } }
+        // It is a card of the table that has a slot, and none before the one from which it was sought.
+        ensures found { IfSome result (λ c. (card ≤ c) × (c ≤ self.now.plan.last_card) × (has_slot self.now.plan.slots c ≡ true)) }
+        // A table without places has no slots to be read.
+        ensures plain { self.now.plan.slots ≡ None → (result ≡ Some card) × (pass.new ≡ pass.old) }
+    {
+        let Some(slots) = self.slots else {
+            return Some(card);
+        };
+        let safe = pass.standing.safe;
+        if let Some(found) = self.seek_takeable(pass, slots, card) {
+            return Some(found);
+        }
+        if safe < self.safe_number(pass) {
+            self.seek_takeable(pass, slots, card)
+        } else {
+            None
         }
     }
 

@@ -3,8 +3,9 @@ ghost use Rattle.std.specs.Prelude.{true, ◌≢◌, ◌≡◌, ◌≤◌, None}
 ghost use Rattle.ell_word.specs.declared.update.State.TheVariants.{Clean};
 ghost use Rattle.ell_word.specs.Node.{greatest_number};
 ghost use Rattle.ell_cards.specs.Models.{Does, Steps, flat_from};
-ghost use Rattle.ell_cards.specs.Guards.{MayFill, Wants};
+ghost use Rattle.ell_cards.specs.Guards.{MayClaim, MayFill, Wants};
 ghost use Rattle.ell_cards.specs.Changes.{after_fill};
+ghost use Rattle.ell_cards.specs.Skipping.{after_claimed_row};
 ghost use Rattle.ell_tree.specs.CardsTaken.{NextTakes, AskTakes};
 ghost use Rattle.ell_tree.specs.Keeping.{KeepsIn};
 ghost use Rattle.ell_tree.specs.Searches.{IsAt};
@@ -49,13 +50,13 @@ enum Next {
     NoneLeft,
     /// Another pass took it.
     Lost,
-    /// It is in hand, and has no slot, or one that is in use.
+    /// It is in hand, and its slot is in use.
     InUse,
 }
 
 /// Takes the next card for an operation whose search ended at a place, if one is left and no other pass takes it first.
-/// The node of an insert's or a swap's card gets this key. Where cards lie in slots, it goes on to the card behind
-/// while the slot of a card is in use, until it has asked for each slot.
+/// The node of an insert's or a swap's card gets this key. Where cards lie in slots, it takes the next one whose slot is free, and
+/// goes on to the one behind while another pass has taken that slot first, until it has asked for each.
 pub(crate) fn take_card<A: Allocator + Copy, G: StepGate>(
     table: &CardTable<A>,
     pass: &mut Pass<A>,
@@ -87,8 +88,8 @@ pub(crate) fn take_card<A: Allocator + Copy, G: StepGate>(
     Claimed::NoneLeft
 }
 
-// Claims the next card, if one is left, and takes its slot, if cards lie in slots and it is free. If the next card has
-// no slot, all numbers of its turn are claimed at once. A card that is in hand already is laid aside.
+// Claims the next card whose slot the pass could take, if one is left, and with it all numbers up to it, and takes its slot, if
+// cards lie in slots and it is free still. A card that is in hand already is laid aside, as the numbers before that one are.
 fn claim_next<A: Allocator + Copy, G: StepGate>(
     table: &CardTable<A>,
     pass: &mut Pass<A>,
@@ -111,25 +112,45 @@ fn claim_next<A: Allocator + Copy, G: StepGate>(
 {
     let label = pass.label();
     gate.before(label, Kind::Look);
-    let card = table.next(pass);
-    if card > table.last_card() {
+    let first = table.next(pass);
+    if first > table.last_card() {
         return Next::NoneLeft;
     }
+    let Some(card) = table.next_takeable(pass, first) else {
+        return Next::NoneLeft;
+    };
     gate.before(label, Kind::Exchange(Exchange::Claim));
-    if !table.has_slot(card) {
-        return if table.skip_turn(pass, card, node_key) {
-            Next::InUse
-        } else {
-            Next::Lost
-        };
-    }
-    if !table.claim(pass, card, node_key) {
+    if !claim_up_to(table, pass, first, card, node_key) {
         return Next::Lost;
     }
     if table.take_slot(pass, card) {
         Next::Taken(card)
     } else {
         Next::InUse
+    }
+}
+
+// Claims all cards from the next one to this one, if no other pass has taken the next one: just that, where each card has words of
+// its own. Returns `true` if it did.
+fn claim_up_to<A: Allocator + Copy>(
+    table: &CardTable<A>,
+    pass: &mut Pass<A>,
+    first: u64,
+    card: u64,
+    node_key: u64,
+) -> bool
+    requires flat { table.now.plan.slots ≢ None → table.now.plan.flat ≡ true }
+    requires own { pass.old.table ≡ table.now.id }
+    requires may { MayClaim (flat_from table.now.plan) pass.old.view first node_key }
+    requires order { first ≤ card }
+    requires room { card ≤ table.now.plan.last_card }
+    requires one { table.now.plan.slots ≡ None → card ≡ first }
+    ensures { Steps pass.old pass.new (after_claimed_row result first card node_key pass.old.view) }
+{
+    if card == first {
+        table.claim(pass, first, node_key)
+    } else {
+        table.claim_row(pass, first, card, node_key)
     }
 }
 

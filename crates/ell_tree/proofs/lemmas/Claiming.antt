@@ -1,4 +1,4 @@
-use Rattle.std.proofs.Common.{◌≡◌, ◌≢◌, ℕ, ◌+◌, ◌*◌, ◌<◌, ◌≤◌, ◌++◌, Bool, true, false, Option, Some, None, List, [], ◌∷◌, length, inl, inr, refl, sym, ◌∙◌, ap, subst, unwrap_or, arith}
+use Rattle.std.proofs.Common.{◌≡◌, ◌≢◌, ℕ, ◌+◌, ◌-◌, ◌*◌, ◌<◌, ◌≤◌, ◌++◌, Bool, true, false, Option, Some, None, List, [], ◌∷◌, length, inl, inr, refl, sym, ◌∙◌, ap, subst, unwrap_or, arith}
 use Rattle.std.proofs.lemmas.Option.{same_Some}
 use Rattle.ell_ops.specs.declared.op.Op.{Op}
 use Rattle.ell_word.specs.declared.update.State.TheVariants as state
@@ -11,11 +11,11 @@ use Rattle.ell_cards.specs.declared.view.Hindrance.{Hindrance}
 use Rattle.ell_cards.specs.declared.view.Hindrance.TheVariants.{Claim}
 use Rattle.ell_cards.specs.declared.view.Slots.{Slots}
 use Rattle.ell_cards.specs.declared.view.View.{View}
-use Rattle.ell_cards.specs.Models.{TablePlan, PassModel, Steps, flat_from, one_more as one_step_more, latest, earlier, Does}
-use Rattle.ell_cards.specs.Changes.{after_claim, expected_tag, filling_for, filling_of, tag_of_claim, value_told}
-use Rattle.ell_cards.specs.Guards.{MayClaim, Wants}
-use Rattle.ell_cards.specs.Periods.{has_slot, most_claims}
-use Rattle.ell_cards.specs.Skipping.{after_row, IsAfterRow}
+use Rattle.ell_cards.specs.Models.{TablePlan, PassModel, Steps, flat_from, latest, earlier, Does}
+use Rattle.ell_cards.specs.Changes.{expected_tag, filling_for, filling_of, tag_of_claim, value_told}
+use Rattle.ell_cards.specs.Guards.{MayClaim, MayFill, Wants}
+use Rattle.ell_cards.specs.Periods.{most_claims}
+use Rattle.ell_cards.specs.Skipping.{after_claimed_row, after_row, IsAfterRow}
 use Rattle.ell_cards.proofs.lemmas.views.Afters.{after_next}
 use Rattle.ell_cards.proofs.lemmas.views.Rows.{rows_keep, wants_same}
 use Rattle.ell_cards.proofs.lemmas.views.Searches.{may_claim}
@@ -28,11 +28,11 @@ use Rattle.ell_tree.specs.declared.trying.Claimed.TheVariants as claimed
 use Rattle.ell_tree.specs.CardsTaken.{AskTakes, TakesNoCard}
 use Rattle.ell_tree.specs.Ends.{claim_steps}
 use Rattle.ell_tree.specs.Hindrances.{Meets}
-use Rattle.ell_tree.specs.Keeping.{LosesNothing, Keeps, KeepsIn}
+use Rattle.ell_tree.specs.Keeping.{LosesNothing, KeepsIn}
 use Rattle.ell_tree.specs.Searches.{seen, IsAt}
-use Rattle.ell_tree.specs.Tries.{Claims, ClaimsInVain, HasCard, HasNone, HasSlotOf, HoldsAside}
+use Rattle.ell_tree.specs.Tries.{Claims, ClaimsInVain, HasCard, HasSlotOf, HoldsAside}
 use Rattle.ell_tree.specs.Milestones.{GivesOut}
-use Rattle.ell_tree.proofs.lemmas.Keeping.{keeps_step, keeps_trans, keeps_all_none, loses_trans, next_keeps}
+use Rattle.ell_tree.proofs.lemmas.Keeping.{keeps_in, keeps_step, keeps_all_none, loses_trans, next_keeps}
 
 -- a row of claims loses nothing
 row_keeps : (first last node_key : ℕ) (v w : View) → IsAfterRow first last node_key v w → v.next_at_least ≤ first → first ≤ last → LosesNothing v w
@@ -49,12 +49,10 @@ row_keeps first last node_key v w r low up = record {
   earlier = λ hs e. r.hindrances ∙ (e ∙ ap (λ (ms : List Hindrance). ms ++ hs) (sym r.met));
 }
 
--- a claim that is won is a row of one
-won_row : (c node_key : ℕ) (v : View) → IsAfterRow c c node_key v (after_claim true c node_key v)
-won_row c node_key v = subst (λ m. IsAfterRow c m node_key v (after_claim true c node_key v)) (omega arith) (rows_keep 0 c node_key v)
-
-won_keeps : (c node_key : ℕ) (v : View) → v.next_at_least ≤ c → LosesNothing v (after_claim true c node_key v)
-won_keeps c node_key v low = row_keeps c c node_key v (after_claim true c node_key v) (won_row c node_key v) low (omega arith)
+-- what a pass knows once it has claimed a row of cards
+claimed_row : (first last node_key : ℕ) (v : View) → first ≤ last → IsAfterRow first last node_key v (after_claimed_row true first last node_key v)
+claimed_row first last node_key v order =
+    subst (λ m. IsAfterRow first m node_key v (after_row (last - first) first node_key v)) (omega arith) (rows_keep (last - first) first node_key v)
 
 -- a card that may be laid aside is not flagged
 aside_unflagged : (plan : TablePlan) (p : PassModel) (c : ℕ) → HoldsAside plan p → p.view.worker.card ≡ Some c → p.view.worker.flagged ≡ false
@@ -72,123 +70,123 @@ may_claim_at plan old new c node_key op place s busy hand low at calm wants =
     (ap (λ (r : Search). r.node) at.search) at.told (ap (λ (r : Search). r.parent) at.search) (clean_word place.parent.update.state place.parent.update.card calm) wants
 
 -- a pass that takes a slot after its steps, or finds it in use, keeps what it kept
-pub keeps_slot : (plan : TablePlan) (a d e : PassModel) (n : ℕ) → Keeps a d n → e ≡ record d { slot = e.slot; safe = e.safe } → KeepsIn plan a e n
+pub keeps_slot : (plan : TablePlan) (a d e : PassModel) (n : ℕ) → KeepsIn plan a d n → e ≡ record d { slot = e.slot; safe = e.safe } → KeepsIn plan a e n
 keeps_slot plan a d e n k same = record {
   table = ap (λ (p : PassModel). p.table) same ∙ k.table;
   label = ap (λ (p : PassModel). p.label) same ∙ k.label;
   view = subst (LosesNothing a.view) (sym (ap (λ (p : PassModel). p.view) same)) k.view;
   took = (let steps = ap (λ (p : PassModel). p.steps) same in
       let made = ap (λ (p : PassModel). p.view.made) same in
-      record { steps = omega (arith, k.took.steps, steps); made = λ none. omega (arith, k.took.made, made) });
+      record { steps = omega (arith, k.took.steps, steps); made = λ none. (let few = k.took.made none in omega (arith, few, made)) });
 }
 
-module _ (a b d : PassModel) (c node_key : ℕ) (read : Steps a b (after_next c a.view)) (low : a.view.next_at_least ≤ c) where
-  low_there : b.view.next_at_least ≤ c
-  low_there = subst (λ (w : View). w.next_at_least ≤ c) (sym (view_after a b (after_next c a.view) read)) low
+-- A pass read the claim word, and then perhaps found another safe number. It may claim the next card then.
+module _ (a b e : PassModel) (first node_key : ℕ) (read : Steps a b (after_next first a.view)) (same : e ≡ record b { safe = e.safe }) (low : a.view.next_at_least ≤ first) where
+  pub may_claim_there : (plan : TablePlan) (op : Op) (place : Place) → Does a.view op → HoldsAside plan a → IsAt a.view place → place.parent.update.state ≡ state.Clean
+      → Wants (flat_from plan) a.view op place.parent.node place.node place.key node_key → MayClaim (flat_from plan) e.view first node_key
+  may_claim_there plan op place busy hand at calm wants =
+      subst (λ (w : View). MayClaim (flat_from plan) w first node_key) (sym (ap (λ (p : PassModel). p.view) same)) (may_claim_at plan a b first node_key op place read busy hand low at calm wants)
 
-  -- the card is given out then, whoever took it
-  pub given_out : (won : Bool) (cards : ℕ) → Steps b d (after_claim won c node_key b.view) → 1 ≤ c → c ≤ cards → GivesOut cards a.view d.view
-  given_out won cards s first last = record {
-    card = c;
-    first = omega arith;
-    last = last;
-    before = low;
-    after = (let now = is won s in omega arith);
-  }
-    where
-      is : (t : Bool) → Steps b d (after_claim t c node_key b.view) → d.view.next_at_least ≡ c + 1
-      is true s = ap (λ (w : View). w.next_at_least) (view_after b d (after_claim true c node_key b.view) s)
-      is false s = ap (λ (w : View). w.next_at_least) (view_after b d (after_claim false c node_key b.view) s)
+  -- it tried to claim all cards from that to a last one
+  module _ (d : PassModel) (last : ℕ) (order : first ≤ last) where
+    abbrev ClaimsAll : Bool → Type 0
+    ClaimsAll won = Steps e d (after_claimed_row won first last node_key e.view)
 
-  pub won_goes : Steps b d (after_claim true c node_key b.view) → Keeps a d 2
-  won_goes s =
-      keeps_trans a b d 1 1 2 (keeps_step a b (after_next c a.view) read (next_keeps c a.view) refl)
-      (keeps_step b d (after_claim true c node_key b.view) s (won_keeps c node_key b.view low_there) refl) (omega arith)
+    view_there : (won : Bool) → ClaimsAll won → d.view ≡ after_claimed_row won first last node_key (after_next first a.view)
+    view_there won s =
+        view_after e d (after_claimed_row won first last node_key e.view) s
+        ∙ ap (after_claimed_row won first last node_key) (ap (λ (p : PassModel). p.view) same ∙ view_after a b (after_next first a.view) read)
 
-  -- the card is in hand then
-  has_card : (op : Op) (place : Place) → Steps b d (after_claim true c node_key b.view) → Does a.view op → IsAt a.view place
-      → HasCard op place (expected_tag a.view) (filling_of c node_key a.view) d.view c
-  has_card op place s busy at =
-      let row = won_row c node_key (after_next c a.view) in
-      subst (λ (w : View). HasCard op place (expected_tag a.view) (filling_of c node_key a.view) w c)
-      (sym (view_after b d (after_claim true c node_key b.view) s ∙ ap (after_claim true c node_key) (view_after a b (after_next c a.view) read)))
-      (record {
-        busy = busy;
-        may = record { holds = refl; unflagged = refl };
-        stands = ap (λ (r : Search). r.node) at.search;
-        behind = ap (λ (r : Search). r.parent) at.search;
-        above = ap (λ (r : Search). r.grandparent) at.search;
-        says = refl;
-        empty = refl;
-        told = λ e h. row.says e (earlier e _ _ h);
-        expects = row.says _ (latest _ _);
-      })
+    row : ClaimsAll true → IsAfterRow first last node_key (after_next first a.view) d.view
+    row s = subst (IsAfterRow first last node_key (after_next first a.view)) (sym (view_there true s)) (claimed_row first last node_key (after_next first a.view) order)
 
-  -- and nothing was in the way
-  won_calm : Steps b d (after_claim true c node_key b.view) → d.view.hindrances ≡ a.view.hindrances
-  won_calm s =
-      ap (λ (w : View). w.hindrances)
-      (view_after b d (after_claim true c node_key b.view) s ∙ ap (after_claim true c node_key) (view_after a b (after_next c a.view) read))
+    -- the first card is given out then, whoever took it
+    given_out : (won : Bool) (cards : ℕ) → ClaimsAll won → 1 ≤ first → first ≤ cards → GivesOut cards a.view d.view
+    given_out won cards s some room = record { card = first; first = omega arith; last = room; before = low; after = by won s }
+      where
+        by : (t : Bool) → ClaimsAll t → first < d.view.next_at_least
+        by true s = let now = (row s).least in omega arith
+        by false s = let now = ap (λ (w : View). w.next_at_least) (view_there false s) in omega arith
 
-  -- also once its slot is taken
-  pub taken_claims : (plan : TablePlan) (op : Op) (place : Place) (e : PassModel) → Steps b d (after_claim true c node_key b.view) → Does a.view op → IsAt a.view place
-      → 1 ≤ c → c ≤ plan.last_card → e ≡ record d { slot = e.slot; safe = e.safe } → HasSlotOf plan c e → Claims plan op place node_key a e (claimed.Card c)
-  taken_claims plan op place e s busy at first last same slot =
-      let view = ap (λ (p : PassModel). p.view) same in (
-        subst (λ (w : View). HasCard op place (expected_tag a.view) (filling_of c node_key a.view) w c) (sym view) (has_card op place s busy at),
-        last,
-        ap (λ (w : View). w.hindrances) view ∙ won_calm s,
-        subst (GivesOut plan.last_card a.view) (sym view) (given_out true plan.last_card s first last),
-        slot,
-      )
+    -- if it won them, it kept all, in two steps
+    pub row_goes : (plan : TablePlan) → (plan.slots ≡ None → last ≡ first) → ClaimsAll true → KeepsIn plan a d 2
+    row_goes plan one s =
+        let before = keeps_step a b (after_next first a.view) read (next_keeps first a.view) refl in
+        let keeps = row_keeps first last node_key (after_next first a.view) d.view (row s) low order in
+        let steps = ap (λ (p : PassModel). p.steps) s in
+        let there = ap (λ (p : PassModel). p.steps) same in
+        let made = (row s).made in
+        record {
+          table = ap (λ (p : PassModel). p.table) s ∙ (ap (λ (p : PassModel). p.table) same ∙ before.table);
+          label = ap (λ (p : PassModel). p.label) s ∙ (ap (λ (p : PassModel). p.label) same ∙ before.label);
+          view = loses_trans a.view (after_next first a.view) d.view (next_keeps first a.view) keeps;
+          took = record { steps = omega (arith, before.took.steps, steps, there); made = λ none. (let only = one none in omega (arith, only, made)) };
+        }
 
-  pub lost_claims : (plan : TablePlan) → Steps b d (after_claim false c node_key b.view) → HoldsAside plan a
-      → HasNone a d × Meets a.view d.view × (length a.view.hindrances + 1 ≤ length d.view.hindrances)
-  lost_claims plan s hand =
-      subst (λ (p : PassModel). HasNone a p × Meets a.view p.view × (length a.view.hindrances + 1 ≤ length p.view.hindrances))
-      (sym (s ∙ ap (λ (p : PassModel). record { table = p.table; view = after_claim false c node_key p.view; steps = one_step_more p.steps; label = p.label; safe = p.safe; slot = p.slot }) read)) (
-        record { unflagged = λ e holds. aside_unflagged plan a e hand holds; search = refl },
-        record { met = Claim c ∷ []; list = refl; over = (tt, tt); knows = λ f h. h },
-        omega arith,
-      )
+    -- the last card is in hand, and may be filled
+    pub may_fill : ClaimsAll true → MayFill d.view last
+    may_fill s = record { holds = (row s).card; unflagged = (row s).unflagged }
 
-  -- where cards lie in slots, a row of claims keeps all too, in as many steps
-  pub row_goes : (plan : TablePlan) (n : ℕ) → plan.slots ≢ None → Steps b d (after_row n c node_key b.view) → KeepsIn plan a d 2
-  row_goes plan n places s =
-      let row = rows_keep n c node_key b.view in
-      let keeps = row_keeps c (c + n) node_key b.view (after_row n c node_key b.view) row low_there (omega arith) in
-      let first = keeps_step a b (after_next c a.view) read (next_keeps c a.view) refl in
-      let steps = ap (λ (p : PassModel). p.steps) s in
-      record {
-        table = ap (λ (p : PassModel). p.table) s ∙ first.table;
-        label = ap (λ (p : PassModel). p.label) s ∙ first.label;
-        view = loses_trans a.view b.view d.view first.view (subst (LosesNothing b.view) (sym (view_after b d (after_row n c node_key b.view) s)) keeps);
-        took = record { steps = omega (arith, first.took.steps, steps); made = λ none. absurd (places none) };
-      }
+    has_card : (op : Op) (place : Place) → ClaimsAll true → Does a.view op → IsAt a.view place
+        → HasCard op place (expected_tag a.view) (filling_of last node_key a.view) d.view last
+    has_card op place s busy at =
+        let r = row s in
+        let search = r.search ∙ at.search in
+        record {
+          busy = r.operation ∙ busy;
+          may = may_fill s;
+          stands = ap (λ (r : Search). r.node) search;
+          behind = ap (λ (r : Search). r.parent) search;
+          above = ap (λ (r : Search). r.grandparent) search;
+          says = r.planned;
+          empty = r.stores;
+          told = λ e h. r.says e (earlier e _ _ h);
+          expects = r.says _ (latest _ _);
+        }
 
-  -- and the last card of the row, which is in hand, may be laid aside
-  pub row_in_vain : (plan : TablePlan) (n : ℕ) → plan.slots ≢ None → plan.flat ≡ true → Steps b d (after_row n c node_key b.view) → ClaimsInVain plan a d
-  row_in_vain plan n places flat s =
-      let is = view_after b d (after_row n c node_key b.view) s ∙ ap (after_row n c node_key) (view_after a b (after_next c a.view) read) in
-      let row = rows_keep n c node_key (after_next c a.view) in
-      record {
-        slots = places;
-        hand = record {
-          ready = inr (from_some plan flat, ap (λ (w : View). w.worker.flagged) is ∙ row.unflagged);
-          below = λ e holds. (let last = same_Some (c + n) e (sym (ap (λ (w : View). w.worker.card) is ∙ row.card) ∙ holds) in
-              let least = ap (λ (w : View). w.next_at_least) is ∙ row.least in
-              omega (arith, last, least));
-        };
-        search = ap (λ (w : View). w.worker.search) is ∙ row.search;
-        here = ap (λ (w : View). w.here) is ∙ row.here;
-        values = ap (λ (w : View). value_told w.told) is ∙ row.values;
-        hindrances = ap (λ (w : View). w.hindrances) is ∙ row.hindrances;
-      }
+    -- also once its slot is taken, and nothing was in the way
+    pub taken_claims : (plan : TablePlan) (op : Op) (place : Place) (f : PassModel) → ClaimsAll true → Does a.view op → IsAt a.view place
+        → 1 ≤ first → last ≤ plan.last_card → f ≡ record d { slot = f.slot; safe = f.safe } → HasSlotOf plan last f → Claims plan op place node_key a f (claimed.Card last)
+    taken_claims plan op place f s busy at some room took slot =
+        let view = ap (λ (p : PassModel). p.view) took in (
+          subst (λ (w : View). HasCard op place (expected_tag a.view) (filling_of last node_key a.view) w last) (sym view) (has_card op place s busy at),
+          room,
+          ap (λ (w : View). w.hindrances) view ∙ (row s).hindrances,
+          subst (GivesOut plan.last_card a.view) (sym view) (given_out true plan.last_card s some (omega arith)),
+          slot,
+        )
 
--- where a card has no slot, cards lie in slots
-pub has_places : (o : Option Slots) (c : ℕ) → has_slot o c ≡ false → o ≢ None
-has_places None c none empty = absurd cc
-has_places (Some s) c none empty = absurd cc
+    -- or it may be laid aside
+    pub in_vain : (plan : TablePlan) (f : PassModel) → plan.slots ≢ None → plan.flat ≡ true → ClaimsAll true → f.view ≡ d.view → ClaimsInVain plan a f
+    in_vain plan f places flat s view =
+        let r = subst (IsAfterRow first last node_key (after_next first a.view)) (sym view) (row s) in
+        record {
+          slots = places;
+          hand = record {
+            ready = inr (from_some plan flat, r.unflagged);
+            below = λ c holds. (let is = same_Some last c (sym r.card ∙ holds) in omega (arith, is, r.least));
+          };
+          search = r.search;
+          here = r.here;
+          values = r.values;
+          hindrances = r.hindrances;
+        }
+
+    -- if it lost them, no card was taken, and that was in the way
+    pub lost_claims : (plan : TablePlan) (op : Op) (place : Place) → ClaimsAll false → HoldsAside plan a → 1 ≤ first → last ≤ plan.last_card
+        → Claims plan op place node_key a d claimed.Lost
+    lost_claims plan op place s hand some room =
+        let view = view_there false s in
+        let meets = subst (λ (w : View). Meets a.view w × (length a.view.hindrances + 1 ≤ length w.hindrances)) (sym view)
+        (record { met = Claim first ∷ []; list = refl; over = (tt, tt); knows = λ f h. h }, omega arith) in (
+          record {
+            unflagged = λ c holds. ap (λ (w : View). w.worker.flagged) view ∙ aside_unflagged plan a c hand (sym (ap (λ (w : View). w.worker.card) view) ∙ holds);
+            search = ap (λ (w : View). w.worker.search) view;
+          },
+          meets.0,
+          meets.1,
+          given_out false plan.last_card s some (omega arith),
+        )
 
 -- so many cards were claimed in vain, one after the other: where any was, cards lie in slots; and the pass stands where it
 -- stood, and may claim the next one
@@ -205,7 +203,7 @@ pub record HasAsked (plan : TablePlan) (n : ℕ) (old new : PassModel) : Type 0 
 -- none was at first
 pub asked_none : (plan : TablePlan) (p : PassModel) → p.view.worker.card ≡ None → HasAsked plan 0 p p
 asked_none plan p none = record {
-  keeps = keeps_slot plan p p p 0 (keeps_all_none p 0).keeps refl;
+  keeps = keeps_in plan p p 0 (keeps_all_none p 0).keeps;
   hand = record { ready = inl none; below = λ c holds. absurd (some_not_none holds none) };
   search = refl;
   here = refl;

@@ -1,5 +1,5 @@
 -- A row of claims, in which each card but the last one is laid aside, is one step of the whole table.
-use Rattle.std.proofs.Common.{None, Option, ◌≢◌, ◌≡◌, ℕ, zero, suc, ◌+◌, ◌*◌, ◌<◌, ◌≤◌, ◌==◌, if◌then◌else◌, Bool, true, false, Some, List, [], length, get_or, set, refl, sym, ap, ◌∙◌, subst, arith, eq-eqb, eqb-true, get_or-set_same}
+use Rattle.std.proofs.Common.{None, Option, ◌≢◌, ◌≡◌, ℕ, zero, suc, ◌+◌, ◌-◌, ◌<◌, ◌≤◌, ◌==◌, if◌then◌else◌, Bool, true, false, Some, List, [], length, get_or, set, refl, sym, ap, ◌∙◌, subst, arith, eq-eqb, eqb-true, get_or-set_same}
 use mathlib.Core.Option.{some}
 use lib.ListN.{get_elem?}
 use prog.Atomic.{either}
@@ -19,8 +19,7 @@ use Rattle.ell_cards.specs.Models.{TablePlan, TableModel, PassModel, StandsAt, f
 use Rattle.ell_cards.specs.Naming.{IsPlaced}
 use Rattle.ell_cards.specs.Periods.{whole_size, WholeState}
 use Rattle.ell_cards.specs.Shown.{IsWord, cut_word, shown}
-use Rattle.ell_cards.specs.Skipping.{last_of_turn, skipped, after_one, after_row, after_skip, MayStepOn, SkipTells}
-use Rattle.ell_cards.specs.SlotWords.{turn_of}
+use Rattle.ell_cards.specs.Skipping.{after_one, after_row, after_claimed_row, MayStepOn, RowTells}
 use Rattle.ell_cards.specs.Starts.{SlotsFit}
 use Rattle.ell_cards.specs.Stepping.{IsInside, KeepsPass, SameShare}
 use Rattle.ell_cards.specs.Turns.{found_by}
@@ -154,77 +153,62 @@ row_shown (suc n) c node_key v inside =
     row_shown n (c + 1) node_key (after_one c node_key v) inside
     ∙ ap (λ w. after_row n (c + 1) node_key (after call.Next (c + 1) w)) (claimed_shown c node_key v true inside)
 
--- a pass takes all numbers of a turn from its next one on, or loses the claim
-module _ (plan : TablePlan) (s : Slots) (placed : plan.slots ≡ Some s) (flat : plan.flat ≡ true) (v : View) (c node_key : ℕ) (room : last_of_turn c ≤ plan.last_card) (may : MayClaim (flat_from plan) v c node_key) where
+-- a pass takes all numbers from its next one to a last one, or loses the claim
+module _ (plan : TablePlan) (s : Slots) (placed : plan.slots ≡ Some s) (flat : plan.flat ≡ true) (v : View) (first last node_key : ℕ) (order : first ≤ last) (room : last ≤ plan.last_card) (may : MayClaim (flat_from plan) v first node_key) where
   module _ (k : Known) (is : shown k.tree ≡ v) (id : ℕ) (t : WholeState) (h : IsWhole plan t) (here : get_elem? t.views id ≡ some k) (small : IsWord (get_or t.words 0 0)) where
     abbrev n : ℕ
     n = get_or t.words 0 0
 
     abbrev Goes : Bool → Type 0
-    Goes b = (w : Known) × (a : Act (Unit {0})) × Valid t.homes [] a × IsWhole plan (stepped t 0 (either b (2097152 * (turn_of c + 1)) n) id [] w a)
-        × (((shown w.tree ≡ after_skip b c node_key v) × IsInside plan (shown w.tree)) × (w.period ≡ k.period) × (carried_after {S = Unit {0}} [] a ≡ []))
+    Goes b = (w : Known) × (a : Act (Unit {0})) × Valid t.homes [] a × IsWhole plan (stepped t 0 (either b (last + 1) n) id [] w a)
+        × (((shown w.tree ≡ after_claimed_row b first last node_key v) × IsInside plan (shown w.tree)) × (w.period ≡ k.period) × (carried_after {S = Unit {0}} [] a ≡ []))
 
-    low : c ≤ plan.last_card
-    low = omega arith
-
-    by_tree : May plan (call.Claim c node_key) k.tree
-    by_tree = (claim_whole (flat_from plan) k.tree c node_key (subst (λ u. MayClaim (flat_from plan) u c node_key) (sym is) may), low)
+    by_tree : May plan (call.Claim first node_key) k.tree
+    by_tree = (claim_whole (flat_from plan) k.tree first node_key (subst (λ u. MayClaim (flat_from plan) u first node_key) (sym is) may), omega arith)
 
     inside : (x : ℕ) → StandsAt k.tree x → x < tag_unit
     inside = whole_stands plan s placed t h id k here
 
-    goes : (b : Bool) (w : View) → IsWhole plan (claimed_to t id k w (either b (2097152 * (turn_of c + 1)) n)) → shown w ≡ after_skip b c node_key v → Goes b
+    goes : (b : Bool) (w : View) → IsWhole plan (claimed_to t id k w (either b (last + 1) n)) → shown w ≡ after_claimed_row b first last node_key v → Goes b
     goes b w whole shows =
         let now : Known = record { tree = w; period = k.period } in
-        let names = whole_inside plan s placed (claimed_to t id k w (either b (2097152 * (turn_of c + 1)) n)) whole id now (set_there t.views id now k here) in
+        let names = whole_inside plan s placed (claimed_to t id k w (either b (last + 1) n)) whole id now (set_there t.views id now k here) in
         (now, keeps, tt, whole, ((shows, (named_shown plan.last_card w names.0, placed_shown _ w names.1)), refl, refl))
 
-    by : (b : Bool) → (n == c) ≡ b → Goes b
+    by : (b : Bool) → (n == first) ≡ b → Goes b
     by true won =
-        goes true (after_row (skipped c) c node_key k.tree)
-        (subst (λ m. IsWhole plan (claimed_to t id k (after_row (skipped c) c node_key k.tree) m)) (omega arith)
-        (row_whole plan s placed flat (skipped c) c node_key t h id k here by_tree (eqb-true n c won) (omega arith)))
-        (row_shown (skipped c) c node_key k.tree inside ∙ ap (after_row (skipped c) c node_key) is)
+        goes true (after_row (last - first) first node_key k.tree)
+        (subst (λ m. IsWhole plan (claimed_to t id k (after_row (last - first) first node_key k.tree) m)) (omega arith)
+        (row_whole plan s placed flat (last - first) first node_key t h id k here by_tree (eqb-true n first won) (omega arith)))
+        (row_shown (last - first) first node_key k.tree inside ∙ ap (after_row (last - first) first node_key) is)
     by false lost =
-        goes false (after_claim false c node_key k.tree) (claim_lost plan s placed t h id k here c node_key by_tree lost small)
-        (claimed_shown c node_key k.tree false inside ∙ ap (after_claim false c node_key) is)
+        goes false (after_claim false first node_key k.tree) (claim_lost plan s placed t h id k here first node_key by_tree lost small)
+        (claimed_shown first node_key k.tree false inside ∙ ap (after_claim false first node_key) is)
 
-  pub skips : MayStepOn plan v 0 (λ n. either (n == c) (2097152 * (turn_of c + 1)) n) (SkipTells plan c node_key v)
-  skips k is id t h homes here small = by k is id t h here small (get_or t.words 0 0 == c) refl
-
--- a table with places has all numbers of each turn of which it has one
-pub turn_fits : (plan : TablePlan) (o : Option Slots) → SlotsFit plan o → o ≢ None → (c : ℕ) → c ≤ plan.last_card
-    → (last_of_turn c ≤ plan.last_card) × (c ≤ greatest_number)
-turn_fits plan None fit there c low = absurd (there refl)
-turn_fits plan (Some s) fit there c low = let all = fit.2 in (omega arith, omega arith)
+  pub row_goes : MayStepOn plan v 0 (λ n. either (n == first) (last + 1) n) (RowTells plan first last node_key v)
+  row_goes k is id t h homes here small = by k is id t h here small (get_or t.words 0 0 == first) refl
 
 -- whichever places there are
-pub skips_any : (plan : TablePlan) → plan.slots ≢ None → plan.flat ≡ true → (v : View) (c node_key : ℕ) → last_of_turn c ≤ plan.last_card
-    → MayClaim (flat_from plan) v c node_key → MayStepOn plan v 0 (λ n. either (n == c) (2097152 * (turn_of c + 1)) n) (SkipTells plan c node_key v)
-skips_any plan there flat v c node_key room may = by plan.slots refl
+pub row_goes_any : (plan : TablePlan) → plan.slots ≢ None → plan.flat ≡ true → (v : View) (first last node_key : ℕ) → first ≤ last → last ≤ plan.last_card
+    → MayClaim (flat_from plan) v first node_key → MayStepOn plan v 0 (λ n. either (n == first) (last + 1) n) (RowTells plan first last node_key v)
+row_goes_any plan there flat v first last node_key order room may = by plan.slots refl
   where
-    by : (o : Option Slots) → plan.slots ≡ o → MayStepOn plan v 0 (λ n. either (n == c) (2097152 * (turn_of c + 1)) n) (SkipTells plan c node_key v)
+    by : (o : Option Slots) → plan.slots ≡ o → MayStepOn plan v 0 (λ n. either (n == first) (last + 1) n) (RowTells plan first last node_key v)
     by None none = absurd (there none)
-    by (Some s) placed = skips plan s placed flat v c node_key room may
+    by (Some s) placed = row_goes plan s placed flat v first last node_key order room may
 
 -- the pass has the keys and the share that it had, and names what is in the table
-pub skips_keep : (plan : TablePlan) (v : View) (c node_key : ℕ) → KeepsPass plan v (SkipTells plan c node_key v)
-skips_keep plan v c node_key n w h = by (n == c) h.0
+pub row_keeps_pass : (plan : TablePlan) (v : View) (first last node_key : ℕ) → KeepsPass plan v (RowTells plan first last node_key v)
+row_keeps_pass plan v first last node_key n w h = by (n == first) h.0
   where
-    by : (b : Bool) → w ≡ after_skip b c node_key v → (ledger_keys w.worker.ledger ≡ ledger_keys v.worker.ledger) × SameShare v w × IsInside plan w
+    by : (b : Bool) → w ≡ after_claimed_row b first last node_key v → (ledger_keys w.worker.ledger ≡ ledger_keys v.worker.ledger) × SameShare v w × IsInside plan w
     by true is = (
-      ap (λ (u : View). ledger_keys u.worker.ledger) is ∙ row_keys (skipped c) c node_key v,
-      subst (SameShare v) (sym is) (row_share (skipped c) c node_key v),
+      ap (λ (u : View). ledger_keys u.worker.ledger) is ∙ row_keys (last - first) first node_key v,
+      subst (SameShare v) (sym is) (row_share (last - first) first node_key v),
       h.1,
     )
     by false is =
         (ap (λ (u : View). ledger_keys u.worker.ledger) is, subst (SameShare v) (sym is) (record { share = refl; ownable = refl }), h.1)
-
--- the same of a table as its callers see it
-pub turn_fits_there : (t u : TableModel) → t ≡ u → SlotsFit t.plan t.plan.slots → u.plan.slots ≢ None → (c : ℕ) → c ≤ u.plan.last_card
-    → (last_of_turn c ≤ u.plan.last_card) × (c ≤ greatest_number)
-turn_fits_there t u same fit = subst (λ (m : TableModel). m.plan.slots ≢ None → (c : ℕ) → c ≤ m.plan.last_card → (last_of_turn c ≤ m.plan.last_card) × (c ≤ greatest_number)) same
-    (turn_fits t.plan t.plan.slots fit)
 
 -- what a step on the claim word owes that the rule allows, by what its caller says of the table and the pass
 module _ (t u : TableModel) (p q : PassModel) (same_table : t ≡ u) (same_pass : p ≡ q) (own : q.table ≡ u.id) (size : t.id.words ≡ whole_size t.plan) (fit : SlotsFit t.plan t.plan.slots) where

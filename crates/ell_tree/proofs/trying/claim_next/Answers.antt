@@ -1,75 +1,48 @@
-use Rattle.std.proofs.Common.{rules, false, arith}
-use Rattle.ell_cards.specs.Skipping.{skipped}
-use Rattle.ell_tree.proofs.lemmas.Claiming.{may_claim_at, keeps_slot, given_out, won_goes, taken_claims, lost_claims, row_goes, row_in_vain, has_places}
+use Rattle.std.proofs.Common.{rules, ◌≢◌, None, ap}
+use Rattle.std.proofs.lemmas.Option.{same_Some}
+use Rattle.ell_cards.specs.Models.{PassModel}
+use Rattle.ell_tree.proofs.lemmas.Claiming.{may_claim_there, may_fill, row_goes, keeps_slot, taken_claims, in_vain, lost_claims}
 use Rattle.ell_tree.proofs.trying.claim_next.Goals as goal
 
-pub skip_turn-requires-clause-may : goal.skip_turn-requires-clause-may
-skip_turn-requires-clause-may g c =
-    may_claim_at c.args.table.now.plan c.args.pass.now c.next-card.new.pass c.next-card.result c.args.node_key c.args.op c.args.place c.next-card.ensures.step c.requires.busy c.requires.hand
-    c.next-card.ensures.least c.requires.at c.requires.calm c.requires.wants
+pub claim_up_to-requires-clause-may : goal.claim_up_to-requires-clause-may
+claim_up_to-requires-clause-may g c =
+    may_claim_there c.args.pass.now c.next-first.new.pass c.next_takeable.new.pass c.next-first.result c.args.node_key c.next-first.ensures.step c.next_takeable.ensures.same c.next-first.ensures.least
+    c.args.table.now.plan c.args.op c.args.place c.requires.busy c.requires.hand c.requires.at c.requires.calm c.requires.wants
 
-pub returns-then-skip_turn-clause-keeps : goal.returns-then-skip_turn-clause-keeps
-returns-then-skip_turn-clause-keeps g c =
-    let card = c.next-card.result in
-    let places = has_places c.args.table.now.plan.slots card (search rules) in
-    row_goes c.args.pass.now c.next-card.new.pass c.skip_turn.new.pass card c.args.node_key c.next-card.ensures.step c.next-card.ensures.least c.args.table.now.plan (skipped card)
-    places c.if-skip_turn.ensures.step
+pub returns-then-not-claim_up_to-clause-claims : goal.returns-then-not-claim_up_to-clause-claims
+returns-then-not-claim_up_to-clause-claims g c =
+    lost_claims c.args.pass.now c.next-first.new.pass c.next_takeable.new.pass c.next-first.result c.args.node_key c.next-first.ensures.step c.next_takeable.ensures.same c.next-first.ensures.least
+    c.claim_up_to.new.pass c.in-Some.card c.in-Some.ensures.found.0 c.args.table.now.plan c.args.op c.args.place c.if-not-claim_up_to.ensures c.requires.hand c.next-first.ensures.some
+    c.in-Some.ensures.found.1
 
-pub returns-then-skip_turn-clause-claims : goal.returns-then-skip_turn-clause-claims
-returns-then-skip_turn-clause-claims g c =
-    let card = c.next-card.result in
-    let places = has_places c.args.table.now.plan.slots card (search rules) in
-    row_in_vain c.args.pass.now c.next-card.new.pass c.skip_turn.new.pass card c.args.node_key c.next-card.ensures.step c.next-card.ensures.least c.args.table.now.plan (skipped card)
-    places (c.requires.flat places) c.if-skip_turn.ensures.step
-
-pub returns-else-skip_turn-clause-claims : goal.returns-else-skip_turn-clause-claims
-returns-else-skip_turn-clause-claims g c =
-    let a = c.args.pass.now in
-    let b = c.next-card.new.pass in
-    let d = c.skip_turn.new.pass in
-    let card = c.next-card.result in
-    let plan = c.args.table.now.plan in
-    let lost = c.if-skip_turn.ensures.step in
-    let claims = lost_claims a b d card c.args.node_key c.next-card.ensures.step c.next-card.ensures.least plan lost c.requires.hand in (
-      claims.0,
-      claims.1,
-      claims.2,
-      given_out a b d card c.args.node_key c.next-card.ensures.step c.next-card.ensures.least false plan.last_card lost c.next-card.ensures.some (omega (arith, c.last_card.ensures.cards, c.if-card-last_card.false)),
-    )
-
-pub claim-requires-clause-may : goal.claim-requires-clause-may
-claim-requires-clause-may g c =
-    may_claim_at c.args.table.now.plan c.args.pass.now c.next-card.new.pass c.next-card.result c.args.node_key c.args.op c.args.place c.next-card.ensures.step c.requires.busy c.requires.hand
-    c.next-card.ensures.least c.requires.at c.requires.calm c.requires.wants
-
-pub returns-then-not-claim-clause-claims : goal.returns-then-not-claim-clause-claims
-returns-then-not-claim-clause-claims g c =
-    let a = c.args.pass.now in
-    let b = c.next-card.new.pass in
-    let d = c.claim.new.pass in
-    let card = c.next-card.result in
-    let plan = c.args.table.now.plan in
-    let lost = c.if-not-claim.ensures.step in
-    let claims = lost_claims a b d card c.args.node_key c.next-card.ensures.step c.next-card.ensures.least plan lost c.requires.hand in (
-      claims.0,
-      claims.1,
-      claims.2,
-      given_out a b d card c.args.node_key c.next-card.ensures.step c.next-card.ensures.least false plan.last_card lost c.next-card.ensures.some (omega (arith, c.last_card.ensures.cards, c.if-card-last_card.false)),
-    )
+pub take_slot-requires-clause-may : goal.take_slot-requires-clause-may
+take_slot-requires-clause-may g c =
+    may_fill c.args.pass.now c.next-first.new.pass c.next_takeable.new.pass c.next-first.result c.args.node_key c.next-first.ensures.step c.next_takeable.ensures.same c.next-first.ensures.least
+    c.claim_up_to.new.pass c.in-Some.card c.in-Some.ensures.found.0 c.if-not-claim_up_to.ensures
 
 pub returns-then-take_slot-clause-keeps : goal.returns-then-take_slot-clause-keeps
 returns-then-take_slot-clause-keeps g c =
-    keeps_slot c.args.table.now.plan c.args.pass.now c.claim.new.pass c.take_slot.new.pass 2
-    (won_goes c.args.pass.now c.next-card.new.pass c.claim.new.pass c.next-card.result c.args.node_key c.next-card.ensures.step c.next-card.ensures.least c.if-not-claim.ensures.step) c.take_slot.ensures.same
+    keeps_slot c.args.table.now.plan c.args.pass.now c.claim_up_to.new.pass c.take_slot.new.pass 2
+    (row_goes c.args.pass.now c.next-first.new.pass c.next_takeable.new.pass c.next-first.result c.args.node_key c.next-first.ensures.step c.next_takeable.ensures.same c.next-first.ensures.least
+    c.claim_up_to.new.pass c.in-Some.card c.in-Some.ensures.found.0 c.args.table.now.plan (λ none. same_Some _ _ (c.in-Some.ensures.plain none).0) c.if-not-claim_up_to.ensures) c.take_slot.ensures.same
 
 -- the card is in hand, with its slot
 pub returns-then-take_slot-clause-claims : goal.returns-then-take_slot-clause-claims
 returns-then-take_slot-clause-claims g c =
-    taken_claims c.args.pass.now c.next-card.new.pass c.claim.new.pass c.next-card.result c.args.node_key c.next-card.ensures.step c.next-card.ensures.least c.args.table.now.plan c.args.op c.args.place
-    c.take_slot.new.pass c.if-not-claim.ensures.step c.requires.busy c.requires.at c.next-card.ensures.some (omega (arith, c.last_card.ensures.cards, c.if-card-last_card.false))
-    c.take_slot.ensures.same (c.take_slot.ensures.took c.if-take_slot.true)
+    taken_claims c.args.pass.now c.next-first.new.pass c.next_takeable.new.pass c.next-first.result c.args.node_key c.next-first.ensures.step c.next_takeable.ensures.same c.next-first.ensures.least
+    c.claim_up_to.new.pass c.in-Some.card c.in-Some.ensures.found.0 c.args.table.now.plan c.args.op c.args.place c.take_slot.new.pass c.if-not-claim_up_to.ensures c.requires.busy c.requires.at
+    c.next-first.ensures.some c.in-Some.ensures.found.1 c.take_slot.ensures.same (c.take_slot.ensures.took c.if-take_slot.true)
 
 pub returns-else-take_slot-clause-keeps : goal.returns-else-take_slot-clause-keeps
 returns-else-take_slot-clause-keeps g c =
-    keeps_slot c.args.table.now.plan c.args.pass.now c.claim.new.pass c.take_slot.new.pass 2
-    (won_goes c.args.pass.now c.next-card.new.pass c.claim.new.pass c.next-card.result c.args.node_key c.next-card.ensures.step c.next-card.ensures.least c.if-not-claim.ensures.step) c.take_slot.ensures.same
+    keeps_slot c.args.table.now.plan c.args.pass.now c.claim_up_to.new.pass c.take_slot.new.pass 2
+    (row_goes c.args.pass.now c.next-first.new.pass c.next_takeable.new.pass c.next-first.result c.args.node_key c.next-first.ensures.step c.next_takeable.ensures.same c.next-first.ensures.least
+    c.claim_up_to.new.pass c.in-Some.card c.in-Some.ensures.found.0 c.args.table.now.plan (λ none. same_Some _ _ (c.in-Some.ensures.plain none).0) c.if-not-claim_up_to.ensures) c.take_slot.ensures.same
+
+-- a table without places has no slot that is in use
+pub returns-else-take_slot-clause-claims : goal.returns-else-take_slot-clause-claims
+returns-else-take_slot-clause-claims g c =
+    let places : c.args.table.now.plan.slots ≢ None = λ none. search rules in
+    in_vain c.args.pass.now c.next-first.new.pass c.next_takeable.new.pass c.next-first.result c.args.node_key c.next-first.ensures.step c.next_takeable.ensures.same c.next-first.ensures.least
+    c.claim_up_to.new.pass c.in-Some.card c.in-Some.ensures.found.0 c.args.table.now.plan c.take_slot.new.pass places (c.requires.flat places) c.if-not-claim_up_to.ensures
+    (ap (λ (p : PassModel). p.view) c.take_slot.ensures.same)
