@@ -57,7 +57,7 @@ pub mod Naming
 pub mod Inside
 -- what the generic step asks and tells
 pub mod Stepping
--- the numbers of a turn that have no slots
+-- rows of numbers that a pass takes at once
 pub mod Skipping
 -- the machine that a table has, wherever turns lead, and what the invariant has to keep of what passes know
 pub mod Machines

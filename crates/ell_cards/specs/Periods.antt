@@ -78,8 +78,8 @@ size_by (Some s) last = slots_size s
 abbrev pub whole_size : TablePlan → ℕ
 whole_size plan = size_by plan.slots plan.last_card
 
--- how many cards a pass claims at most until it comes to one whose slot it may take: once around all slots, and the
--- cards that a turn has no slots for
+-- how often a pass claims cards at most until it has one whose slot it takes: where cards lie in slots, once more than
+-- there are, as another pass may take each of them first
 abbrev pub most_claims : Option Slots → ℕ
 most_claims None = 1
 most_claims (Some s) = s.last + 2

@@ -150,7 +150,7 @@ impl<A: Allocator + Copy> CardTable<A> {
         self.slots.is_some()
     }
 
-    /// Returns how many cards to claim at most until the slot of one may be taken: one, if there are no places.
+    /// Returns how often to claim cards at most until the slot of one is taken: once, if there are no places.
     pub fn most_claims(&self) -> u64
         // Returns one without places, and otherwise two more than the number of the last slot.
         ensures { result ≡ most_claims self.now.plan.slots }

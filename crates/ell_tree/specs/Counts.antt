@@ -9,8 +9,8 @@ pub record Took (old new : PassModel) (n : ℕ) : Type 0 where
   pub steps : new.steps ≤ old.steps + n
   pub made : new.view.made ≤ old.view.made + n
 
--- the same in a table: where cards lie in slots, a step in a row may stand for many claims, of numbers that have no
--- slot, which are as many steps among all
+-- the same in a table: where cards lie in slots, a step in a row may stand for many claims, which are as many steps
+-- among all
 pub record TookIn (plan : TablePlan) (old new : PassModel) (n : ℕ) : Type 0 where
   pub steps : new.steps ≤ old.steps + n
   pub made : plan.slots ≡ None → new.view.made ≤ old.view.made + n

@@ -37,5 +37,5 @@ pub mod Untouched
 pub mod Losing
 -- slots that passes take for their cards in hand
 pub mod TakingSlots
--- the numbers of a turn that have no slots
+-- rows of numbers that a pass takes at once
 pub mod Skipping

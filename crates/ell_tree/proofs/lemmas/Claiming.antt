@@ -32,7 +32,7 @@ use Rattle.ell_tree.specs.Keeping.{LosesNothing, KeepsIn}
 use Rattle.ell_tree.specs.Searches.{seen, IsAt}
 use Rattle.ell_tree.specs.Tries.{Claims, ClaimsInVain, HasCard, HasSlotOf, HoldsAside}
 use Rattle.ell_tree.specs.Milestones.{GivesOut}
-use Rattle.ell_tree.proofs.lemmas.Keeping.{keeps_in, keeps_step, keeps_all_none, loses_trans, next_keeps}
+use Rattle.ell_tree.proofs.lemmas.Keeping.{keeps_in, keeps_in_trans, keeps_step, keeps_all_none, loses_trans, next_keeps}
 
 -- a row of claims loses nothing
 row_keeps : (first last node_key : ℕ) (v w : View) → IsAfterRow first last node_key v w → v.next_at_least ≤ first → first ≤ last → LosesNothing v w
@@ -213,18 +213,7 @@ asked_none plan p none = record {
   taken = λ empty. refl;
 }
 
--- steps of a table, and then others
-keeps_in_trans : (plan : TablePlan) (a b c : PassModel) (m n k : ℕ) → KeepsIn plan a b m → KeepsIn plan b c n → m + n ≤ k → KeepsIn plan a c k
-keeps_in_trans plan a b c m n k h h' le = record {
-  table = h'.table ∙ h.table;
-  label = h'.label ∙ h.label;
-  view = loses_trans a.view b.view c.view h.view h'.view;
-  took = record {
-    steps = omega (arith, h.took.steps, h'.took.steps, le);
-    made = λ empty. omega (arith, h.took.made empty, h'.took.made empty, le);
-  };
-}
-
+-- the same within more steps
 keeps_in_within : (plan : TablePlan) (a b : PassModel) (m n : ℕ) → KeepsIn plan a b m → m ≤ n → KeepsIn plan a b n
 keeps_in_within plan a b m n h le = record {
   table = h.table;
