@@ -8,5 +8,5 @@ use Rattle.elltree.proofs.handle.Handle.open.Goals as goal
 -- the start keys are real
 pub reserve_flat-requires-clause-start_real : goal.reserve_flat-requires-clause-start_real
 reserve_flat-requires-clause-start_real c =
-    subst (λ pairs. All (λ k. k ≤ greatest_key) (keys_of pairs)) (sym (c.deref.ensures.value ∙ c.in_ok-pairs.ensures))
-    (real_keys (as_pairs c.args.start.now) c.in_ok-may_open.ensures.may.keys)
+    subst (λ pairs. All (λ k. k ≤ greatest_key) (keys_of pairs)) (sym (c.deref.ensures.value ∙ c.in_ok-pairs.ensures.pairs))
+    (real_keys (as_pairs c.args.start.now) c.in_ok-pairs.ensures.may.keys)
