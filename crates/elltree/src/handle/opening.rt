@@ -1,5 +1,8 @@
 //! How a handle is opened, and makes another.
-ghost use Rattle.std.specs.Prelude.{◌≡◌, ◌≢◌, ◌↔◌, IfOk, IfErr, IsTrue, OnOk};
+ghost use Rattle.std.specs.Prelude.{◌≡◌, ◌≢◌, ◌≤◌, ◌↔◌, IfOk, IfErr, IsTrue, OnOk};
+ghost use Rattle.std.specs.List.{All};
+ghost use Rattle.std.specs.Map.{keys_of};
+ghost use Rattle.ell_ops.specs.Meaning.{greatest_key};
 ghost use Rattle.elltree.specs.Handles.{AnotherRefuses, AreKeys, HasAnother, IsLeast, IsOpened, IsOpenedReusing, IsStart, MayOpen, RefusesTree, as_pairs, handles_for};
 ghost use Rattle.elltree.specs.declared.refusal.Refusal.TheVariants.{NoMemory};
 
@@ -116,8 +119,10 @@ impl Handle {
 }
 
 // The start pairs of a tree, as the tree has them, if it may be opened with these and the given number of cards.
+#[tactic(auto, using(crate::proofs::lemmas::HostPairs::real_keys))]
 fn pairs_to_open(alloc: Global, start: &[Pair], cards: u64) -> Result<Vec<(u64, u64)>, Refusal>
     ensures pairs { IfOk result (λ pairs. pairs.items ≡ as_pairs start.now) }
+    ensures real { IfOk result (λ pairs. All (λ k. k ≤ greatest_key) (keys_of pairs.items)) }
     ensures may { OnOk result (MayOpen (as_pairs start.now) cards) }
     ensures refused { IfErr result (RefusesTree (as_pairs start.now) cards) }
 {
