@@ -56,7 +56,7 @@ impl HandlePlace {
 }
 
 /// A tree in which every key up to `KEY_MAX` is shared, and a pass of it with nothing in hand. It may go from one thread
-/// to another. Of a tree whose cards come back (`open_reusing`), calls promise nothing of the cards that they take.
+/// to another. How many cards a change takes is promised only in a tree whose cards do not come back (`open`).
 #[derive(Drop)]
 pub struct Handle {
     pub tree: Arc<Tree<Global>, Global>,

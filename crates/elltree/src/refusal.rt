@@ -15,15 +15,15 @@ pub enum Refusal {
     BadKey,
     /// Something was in the way of each try, or another handle changed the key first.
     Busy,
-    /// All cards of the tree are given out; `cards_left` returns how many are left. Of a tree whose cards come back:
-    /// each slot was in use when the call asked for it, and the call may be made again.
+    /// All cards of the tree are given out; `cards_left` returns how many are left. Or, in a tree whose cards come back,
+    /// each slot was in use when the call asked for it; the call may be made again.
     Spent,
     /// The number of cards is not 1 to 1,000,000.
     BadCards,
     /// The start keys do not strictly ascend, or there are more than `START_MAX`.
     BadStart,
-    /// The handle has the least share of its tree, which cannot be split. Of a tree whose cards come back also: it was
-    /// given as many handles as were asked for.
+    /// The handle has the least share of its tree, which cannot be split. Or its tree is one whose cards come back, and
+    /// was given as many handles as asked for.
     TooManyHandles,
     /// An allocation failed.
     NoMemory,

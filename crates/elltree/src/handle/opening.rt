@@ -38,16 +38,16 @@ impl Handle {
         Ok(Handle { tree, pass })
     }
 
-    /// Opens such a tree whose cards come back, for this many handles, and returns the first of them. The number of
-    /// handles is at least one and at most `HANDLES_MAX`; what is outside is taken as the nearest of these. A card lies
-    /// in a slot, of which there is one for each card asked for and each start key, and one more. Once the nodes of a
-    /// card are out of the tree, and no call that might know of them is under way, its slot is free for another card:
-    /// so the tree goes on for as long as its keys fit into the slots, for which twice as many slots as keys, and some
-    /// more, are enough. A slot is held back while a call that began before it became free goes on. A change returns
-    /// `Spent` if each slot was in use when it asked for it, and may be made again. `another` returns `TooManyHandles`
-    /// if the tree was given as many handles as asked for; one that is dropped makes no room for another. A slot is
-    /// taken, or passed over as it is in use, 1,048,576 times at most, and then the tree is spent. Errors are as for
-    /// `open`.
+    /// Opens a flat tree, as `open` does, whose cards come back, for this many handles, and returns the first of them.
+    /// The number of handles is at least one and at most `HANDLES_MAX`; what is outside is taken as the nearest of
+    /// these. A card lies in a slot, of which there is one for each card asked for and each start key, and one more.
+    /// Once the nodes of a card are out of the tree, and no call that might know of them is under way, its slot is free
+    /// for another card: so the tree goes on for as long as its keys fit into the slots, for which twice as many slots
+    /// as keys, and some more, are enough. A slot is held back while a call that began before it became free goes on. A
+    /// change returns `Spent` if each slot was in use when it asked for it, and may be made again. It does so for good
+    /// once each slot was taken, or passed over as it was in use, some 1,048,576 times (`cards_left`). `another` returns
+    /// `TooManyHandles` if the tree was given as many handles as asked for; one that is dropped makes no room for
+    /// another. Errors are as for `open`.
     pub fn open_reusing(
         alloc: Global,
         start: &[Pair],
