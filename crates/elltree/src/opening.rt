@@ -38,10 +38,10 @@ pub extern "C" fn elltree_slot_open(
 }
 
 /// Opens a tree, as `elltree_slot_open` does, whose cards come back, for this many handles: at least one and at most
-/// 1,000,000, and what is outside is taken as the nearest of these. The tree has a slot for each card asked for and each
-/// start key, and one more. A change returns `SPENT` if each slot was in use when it asked for it, and may be made again.
-/// A call for another handle returns `TOO_MANY_HANDLES` if the tree was given as many handles as asked for; one that is
-/// closed makes no room for another.
+/// 1,000,000, and what is outside is taken as the nearest of these. The tree has a slot for each card asked for and
+/// each start key, and one more. A change returns `SPENT` if each slot was in use when it asked for it, and may be made
+/// again. A call for another handle returns `TOO_MANY_HANDLES` if the tree was given as many handles as asked for; one
+/// that is closed makes no room for another.
 #[unsafe(no_mangle)]
 pub extern "C" fn elltree_slot_open_reusing(
     alloc: Global,

@@ -45,9 +45,9 @@ impl Handle {
     /// for another card: so the tree goes on for as long as its keys fit into the slots, for which twice as many slots
     /// as keys, and some more, are enough. A slot is held back while a call that began before it became free goes on. A
     /// change returns `Spent` if each slot was in use when it asked for it, and may be made again. It does so for good
-    /// once each slot was taken, or passed over as it was in use, some 1,048,576 times (`cards_left`). `another` returns
-    /// `TooManyHandles` if the tree was given as many handles as asked for; one that is dropped makes no room for
-    /// another. Errors are as for `open`.
+    /// once each slot was taken, or passed over as it was in use, some 1,048,576 times (`cards_left`). `another`
+    /// returns `TooManyHandles` if the tree was given as many handles as asked for; one that is dropped makes no room
+    /// for another. Errors are as for `open`.
     pub fn open_reusing(
         alloc: Global,
         start: &[Pair],
