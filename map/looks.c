@@ -24,11 +24,9 @@ static bool may_be_joined(const struct elltree_map *map, const struct directory 
 
 /* Weighs a call that has given its section so many keys more, and tells whether that is to be renewed, and why. */
 static enum reason weigh_change(struct elltree_map *map, struct section *section, struct elltree_slot *slot, int32_t more) {
-    uint64_t left = 0;
+    (void)slot;
     if (more)
         atomic_fetch_add_explicit(&section->about, SAMPLE * (int64_t)more, memory_order_relaxed);
-    if (elltree_slot_cards_left(slot, &left) == ELLTREE_YES && left <= section->reserve)
-        return FEW_CARDS;
     if (more > 0 && keys_about(section) > 2 * section_keys(&map->barrier))
         return MANY_KEYS;
     return more < 0 && may_be_joined(map, directory_of(map), section) ? FEW_KEYS : NO_REASON;
@@ -36,10 +34,8 @@ static enum reason weigh_change(struct elltree_map *map, struct section *section
 
 /* Whether a section changes less than others, and has more than twice the cards that it needs. */
 static bool has_many_cards(const struct elltree_map *map, const struct section *section, struct elltree_slot *slot) {
-    uint64_t left = 0;
-    if (renewals_since(map, section) < two_rounds(map) || elltree_slot_cards_left(slot, &left) != ELLTREE_YES)
-        return false;
-    return section->cards >= 2 * cards_by_use(map, section, left, keys_about(section));
+    (void)map, (void)slot;
+    return false;
 }
 
 /* Looks at some section, and renews it if it has few keys, as a neighbor has, or has cards that it does not need. The multiples of this number are

@@ -152,7 +152,6 @@ static void note_renewal(struct elltree_map *map, struct renewal *renewal, uint6
     const uint64_t at = now(), all_effort = effort + atomic_fetch_add(&map->all_effort, effort);
     for (uint32_t i = 0; i < renewal->heirs->count; i++) {
         struct section *heir = renewal->heirs->sections[i];
-        heir->reserve = next_reserve(map, renewal, heir->cards);
         heir->effort = effort / renewal->heirs->count;
         heir->opened_at = at;
         heir->all_effort = all_effort;

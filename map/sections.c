@@ -37,7 +37,7 @@ static struct elltree_slot *slot_to_renew(const struct barrier *barrier, struct 
 /* Opens a tree with these pairs, with a slot for each seat. If it is refused, no slot holds anything. */
 static int32_t open_seats(struct seat *seats, uint64_t seat_count, const struct elltree_pair *pairs, size_t count, uint64_t cards) {
     static const struct elltree_pair no_pair[1] = {{0, 0}};
-    int32_t code = elltree_slot_open(&seats[0].slot, count ? pairs : no_pair, count, cards);
+    int32_t code = elltree_slot_open_reusing(&seats[0].slot, count ? pairs : no_pair, count, cards, (uint32_t)seat_count);
     for (uint64_t i = 1; i < seat_count && code == ELLTREE_YES; i++)
         code = elltree_slot_another(&seats[0].slot, &seats[i].slot);
     for (uint64_t i = 0; i < seat_count && code != ELLTREE_YES; i++)
