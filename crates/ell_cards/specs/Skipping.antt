@@ -1,4 +1,5 @@
--- A pass takes the numbers of cards from one to another at once, where only the last one's slot is one that it may take.
+-- A pass takes the numbers of cards from one to another at once, where only the last one's slot is one that it may
+-- take.
 use Rattle.std.specs.Prelude.{◌≡◌, ◌⊎◌, ℕ, zero, suc, ◌+◌, ◌-◌, ◌*◌, ◌≤◌, ◌==◌, List, [], ◌∷◌, if◌then◌else◌, Bool, true, false, Some}
 use Rattle.atomic_table.specs.Table.{Allows}
 use Rattle.ell_core.specs.declared.exchange.Exchange.{Exchange}
@@ -41,10 +42,10 @@ pub record IsToldInRow (first last node_key : ℕ) (v : View) (e : Told) : Type 
   pub upto : card ≤ last
   pub among : Has (told_of_claim card node_key v) e
 
--- What a pass knows after a row of claims, from a first card to a last one: that is in hand, not flagged, and nothing of
--- it is stored; it is to say what it would have been to say had it been the first; and beside what was told before, what
--- was told is of the cards of the row, and no leaf's value. It has won a claim for each of these, and has made a call
--- between two of them. All else is as it was.
+-- What a pass knows after a row of claims, from a first card to a last one: that is in hand, not flagged, and nothing
+-- of it is stored; it is to say what it would have been to say had it been the first; and beside what was told
+-- before, what was told is of the cards of the row, and no leaf's value. It has won a claim for each of these, and
+-- has made a call between two of them. All else is as it was.
 pub record IsAfterRow (first last node_key : ℕ) (old new : View) : Type 0 where
   pub operation : new.worker.operation ≡ old.worker.operation
   pub search : new.worker.search ≡ old.worker.search

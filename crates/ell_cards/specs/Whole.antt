@@ -33,8 +33,8 @@ spent_known = record { tree = spent_view; period = no_period }
 abbrev pub FieldsAreWhole : List ℕ → Type 0
 FieldsAreWhole words = (c : ℕ) (f : Field) → FieldIsWhole f (slice_index words (address c f))
 
--- The words of a table without places are those of a state that turns have led to. A table with places has words for its
--- slots, and what they have to do with its tree is said with its periods.
+-- The words of a table without places are those of a state that turns have led to. A table with places has words for
+-- its slots, and what they have to do with its tree is said with its periods.
 abbrev pub WordsAre : Option Slots → List ℕ → List ℕ → Type 0
 WordsAre None words tree = words ≡ tree
 WordsAre (Some s) words tree = (length words ≡ slots_size s) × FieldsAreWhole tree

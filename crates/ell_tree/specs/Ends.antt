@@ -144,7 +144,7 @@ abbrev pub change_steps : ℕ → ℕ → ℕ
 change_steps most tries = tries * try_steps most + 1
 
 -- the most steps in which a try asks for a card: two, where each card has words of its own; where cards lie in slots,
--- two for each slot, and two more
+-- two for each time that another pass may take the slot first, two more times than the number of the last slot
 abbrev pub claim_steps : Option Slots → ℕ
 claim_steps None = 2
 claim_steps (Some s) = 2 * s.last + 4
