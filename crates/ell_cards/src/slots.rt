@@ -362,8 +362,9 @@ impl<A: Allocator + Copy> CardTable<A> {
         }
     }
 
-    // Returns the least number of a card, from this card on, whose slot the pass could take. It reads the word of each slot once.
-    fn seek_takeable(&self, pass: &mut Pass<A>, slots: Slots, card: u64) -> Option<u64>
+    // Returns the least number of a card, from this card on, whose slot the pass could take, if it could take so many others too. It
+    // reads the word of each slot once.
+    fn seek_takeable(&self, pass: &mut Pass<A>, slots: Slots, card: u64, others: u64) -> Option<u64>
         requires own { pass.old.table ≡ self.now.id }
         requires slots { self.now.plan.slots ≡ Some slots }
         requires room { card ≤ self.now.plan.last_card }
@@ -372,12 +373,18 @@ impl<A: Allocator + Copy> CardTable<A> {
     {
         let _ = &self.table;
         let mut next = slots.next_with_slot(card);
+        let mut first = None;
+        let mut left = others;
         for _ in 0..=slots.last {
             if self.last_card < next {
                 return None;
             }
             if self.is_takeable(pass, slots, next) {
-                return Some(next);
+                first = first.or(Some(next));
+                if left == 0 {
+                    return first;
+                }
+                left -= 1;
             }
             next = slots.next_with_slot(next + 1);
         }
@@ -386,9 +393,10 @@ impl<A: Allocator + Copy> CardTable<A> {
 
     /// Returns the least number of a card, from this card on, whose slot the pass could take by `take_slot` as it read the slots'
     /// words: at most one round of them, and one more if there was none, and the places then tell of a greater safe number. Returns
-    /// `None` if there is none, or none that the table has. Without places, each card has words of its own, and this is the card
+    /// `None` if there is none, or none that the table has; and, unless it is for a delete, if there are too few beside it, one for
+    /// each place and two more: so deletes have slots even if keys fill all others. Without places, each card has words of its own, and this is the card
     /// itself. Its steps are not counted.
-    pub fn next_takeable(&self, pass: &mut Pass<A>, card: u64) -> Option<u64>
+    pub fn next_takeable(&self, pass: &mut Pass<A>, card: u64, for_delete: bool) -> Option<u64>
         requires own { pass.old.table ≡ self.now.id }
         requires room { card ≤ self.now.plan.last_card }
         // What the pass knows of the tree is as it was, and it has made no step that is counted.
@@ -401,12 +409,13 @@ impl<A: Allocator + Copy> CardTable<A> {
         let Some(slots) = self.slots else {
             return Some(card);
         };
+        let others = if for_delete { 0 } else { slots.places + 2 };
         let safe = pass.standing.safe;
-        if let Some(found) = self.seek_takeable(pass, slots, card) {
+        if let Some(found) = self.seek_takeable(pass, slots, card, others) {
             return Some(found);
         }
         if safe < self.safe_number(pass) {
-            self.seek_takeable(pass, slots, card)
+            self.seek_takeable(pass, slots, card, others)
         } else {
             None
         }

@@ -116,7 +116,8 @@ fn claim_next<A: Allocator + Copy, G: StepGate>(
     if first > table.last_card() {
         return Next::NoneLeft;
     }
-    let Some(card) = table.next_takeable(pass, first) else {
+    let for_delete = matches!(op, Op::Delete(_));
+    let Some(card) = table.next_takeable(pass, first, for_delete) else {
         return Next::NoneLeft;
     };
     gate.before(label, Kind::Exchange(Exchange::Claim));

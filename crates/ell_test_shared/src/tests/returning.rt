@@ -157,7 +157,7 @@ const BESIDE: u64 = 60;
 
 const KEYS: u64 = 5;
 
-const FEW: u64 = 12;
+const FEW: u64 = 20;
 
 // Has keys come and go, each operation once, from a state in which none is there: its pass, and how many operations found
 // each slot in use. No other pass changes these keys, so each answer is a map's.
@@ -297,4 +297,65 @@ fn a_call_that_is_held_holds_slots_back_until_it_is_over(rt: HostRuntime) {
         let amid = hold(&rt, call, wanted, 4);
         assert!(&rt; 0 < amid, "nothing is held back");
     }
+}
+
+// Makes an operation until it is answered, a few times at most.
+fn ask_a_few_times(
+    rt: &impl Abort,
+    tree: &Tree<Global>,
+    pass: &mut Pass<Global>,
+    op: Op,
+) -> Option<Reply>
+    requires { IsSharer tree.now pass.old }
+    ensures { IsSharer tree.now pass.new }
+{
+    for _call in 0..8 {
+        if let Ok(reply) = answer(rt, tree, pass, &[], Ask(op), &NoGate) {
+            return Some(reply);
+        }
+    }
+    None
+}
+
+// Has ascending keys come until there is no slot for one more: the first key that has none.
+fn fill(rt: &impl Abort, tree: &Tree<Global>, pass: &mut Pass<Global>) -> u64
+    requires { IsSharer tree.now pass.old }
+    ensures { IsSharer tree.now pass.new }
+{
+    for key in 0..1_000 {
+        if ask_a_few_times(rt, tree, pass, Insert(key, key)) != Some(Reply::Yes) {
+            return key;
+        }
+    }
+    1_000
+}
+
+// Deletes the keys below one.
+fn empty(rt: &impl Abort, tree: &Tree<Global>, pass: &mut Pass<Global>, upto: u64)
+    requires { IsSharer tree.now pass.old }
+    ensures { IsSharer tree.now pass.new }
+{
+    for key in 0..upto {
+        let said = ask_a_few_times(rt, tree, pass, Delete(key));
+        assert!(rt; said == Some(Reply::Yes), "{key} stays");
+    }
+}
+
+// Has keys fill all slots but the root's and three, which are left to deletes, and go again.
+fn fill_and_empty(rt: &impl Abort, tree: &Tree<Global>, pass: &mut Pass<Global>)
+    requires { IsSharer tree.now pass.old }
+    ensures { IsSharer tree.now pass.new }
+{
+    let came = fill(rt, tree, pass);
+    assert!(rt; came == 61, "{came} keys");
+    empty(rt, tree, pass, came);
+}
+
+#[test]
+fn a_full_tree_can_be_emptied(rt: HostRuntime) {
+    let (tree, pass) = opened_reusing(&rt, 64, 1);
+    let mut pass = pass;
+    fill_and_empty(&rt, &tree, &mut pass);
+    fill_and_empty(&rt, &tree, &mut pass);
+    fill_and_empty(&rt, &tree, &mut pass);
 }
