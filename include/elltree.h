@@ -16,7 +16,8 @@
    elltree_open makes a tree and its first handle, and elltree_another a further handle of the tree, one for each thread. Any handle finds and
    changes any key. All finds and changes of a tree together answer as if they were made one after the other, each at one moment between its
    begin and its end. A change takes one of the cards of the tree, a change that another thread hinders may take some more, and no card is
-   given back: when all are given out, changes are refused with ELLTREE_SPENT. No call on a handle waits for another thread: each of them ends
+   given back: when all are given out, changes are refused with ELLTREE_SPENT. In a tree that elltree_open_reusing makes, cards come back
+   while it is open. No call on a handle waits for another thread: each of them ends
    after a bounded number of steps of its own. This is proved of the functions of the library, whose names begin with elltree_slot. The calls
    add the checks of this header, which are tested.
 
@@ -32,15 +33,16 @@
 
    - ELLTREE_BUSY: something was in the way of each try, or another thread changed the key first. You may make the same call again.
    - ELLTREE_SPENT: all cards of the tree are given out. Calls that read still work. To go on, make a new tree of the pairs that a range lists.
+     In a tree whose cards come back: each was in use when the call asked for it. You may make the same call again.
    - ELLTREE_NO_TRIES: the number of tries is 0.
    - ELLTREE_BAD_KEY: a call that changes keys was given one above ELLTREE_KEY_MAX. To a call that only reads, such a key is absent.
    - ELLTREE_BAD_START: the keys to start with do not ascend strictly, or are more than ELLTREE_START_MAX.
    - ELLTREE_BAD_CARDS: the number of cards is not 1 to ELLTREE_CARDS_MAX.
    - ELLTREE_CLOSED: a handle holds nothing. ELLTREE_OPEN: the handle that is to get something holds something.
    - ELLTREE_SAME: the same handle is given twice. ELLTREE_IN_CALL: the handle is in another call.
-   - ELLTREE_TOO_MANY_HANDLES: the handle has the least share of its tree, and can make no other.
+   - ELLTREE_TOO_MANY_HANDLES: the handle has the least share of its tree, or the tree has as many handles as it may have.
 
-   Only elltree_open and elltree_another ask for memory. You have to ensure these conditions, which nothing checks:
+   Only elltree_open, elltree_open_reusing and elltree_another ask for memory. You have to ensure these conditions, which nothing checks:
 
    - A handle starts as all zeros. Only these functions write to it, and it is not copied while it holds something (it may be moved).
    - A handle that holds something is freed once, by elltree_free, and no call is on it while its memory ends.
@@ -77,6 +79,8 @@ struct elltree_handle {
 
 /* These are the functions of the library, without the checks of the calls below them: no pointer may be null. */
 ELLTREE_MUST_USE int32_t elltree_slot_open(struct elltree_slot *slot, const struct elltree_pair *start, size_t start_count, uint64_t cards);
+ELLTREE_MUST_USE int32_t elltree_slot_open_reusing(struct elltree_slot *slot, const struct elltree_pair *start, size_t start_count, uint64_t cards,
+                                                   uint32_t handles);
 ELLTREE_MUST_USE int32_t elltree_slot_another(struct elltree_slot *from, struct elltree_slot *into);
 int32_t elltree_slot_free(struct elltree_slot *slot);
 ELLTREE_MUST_USE int32_t elltree_slot_find(struct elltree_slot *slot, uint64_t key, uint64_t *value);
@@ -117,6 +121,20 @@ ELLTREE_MUST_USE static inline int32_t elltree_open(struct elltree_handle *handl
     if (code != ELLTREE_YES)
         return code;
     return elltree_leave(handle, elltree_slot_open(&handle->slot, start ? start : no_pair, start_count, cards));
+}
+
+/* Opens a tree as elltree_open does, whose cards come back: once what a change took out of the tree is read by no call any more, its card serves
+   another change. So the tree goes on as long as its keys fit: twice as many cards as keys, and some more, are enough. A thread that stands
+   still in a call holds cards back until it goes on. The tree has this number of handles at most, its first one among them, at least one and at
+   most 1,000,000, and one that is freed makes no room for another. A card and a pair to start with take 104 bytes each, and a handle 64.
+   Refusals: those of elltree_open. */
+ELLTREE_MUST_USE static inline int32_t elltree_open_reusing(struct elltree_handle *handle, const struct elltree_pair *start, size_t start_count,
+                                                            uint64_t cards, uint32_t handles) {
+    static const struct elltree_pair no_pair[1] = {{0, 0}};
+    int32_t code = start || !start_count ? elltree_enter(handle) : ELLTREE_NULL;
+    if (code != ELLTREE_YES)
+        return code;
+    return elltree_leave(handle, elltree_slot_open_reusing(&handle->slot, start ? start : no_pair, start_count, cards, handles));
 }
 
 /* Makes a further handle of the tree of a handle, for another thread, in a handle that holds nothing yet. A handle has a share of its tree, and

@@ -38,6 +38,13 @@ public:
         return made;
     }
 
+    /* Opens a tree as open does, whose cards come back, for so many handles in all. */
+    [[nodiscard]] static handle open_reusing(const std::vector<elltree_pair> &start, uint64_t cards, uint32_t handles) {
+        handle made;
+        detail::is_yes(elltree_open_reusing(&made.raw_, start.data(), start.size(), cards, handles));
+        return made;
+    }
+
     handle(handle &&other) noexcept : raw_(std::exchange(other.raw_, elltree_handle{})) {}
     handle &operator=(handle &&other) noexcept {
         handle(std::move(other)).swap(*this);

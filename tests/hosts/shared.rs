@@ -1,7 +1,8 @@
 //! Threads of Rust, 2 to 64, each with a handle of one tree, that find, insert, delete, take, put, add to, exchange and remove by their values the
 //! same few keys, and go over ranges of them, both ways. Each call is noted with its begin and its end by one clock, and the calls on each key are
 //! to be in order: each has a point between its begin and its end, and one map gives their answers in the order of these points. A range is noted
-//! as a find of each of its keys. At the end of each round each key is as the last of them leave it. Then all threads at once insert one key, and
+//! as a find of each of its keys. At the end of each round each key is as the last of them leave it. So it is also in trees of few cards, which come
+//! back, where a call is made again if each card was in use. Then all threads at once insert one key, and
 //! delete it, again and again: each time one of them answers yes. All threads add to counters in each way that there is, and no addition is lost,
 //! and no sum is answered twice; beside a thread that puts ascending values, the others find one each time, and never a lower one than before. With
 //! `--seconds=N` it makes rounds, with new seeds, for so long. The check of the order is tried first, on histories that a person worked out.
@@ -218,28 +219,38 @@ fn replace(handle: &mut Handle, key: u64, seen: &mut u64, value: u64, is_put: bo
     }
 }
 
+/// One call on a key, of which the worker has seen a value last.
+fn call_on(handle: &mut Handle, random: u64, key: u64, value: u64, seen: &mut u64) -> Result<Call, Refused> {
+    Ok(match random % 16 {
+        0..=3 => Call::Insert(value, handle.insert(key, value, TRIES)?),
+        4 | 5 => Call::Delete(handle.delete(key, TRIES)?),
+        6 => Call::Take(handle.take(key, TRIES)?),
+        7 => remove_seen(handle, key, *seen)?,
+        8 | 9 => exchange(handle, key, seen, value)?,
+        10 | 11 => replace(handle, key, seen, value, random & 16 == 0)?,
+        _ if random & 1024 == 0 => Call::Find(handle.find(key)),
+        _ => Call::Find(handle.look(key)),
+    })
+}
+
 /// One worker makes so many calls on keys below a number. Hardly two values that are to be stored are the same.
-fn work(handle: &mut Handle, worker: u32, keys: u64, calls: u64, mut seed: u64, clock: &AtomicU64) -> Result<Vec<Made>, Refused> {
+fn work(handle: &mut Handle, worker: u32, keys: u64, calls: u64, mut seed: u64, clock: &AtomicU64, comes_back: bool) -> Result<Vec<Made>, Refused> {
     let (mut all, mut seen) = (Vec::new(), vec![0; keys as usize]);
     for number in 0..calls {
         let random = next(&mut seed);
         let (key, value) = ((random >> 20) % keys, u64::from(worker) << 32 | number);
         let begun = clock.fetch_add(1, SeqCst);
-        let call = match random % 16 {
-            0..=3 => Call::Insert(value, handle.insert(key, value, TRIES)?),
-            4 | 5 => Call::Delete(handle.delete(key, TRIES)?),
-            6 => Call::Take(handle.take(key, TRIES)?),
-            7 => remove_seen(handle, key, seen[key as usize])?,
-            8 | 9 => exchange(handle, key, &mut seen[key as usize], value)?,
-            10 | 11 => replace(handle, key, &mut seen[key as usize], value, random & 16 == 0)?,
-            12 => {
-                let told = go_over(handle, keys, random);
-                let ended = clock.fetch_add(1, SeqCst);
-                all.extend(told.into_iter().map(|(key, value)| Made { worker, key, call: Call::Find(value), begun, ended }));
-                continue;
+        if random % 16 == 12 {
+            let told = go_over(handle, keys, random);
+            let ended = clock.fetch_add(1, SeqCst);
+            all.extend(told.into_iter().map(|(key, value)| Made { worker, key, call: Call::Find(value), begun, ended }));
+            continue;
+        }
+        let call = loop {
+            match call_on(handle, random, key, value, &mut seen[key as usize]) {
+                Err(Refused::Spent) if comes_back => std::thread::yield_now(), // it has changed nothing
+                said => break said?,
             }
-            _ if random & 1024 == 0 => Call::Find(handle.find(key)),
-            _ => Call::Find(handle.look(key)),
         };
         let ended = clock.fetch_add(1, SeqCst);
         if let Call::Find(Some(there)) = call {
@@ -264,12 +275,19 @@ fn open(threads: u32, start: &[(u64, u64)]) -> Result<Vec<Handle>, Refused> {
     (0..threads).map(|_| tree.handle()).collect()
 }
 
+/// The same, of a tree with few cards, which come back.
+fn open_reusing(threads: u32, start: &[(u64, u64)], cards: u64) -> Result<Vec<Handle>, Refused> {
+    let tree = Tree::open_reusing(start, cards, threads)?;
+    (0..threads).map(|_| tree.handle()).collect()
+}
+
 /// One round of so many threads on keys below a number: how many calls they made, and how many keys are there at the end.
-fn round(threads: u32, keys: u64, calls: u64, seed: u64) -> Result<(usize, usize), Refused> {
+fn round(threads: u32, keys: u64, calls: u64, seed: u64, comes_back: bool) -> Result<(usize, usize), Refused> {
     let start: Vec<(u64, u64)> = START.into_iter().filter(|pair| pair.0 < keys).collect();
-    let (mut handles, clock) = (open(threads, &start)?, AtomicU64::new(1));
+    let handles = if comes_back { open_reusing(threads, &start, 3 * keys + 4 * u64::from(threads)) } else { open(threads, &start) };
+    let (mut handles, clock) = (handles?, AtomicU64::new(1));
     let seed_of = |worker: u32| (seed * 64 + u64::from(worker) + 1).wrapping_mul(0x9e37_79b9_7f4a_7c15);
-    let made = in_threads(&mut handles, |handle, worker| work(handle, worker, keys, calls, seed_of(worker), &clock)).concat();
+    let made = in_threads(&mut handles, |handle, worker| work(handle, worker, keys, calls, seed_of(worker), &clock, comes_back)).concat();
     let mut there = BTreeSet::new();
     for key in 0..keys {
         let left = handles[0].find(key);
@@ -360,8 +378,8 @@ fn main() -> Result<(), Refused> {
     while seeds == 0 || begun.elapsed() < Duration::from_secs(seconds) {
         seeds += 1;
         for threads in [2, 4, 8, 16, 32, 64] {
-            for keys in [2, 8, 64] {
-                let (made, there) = round(threads, keys, 8_000 / u64::from(threads), seeds)?;
+            for (keys, comes_back) in [(2, false), (8, false), (64, false), (2, true), (8, true), (64, true)] {
+                let (made, there) = round(threads, keys, 8_000 / u64::from(threads), seeds, comes_back)?;
                 (rounds, calls, left) = (rounds + 1, calls + made, left + there);
             }
             race(threads)?;

@@ -14,7 +14,7 @@ NO_END = 2**64 - 1
 
 # The functions of the library, by their names without elltree_slot_ or elltree_map_, and their signatures: a letter for each thing that they take.
 # Small letters are numbers, and capital ones are pointers:
-#   k, v, a, c, t    a key, a value, an addend, the number of cards, the number of tries
+#   k, v, a, c, t, h a key, a value, an addend, the number of cards, the number of tries, the number of handles
 #   n                how many items an array has, or how many bytes a struct
 #   V, N             to a value or a key, and to a number of items, which the function writes unless it answers no
 #   W                to a value that it writes whatever it answers
@@ -24,6 +24,7 @@ NO_END = 2**64 - 1
 # From these _functions makes what ctypes has to know, and its methods. The methods of the compiled module have their signatures as __doc__.
 OF_SLOTS = {
     "open": "SPnc",
+    "open_reusing": "SPnch",
     "another": "SS",
     "free": "S",
     "find": "SkV",
@@ -72,6 +73,7 @@ NUMBERS = {
     "a": (64, "an addend"),
     "c": (64, "the number of cards"),
     "t": (32, "the number of tries"),
+    "h": (32, "the number of handles"),
 }
 
 # Keys with their values. Those of a mapping may have any order.

@@ -62,6 +62,7 @@ static const struct number_kind number_kinds[] = {
     {'a', 64, "an addend"},
     {'c', 64, "the number of cards"},
     {'t', 32, "the number of tries"},
+    {'h', 32, "the number of handles"},
     {'n', 64, "the number of items"},
 };
 
@@ -293,15 +294,18 @@ static PyObject *core_range(PyObject *self, PyObject *const *given, Py_ssize_t c
 
 static PyObject *handle_new(PyTypeObject *type, PyObject *given, PyObject *named) {
     struct elltree_pair *start;
-    PyObject *list, *cards, *core = NULL;
-    uint64_t number;
+    PyObject *list, *cards, *handles, *core = NULL;
+    uint64_t number, most = 0;
     size_t count;
     int32_t code;
-    if (named || !PyArg_ParseTuple(given, "OO", &list, &cards) || !(start = pairs_in(list, &count)))
+    bool comes_back;
+    if (named || !PyArg_ParseTuple(given, "OOO", &list, &cards, &handles) || !(start = pairs_in(list, &count)))
         return NULL;
-    if (as_number(cards, kind_of('c'), &number) && (core = PyType_GenericAlloc(type, 0))) {
+    comes_back = handles != Py_None;
+    if (as_number(cards, kind_of('c'), &number) && (!comes_back || as_number(handles, kind_of('h'), &most)) && (core = PyType_GenericAlloc(type, 0))) {
+        struct elltree_handle *handle = &core_of(core)->handle;
         Py_BEGIN_ALLOW_THREADS
-        code = elltree_open(&core_of(core)->handle, start, count, number);
+        code = comes_back ? elltree_open_reusing(handle, start, count, number, (uint32_t)most) : elltree_open(handle, start, count, number);
         Py_END_ALLOW_THREADS
         if (code < 0) {
             refuse(core, code);

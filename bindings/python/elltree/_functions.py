@@ -52,7 +52,7 @@ class MapCounters(ctypes.Structure):
 # The types of what functions take, by the letters of the list.
 _TYPES: dict[str, Any] = {
     **dict.fromkeys("kvac", c_uint64),
-    "t": c_uint32,
+    **dict.fromkeys("th", c_uint32),
     "n": c_size_t,
     **dict.fromkeys("VWE", POINTER(c_uint64)),
     "N": POINTER(c_size_t),
@@ -163,9 +163,13 @@ class HandleCore(_Core, of=OF_SLOTS):
 
     __slots__ = ("_calls", "_slot")
 
-    def __init__(self, start: _PairList, cards: SupportsIndex) -> None:
+    def __init__(self, start: _PairList, cards: SupportsIndex, handles: SupportsIndex | None) -> None:
         self._hold_nothing()
-        answer(self._code("open", *_pair_array(start), whole(cards, *NUMBERS["c"])))
+        given = (*_pair_array(start), whole(cards, *NUMBERS["c"]))
+        if handles is None:
+            answer(self._code("open", *given))
+        else:
+            answer(self._code("open_reusing", *given, whole(handles, *NUMBERS["h"])))
 
     def _hold_nothing(self) -> None:
         self._slot = Slot()

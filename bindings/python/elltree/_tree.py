@@ -6,7 +6,7 @@ import threading
 import types
 from typing import TYPE_CHECKING, NoReturn, SupportsIndex
 
-from ._arguments import Pairs, pair_list
+from ._arguments import NUMBERS, Pairs, pair_list, whole
 from ._codes import CLOSED, Refused
 from ._library import HandleCore
 from ._ordered import Ordered
@@ -15,13 +15,22 @@ if TYPE_CHECKING:
     from typing_extensions import Self
 
 
+def _one_more(handles: SupportsIndex) -> int:
+    """Returns one more than a number of handles."""
+    return whole(handles, *NUMBERS["h"]) + 1
+
+
 class Tree:
-    """A tree with a fixed number of cards, for a program that counts its cards itself. A Map has no cards to count.
+    """A tree with a fixed number of cards, for a program that counts its cards itself, or whose cards come back. A Map has no cards to count.
 
     The method handle makes a handle for each thread. All handles of a tree find and change the same keys, and none of them waits for another. All
     their finds and changes together answer as if they had been made one after the other. Each change takes a card, and so may a try that another
     thread hinders. No card is given back; cards_left of a handle tells how many are left. Then changes raise Spent, and a new tree of the pairs goes
     on: Tree(handle.range(), cards).
+
+    In a tree with a number of handles, cards come back while it is open: once what a change took out of the tree is read by no call any more, its
+    card serves another change. Twice as many cards as keys, and some more, are enough. A thread that stands still in a call holds cards back until it
+    goes on; a change that finds each card in use raises Spent, and may be made again.
 
     The tree ends once it and all its handles are dropped or closed. It can't be copied or pickled. A forked child of a program with threads may not
     use it or its handles, which nothing checks: only a Map refuses such calls.
@@ -29,12 +38,14 @@ class Tree:
 
     __slots__ = ("_core", "_lock", "__weakref__")
 
-    def __init__(self, start: Pairs = (), cards: SupportsIndex = 1_000_000) -> None:
+    def __init__(self, start: Pairs = (), cards: SupportsIndex = 1_000_000, handles: SupportsIndex | None = None) -> None:
         """Opens a tree with this number of cards, in which the keys of start, a dict or pairs in ascending order, are present with their values.
+        With a number of handles, up to 999,999, its cards come back, and it makes so many handles in all.
 
         With glibc, a tree of more than 300,000 cards and start keys together takes more than three times as long for each of them.
         """
-        self._core = HandleCore(pair_list(start), cards)
+        # The tree keeps its first handle.
+        self._core = HandleCore(pair_list(start), cards, None if handles is None else _one_more(handles))
         self._lock = threading.Lock()
 
     def handle(self) -> Handle:

@@ -50,6 +50,14 @@ impl Handle {
         Ok(handle)
     }
 
+    /// Opens a tree whose cards come back, for so many handles, and returns its first one.
+    pub(crate) fn open_reusing(start: &[(u64, u64)], cards: u64, handles: u32) -> Result<Handle> {
+        let (start, mut handle) = (Pair::all_of(start), Handle::empty());
+        // SAFETY: the array is as long as said.
+        answer(unsafe { raw::elltree_slot_open_reusing(handle.slot(), start.as_ptr(), start.len(), cards, handles) })?;
+        Ok(handle)
+    }
+
     /// Makes a further handle of the same tree.
     pub(crate) fn another(&mut self) -> Result<Handle> {
         let mut other = Handle::empty();

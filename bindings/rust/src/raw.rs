@@ -109,6 +109,7 @@ unsafe extern "C" {
 // callers of the others see to the length of their arrays.
 unsafe extern "C" {
     pub(crate) fn elltree_slot_open(slot: &mut Slot, start: *const Pair, start_count: usize, cards: u64) -> i32;
+    pub(crate) fn elltree_slot_open_reusing(slot: &mut Slot, start: *const Pair, start_count: usize, cards: u64, handles: u32) -> i32;
     pub(crate) safe fn elltree_slot_another(from: &mut Slot, into: &mut Slot) -> i32;
     pub(crate) safe fn elltree_slot_free(slot: &mut Slot) -> i32;
     pub(crate) safe fn elltree_slot_find(slot: &mut Slot, key: u64, value: &mut u64) -> i32;

@@ -9,7 +9,8 @@ use crate::handle::Handle;
 /// cards to count.
 ///
 /// All handles of a tree find and change the same keys, and none of them ever waits for another. Each change takes a card, and so may a try that
-/// another thread hinders. No card is given back, and [`Handle::cards_left`] returns how many are left.
+/// another thread hinders. No card is given back, and [`Handle::cards_left`] returns how many are left; in a tree that
+/// [`open_reusing`](Tree::open_reusing) makes, cards come back.
 ///
 /// Threads may share a tree, and make handles at any time. The tree ends when it and all its handles are dropped, in any order.
 ///
@@ -75,6 +76,33 @@ impl Tree {
     /// ```
     pub fn open(start: &[(u64, u64)], cards: u64) -> Result<Tree> {
         Handle::open(start, cards).map(|first| Tree(Mutex::new(first)))
+    }
+
+    /// Opens a tree whose cards come back while it is open, for so many handles in all, up to 999,999. Once what a change took out of the tree is
+    /// read by no call any more, its card serves another change: so the tree goes on as long as its keys fit. Twice as many cards as keys, and some
+    /// more, are enough.
+    ///
+    /// A thread that stands still in a call holds cards back until it goes on. A change that finds each card in use returns
+    /// [`Refused::Spent`](crate::Refused::Spent), and may be made again. A handle that is dropped makes no room for another.
+    ///
+    /// # Errors
+    ///
+    /// Returns what [`open`](Tree::open) does.
+    ///
+    /// # Examples
+    ///
+    /// ```
+    /// use elltree::{Refused, Tree};
+    /// let tree = Tree::open_reusing(&[(2, 20)], 100, 1)?; // pairs to start with, cards, handles
+    /// let mut handle = tree.handle()?;
+    /// for value in 0..10_000 {
+    ///     assert!(handle.insert(3, value, 1_000)? && handle.delete(3, 1_000)?);
+    /// }
+    /// assert_eq!(tree.handle().err(), Some(Refused::TooManyHandles));
+    /// # Ok::<(), Refused>(())
+    /// ```
+    pub fn open_reusing(start: &[(u64, u64)], cards: u64, handles: u32) -> Result<Tree> {
+        Handle::open_reusing(start, cards, handles.saturating_add(1)).map(|first| Tree(Mutex::new(first)))
     }
 
     /// Makes a handle, for one thread. Threads that make handles at the same moment wait for one another, while no call on a handle waits.

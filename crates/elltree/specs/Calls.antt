@@ -7,8 +7,8 @@ use Rattle.ell_ops.specs.Meaning.{found, greatest_key, key_of}
 use Rattle.ell_cards.specs.Models.{PassModel}
 use Rattle.ell_tree.specs.CardsLeft.{AreLeftAtMost, ReadsCardsLeft}
 use Rattle.ell_tree.specs.CardsTaken.{TakesNoCard}
-use Rattle.ell_tree.specs.Computing.{AreTried, AreTriedOrRead, IsNotDone, IsSum, PutsValue, RemovesIf, UpdatesValue, update_steps, whether_put}
-use Rattle.ell_tree.specs.Counts.{Took}
+use Rattle.ell_tree.specs.Computing.{AreTried, AreTriedOrRead, IsNotDone, IsSum, PutsValue, RemovesIf, UpdatesValue, update_steps_in, whether_put}
+use Rattle.ell_tree.specs.Counts.{Took, TookIn}
 use Rattle.ell_tree.specs.Ends.{Answers, CountsTries, Ends, TakesValue, find_steps, found_or_not_done, replied, whether, whether_swapped}
 use Rattle.ell_tree.specs.Looks.{IsFoundIn, OnlyLooks, look_steps}
 use Rattle.ell_tree.specs.Promises.{IsOthersDoing, IsQuiet, IsWithin, SpendsCards}
@@ -17,7 +17,7 @@ use Rattle.ell_tree.specs.declared.operations.NotDone.{NotDone}
 use Rattle.ell_tree.specs.declared.operations.NotDone.TheVariants as not_done
 use Rattle.ell_tree.specs.declared.scanning.Pair.{Pair}
 use Rattle.ell_tree.specs.declared.scanning.Scanned.{Scanned}
-use Rattle.elltree.specs.Handles.{deepest_of, last_card_of, tree_of}
+use Rattle.elltree.specs.Handles.{IsPlain, deepest_of, last_card_of, tree_of}
 use Rattle.elltree.specs.declared.handle.Handle.{Handle}
 use Rattle.elltree.specs.declared.refusal.Refusal.{Refusal}
 use Rattle.elltree.specs.declared.refusal.Refusal.TheVariants.{BadKey, Busy, NoTries, Spent}
@@ -82,13 +82,13 @@ pub record ReadsCards (old new : Handle) (left : ℕ) : Type 0 where
   pub cards : TakesNoCard old.pass new.pass
   pub tree : new.tree ≡ old.tree
 
--- an insert, a delete or a swap: the tree's, in so many tries
+-- an insert, a delete or a swap: the tree's, in so many tries; how many cards it takes is told where none comes back
 pub record Changes {A : Type 0} (op : Op) (tries : ℕ) (reply : Result A NotDone → Result Reply NotDone)
     (made : Result A NotDone → Result Bool NotDone) (old new : Handle) (result : Result A NotDone) : Type 0 where
   pub ends : Ends (tree_of old) tries op old.pass new.pass (reply result)
   pub others : result ≡ Err not_done.Busy → IsOthersDoing (tree_of old) tries old.pass new.pass
   pub steps : IsWithin (tree_of old) tries old.pass new.pass
-  pub cards : SpendsCards (key_of op) tries old.pass new.pass (made result)
+  pub cards : IsPlain old → SpendsCards (key_of op) tries old.pass new.pass (made result)
   pub enough : 2 * last_card_of old < tries → result ≢ Err not_done.Busy
   pub tree : new.tree ≡ old.tree
 
@@ -107,15 +107,16 @@ pub record Takes (key tries : ℕ) (old new : Handle) (result : Result (Option �
 abbrev pub Swaps : ℕ → ℕ → ℕ → ℕ → Handle → Handle → Result (Option ℕ) NotDone → Type 0
 Swaps key current value tries = Changes (Swap key current value) tries found_or_not_done (whether_swapped current)
 
--- a call that reads a key, and then tries to change it by what it has read: the tree's, which makes so many tries
+-- a call that reads a key, and then tries to change it by what it has read: the tree's, which makes so many tries; the
+-- cards are told as above
 pub record Computes (key tries : ℕ) (Does : Handle → Handle → Option ℕ → Type 0) (AreMade : ℕ → PassModel → PassModel → Type 0)
     (made : Result (Option ℕ) NotDone → Result Bool NotDone) (old new : Handle) (result : Result (Option ℕ) NotDone) : Type 0 where
   pub does : IfOk result (Does old new)
   pub unanswered : IfErr result (IsNotDone (tree_of old) key old.pass new.pass)
   pub tried : result ≡ Err not_done.Busy → AreMade tries old.pass new.pass
-  pub steps : Took old.pass new.pass (update_steps (deepest_of old) tries)
+  pub steps : TookIn (tree_of old).plan old.pass new.pass (update_steps_in (tree_of old).plan tries)
   pub counted : CountsTries tries old.pass new.pass
-  pub cards : SpendsCards key tries old.pass new.pass (made result)
+  pub cards : IsPlain old → SpendsCards key tries old.pass new.pass (made result)
   pub tree : new.tree ≡ old.tree
 
 abbrev pub Puts : ℕ → ℕ → ℕ → Handle → Handle → Result (Option ℕ) NotDone → Type 0

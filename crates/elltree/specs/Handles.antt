@@ -1,4 +1,4 @@
-use Rattle.std.specs.Prelude.{◌≡◌, ◌≤◌, true, ℕ, [], List, length, map, None}
+use Rattle.std.specs.Prelude.{◌≡◌, ◌≤◌, true, ℕ, [], List, length, map, max, min, None, Some}
 use Rattle.std.specs.Arc.{arc_value}
 use Rattle.std.specs.List.{All}
 use Rattle.std.specs.List.Sorted.{IsStrictlyIncreasing}
@@ -6,8 +6,9 @@ use Rattle.std.specs.Map.{keys_of}
 use Rattle.ell_ops.specs.Meaning.{greatest_key}
 use Rattle.ell_core.specs.state.Opening.{last_card}
 use Rattle.ell_cards.specs.Depths.{deepest}
-use Rattle.ell_tree.specs.Node.{most_start}
+use Rattle.ell_tree.specs.Node.{greatest_number, most_start}
 use Rattle.ell_cards.specs.Models.{IsCardCount, MayPart}
+use Rattle.ell_cards.specs.Starts.{most_places}
 use Rattle.ell_tree.specs.Ledgers.{TreeModel}
 use Rattle.ell_tree.specs.PassParts.{IsFirst, IsLeftPart, IsRightPart}
 use Rattle.ell_tree.specs.declared.scanning.Pair.{Pair}
@@ -36,6 +37,23 @@ as_pairs pairs = map (λ pair. (pair.key, pair.value)) pairs
 pub record IsOpened (start : List (ℕ × ℕ)) (cards : ℕ) (h : Handle) : Type 0 where
   pub plan : (tree_of h).plan
       ≡ record { keys = []; start = start; last_card = last_card start cards; shared = true; flat = true; slots = None }
+  pub first : IsFirst (tree_of h) h.pass
+
+-- the number of handles that a tree is opened for where so many are asked for: the nearest that there may be
+abbrev pub handles_for : ℕ → ℕ
+handles_for asked = max 1 (min asked most_places)
+
+-- a handle is the first of such a tree whose cards come back: it has slots for the start keys, for so many cards
+-- besides and for one more, places for so many handles, and a card for each number that there is
+pub record IsOpenedReusing (start : List (ℕ × ℕ)) (cards handles : ℕ) (h : Handle) : Type 0 where
+  pub plan : (tree_of h).plan ≡ record {
+    keys = [];
+    start = start;
+    last_card = greatest_number;
+    shared = true;
+    flat = true;
+    slots = Some (record { last = last_card start cards; places = handles });
+  }
   pub first : IsFirst (tree_of h) h.pass
 
 -- a tree may begin with these start keys
@@ -69,12 +87,21 @@ pub record HasAnother (whole kept other : Handle) : Type 0 where
   pub tree : kept.tree ≡ whole.tree
   pub same : arc_value other.tree ≡ arc_value whole.tree
 
--- a handle makes no more handles, as its share is the least one
+-- each card of a handle's tree has words of its own, so that no card comes back
+abbrev pub IsPlain : Handle → Type 0
+IsPlain h = (tree_of h).plan.slots ≡ None
+
+-- a handle has the least share of its tree, and so makes no more handles
 abbrev pub IsLeast : Handle → Type 0
 IsLeast h = ¬ MayPart h.pass.view
 
+-- a handle makes no other one: its share is the least one; or, where cards come back, its tree may have no place for
+-- one more
+abbrev pub MakesNone : Handle → Type 0
+MakesNone h = IsPlain h → IsLeast h
+
 -- when there is no other handle of a handle's tree, and why
 abbrev pub AnotherRefuses : Handle → Refusal → Type 0
-AnotherRefuses h TooManyHandles = IsLeast h
+AnotherRefuses h TooManyHandles = MakesNone h
 AnotherRefuses h NoMemory = ¬ IsLeast h
 AnotherRefuses h _ = ⊥

@@ -3,7 +3,7 @@ use Rattle.ell_tree.specs.declared.scanning.Pair.{Pair}
 use Rattle.ell_tree.specs.declared.scanning.Scanned.{Scanned}
 use Rattle.elltree.specs.Calls.{Scans}
 use Rattle.elltree.specs.Codes.{IsOneOf, said_bad_cards, said_bad_key, said_bad_start, said_closed, said_no_memory, said_open, said_too_many, said_yes}
-use Rattle.elltree.specs.Handles.{HasAnother, IsLeast, MayOpen, RefusesTree}
+use Rattle.elltree.specs.Handles.{HasAnother, IsLeast, MakesNone, MayOpen, RefusesTree}
 use Rattle.elltree.specs.Slots.{OfHandle, OfThree}
 use Rattle.elltree.specs.declared.handle.Handle.{Handle}
 use Rattle.elltree.specs.declared.refusal.Refusal.TheVariants.{BadCards, BadKey, BadStart}
@@ -69,5 +69,5 @@ pub record TellsAnother (said : ℤ) (whole kept other : Option Handle) : Type 0
   pub another : said ≡ said_yes → OfThree HasAnother whole kept other
   pub closed : said ≡ said_closed → whole ≡ None
   pub none : whole ≡ None → said ≡ said_closed
-  pub too_many : said ≡ said_too_many → OfHandle IsLeast whole
+  pub too_many : said ≡ said_too_many → OfHandle MakesNone whole
   pub may : said ≡ said_yes ⊎ said ≡ said_no_memory → OfHandle (λ h. ¬ IsLeast h) whole

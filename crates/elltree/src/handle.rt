@@ -1,5 +1,5 @@
 //! A tree and a pass of it.
-ghost use Rattle.std.specs.Prelude.{◌≡◌, true, None, []};
+ghost use Rattle.std.specs.Prelude.{◌≡◌, true, []};
 ghost use Rattle.std.specs.Arc.{arc_value};
 ghost use Rattle.ell_cards.specs.Changes.{ownable_if};
 ghost use Rattle.ell_tree.specs.Ledgers.{IsIdle};
@@ -56,7 +56,7 @@ impl HandlePlace {
 }
 
 /// A tree in which every key up to `KEY_MAX` is shared, and a pass of it with nothing in hand. It may go from one thread
-/// to another.
+/// to another. How many cards a change takes is promised only in a tree whose cards do not come back (`open`).
 #[derive(Drop)]
 pub struct Handle {
     pub tree: Arc<Tree<Global>, Global>,
@@ -65,7 +65,6 @@ pub struct Handle {
     ghost idle: { IsIdle pass },
     ghost shared: { (arc_value tree).plan.shared ≡ true },
     ghost alone: { (arc_value tree).plan.keys ≡ [] },
-    ghost plain: { (arc_value tree).plan.slots ≡ None },
     ghost knows: { pass.view.worker.shared ≡ ownable_if true [] },
 }
 

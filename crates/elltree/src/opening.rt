@@ -1,7 +1,7 @@
 //! How slots are opened and closed, and get further handles.
-ghost use Rattle.std.specs.Prelude.{◌≡◌, ◌≢◌, ◌↔◌, true, None, IfOk, IfErr, OnErr, OnOk, [], ◌∷◌};
-ghost use Rattle.elltree.specs.Codes.{IsOneOf, said_closed, said_open, said_yes};
-ghost use Rattle.elltree.specs.Handles.{IsOpened, MayOpen, RefusesTree, as_pairs};
+ghost use Rattle.std.specs.Prelude.{◌≡◌, ◌≢◌, ◌↔◌, true, None, Some, IfOk, IfErr, OnErr, OnOk, [], ◌∷◌};
+ghost use Rattle.elltree.specs.Codes.{IsOneOf, code_of, said_closed, said_open, said_yes};
+ghost use Rattle.elltree.specs.Handles.{IsOpened, IsOpenedReusing, MayOpen, RefusesTree, as_pairs, handles_for};
 ghost use Rattle.elltree.specs.Slots.{OfHandle, handle_of};
 ghost use Rattle.elltree.specs.Told.{SaysWhyShut, TellsAnother};
 
@@ -34,13 +34,38 @@ pub extern "C" fn elltree_slot_open(
     if slot.is_open {
         return OPEN;
     }
-    match open(alloc, start, cards) {
-        Ok(place) => {
-            slot.put(place);
-            YES
-        }
-        Err(refusal) => code_of_refusal(refusal),
+    put_opened(slot, open(alloc, start, cards))
+}
+
+/// Opens a tree, as `elltree_slot_open` does, whose cards come back, for this many handles: at least one and at most
+/// 1,000,000, and what is outside is taken as the nearest of these. The tree has a slot for each card asked for and
+/// each start key, and one more. A change returns `SPENT` if each slot was in use when it asked for it, and may be made
+/// again. A call for another handle returns `TOO_MANY_HANDLES` if the tree was given as many handles as asked for; one
+/// that is closed makes no room for another.
+#[unsafe(no_mangle)]
+pub extern "C" fn elltree_slot_open_reusing(
+    alloc: Global,
+    slot: &mut Slot,
+    start: &[Pair],
+    cards: u64,
+    handles: u32,
+) -> i32
+    // With yes the slot has the first handle of a new tree with the start pairs whose cards come back, with slots for
+    // the cards asked for and places for the handles asked for, or the nearest number that there may be.
+    ensures opened { result ≡ said_yes → OfHandle
+        (IsOpenedReusing (as_pairs start.now) cards (handles_for handles)) (handle_of slot.new.raw.inside) }
+    // `BAD_START` is returned exactly if the slot is not open and the start keys do not strictly ascend or there are
+    // more than 1,000,000, then `BAD_KEY` exactly for a key above the greatest one, then `BAD_CARDS` exactly if the
+    // number of cards is not 1 to 1,000,000, and `NO_MEMORY` only if none of these applies.
+    ensures why { SaysWhyShut (as_pairs start.now) cards result }
+    // `OPEN` is returned exactly if the slot is open. A call that is refused leaves it as it was.
+    ensures busy { (result ≡ said_open) ↔ (slot.old.is_open ≡ true) }
+    ensures refused { result ≢ said_yes → slot.new.raw.inside ≡ slot.old.raw.inside }
+{
+    if slot.is_open {
+        return OPEN;
     }
+    put_opened(slot, open_reusing(alloc, start, cards, handles))
 }
 
 // A tree, and its first handle in a box.
@@ -53,6 +78,39 @@ fn open(alloc: Global, start: &[Pair], cards: u64) -> Result<Box<HandlePlace, Gl
     Ok(Box::new(alloc, HandlePlace::of(Some(handle)))?)
 }
 
+// The same of a tree whose cards come back.
+fn open_reusing(
+    alloc: Global,
+    start: &[Pair],
+    cards: u64,
+    handles: u32,
+) -> Result<Box<HandlePlace, Global>, Refusal>
+    ensures opened { IfOk result (λ place. OfHandle
+        (IsOpenedReusing (as_pairs start.now) cards (handles_for handles)) place.value.handle) }
+    ensures may { OnOk result (MayOpen (as_pairs start.now) cards) }
+    ensures refused { IfErr result (RefusesTree (as_pairs start.now) cards) }
+{
+    let handle = Handle::open_reusing(alloc, start, cards, u64::from(handles))?;
+    Ok(Box::new(alloc, HandlePlace::of(Some(handle)))?)
+}
+
+// Puts what was opened into a slot that is not open, and returns the code of that.
+fn put_opened(slot: &mut Slot, opened: Result<Box<HandlePlace, Global>, Refusal>) -> i32
+    requires { slot.old.raw.inside ≡ None }
+    ensures put { IfOk opened (λ place. (result ≡ said_yes) × (slot.new.raw.inside ≡ Some place.value)) }
+    ensures why { IfErr opened (λ why. (result ≡ code_of why) × (result ≢ said_yes)) }
+    ensures refused { IfErr opened (λ _. slot.new.raw.inside ≡ slot.old.raw.inside) }
+    ensures shut { result ≢ said_open }
+{
+    match opened {
+        Ok(place) => {
+            slot.put(place);
+            YES
+        }
+        Err(refusal) => code_of_refusal(refusal),
+    }
+}
+
 /// Gives another slot, which is not open yet, a handle of the same tree.
 #[tactic(auto, using(crate::proofs::lemmas::Parting::another_refused))]
 #[unsafe(no_mangle)]
@@ -61,7 +119,8 @@ pub extern "C" fn elltree_slot_another(alloc: Global, from: &mut Slot, into: &mu
     ensures busy { (result ≡ said_open) ↔ (into.old.is_open ≡ true) }
     // With yes the other slot has a handle of the same tree, with a piece of the share, and this slot's handle goes on
     // as it was, with the rest of that. `CLOSED` is returned exactly if the slot has no handle, then `TOO_MANY_HANDLES`
-    // exactly if the share is the least one, and otherwise only `NO_MEMORY`.
+    // exactly if the share is the least one, and otherwise only `NO_MEMORY`; in a tree whose cards come back, also
+    // `TOO_MANY_HANDLES` if no place for one more handle is found.
     ensures tells { result ≢ said_open → TellsAnother result (handle_of from.old.raw.inside)
         (handle_of from.new.raw.inside) (handle_of into.new.raw.inside) }
     // A call that is refused leaves both slots as they were.

@@ -1,9 +1,9 @@
 //! Why a call has no answer.
 ghost use Rattle.std.specs.Prelude.{◌≡◌};
-ghost use Rattle.elltree.specs.Refusals.{of_fault, of_not_done};
+ghost use Rattle.elltree.specs.Refusals.{of_fault, of_not_done, of_split};
 ghost use Rattle.elltree.specs.declared.refusal.Refusal.TheVariants.{NoMemory as no_memory};
 
-use ell_tree::{CardFault, NotDone};
+use ell_tree::{CardFault, NotDone, SplitFault};
 use std::alloc::{AllocError, AllocFailed};
 
 /// Why a call has no answer. The map is as it was before.
@@ -15,13 +15,15 @@ pub enum Refusal {
     BadKey,
     /// Something was in the way of each try, or another handle changed the key first.
     Busy,
-    /// All cards of the tree are given out; `cards_left` returns how many are left.
+    /// All cards of the tree are given out; `cards_left` returns how many are left. Or, in a tree whose cards come
+    /// back, each slot was in use when the call asked for it; the call may be made again.
     Spent,
     /// The number of cards is not 1 to 1,000,000.
     BadCards,
     /// The start keys do not strictly ascend, or there are more than `START_MAX`.
     BadStart,
-    /// The handle has the least share of its tree, which cannot be split.
+    /// The handle has the least share of its tree, which cannot be split. Or its tree is one whose cards come back, and
+    /// was given as many handles as asked for.
     TooManyHandles,
     /// An allocation failed.
     NoMemory,
@@ -50,6 +52,17 @@ impl From<CardFault> for Refusal {
         match fault {
             CardFault::BadCards => Refusal::BadCards,
             CardFault::NoMemory => Refusal::NoMemory,
+        }
+    }
+}
+
+impl From<SplitFault> for Refusal {
+    ghost from_gives = { λ fault why. why ≡ of_split fault };
+
+    fn from(fault: SplitFault) -> Refusal {
+        match fault {
+            SplitFault::TooManyPasses => Refusal::TooManyHandles,
+            SplitFault::NoMemory => Refusal::NoMemory,
         }
     }
 }

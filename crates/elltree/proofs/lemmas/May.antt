@@ -8,15 +8,12 @@ use Rattle.ell_ops.specs.KeySet.{set_of}
 use Rattle.ell_ops.specs.Meaning.{greatest_key}
 use Rattle.ell_tree.specs.Ledgers.{PassModel, TreeModel}
 use Rattle.ell_tree.specs.Looks.{OnlyLooks}
-use Rattle.ell_tree.specs.Computing.{update_steps, update_steps_in}
-use Rattle.ell_tree.specs.Counts.{Took, TookIn}
 use Rattle.ell_tree.specs.Promises.{IsQuiet, MayDo}
 use Rattle.ell_tree.specs.Scans.{IsNextIn}
 use Rattle.ell_tree.proofs.lemmas.Looks.{only_none_yet, only_trans}
 use Rattle.ell_tree.proofs.lemmas.Meeting.{meets_none}
-use Rattle.ell_tree.proofs.lemmas.Plain.{updates_plain}
 use Rattle.elltree.specs.Calls.{OnlyScans}
-use Rattle.elltree.specs.Handles.{deepest_of, tree_of}
+use Rattle.elltree.specs.Handles.{tree_of}
 use Rattle.elltree.specs.declared.handle.Handle.{Handle}
 
 -- each real key is shared in a handle's tree
@@ -52,8 +49,3 @@ looks_none p n = only_trans p p p 0 0 n (only_none_yet p) (only_none_yet p) (ome
 -- and takes no more than a scan takes
 pub scans_none : (h : Handle) → OnlyScans h h
 scans_none h = record { only = looks_none h.pass _; cards = refl; tree = refl }
-
--- each card of its tree has words of its own, so a call that computes what becomes of a key is bounded by both counts
-pub updates_of : (h : Handle) (tries : ℕ) (a b : PassModel) → TookIn (tree_of h).plan a b (update_steps_in (tree_of h).plan tries)
-    → Took a b (update_steps (deepest_of h) tries)
-updates_of h tries a b took = updates_plain (tree_of h).plan tries a b h.plain took

@@ -1,4 +1,4 @@
-use Rattle.std.proofs.Common.{◌≡◌, true, None, [], ap, sym, subst, ◌∙◌}
+use Rattle.std.proofs.Common.{◌≡◌, true, [], ap, sym, subst, ◌∙◌}
 use Rattle.std.specs.Arc.{arc_value}
 use Rattle.std.proofs.Props.{props}
 use Rattle.ell_cards.specs.Changes.{ownable_if}
@@ -7,27 +7,25 @@ use Rattle.elltree.specs.declared.handle.Handle.{Handle}
 
 -- what is so of a handle's pass is so in one way
 pub same_facts : (h : Handle) (own : h.pass.table ≡ (arc_value h.tree).id) (idle : IsIdle h.pass) (shared : (arc_value h.tree).plan.shared ≡ true)
-    (alone : (arc_value h.tree).plan.keys ≡ []) (plain : (arc_value h.tree).plan.slots ≡ None) (knows : h.pass.view.worker.shared ≡ ownable_if true [])
-    → record { tree = h.tree; pass = h.pass; own = own; idle = idle; shared = shared; alone = alone; plain = plain; knows = knows } ≡ h
-same_facts h own idle shared alone plain knows =
+    (alone : (arc_value h.tree).plan.keys ≡ []) (knows : h.pass.view.worker.shared ≡ ownable_if true [])
+    → record { tree = h.tree; pass = h.pass; own = own; idle = idle; shared = shared; alone = alone; knows = knows } ≡ h
+same_facts h own idle shared alone knows =
     let first : IsProp (h.pass.table ≡ (arc_value h.tree).id) = hlevel props in
     let second : IsProp (IsIdle h.pass) = hlevel props in
     let third : IsProp ((arc_value h.tree).plan.shared ≡ true) = hlevel props in
     let fourth : IsProp ((arc_value h.tree).plan.keys ≡ []) = hlevel props in
-    let fifth : IsProp ((arc_value h.tree).plan.slots ≡ None) = hlevel props in
-    let sixth : IsProp (h.pass.view.worker.shared ≡ ownable_if true []) = hlevel props in
-    ap (λ o. record { tree = h.tree; pass = h.pass; own = o; idle = idle; shared = shared; alone = alone; plain = plain; knows = knows }) (first own h.own)
-    ∙ (ap (λ o. record { tree = h.tree; pass = h.pass; own = h.own; idle = o; shared = shared; alone = alone; plain = plain; knows = knows }) (second idle h.idle)
-    ∙ (ap (λ o. record { tree = h.tree; pass = h.pass; own = h.own; idle = h.idle; shared = o; alone = alone; plain = plain; knows = knows }) (third shared h.shared)
-    ∙ (ap (λ o. record { tree = h.tree; pass = h.pass; own = h.own; idle = h.idle; shared = h.shared; alone = o; plain = plain; knows = knows }) (fourth alone h.alone)
-    ∙ (ap (λ o. record { tree = h.tree; pass = h.pass; own = h.own; idle = h.idle; shared = h.shared; alone = h.alone; plain = o; knows = knows }) (fifth plain h.plain)
-    ∙ ap (λ o. record { tree = h.tree; pass = h.pass; own = h.own; idle = h.idle; shared = h.shared; alone = h.alone; plain = h.plain; knows = o }) (sixth knows h.knows)))))
+    let fifth : IsProp (h.pass.view.worker.shared ≡ ownable_if true []) = hlevel props in
+    ap (λ o. record { tree = h.tree; pass = h.pass; own = o; idle = idle; shared = shared; alone = alone; knows = knows }) (first own h.own)
+    ∙ (ap (λ o. record { tree = h.tree; pass = h.pass; own = h.own; idle = o; shared = shared; alone = alone; knows = knows }) (second idle h.idle)
+    ∙ (ap (λ o. record { tree = h.tree; pass = h.pass; own = h.own; idle = h.idle; shared = o; alone = alone; knows = knows }) (third shared h.shared)
+    ∙ (ap (λ o. record { tree = h.tree; pass = h.pass; own = h.own; idle = h.idle; shared = h.shared; alone = o; knows = knows }) (fourth alone h.alone)
+    ∙ ap (λ o. record { tree = h.tree; pass = h.pass; own = h.own; idle = h.idle; shared = h.shared; alone = h.alone; knows = o }) (fifth knows h.knows))))
 
 -- a handle with the tree and the pass of another one is that
 pub rebuilt : (h : Handle) (p : PassModel) → p ≡ h.pass → (own : p.table ≡ (arc_value h.tree).id) (idle : IsIdle p) (shared : (arc_value h.tree).plan.shared ≡ true)
-    (alone : (arc_value h.tree).plan.keys ≡ []) (plain : (arc_value h.tree).plan.slots ≡ None) (knows : p.view.worker.shared ≡ ownable_if true [])
-    → record { tree = h.tree; pass = p; own = own; idle = idle; shared = shared; alone = alone; plain = plain; knows = knows } ≡ h
+    (alone : (arc_value h.tree).plan.keys ≡ []) (knows : p.view.worker.shared ≡ ownable_if true [])
+    → record { tree = h.tree; pass = p; own = own; idle = idle; shared = shared; alone = alone; knows = knows } ≡ h
 rebuilt h p is =
     subst (λ (q : PassModel). (own : q.table ≡ (arc_value h.tree).id) (idle : IsIdle q) (shared : (arc_value h.tree).plan.shared ≡ true)
-    (alone : (arc_value h.tree).plan.keys ≡ []) (plain : (arc_value h.tree).plan.slots ≡ None) (knows : q.view.worker.shared ≡ ownable_if true [])
-    → record { tree = h.tree; pass = q; own = own; idle = idle; shared = shared; alone = alone; plain = plain; knows = knows } ≡ h) (sym is) (same_facts h)
+    (alone : (arc_value h.tree).plan.keys ≡ []) (knows : q.view.worker.shared ≡ ownable_if true [])
+    → record { tree = h.tree; pass = q; own = own; idle = idle; shared = shared; alone = alone; knows = knows } ≡ h) (sym is) (same_facts h)

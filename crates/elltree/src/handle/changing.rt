@@ -9,8 +9,9 @@ use ell_tree::{KEY_MAX, NoGate};
 impl Handle {
     /// Adds a key with its value. Returns whether the key was absent. A key that is present keeps its value. Returns
     /// `NoTries` if no try is allowed, then `BadKey` if the key is above `KEY_MAX`; `Busy` if something was in the way
-    /// of each try, and `Spent` if all cards are given out. An insert that adds its key takes a card, and at most one
-    /// more for each try that something hindered; any other takes at most one for each of those.
+    /// of each try, and `Spent` if all cards are given out or, in a tree whose cards come back, if each slot was in use
+    /// when the call asked for it. An insert that adds its key takes a card, and at most one more for each try that
+    /// something hindered; any other takes at most one for each of those.
     pub fn insert(&mut self, key: u64, value: u64, tries: u32) -> Result<bool, Refusal>
         // The outcome is that of the tree's `insert`.
         ensures { Outcome key tries (Inserts key value tries) self.old self.new result }
@@ -62,7 +63,6 @@ impl Handle {
 
     /// Removes a key if its value is `current`, in one atomic step. Returns the value that the key had, if it was
     /// present, so it was removed exactly if that is `current`. Refusals and cards are as for `put`.
-    #[tactic(auto, using(crate::proofs::lemmas::May::updates_of))]
     pub fn remove_if(&mut self, key: u64, current: u64, tries: u32) -> Result<Option<u64>, Refusal>
         // The outcome is that of the tree's `remove_if`.
         ensures { Outcome key tries (Removes key current tries) self.old self.new result }
@@ -77,8 +77,8 @@ impl Handle {
     /// Stores a value of a key, whether the key was present or not, in one atomic step. Returns the value that it had,
     /// if it was present. `NoTries` and `BadKey` are as for `insert`. A try fails if something was in its way, or if
     /// another handle has changed the key since it was read. Returns `Busy` if all tries fail this way, and `Spent` if a
-    /// try finds all cards given out. A put takes a card, and at most one more for each try that something hindered.
-    #[tactic(auto, using(crate::proofs::lemmas::May::updates_of))]
+    /// try finds no card, as for `insert`. A put takes a card, and at most one more for each try that something
+    /// hindered.
     pub fn put(&mut self, key: u64, value: u64, tries: u32) -> Result<Option<u64>, Refusal>
         // The outcome is that of the tree's `put`.
         ensures { Outcome key tries (Puts key value tries) self.old self.new result }
@@ -89,7 +89,6 @@ impl Handle {
 
     /// Adds to the value of a key in one atomic step, and returns the value that it had. A sum above `u64::MAX` wraps
     /// around. A key that is absent stays absent. Refusals and cards are as for `put`.
-    #[tactic(auto, using(crate::proofs::lemmas::May::updates_of))]
     pub fn fetch_add(&mut self, key: u64, addend: u64, tries: u32) -> Result<Option<u64>, Refusal>
         // The outcome is that of the tree's `fetch_add`.
         ensures { Outcome key tries (Adds key addend tries) self.old self.new result }

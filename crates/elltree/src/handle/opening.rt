@@ -1,6 +1,9 @@
 //! How a handle is opened, and makes another.
-ghost use Rattle.std.specs.Prelude.{◌≡◌, ◌≢◌, ◌↔◌, IfOk, IfErr, IsTrue, OnOk};
-ghost use Rattle.elltree.specs.Handles.{AnotherRefuses, AreKeys, HasAnother, IsLeast, IsOpened, IsStart, MayOpen, RefusesTree, as_pairs};
+ghost use Rattle.std.specs.Prelude.{◌≡◌, ◌≢◌, ◌≤◌, ◌↔◌, IfOk, IfErr, IsTrue, OnOk};
+ghost use Rattle.std.specs.List.{All};
+ghost use Rattle.std.specs.Map.{keys_of};
+ghost use Rattle.ell_ops.specs.Meaning.{greatest_key};
+ghost use Rattle.elltree.specs.Handles.{AnotherRefuses, AreKeys, HasAnother, IsLeast, IsOpened, IsOpenedReusing, IsStart, MayOpen, RefusesTree, as_pairs, handles_for};
 ghost use Rattle.elltree.specs.declared.refusal.Refusal.TheVariants.{NoMemory};
 
 use crate::handle::Handle;
@@ -10,6 +13,9 @@ use ell_ops::{all_fit, ascend};
 use ell_tree::{Pair, START_MAX, Tree};
 use std::alloc::{AllocError, Global};
 use std::sync::Arc;
+
+/// The most handles that a tree whose cards come back may be opened for.
+pub const HANDLES_MAX: u64 = 1_000_000;
 
 impl Handle {
     /// Opens a flat tree with the given number of cards that has the start keys with their values, and returns its first
@@ -26,21 +32,56 @@ impl Handle {
         ensures may { OnOk result (MayOpen (as_pairs start.now) cards) }
         ensures refused { IfErr result (RefusesTree (as_pairs start.now) cards) }
     {
-        may_open(start, cards)?;
-        let pairs = pairs_of(alloc, start)?;
+        let pairs = pairs_to_open(alloc, start, cards)?;
         let (tree, pass) = Tree::reserve_flat(alloc, &pairs, &[], cards)?;
         let tree = Arc::new(alloc, tree)?;
         Ok(Handle { tree, pass })
     }
 
+    /// Opens a flat tree, as `open` does, whose cards come back, for this many handles, and returns the first of them.
+    /// The number of handles is at least one and at most `HANDLES_MAX`; what is outside is taken as the nearest of
+    /// these. A card lies in a slot, of which there is one for each card asked for and each start key, and one more.
+    /// Once the nodes of a card are out of the tree, and no call that might know of them is under way, its slot is free
+    /// for another card: so the tree goes on for as long as its keys fit into the slots, for which twice as many slots
+    /// as keys, and some more, are enough. A slot is held back while a call that began before it became free goes on. A
+    /// change returns `Spent` if each slot was in use when it asked for it, and may be made again. It does so for good
+    /// once each slot was taken, or passed over as it was in use, some 1,048,576 times (`cards_left`). `another`
+    /// returns `TooManyHandles` if the tree was given as many handles as asked for; one that is dropped makes no room
+    /// for another. Errors are as for `open`.
+    pub fn open_reusing(
+        alloc: Global,
+        start: &[Pair],
+        cards: u64,
+        handles: u64,
+    ) -> Result<Handle, Refusal>
+        // The handle is the first of a new flat tree with the start pairs whose cards come back, with slots for the
+        // cards asked for and places for the handles asked for, or the nearest number that there may be. It has the
+        // whole share.
+        ensures opened { IfOk result (IsOpenedReusing (as_pairs start.now) cards (handles_for handles)) }
+        // `BadStart` is returned exactly if the start keys do not strictly ascend or there are more than 1,000,000,
+        // then `BadKey` exactly for a key above the greatest one, then `BadCards` exactly if the number of cards is not
+        // 1 to 1,000,000, and otherwise only `NoMemory`.
+        ensures may { OnOk result (MayOpen (as_pairs start.now) cards) }
+        ensures refused { IfErr result (RefusesTree (as_pairs start.now) cards) }
+    {
+        let pairs = pairs_to_open(alloc, start, cards)?;
+        let handles = handles.clamp(1, HANDLES_MAX);
+        let (tree, pass) = Tree::reserve_reusing(alloc, &pairs, &[], cards, handles)?;
+        let tree = Arc::new(alloc, tree)?;
+        Ok(Handle { tree, pass })
+    }
+
     /// Returns this handle and another of its tree. Returns `TooManyHandles` if the handle has the least share: the
-    /// first handle of a tree gives more than a million others, and each of those gives fewer. Otherwise returns
-    /// `NoMemory` if an allocation fails. After either error the handle comes back as it was.
+    /// first handle of a tree gives more than a million others, and each of those gives fewer. In a tree whose cards
+    /// come back it also returns that if it finds no place for one more handle. Otherwise returns `NoMemory` if an
+    /// allocation fails. After either error the handle comes back as it was.
+    #[tactic(auto, using(crate::proofs::lemmas::Parting::split_refused))]
     pub fn another(self) -> Result<(Handle, Handle), (Handle, Refusal)>
         // The handle goes on as it was, but for its share, and the other one has a piece of that.
         ensures another { IfOk result (λ both. HasAnother self both.0 both.1) }
-        // `TooManyHandles` is returned exactly if the share is the least one, and otherwise only `NoMemory`. After
-        // either error the handle comes back.
+        // `TooManyHandles` is returned exactly if the share is the least one, and otherwise only `NoMemory`; in a tree
+        // whose cards come back, also if no place for one more handle is found. After either error the handle comes
+        // back.
         ensures may { OnOk result (¬ IsLeast self) }
         ensures why { IfErr result (λ refused. AnotherRefuses self refused.1) }
         ensures refused { IfErr result (λ refused. refused.0 ≡ self) }
@@ -61,9 +102,9 @@ impl Handle {
                 };
                 Ok((kept, other))
             }
-            Err((pass, _)) => {
+            Err((pass, fault)) => {
                 let whole = Handle { tree, pass };
-                Err((whole, Refusal::NoMemory))
+                Err((whole, Refusal::from(fault)))
             }
         }
     }
@@ -75,6 +116,18 @@ impl Handle {
     {
         !self.pass.may_part()
     }
+}
+
+// The start pairs of a tree, as the tree has them, if it may be opened with these and the given number of cards.
+#[tactic(auto, using(crate::proofs::lemmas::HostPairs::real_keys))]
+fn pairs_to_open(alloc: Global, start: &[Pair], cards: u64) -> Result<Vec<(u64, u64)>, Refusal>
+    ensures pairs { IfOk result (λ pairs. pairs.items ≡ as_pairs start.now) }
+    ensures real { IfOk result (λ pairs. All (λ k. k ≤ greatest_key) (keys_of pairs.items)) }
+    ensures may { OnOk result (MayOpen (as_pairs start.now) cards) }
+    ensures refused { IfErr result (RefusesTree (as_pairs start.now) cards) }
+{
+    may_open(start, cards)?;
+    Ok(pairs_of(alloc, start)?)
 }
 
 // Whether a tree may be opened with these start keys and the given number of cards, and if not, why.

@@ -1,0 +1,192 @@
+/* Trees whose cards come back. One handle changes keys long after each card was taken, and is answered as a map, and never refused. Four threads do
+   so, each on keys of its own, and add to one that all share, which loses nothing; a call is made again where each card was in use. A thread is
+   stopped in the middle of changes, by a signal whose handler waits: meanwhile calls that read are answered, and changes until the cards run out,
+   and once it goes on so are all. And a tree has as many handles as were asked for, and no more. */
+#include "elltree.h"
+#include <pthread.h>
+#include <sched.h>
+#include <semaphore.h>
+#include <signal.h>
+#include <stdio.h>
+#include <time.h>
+
+enum { KEYS = 8, CHANGES = 200000, THREADS = 4, ADDITIONS = 20000, WANTED = 30, MOST = 20000, MANY = 3000, TRIES = 1000 };
+#define COUNTER UINT64_C(1000000)
+
+static uint64_t next(uint64_t *seed) { return *seed ^= *seed << 13, *seed ^= *seed >> 7, *seed ^= *seed << 17; }
+
+/* One handle alone: as many changes as it makes, each answered as a map answers it. */
+static long alone(uint64_t cards) {
+    struct elltree_handle one = ELLTREE_EMPTY;
+    uint64_t seed = 88172645463325252u, value[KEYS] = {0}, told = 0;
+    int there[KEYS] = {0};
+    long wrong = elltree_open_reusing(&one, NULL, 0, cards, 1) != ELLTREE_YES;
+    for (uint64_t i = 0; i < CHANGES; i++) {
+        const uint64_t random = next(&seed), key = (random >> 20) % KEYS;
+        if (random & 1) {
+            wrong += elltree_insert(&one, key, i, TRIES) != (there[key] ? ELLTREE_NO : ELLTREE_YES);
+            value[key] = there[key] ? value[key] : i;
+        } else {
+            const int32_t said = elltree_take(&one, key, TRIES, &told);
+            wrong += said != (there[key] ? ELLTREE_YES : ELLTREE_NO) || (there[key] && told != value[key]);
+        }
+        there[key] = random & 1;
+    }
+    for (uint64_t key = 0; key < KEYS; key++)
+        wrong += elltree_find(&one, key, &told) != (there[key] ? ELLTREE_YES : ELLTREE_NO);
+    return wrong + (elltree_free(&one) != ELLTREE_YES);
+}
+
+struct worker {
+    _Alignas(128) struct elltree_handle handle;
+    uint64_t number;
+    long wrong;
+};
+
+/* Whether a call is to be made again: each card was in use, or others changed the key each time. */
+static int again(int32_t said) {
+    if (said != ELLTREE_SPENT && said != ELLTREE_BUSY)
+        return 0;
+    sched_yield();
+    return 1;
+}
+
+static void *come_and_go(void *given) {
+    struct worker *w = given;
+    uint64_t told;
+    int32_t said;
+    for (uint64_t i = 0; i < ADDITIONS; i++) {
+        const uint64_t key = 100 * w->number + i % KEYS;
+        while (again(said = elltree_insert(&w->handle, key, i, TRIES)))
+            ;
+        w->wrong += said != ELLTREE_YES || elltree_look(&w->handle, key, &told) != ELLTREE_YES || told != i;
+        while (again(said = elltree_fetch_add(&w->handle, COUNTER, 1, TRIES, &told)))
+            ;
+        w->wrong += said != ELLTREE_YES;
+        while (again(said = elltree_take(&w->handle, key, TRIES, &told)))
+            ;
+        w->wrong += said != ELLTREE_YES || told != i;
+    }
+    return NULL;
+}
+
+static long together(uint64_t cards) {
+    static struct worker w[THREADS];
+    const struct elltree_pair start = {COUNTER, 0};
+    pthread_t running[THREADS];
+    uint64_t sum = 0;
+    long wrong = elltree_open_reusing(&w[0].handle, &start, 1, cards, THREADS) != ELLTREE_YES;
+    for (uint64_t t = 1; t < THREADS; t++) {
+        wrong += elltree_another(&w[0].handle, &w[t].handle) != ELLTREE_YES;
+        w[t].number = t;
+    }
+    for (int t = 0; t < THREADS; t++)
+        pthread_create(&running[t], NULL, come_and_go, &w[t]);
+    for (int t = 0; t < THREADS; t++)
+        pthread_join(running[t], NULL);
+    wrong += elltree_find(&w[0].handle, COUNTER, &sum) != ELLTREE_YES || sum != (uint64_t)THREADS * ADDITIONS;
+    for (int t = 0; t < THREADS; t++) {
+        wrong += w[t].wrong + (elltree_free(&w[t].handle) != ELLTREE_YES);
+        w[t].wrong = 0;
+    }
+    return wrong;
+}
+
+/* A thread that is stopped. */
+static struct elltree_handle victim = ELLTREE_EMPTY, other = ELLTREE_EMPTY;
+static volatile int is_in_change, over;
+static sem_t stopped, released;
+static long changed_wrongly;
+
+static void stop(int signal) {
+    (void)signal;
+    sem_post(&stopped);
+    while (sem_wait(&released))
+        ;
+}
+
+static void *change_always(void *given) {
+    int there = 0;
+    (void)given;
+    while (!over) {
+        int32_t said;
+        is_in_change = 1;
+        said = there ? elltree_delete(&victim, 50, TRIES) : elltree_insert(&victim, 50, 5, TRIES);
+        is_in_change = 0;
+        if (again(said))
+            continue;
+        changed_wrongly += said != ELLTREE_YES;
+        there = !there;
+    }
+    return NULL;
+}
+
+/* So many changes of keys beside: how many were refused, as each card was in use. */
+static long change_beside(int *there, long *wrong) {
+    long refused = 0;
+    for (uint64_t i = 0; i < MANY; i++) {
+        const uint64_t key = 40 + i % KEYS;
+        uint64_t told;
+        const int32_t said = there[i % KEYS] ? elltree_delete(&other, key, TRIES) : elltree_insert(&other, key, key, TRIES);
+        *wrong += elltree_look(&other, 45, &told) < 0 || (said != ELLTREE_YES && said != ELLTREE_SPENT);
+        refused += said == ELLTREE_SPENT;
+        there[i % KEYS] ^= said == ELLTREE_YES;
+    }
+    return refused;
+}
+
+static long beside_one_that_is_stopped(uint64_t cards) {
+    struct sigaction action = {.sa_handler = stop};
+    pthread_t thread;
+    int there[KEYS] = {0};
+    long rounds = 0, held_back = 0, wrong = elltree_open_reusing(&victim, NULL, 0, cards, 2) != ELLTREE_YES;
+    wrong += elltree_another(&victim, &other) != ELLTREE_YES;
+    sem_init(&stopped, 0, 0);
+    sem_init(&released, 0, 0);
+    sigaction(SIGUSR1, &action, NULL);
+    pthread_create(&thread, NULL, change_always, NULL);
+    while (rounds++ < MOST && held_back < WANTED) {
+        struct timespec pause = {0, 1000 * (1 + rounds % 97)};
+        nanosleep(&pause, NULL);
+        pthread_kill(thread, SIGUSR1);
+        while (sem_wait(&stopped))
+            ;
+        /* a stop between two changes holds nothing back, nor may one at their first or last instructions */
+        held_back += change_beside(there, &wrong) > 0 && is_in_change;
+        sem_post(&released);
+        for (uint64_t i = 0; i < KEYS; i++) /* what is there goes, however often that takes, and then keys come again */
+            while (there[i] && again(elltree_delete(&other, 40 + i, TRIES)))
+                ;
+        for (uint64_t i = 0; i < KEYS; i++)
+            there[i] = 0;
+    }
+    over = 1;
+    pthread_join(thread, NULL);
+    wrong += changed_wrongly + (elltree_free(&victim) != ELLTREE_YES) + (elltree_free(&other) != ELLTREE_YES);
+    printf("cards were held back by %ld of %ld stops\n", held_back, rounds - 1);
+    return wrong + (held_back < WANTED);
+}
+
+/* Handles, the first one among them. */
+static long as_many_as_asked_for(void) {
+    struct elltree_handle all[5] = {ELLTREE_EMPTY, ELLTREE_EMPTY, ELLTREE_EMPTY, ELLTREE_EMPTY, ELLTREE_EMPTY};
+    const struct elltree_pair start[2] = {{1, 10}, {2, 20}}, down[2] = {{2, 20}, {1, 10}};
+    uint64_t value = 0;
+    long wrong = elltree_open_reusing(&all[0], down, 2, 9, 3) != ELLTREE_BAD_START || elltree_open_reusing(NULL, start, 2, 9, 3) != ELLTREE_NULL;
+    wrong += elltree_open_reusing(&all[0], start, 2, 0, 3) != ELLTREE_BAD_CARDS || elltree_open_reusing(&all[0], start, 2, 9, 3) != ELLTREE_YES;
+    wrong += elltree_open_reusing(&all[0], start, 2, 9, 3) != ELLTREE_OPEN;
+    wrong += elltree_another(&all[0], &all[1]) != ELLTREE_YES || elltree_another(&all[1], &all[2]) != ELLTREE_YES;
+    for (int i = 0; i < 3; i++)
+        wrong += elltree_another(&all[i], &all[3]) != ELLTREE_TOO_MANY_HANDLES || elltree_find(&all[i], 2, &value) != ELLTREE_YES || value != 20;
+    wrong += elltree_free(&all[3]) != ELLTREE_CLOSED;
+    for (int i = 0; i < 3; i++)
+        wrong += elltree_free(&all[i]) != ELLTREE_YES;
+    wrong += elltree_open_reusing(&all[4], NULL, 0, 1, 0) != ELLTREE_YES || elltree_another(&all[4], &all[3]) != ELLTREE_TOO_MANY_HANDLES;
+    return wrong + (elltree_free(&all[4]) != ELLTREE_YES);
+}
+
+int main(void) {
+    const long wrong = as_many_as_asked_for() + alone(30) + alone(1000) + together(64) + together(1000) + beside_one_that_is_stopped(100);
+    printf("%ld wrong\n", wrong);
+    return wrong != 0;
+}
