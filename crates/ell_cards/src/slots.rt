@@ -23,6 +23,9 @@ const NUMBERS_PER_TURN: u64 = 2_097_152;
 /// How many turns there are.
 const TURNS: u64 = 1_048_576;
 
+/// How many slots are left to deletes: a pass takes one for another change only if so many more could be taken behind it.
+const LEFT_TO_DELETES: u64 = 2;
+
 /// Returns the slot in which a card lies.
 #[inline(always)]
 pub(crate) fn slot_of(card: u64) -> u64
@@ -393,9 +396,9 @@ impl<A: Allocator + Copy> CardTable<A> {
 
     /// Returns the least number of a card, from this card on, whose slot the pass could take by `take_slot` as it read the slots'
     /// words: at most one round of them, and one more if there was none, and the places then tell of a greater safe number. Returns
-    /// `None` if there is none, or none that the table has; and, unless it is for a delete, if there are too few beside it, one for
-    /// each place and two more: so deletes have slots even if keys fill all others. Without places, each card has words of its own, and this is the card
-    /// itself. Its steps are not counted.
+    /// `None` if there is none, or none that the table has; and, unless it is for a delete, if fewer than two more could be taken
+    /// behind it. A slot that could be taken can be until a claim passes its number, so some are left to deletes even if keys fill
+    /// all others. Without places, each card has words of its own, and this is the card itself. Its steps are not counted.
     pub fn next_takeable(&self, pass: &mut Pass<A>, card: u64, for_delete: bool) -> Option<u64>
         requires own { pass.old.table ≡ self.now.id }
         requires room { card ≤ self.now.plan.last_card }
@@ -409,7 +412,7 @@ impl<A: Allocator + Copy> CardTable<A> {
         let Some(slots) = self.slots else {
             return Some(card);
         };
-        let others = if for_delete { 0 } else { slots.places + 2 };
+        let others = if for_delete { 0 } else { LEFT_TO_DELETES };
         let safe = pass.standing.safe;
         if let Some(found) = self.seek_takeable(pass, slots, card, others) {
             return Some(found);

@@ -1,7 +1,9 @@
-use Rattle.std.specs.Prelude.{◌≡◌, ℕ, ◌+◌, ◌*◌, ◌≤◌, Option}
+use Rattle.std.specs.Prelude.{◌≡◌, ℕ, ◌+◌, ◌*◌, ◌≤◌, Option, Some, None}
+use Rattle.ell_cards.specs.declared.view.Slots.{Slots}
 use Rattle.ell_cards.specs.declared.view.View.{View}
+use Rattle.ell_cards.specs.Changes.{after_rest}
 use Rattle.ell_cards.specs.Looking.{HasThere, IsFoundInRuns}
-use Rattle.ell_cards.specs.Models.{PassModel}
+use Rattle.ell_cards.specs.Models.{PassModel, Steps}
 use Rattle.ell_tree.specs.Ledgers.{TreeModel}
 
 -- a pass has at most so many steps more, by both its counts, and was told more, and all else that it has and knows of
@@ -35,6 +37,12 @@ look_steps most = 2 * most + 3
 -- of these one begins the look, and the others go down
 abbrev pub stretch_steps : ℕ → ℕ
 stretch_steps most = 2 * most + 2
+
+-- a pass ends its looks: where cards come back, by one step after which it knows no node any more that a look has told it;
+-- in any other tree it is as it was
+abbrev pub EndsLooks : Option Slots → PassModel → PassModel → Type 0
+EndsLooks None old new = new ≡ old
+EndsLooks (Some s) old new = Steps old new (after_rest old.view)
 
 -- what a look found of a key was so in one state of the tree since it began, in every run in which its pass now knows
 -- this

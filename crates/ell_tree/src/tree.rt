@@ -19,7 +19,7 @@ ghost use Rattle.ell_tree.specs.Ends.{Answers, CountsTries, Ends, TakesValue, fi
 ghost use Rattle.ell_tree.specs.Milestones.{milestones_known};
 ghost use Rattle.ell_tree.specs.declared.operations.NotDone.TheVariants.{Busy};
 ghost use Rattle.ell_tree.specs.Ledgers.{IsIdlePassOf, Owns, TreeModel, present_in};
-ghost use Rattle.ell_tree.specs.Looks.{IsFoundIn, OnlyLooks, look_steps};
+ghost use Rattle.ell_tree.specs.Looks.{EndsLooks, IsFoundIn, OnlyLooks, look_steps};
 ghost use Rattle.ell_tree.specs.Scans.{AreFoundIn, AreInOrder, IsAbout, IsFoundAboutIn, IsLastIn, IsNextIn, TellsItsOwn, end_of, scan_steps, value_there, written};
 ghost use Rattle.ell_ops.specs.Contents.{contents_of};
 ghost use Rattle.ell_tree.specs.PassParts.{IsFirst, IsLeftPart, IsRightPart, IsUnion};
@@ -28,7 +28,7 @@ ghost use Rattle.ell_cards.specs.Depths.{deepest};
 
 use crate::computing::compute;
 use crate::cursor::About;
-use crate::gate::StepGate;
+use crate::gate::{Kind, StepGate};
 use crate::operations::{NotDone, change, find};
 use crate::reading::{cards_left, look, look_about};
 use crate::removing::remove_if;
@@ -129,6 +129,20 @@ impl<A: Allocator + Copy> Tree<A> {
         ensures cards { TakesNoCard pass.old pass.new }
     {
         look(&self.table, pass, key, gate)
+    }
+
+    /// Ends the looks and scans of a pass. In a tree whose cards come back, call this after them: until then, or until the
+    /// pass begins and ends an operation, no card comes back that its looks might have read. It is one step, of which the
+    /// gate is told as `Look`. In any other tree nothing happens.
+    pub fn end_looks<G: StepGate>(&self, pass: &mut Pass<A>, gate: &G)
+        requires may { IsIdlePassOf self.now pass.old }
+        // The pass knows no node any more that a look has told it; or, where no card comes back, it is as it was.
+        ensures ends { EndsLooks self.now.plan.slots pass.old pass.new }
+    {
+        if self.table.has_places() {
+            gate.before(pass.label(), Kind::Look);
+            self.table.end_look(pass);
+        }
     }
 
     /// Returns what is around a key, whichever passes own the keys there: for ONE state of the tree between the first

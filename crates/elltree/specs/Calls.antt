@@ -5,12 +5,13 @@ use Rattle.ell_ops.specs.declared.reply.Reply.{Reply}
 use Rattle.ell_ops.specs.Contents.{contents_of}
 use Rattle.ell_ops.specs.Meaning.{found, greatest_key, key_of}
 use Rattle.ell_cards.specs.Models.{PassModel}
+use Rattle.ell_cards.specs.declared.view.View.{View}
 use Rattle.ell_tree.specs.CardsLeft.{AreLeftAtMost, ReadsCardsLeft}
 use Rattle.ell_tree.specs.CardsTaken.{TakesNoCard}
 use Rattle.ell_tree.specs.Computing.{AreTried, AreTriedOrRead, IsNotDone, IsSum, PutsValue, RemovesIf, UpdatesValue, update_steps_in, whether_put}
 use Rattle.ell_tree.specs.Counts.{Took, TookIn}
 use Rattle.ell_tree.specs.Ends.{Answers, CountsTries, Ends, TakesValue, find_steps, found_or_not_done, replied, whether, whether_swapped}
-use Rattle.ell_tree.specs.Looks.{IsFoundIn, OnlyLooks, look_steps}
+use Rattle.ell_tree.specs.Looks.{EndsLooks, IsFoundIn, OnlyLooks, look_steps}
 use Rattle.ell_tree.specs.Promises.{IsOthersDoing, IsQuiet, IsWithin, SpendsCards}
 use Rattle.ell_tree.specs.Scans.{AreFoundIn, AreInOrder, IsLastIn, IsNextIn, end_of, scan_steps, written}
 use Rattle.ell_tree.specs.declared.operations.NotDone.{NotDone}
@@ -31,20 +32,29 @@ pub record Finds (key : ℕ) (old new : Handle) (there : Option ℕ) : Type 0 wh
   pub beyond : greatest_key < key → (there ≡ None) × (new ≡ old)
   pub tree : new.tree ≡ old.tree
 
--- a look: the answer is what the tree had for the key in one state since this look began
-pub record LooksUp (key : ℕ) (old new : Handle) (there : Option ℕ) : Type 0 where
-  pub so : key ≤ greatest_key → IsFoundIn (tree_of old) new.pass.view key there
-  pub one : key ≤ greatest_key → new.pass.view.looks ≡ old.pass.view.looks + 1
-  pub only : OnlyLooks old.pass new.pass (look_steps (deepest_of old))
-  pub cards : TakesNoCard old.pass new.pass
-  pub beyond : greatest_key < key → (there ≡ None) × (new ≡ old)
+-- a call that only looks, once, in at most so many steps: the pass came to `looked`, and knew this by then. Where cards come
+-- back, it has then ended the look, by one step more, and elsewhere the handle has that pass.
+pub record HasLooked (old new : Handle) (steps : ℕ) (IsKnown : View → Type 0) : Type 0 where
+  pub looked : PassModel
+  pub so : IsKnown looked.view
+  pub one : looked.view.looks ≡ old.pass.view.looks + 1
+  pub only : OnlyLooks old.pass looked steps
+  pub cards : TakesNoCard old.pass looked
+  pub ends : EndsLooks (tree_of old).plan.slots looked new.pass
   pub tree : new.tree ≡ old.tree
 
--- a call that only looks, once, and makes no more steps than a scan
-pub record OnlyScans (old new : Handle) : Type 0 where
-  pub only : OnlyLooks old.pass new.pass (scan_steps (tree_of old).plan)
-  pub cards : TakesNoCard old.pass new.pass
-  pub tree : new.tree ≡ old.tree
+-- so a scan, which may make more steps
+abbrev pub HasScanned : Handle → Handle → (View → Type 0) → Type 0
+HasScanned old new = HasLooked old new (scan_steps (tree_of old).plan)
+
+-- nothing is found, and the handle is as it was
+abbrev pub FindsNothing : {A : Type 0} → Handle → Handle → Option A → Type 0
+FindsNothing old new there = (there ≡ None) × (new ≡ old)
+
+-- a look: the answer is what the tree had for the key in one state since this look began
+pub record LooksUp (key : ℕ) (old new : Handle) (there : Option ℕ) : Type 0 where
+  pub so : key ≤ greatest_key → HasLooked old new (look_steps (deepest_of old)) (λ v. IsFoundIn (tree_of old) v key there)
+  pub beyond : greatest_key < key → FindsNothing old new there
 
 -- the end of the keys of a range, of which none is above the greatest
 abbrev pub real_end : ℕ → ℕ
@@ -52,25 +62,20 @@ real_end upto = min upto (greatest_key + 1)
 
 -- a scan of a range, which wrote pairs to an array: the tree's, on its conditions
 pub record Scans (from upto : ℕ) (before after : List Pair) (old new : Handle) (result : Scanned) : Type 0 where
-  pub found : AreFoundIn (tree_of old) new.pass.view from (end_of (real_end upto) result) (contents_of (written after result))
+  pub so : HasScanned old new (λ v. AreFoundIn (tree_of old) v from (end_of (real_end upto) result) (contents_of (written after result)))
   pub ordered : AreInOrder from (end_of (real_end upto) result) (written after result)
   pub count : result.count ≤ length before
   pub next : IfSome result.next (λ next. (from ≤ next) × (next < real_end upto) × (result.count ≡ length before))
   pub others : drop result.count after ≡ drop result.count before
-  pub one : new.pass.view.looks ≡ old.pass.view.looks + 1
-  pub scans : OnlyScans old new
 
 -- a search for the next key from one on; none is present above the greatest
 pub record SeeksNext (key : ℕ) (old new : Handle) (there : Option (ℕ × ℕ)) : Type 0 where
-  pub so : IsNextIn (tree_of old) new.pass.view key there
-  pub one : key ≤ greatest_key → new.pass.view.looks ≡ old.pass.view.looks + 1
-  pub scans : OnlyScans old new
+  pub so : key ≤ greatest_key → HasScanned old new (λ v. IsNextIn (tree_of old) v key there)
+  pub beyond : greatest_key < key → FindsNothing old new there
 
 -- a search for the last key up to one
-pub record SeeksLast (key : ℕ) (old new : Handle) (there : Option (ℕ × ℕ)) : Type 0 where
-  pub so : IsLastIn (tree_of old) new.pass.view (real_end (key + 1)) there
-  pub one : new.pass.view.looks ≡ old.pass.view.looks + 1
-  pub scans : OnlyScans old new
+abbrev pub SeeksLast : ℕ → Handle → Handle → Option (ℕ × ℕ) → Type 0
+SeeksLast key old new there = HasScanned old new (λ v. IsLastIn (tree_of old) v (real_end (key + 1)) there)
 
 -- a handle has read the claim word of its tree, by which so many cards were not given out then; in every run no more
 -- are left ever after

@@ -26,7 +26,9 @@ impl Handle {
         if key > KEY_MAX {
             return None;
         }
-        self.tree.look(&mut self.pass, key, &NoGate)
+        let there = self.tree.look(&mut self.pass, key, &NoGate);
+        self.tree.end_looks(&mut self.pass, &NoGate);
+        there
     }
 
     /// Writes the pairs of the keys that are at least `from` and below `upto`, in strictly ascending order, into `room`,
@@ -37,8 +39,10 @@ impl Handle {
         // Each key of the range, as far as the scan got, is answered as by a look at it.
         ensures { Scans from upto room.old room.new self.old self.new result }
     {
-        self.tree
-            .scan(&mut self.pass, from, upto.min(KEY_MAX + 1), room, &NoGate)
+        let end = upto.min(KEY_MAX + 1);
+        let scanned = self.tree.scan(&mut self.pass, from, end, room, &NoGate);
+        self.tree.end_looks(&mut self.pass, &NoGate);
+        scanned
     }
 
     /// Returns the least present key that is at least `key`, with its value: it was present in one state of the tree
@@ -50,7 +54,9 @@ impl Handle {
         if key > KEY_MAX {
             return None;
         }
-        self.tree.next_at_least(&mut self.pass, key, &NoGate)
+        let there = self.tree.next_at_least(&mut self.pass, key, &NoGate);
+        self.tree.end_looks(&mut self.pass, &NoGate);
+        there
     }
 
     /// Returns the greatest present key that is at most `key`, with its value: it was present in one state of the tree
@@ -59,10 +65,11 @@ impl Handle {
         // The answer is that of the tree's call. No key above the greatest one is present.
         ensures { SeeksLast key self.old self.new result }
     {
-        if key > KEY_MAX {
-            return self.tree.last(&mut self.pass, &NoGate);
-        }
-        self.tree.last_at_most(&mut self.pass, key, &NoGate)
+        let there = self
+            .tree
+            .last_at_most(&mut self.pass, key.min(KEY_MAX), &NoGate);
+        self.tree.end_looks(&mut self.pass, &NoGate);
+        there
     }
 
     /// Returns how many cards of the tree are not given out yet, 0 if all are: the number at one step of the call,
