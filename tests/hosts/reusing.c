@@ -1,7 +1,7 @@
 /* Trees whose cards come back. One handle changes keys long after each card was taken, and is answered as a map, and never refused. Four threads do
    so, each on keys of its own, and add to one that all share, which loses nothing; a call is made again where each card was in use. A thread is
    stopped in the middle of changes, by a signal whose handler waits: meanwhile calls that read are answered, and changes until the cards run out,
-   and once it goes on so are all. And a tree has as many handles as were asked for, and no more. */
+   and once it goes on so are all. And a tree has as many handles as were asked for, and no more at a time. */
 #include "elltree.h"
 #include <pthread.h>
 #include <sched.h>
@@ -10,7 +10,7 @@
 #include <stdio.h>
 #include <time.h>
 
-enum { KEYS = 8, CHANGES = 200000, THREADS = 4, ADDITIONS = 20000, WANTED = 30, MOST = 20000, MANY = 3000, TRIES = 1000 };
+enum { KEYS = 8, CHANGES = 200000, THREADS = 4, ADDITIONS = 20000, WANTED = 30, MOST = 20000, MANY = 3000, MADE = 200, TRIES = 1000 };
 #define COUNTER UINT64_C(1000000)
 
 static uint64_t next(uint64_t *seed) { return *seed ^= *seed << 13, *seed ^= *seed >> 7, *seed ^= *seed << 17; }
@@ -167,7 +167,7 @@ static long beside_one_that_is_stopped(uint64_t cards) {
     return wrong + (held_back < WANTED);
 }
 
-/* Handles, the first one among them. */
+/* Handles, the first one among them. One that is freed makes room for another. */
 static long as_many_as_asked_for(void) {
     struct elltree_handle all[5] = {ELLTREE_EMPTY, ELLTREE_EMPTY, ELLTREE_EMPTY, ELLTREE_EMPTY, ELLTREE_EMPTY};
     const struct elltree_pair start[2] = {{1, 10}, {2, 20}}, down[2] = {{2, 20}, {1, 10}};
@@ -179,6 +179,14 @@ static long as_many_as_asked_for(void) {
     for (int i = 0; i < 3; i++)
         wrong += elltree_another(&all[i], &all[3]) != ELLTREE_TOO_MANY_HANDLES || elltree_find(&all[i], 2, &value) != ELLTREE_YES || value != 20;
     wrong += elltree_free(&all[3]) != ELLTREE_CLOSED;
+    for (uint64_t i = 0; i < MADE; i++) {
+        struct elltree_handle *anew = &all[1 + i % 2];
+        wrong += elltree_free(anew) != ELLTREE_YES || elltree_another(&all[0], anew) != ELLTREE_YES;
+        wrong += elltree_another(&all[0], &all[3]) != ELLTREE_TOO_MANY_HANDLES || elltree_another(anew, &all[3]) != ELLTREE_TOO_MANY_HANDLES;
+        wrong += elltree_insert(anew, 3, i, TRIES) != ELLTREE_YES || elltree_find(&all[0], 3, &value) != ELLTREE_YES || value != i;
+        wrong += elltree_delete(&all[2 - i % 2], 3, TRIES) != ELLTREE_YES || elltree_find(anew, 2, &value) != ELLTREE_YES || value != 20;
+    }
+    wrong += elltree_free(&all[0]) != ELLTREE_YES || elltree_another(&all[1], &all[0]) != ELLTREE_YES;
     for (int i = 0; i < 3; i++)
         wrong += elltree_free(&all[i]) != ELLTREE_YES;
     wrong += elltree_open_reusing(&all[4], NULL, 0, 1, 0) != ELLTREE_YES || elltree_another(&all[4], &all[3]) != ELLTREE_TOO_MANY_HANDLES;

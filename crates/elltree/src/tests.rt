@@ -58,7 +58,10 @@ fn a_handle_that_is_freed_makes_room_for_another(rt: HostRuntime) {
     let mut three = Slot::empty(alloc);
     assert!(&rt; elltree_slot_open_reusing(alloc, &mut one, &start, CARDS, 2) == YES);
     for round in 0..ROUNDS {
-        assert!(&rt; elltree_slot_another(alloc, &mut one, &mut two) == YES, "round {round}");
+        assert!(&rt;
+            elltree_slot_another(alloc, &mut one, &mut two) == YES,
+            "round {round}"
+        );
         assert!(&rt; elltree_slot_another(alloc, &mut one, &mut three) == TOO_MANY_HANDLES);
         assert!(&rt; elltree_slot_another(alloc, &mut two, &mut three) == TOO_MANY_HANDLES);
         assert!(&rt; elltree_slot_insert(alloc, &mut two, 7, round, 1) == YES);
