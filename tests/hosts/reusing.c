@@ -172,9 +172,9 @@ static long as_many_as_asked_for(void) {
     struct elltree_handle all[5] = {ELLTREE_EMPTY, ELLTREE_EMPTY, ELLTREE_EMPTY, ELLTREE_EMPTY, ELLTREE_EMPTY};
     const struct elltree_pair start[2] = {{1, 10}, {2, 20}}, down[2] = {{2, 20}, {1, 10}};
     uint64_t value = 0;
-    long wrong = elltree_open_reusing(&all[0], down, 2, 9, 3) != ELLTREE_BAD_START || elltree_open_reusing(NULL, start, 2, 9, 3) != ELLTREE_NULL;
-    wrong += elltree_open_reusing(&all[0], start, 2, 0, 3) != ELLTREE_BAD_CARDS || elltree_open_reusing(&all[0], start, 2, 9, 3) != ELLTREE_YES;
-    wrong += elltree_open_reusing(&all[0], start, 2, 9, 3) != ELLTREE_OPEN;
+    long wrong = elltree_open_reusing(&all[0], down, 2, 50, 3) != ELLTREE_BAD_START || elltree_open_reusing(NULL, start, 2, 50, 3) != ELLTREE_NULL;
+    wrong += elltree_open_reusing(&all[0], start, 2, 0, 3) != ELLTREE_BAD_CARDS || elltree_open_reusing(&all[0], start, 2, 50, 3) != ELLTREE_YES;
+    wrong += elltree_open_reusing(&all[0], start, 2, 50, 3) != ELLTREE_OPEN;
     wrong += elltree_another(&all[0], &all[1]) != ELLTREE_YES || elltree_another(&all[1], &all[2]) != ELLTREE_YES;
     for (int i = 0; i < 3; i++)
         wrong += elltree_another(&all[i], &all[3]) != ELLTREE_TOO_MANY_HANDLES || elltree_find(&all[i], 2, &value) != ELLTREE_YES || value != 20;

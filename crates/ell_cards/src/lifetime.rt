@@ -364,6 +364,8 @@ impl<A: Allocator + Copy> CardTable<A> {
         let (Some(slots), Some(place)) = (self.slots, standing.place) else {
             return;
         };
+        // What it has set free may be taken by those that begin a period from now on, however few slots each pass takes.
+        self.advance(&mut seat, slots);
         self.give_up(&mut seat, slots, place);
     }
 }

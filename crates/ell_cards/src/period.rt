@@ -322,7 +322,7 @@ impl<A: Allocator + Copy> CardTable<A> {
     }
 
     // Reads the clock, and lets it go on, unless it stops there.
-    fn advance(&self, seat: &mut Seat<(), Known>, slots: Slots)
+    pub(crate) fn advance(&self, seat: &mut Seat<(), Known>, slots: Slots)
         requires own { seat.old.table_id ≡ self.now.id }
         requires empty { seat.old.me.1 ≡ [] }
         requires slots { self.now.plan.slots ≡ Some slots }

@@ -12,7 +12,7 @@ const CARDS: u64 = 20;
 const KEYS: u64 = 500;
 
 // How often a handle is freed and made again.
-const ROUNDS: u64 = 20;
+const ROUNDS: u64 = 60;
 
 // Returns whether a key has a value in a slot's tree.
 fn has(rt: &(impl Abort + AllocGlobal), slot: &mut Slot, key: u64, value: u64) -> bool {
@@ -56,7 +56,7 @@ fn a_handle_that_is_freed_makes_room_for_another(rt: HostRuntime) {
     let mut one = Slot::empty(alloc);
     let mut two = Slot::empty(alloc);
     let mut three = Slot::empty(alloc);
-    assert!(&rt; elltree_slot_open_reusing(alloc, &mut one, &start, CARDS, 2) == YES);
+    assert!(&rt; elltree_slot_open_reusing(alloc, &mut one, &start, 2 * CARDS, 2) == YES);
     for round in 0..ROUNDS {
         assert!(&rt;
             elltree_slot_another(alloc, &mut one, &mut two) == YES,
