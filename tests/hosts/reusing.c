@@ -1,7 +1,8 @@
 /* Trees whose cards come back. One handle changes keys long after each card was taken, and is answered as a map, and never refused. Four threads do
    so, each on keys of its own, and add to one that all share, which loses nothing; a call is made again where each card was in use. A thread is
    stopped in the middle of changes, by a signal whose handler waits: meanwhile calls that read are answered, and changes until the cards run out,
-   and once it goes on so are all. And a tree has as many handles as were asked for, and no more at a time. */
+   and once it goes on so are all. And a tree has as many handles as were asked for, and no more at a time: one that is freed makes room for another,
+   also where threads make a handle for a few changes and free it. */
 #include "elltree.h"
 #include <pthread.h>
 #include <sched.h>
@@ -10,7 +11,7 @@
 #include <stdio.h>
 #include <time.h>
 
-enum { KEYS = 8, CHANGES = 200000, THREADS = 4, ADDITIONS = 20000, WANTED = 30, MOST = 20000, MANY = 3000, MADE = 200, TRIES = 1000 };
+enum { KEYS = 8, CHANGES = 200000, THREADS = 4, ADDITIONS = 20000, WANTED = 30, MOST = 20000, MANY = 3000, MADE = 200, FEW = 3, TRIES = 1000 };
 #define COUNTER UINT64_C(1000000)
 
 static uint64_t next(uint64_t *seed) { return *seed ^= *seed << 13, *seed ^= *seed >> 7, *seed ^= *seed << 17; }
@@ -193,8 +194,55 @@ static long as_many_as_asked_for(void) {
     return wrong + (elltree_free(&all[4]) != ELLTREE_YES);
 }
 
+/* Handles of one tree, which threads make of its first one, and free after a few changes. There is room for one thread fewer at a time. */
+static struct elltree_handle maker = ELLTREE_EMPTY;
+static pthread_mutex_t making = PTHREAD_MUTEX_INITIALIZER;
+
+static int32_t make(struct elltree_handle *made) {
+    int32_t said;
+    pthread_mutex_lock(&making);
+    said = elltree_another(&maker, made);
+    pthread_mutex_unlock(&making);
+    return said;
+}
+
+static void *make_and_free(void *given) {
+    struct worker *w = given;
+    uint64_t told;
+    int32_t said;
+    for (int i = 0; i < MANY; i++) {
+        while ((said = make(&w->handle)) == ELLTREE_TOO_MANY_HANDLES)
+            sched_yield();
+        w->wrong += said != ELLTREE_YES;
+        for (int change = 0; change < FEW; change++) {
+            while (again(said = elltree_fetch_add(&w->handle, COUNTER, 1, TRIES, &told)))
+                ;
+            w->wrong += said != ELLTREE_YES;
+        }
+        w->wrong += elltree_free(&w->handle) != ELLTREE_YES;
+    }
+    return NULL;
+}
+
+static long made_and_freed(uint64_t cards) {
+    static struct worker w[THREADS];
+    const struct elltree_pair start = {COUNTER, 0};
+    pthread_t running[THREADS];
+    uint64_t sum = 0;
+    long wrong = elltree_open_reusing(&maker, &start, 1, cards, THREADS) != ELLTREE_YES;
+    for (int t = 0; t < THREADS; t++)
+        pthread_create(&running[t], NULL, make_and_free, &w[t]);
+    for (int t = 0; t < THREADS; t++)
+        pthread_join(running[t], NULL);
+    for (int t = 0; t < THREADS; t++)
+        wrong += w[t].wrong;
+    wrong += elltree_find(&maker, COUNTER, &sum) != ELLTREE_YES || sum != (uint64_t)THREADS * MANY * FEW;
+    return wrong + (elltree_free(&maker) != ELLTREE_YES);
+}
+
 int main(void) {
-    const long wrong = as_many_as_asked_for() + alone(30) + alone(1000) + together(64) + together(1000) + beside_one_that_is_stopped(100);
+    long wrong = as_many_as_asked_for() + alone(30) + alone(1000) + together(64) + together(1000) + made_and_freed(64);
+    wrong += beside_one_that_is_stopped(100);
     printf("%ld wrong\n", wrong);
     return wrong != 0;
 }
