@@ -38,7 +38,7 @@ public:
         return made;
     }
 
-    /* Opens a tree as open does, whose cards come back, for so many handles in all. */
+    /* Opens a tree as open does, whose cards come back, for so many handles at a time. */
     [[nodiscard]] static handle open_reusing(const std::vector<elltree_pair> &start, uint64_t cards, uint32_t handles) {
         handle made;
         detail::is_yes(elltree_open_reusing(&made.raw_, start.data(), start.size(), cards, handles));

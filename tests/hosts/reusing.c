@@ -1,7 +1,8 @@
 /* Trees whose cards come back. One handle changes keys long after each card was taken, and is answered as a map, and never refused. Four threads do
    so, each on keys of its own, and add to one that all share, which loses nothing; a call is made again where each card was in use. A thread is
    stopped in the middle of changes, by a signal whose handler waits: meanwhile calls that read are answered, and changes until the cards run out,
-   and once it goes on so are all. And a tree has as many handles as were asked for, and no more. */
+   and once it goes on so are all. And a tree has as many handles as were asked for, and no more at a time: one that is freed makes room for another,
+   also where threads make a handle for a few changes and free it. */
 #include "elltree.h"
 #include <pthread.h>
 #include <sched.h>
@@ -10,7 +11,7 @@
 #include <stdio.h>
 #include <time.h>
 
-enum { KEYS = 8, CHANGES = 200000, THREADS = 4, ADDITIONS = 20000, WANTED = 30, MOST = 20000, MANY = 3000, TRIES = 1000 };
+enum { KEYS = 8, CHANGES = 200000, THREADS = 4, ADDITIONS = 20000, WANTED = 30, MOST = 20000, MANY = 3000, MADE = 200, FEW = 3, TRIES = 1000 };
 #define COUNTER UINT64_C(1000000)
 
 static uint64_t next(uint64_t *seed) { return *seed ^= *seed << 13, *seed ^= *seed >> 7, *seed ^= *seed << 17; }
@@ -167,26 +168,81 @@ static long beside_one_that_is_stopped(uint64_t cards) {
     return wrong + (held_back < WANTED);
 }
 
-/* Handles, the first one among them. */
+/* Handles, the first one among them. One that is freed makes room for another. */
 static long as_many_as_asked_for(void) {
     struct elltree_handle all[5] = {ELLTREE_EMPTY, ELLTREE_EMPTY, ELLTREE_EMPTY, ELLTREE_EMPTY, ELLTREE_EMPTY};
     const struct elltree_pair start[2] = {{1, 10}, {2, 20}}, down[2] = {{2, 20}, {1, 10}};
     uint64_t value = 0;
-    long wrong = elltree_open_reusing(&all[0], down, 2, 9, 3) != ELLTREE_BAD_START || elltree_open_reusing(NULL, start, 2, 9, 3) != ELLTREE_NULL;
-    wrong += elltree_open_reusing(&all[0], start, 2, 0, 3) != ELLTREE_BAD_CARDS || elltree_open_reusing(&all[0], start, 2, 9, 3) != ELLTREE_YES;
-    wrong += elltree_open_reusing(&all[0], start, 2, 9, 3) != ELLTREE_OPEN;
+    long wrong = elltree_open_reusing(&all[0], down, 2, 50, 3) != ELLTREE_BAD_START || elltree_open_reusing(NULL, start, 2, 50, 3) != ELLTREE_NULL;
+    wrong += elltree_open_reusing(&all[0], start, 2, 0, 3) != ELLTREE_BAD_CARDS || elltree_open_reusing(&all[0], start, 2, 50, 3) != ELLTREE_YES;
+    wrong += elltree_open_reusing(&all[0], start, 2, 50, 3) != ELLTREE_OPEN;
     wrong += elltree_another(&all[0], &all[1]) != ELLTREE_YES || elltree_another(&all[1], &all[2]) != ELLTREE_YES;
     for (int i = 0; i < 3; i++)
         wrong += elltree_another(&all[i], &all[3]) != ELLTREE_TOO_MANY_HANDLES || elltree_find(&all[i], 2, &value) != ELLTREE_YES || value != 20;
     wrong += elltree_free(&all[3]) != ELLTREE_CLOSED;
+    for (uint64_t i = 0; i < MADE; i++) {
+        struct elltree_handle *anew = &all[1 + i % 2];
+        wrong += elltree_free(anew) != ELLTREE_YES || elltree_another(&all[0], anew) != ELLTREE_YES;
+        wrong += elltree_another(&all[0], &all[3]) != ELLTREE_TOO_MANY_HANDLES || elltree_another(anew, &all[3]) != ELLTREE_TOO_MANY_HANDLES;
+        wrong += elltree_insert(anew, 3, i, TRIES) != ELLTREE_YES || elltree_find(&all[0], 3, &value) != ELLTREE_YES || value != i;
+        wrong += elltree_delete(&all[2 - i % 2], 3, TRIES) != ELLTREE_YES || elltree_find(anew, 2, &value) != ELLTREE_YES || value != 20;
+    }
+    wrong += elltree_free(&all[0]) != ELLTREE_YES || elltree_another(&all[1], &all[0]) != ELLTREE_YES;
     for (int i = 0; i < 3; i++)
         wrong += elltree_free(&all[i]) != ELLTREE_YES;
     wrong += elltree_open_reusing(&all[4], NULL, 0, 1, 0) != ELLTREE_YES || elltree_another(&all[4], &all[3]) != ELLTREE_TOO_MANY_HANDLES;
     return wrong + (elltree_free(&all[4]) != ELLTREE_YES);
 }
 
+/* Handles of one tree, which threads make of its first one, and free after a few changes. There is room for one thread fewer at a time. */
+static struct elltree_handle maker = ELLTREE_EMPTY;
+static pthread_mutex_t making = PTHREAD_MUTEX_INITIALIZER;
+
+static int32_t make(struct elltree_handle *made) {
+    int32_t said;
+    pthread_mutex_lock(&making);
+    said = elltree_another(&maker, made);
+    pthread_mutex_unlock(&making);
+    return said;
+}
+
+static void *make_and_free(void *given) {
+    struct worker *w = given;
+    uint64_t told;
+    int32_t said;
+    for (int i = 0; i < MANY; i++) {
+        while ((said = make(&w->handle)) == ELLTREE_TOO_MANY_HANDLES)
+            sched_yield();
+        w->wrong += said != ELLTREE_YES;
+        for (int change = 0; change < FEW; change++) {
+            while (again(said = elltree_fetch_add(&w->handle, COUNTER, 1, TRIES, &told)))
+                ;
+            w->wrong += said != ELLTREE_YES;
+        }
+        w->wrong += elltree_free(&w->handle) != ELLTREE_YES;
+    }
+    return NULL;
+}
+
+static long made_and_freed(uint64_t cards) {
+    static struct worker w[THREADS];
+    const struct elltree_pair start = {COUNTER, 0};
+    pthread_t running[THREADS];
+    uint64_t sum = 0;
+    long wrong = elltree_open_reusing(&maker, &start, 1, cards, THREADS) != ELLTREE_YES;
+    for (int t = 0; t < THREADS; t++)
+        pthread_create(&running[t], NULL, make_and_free, &w[t]);
+    for (int t = 0; t < THREADS; t++)
+        pthread_join(running[t], NULL);
+    for (int t = 0; t < THREADS; t++)
+        wrong += w[t].wrong;
+    wrong += elltree_find(&maker, COUNTER, &sum) != ELLTREE_YES || sum != (uint64_t)THREADS * MANY * FEW;
+    return wrong + (elltree_free(&maker) != ELLTREE_YES);
+}
+
 int main(void) {
-    const long wrong = as_many_as_asked_for() + alone(30) + alone(1000) + together(64) + together(1000) + beside_one_that_is_stopped(100);
+    long wrong = as_many_as_asked_for() + alone(30) + alone(1000) + together(64) + together(1000) + made_and_freed(64);
+    wrong += beside_one_that_is_stopped(100);
     printf("%ld wrong\n", wrong);
     return wrong != 0;
 }

@@ -40,7 +40,7 @@ class Tree:
 
     def __init__(self, start: Pairs = (), cards: SupportsIndex = 1_000_000, handles: SupportsIndex | None = None) -> None:
         """Opens a tree with this number of cards, in which the keys of start, a dict or pairs in ascending order, are present with their values.
-        With a number of handles, up to 999,999, its cards come back, and it makes so many handles in all.
+        With a number of handles, up to 999,999, its cards come back, and it has so many handles at a time.
 
         With glibc, a tree of more than 300,000 cards and start keys together takes more than three times as long for each of them.
         """
@@ -49,8 +49,9 @@ class Tree:
         self._lock = threading.Lock()
 
     def handle(self) -> Handle:
-        """Makes a handle, for one thread. Any thread may call this at any time. A tree makes more than 1,300,000 handles in all, and then refuses
-        (TOO_MANY_HANDLES): one that is closed makes no room for another."""
+        """Makes a handle, for one thread. Any thread may call this at any time. A tree makes more than 1,300,000 handles, also counting those that
+        were closed, and then refuses (TOO_MANY_HANDLES). So does one with a number of handles while it has so many: one that is closed makes room for
+        another."""
         return Handle(self)
 
     def __reduce_ex__(self, _: SupportsIndex) -> NoReturn:

@@ -78,12 +78,12 @@ impl Tree {
         Handle::open(start, cards).map(|first| Tree(Mutex::new(first)))
     }
 
-    /// Opens a tree whose cards come back while it is open, for so many handles in all, up to 999,999. Once what a change took out of the tree is
+    /// Opens a tree whose cards come back while it is open, for so many handles at a time, up to 999,999. Once what a change took out of the tree is
     /// read by no call any more, its card serves another change: so the tree goes on as long as its keys fit. Twice as many cards as keys, and some
     /// more, are enough.
     ///
     /// A thread that stands still in a call holds cards back until it goes on. A change that finds each card in use returns
-    /// [`Refused::Spent`](crate::Refused::Spent), and may be made again. A handle that is dropped makes no room for another.
+    /// [`Refused::Spent`](crate::Refused::Spent), and may be made again. A handle that is dropped makes room for another.
     ///
     /// # Errors
     ///
@@ -99,6 +99,8 @@ impl Tree {
     ///     assert!(handle.insert(3, value, 1_000)? && handle.delete(3, 1_000)?);
     /// }
     /// assert_eq!(tree.handle().err(), Some(Refused::TooManyHandles));
+    /// drop(handle); // which makes room for another
+    /// assert_eq!(tree.handle()?.find(2), Some(20));
     /// # Ok::<(), Refused>(())
     /// ```
     pub fn open_reusing(start: &[(u64, u64)], cards: u64, handles: u32) -> Result<Tree> {
@@ -107,12 +109,12 @@ impl Tree {
 
     /// Makes a handle, for one thread. Threads that make handles at the same moment wait for one another, while no call on a handle waits.
     ///
-    /// A tree makes more than 1,300,000 handles in all. One that is dropped makes no room for another.
+    /// A tree makes more than 1,300,000 handles, also counting those that were dropped.
     ///
     /// # Errors
     ///
-    /// Returns [`Refused::TooManyHandles`](crate::Refused::TooManyHandles) if the tree has made so many, and
-    /// [`Refused::NoMemory`](crate::Refused::NoMemory) if memory is refused.
+    /// Returns [`Refused::TooManyHandles`](crate::Refused::TooManyHandles) if the tree has made so many, or has as many as it was opened for,
+    /// and [`Refused::NoMemory`](crate::Refused::NoMemory) if memory is refused.
     pub fn handle(&self) -> Result<Handle> {
         // A handle is whole whenever a call on it has ended, even if that was by a panic.
         self.0.lock().unwrap_or_else(PoisonError::into_inner).another()

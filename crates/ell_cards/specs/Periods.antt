@@ -191,6 +191,10 @@ after_take q (suc n) p = p
 abbrev pub after_give : Period → Period
 after_give p = record p { other = None; other_says = None }
 
+-- the pass was given up, and its place given back
+abbrev pub after_release : Period → Period
+after_release p = record p { place = None }
+
 -- the pass that gets it
 abbrev pub given_period : Period → Period
 given_period p = record no_period { place = p.other }

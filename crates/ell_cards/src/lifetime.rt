@@ -344,6 +344,30 @@ impl<A: Allocator + Copy> CardTable<A> {
             seat,
         })
     }
+
+    /// Gives a pass up. If the table has places, and the pass is in no operation and no look, its place is free from now on, so
+    /// that a later split finds it. Without places nothing happens. Its keys and its share stay with nobody.
+    pub fn release(&self, pass: Pass<A>)
+        requires own { pass.table ≡ self.now.id }
+    {
+        let Pass {
+            keys: _,
+            label: _,
+            steps: _,
+            share: _,
+            standing,
+            mut seat,
+        } = pass;
+        if standing.announces {
+            return;
+        }
+        let (Some(slots), Some(place)) = (self.slots, standing.place) else {
+            return;
+        };
+        // What it has set free may be taken by those that begin a period from now on, however few slots each pass takes.
+        self.advance(&mut seat, slots);
+        self.give_up(&mut seat, slots, place);
+    }
 }
 
 /// Returns `true` if a table may have this many cards to be claimed.

@@ -7,7 +7,7 @@ ghost use Rattle.ell_word.specs.Node.{greatest_card};
 ghost use Rattle.ell_grace.specs.Grace.{least_with};
 ghost use Rattle.ell_cards.specs.Models.{last_slot_of};
 ghost use Rattle.ell_cards.specs.Inside.{PlaceFits};
-ghost use Rattle.ell_cards.specs.Periods.{IsAtRest, StandsAs, after_announce, after_retract, after_clock, after_give, after_look_at, after_take, announced_by, clock_word, last_reading, place_word, slots_size};
+ghost use Rattle.ell_cards.specs.Periods.{IsAtRest, StandsAs, after_announce, after_retract, after_clock, after_give, after_look_at, after_release, after_take, announced_by, clock_word, last_reading, place_word, slots_size};
 ghost use Rattle.ell_cards.specs.Stepping.{MayGoOn};
 
 use crate::pass::{Pass, Standing};
@@ -294,6 +294,20 @@ impl<A: Allocator + Copy> CardTable<A> {
         self.period_store::<Brand>(seat, self.place_address(slots, place), 0)
     }
 
+    // Gives the place of a pass back that announces nothing, as the pass is given up.
+    pub(crate) fn give_up(&self, seat: &mut Seat<(), Known>, slots: Slots, place: u64)
+        requires own { seat.old.table_id ≡ self.now.id }
+        requires empty { seat.old.me.1 ≡ [] }
+        requires slots { self.now.plan.slots ≡ Some slots }
+        requires place { seat.old.me.0.period.place ≡ Some place }
+        requires quiet { seat.old.me.0.period.announced ≡ None }
+        ensures free { seat.new.me.0.period ≡ after_release seat.old.me.0.period }
+        ensures tree { seat.new.me.0.tree ≡ seat.old.me.0.tree }
+        ensures seat { (seat.new.table_id ≡ seat.old.table_id) × (seat.new.me.1 ≡ []) }
+    {
+        self.period_store::<Brand>(seat, self.place_address(slots, place), 0)
+    }
+
     // Lets the clock go on by one from a reading of it, unless it has gone on since.
     fn tick(&self, seat: &mut Seat<(), Known>, slots: Slots, reading: u64)
         requires own { seat.old.table_id ≡ self.now.id }
@@ -308,7 +322,7 @@ impl<A: Allocator + Copy> CardTable<A> {
     }
 
     // Reads the clock, and lets it go on, unless it stops there.
-    fn advance(&self, seat: &mut Seat<(), Known>, slots: Slots)
+    pub(crate) fn advance(&self, seat: &mut Seat<(), Known>, slots: Slots)
         requires own { seat.old.table_id ≡ self.now.id }
         requires empty { seat.old.me.1 ≡ [] }
         requires slots { self.now.plan.slots ≡ Some slots }

@@ -183,7 +183,8 @@ impl<A: Allocator + Copy> Tree<A> {
     /// delete takes a card too, so if keys fill all slots, none can be taken away. A slot serves 1,048,576 cards at
     /// most, one after the other. Each try of a change makes at most `2 * s + 10` steps more than in another flat tree,
     /// if `s` is the number of the last slot, and beside these some that are not counted, by which slots are looked
-    /// for, set free and taken again. A split also returns `TooManyPasses` if it finds no place for one more pass. The
+    /// for, set free and taken again. A split also returns `TooManyPasses` if it finds no place for one more pass; a
+    /// pass that is released, or joined to another, makes room for one more, and one that is only dropped does not. The
     /// tree has no end yet: `close` is for trees whose cards do not come back. Errors and conditions are otherwise
     /// those of `reserve_flat`, and there are 1 to 1,000,000 passes.
     pub fn reserve_reusing(

@@ -109,6 +109,15 @@ impl<A: Allocator + Copy> Tree<A> {
         self.table.join(left, right)
     }
 
+    /// Gives a pass up. In a tree whose cards come back (`reserve_reusing`), a pass that is given up between its calls
+    /// makes room for another, which a later split finds. In any other tree nothing happens. Its keys and its share
+    /// stay with nobody, so that a tree that needs them can no longer be closed.
+    pub fn release(&self, pass: Pass<A>)
+        requires own { pass.table ≡ self.now.id }
+    {
+        self.table.release(pass);
+    }
+
     /// Returns the value of any key up to `KEY_MAX`, whichever pass owns it, if the key is present: the value that it
     /// had in one state of the tree between the first step of the look and its last, whatever other passes did in the
     /// meantime (`so`). A pass without keys may look too. The call writes nothing, helps no other call, waits for none,

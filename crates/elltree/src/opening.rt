@@ -40,8 +40,8 @@ pub extern "C" fn elltree_slot_open(
 /// Opens a tree, as `elltree_slot_open` does, whose cards come back, for this many handles: at least one and at most
 /// 1,000,000, and what is outside is taken as the nearest of these. The tree has a slot for each card asked for and
 /// each start key, and one more. A change returns `SPENT` if each slot was in use when it asked for it, and may be made
-/// again. A call for another handle returns `TOO_MANY_HANDLES` if the tree was given as many handles as asked for; one
-/// that is closed makes no room for another.
+/// again. A call for another handle returns `TOO_MANY_HANDLES` if the tree has as many handles as asked for; one that is
+/// closed makes room for another.
 #[unsafe(no_mangle)]
 pub extern "C" fn elltree_slot_open_reusing(
     alloc: Global,
@@ -177,7 +177,7 @@ fn another(alloc: Global, place: &mut HandlePlace) -> Result<Box<HandlePlace, Gl
     }
 }
 
-/// Closes a slot. The tree goes with its last slot.
+/// Closes a slot. In a tree whose cards come back, that makes room for another handle. The tree goes with its last slot.
 #[unsafe(no_mangle)]
 pub extern "C" fn elltree_slot_free(alloc: Global, slot: &mut Slot) -> i32
     // It leaves the slot empty. It returns `CLOSED` exactly if the slot was empty before, and otherwise yes.
@@ -186,7 +186,19 @@ pub extern "C" fn elltree_slot_free(alloc: Global, slot: &mut Slot) -> i32
     ensures codes { IsOneOf (said_yes ∷ said_closed ∷ []) result }
 {
     match slot.take(alloc) {
-        Some(_) => YES,
+        Some(mut place) => {
+            release(&mut place);
+            YES
+        }
         None => CLOSED,
+    }
+}
+
+// Gives the handle of a place up, if it has one.
+fn release(place: &mut HandlePlace)
+    ensures { place.new.handle ≡ None }
+{
+    if let Some(handle) = place.handle.take() {
+        handle.release();
     }
 }

@@ -23,7 +23,7 @@ pub enum Refusal {
     /// The start keys do not strictly ascend, or there are more than `START_MAX`.
     BadStart,
     /// The handle has the least share of its tree, which cannot be split. Or its tree is one whose cards come back, and
-    /// was given as many handles as asked for.
+    /// has as many handles as asked for.
     TooManyHandles,
     /// An allocation failed.
     NoMemory,

@@ -1,4 +1,4 @@
-//! How a handle is opened, and makes another.
+//! How a handle is opened, makes another, and is given up.
 ghost use Rattle.std.specs.Prelude.{◌≡◌, ◌≢◌, ◌≤◌, ◌↔◌, IfOk, IfErr, IsTrue, OnOk};
 ghost use Rattle.std.specs.List.{All};
 ghost use Rattle.std.specs.Map.{keys_of};
@@ -46,8 +46,8 @@ impl Handle {
     /// as keys, and some more, are enough. A slot is held back while a call that began before it became free goes on. A
     /// change returns `Spent` if each slot was in use when it asked for it, and may be made again. It does so for good
     /// once each slot was taken, or passed over as it was in use, some 1,048,576 times (`cards_left`). `another`
-    /// returns `TooManyHandles` if the tree was given as many handles as asked for; one that is dropped makes no room
-    /// for another. Errors are as for `open`.
+    /// returns `TooManyHandles` if the tree has as many handles as asked for; one that is released makes room for
+    /// another. Errors are as for `open`.
     pub fn open_reusing(
         alloc: Global,
         start: &[Pair],
@@ -107,6 +107,13 @@ impl Handle {
                 Err((whole, Refusal::from(fault)))
             }
         }
+    }
+
+    /// Gives the handle up. In a tree whose cards come back, it makes room for another one; its share stays with nobody.
+    /// The tree goes with its last handle.
+    pub fn release(self) {
+        let Handle { tree, pass } = self;
+        tree.release(pass);
     }
 
     /// Returns whether the handle has the least share of its tree, and so can make no more handles.

@@ -16,7 +16,7 @@ use Rattle.ell_cards.specs.declared.view.Period.{Period}
 use Rattle.ell_cards.specs.declared.view.Slots.{Slots}
 use Rattle.ell_cards.specs.Ages.{IsOut, HasPeriods}
 use Rattle.ell_cards.specs.Models.{TablePlan}
-use Rattle.ell_cards.specs.Periods.{WholeState, clock_word, place_word, slot_word, slots_size, card_in, last_reading, after_clock, after_announce, after_retract, after_look_at, after_take, after_give, own, IsAtRest, PeriodsAreSound}
+use Rattle.ell_cards.specs.Periods.{WholeState, clock_word, place_word, slot_word, slots_size, card_in, last_reading, after_clock, after_announce, after_retract, after_look_at, after_take, after_give, after_release, own, IsAtRest, PeriodsAreSound}
 use Rattle.ell_cards.specs.SlotWords.{card_by, is_noted}
 use Rattle.ell_cards.specs.States.{TableState}
 use Rattle.ell_cards.specs.Stepping.{MayGoOn}
@@ -24,7 +24,7 @@ use Rattle.ell_cards.specs.Whole.{trees_of, WordsAre, PeriodsAre}
 use Rattle.ell_cards.proofs.lemmas.ties.Periods.{tie_of_period}
 use Rattle.ell_cards.proofs.lemmas.whole.Ages.{ages_of_period}
 use Rattle.ell_cards.proofs.lemmas.whole.Seats.{before_clock}
-use Rattle.ell_cards.proofs.lemmas.whole.Steps.{word_again, periods_stay, periods_read, periods_ticked, periods_seen, periods_announced, periods_retracted, periods_taken, periods_given}
+use Rattle.ell_cards.proofs.lemmas.whole.Steps.{word_again, periods_stay, periods_read, periods_ticked, periods_seen, periods_announced, periods_retracted, periods_taken, periods_given, periods_released}
 use Rattle.ell_cards.proofs.lemmas.whole.Trees.{tree_at}
 
 -- the table where a pass knows something else of periods, and a word became another one
@@ -214,6 +214,13 @@ module _ (plan : TablePlan) (s : Slots) (placed : plan.slots ≡ Some s) where
   gives_back k q has =
       goes_on k (place_word s q) (λ n. 0) (λ n p. p ≡ after_give k.period) (λ t. after_give k.period)
       (λ tree t id here h size. (going plan s tree t id k here h (after_give k.period) (place_word s q) 0 (λ r a at an. (at, an)) refl refl refl (behind plan s tree t id k here h (place_word s q) 0 (omega arith)) (λ slot. get_or-set_other t.words (place_word s q) (slot_word s slot) 0 0 (λ e. omega arith)) (periods_given s t id k here h.dead h.began h.was_dead h.periods size q has), refl))
+
+  -- it is given up, and so is its place, if it announces nothing
+  pub releases : (k : Known) (q : ℕ) → k.period.place ≡ Some q → k.period.announced ≡ None
+      → MayGoOn plan k (place_word s q) (λ n. 0) (λ n p. p ≡ after_release k.period)
+  releases k q has quiet =
+      goes_on k (place_word s q) (λ n. 0) (λ n p. p ≡ after_release k.period) (λ t. after_release k.period)
+      (λ tree t id here h size. (going plan s tree t id k here h (after_release k.period) (place_word s q) 0 (λ r a at an. absurd (some_not_none at refl)) refl refl refl (behind plan s tree t id k here h (place_word s q) 0 (omega arith)) (λ slot. get_or-set_other t.words (place_word s q) (slot_word s slot) 0 0 (λ e. omega arith)) (periods_released s t id k here h.dead h.began h.was_dead h.periods size q has quiet), refl))
 
   -- it lets the clock go on, if that is as it was read
   pub tick_goes_on : (k : Known) (reading : ℕ) → reading < last_reading

@@ -14,7 +14,7 @@ use Rattle.ell_grace.proofs.lemmas.Grace.{grace_goes_on}
 use Rattle.ell_cards.specs.declared.view.Known.{Known}
 use Rattle.ell_cards.specs.declared.view.Period.{Period}
 use Rattle.ell_cards.specs.declared.view.Slots.{Slots}
-use Rattle.ell_cards.specs.Periods.{WholeState, clock_word, place_word, slot_word, slots_size, stamp_at, pending_by, period_in, word_at_place, announced_by, place_says, last_reading, after_clock, after_announce, after_retract, after_look_at, after_take, after_give, settled_at, HasPlace, own, spare, IsAtRest, PeriodHolds, PeriodsAreSound, grace_of}
+use Rattle.ell_cards.specs.Periods.{WholeState, clock_word, place_word, slot_word, slots_size, stamp_at, pending_by, period_in, word_at_place, announced_by, place_says, last_reading, after_clock, after_announce, after_retract, after_look_at, after_take, after_give, after_release, settled_at, HasPlace, own, spare, IsAtRest, PeriodHolds, PeriodsAreSound, grace_of}
 use Rattle.ell_cards.proofs.lemmas.whole.Seats.{places_apart, before_slots, clock_before_slots, stamps_same, period_was, part_put, part_same, holds_on}
 use Rattle.ell_cards.proofs.lemmas.whole.Trees.{grace_same}
 
@@ -510,3 +510,28 @@ module _ (s : Slots) (t : WholeState) (id : ℕ) (k : Known) (here : get_elem? t
       gains : (r : ℕ) → HasPlace (after_give k.period) r → HasPlace k.period r ⊎ IsNobodys t r
       gains r (own is) = inl (own is)
       gains r (spare is) = absurd (some_not_none is refl)
+
+  -- the place of a pass that announces nothing is given back, as the pass is given up
+  pub periods_released : (q : ℕ) → k.period.place ≡ Some q → k.period.announced ≡ None
+      → PeriodsAreSound s (record { words = set t.words (place_word s q) 0; homes = t.homes; views = set t.views id (record { tree = k.tree; period = after_release k.period }) }) dead began was_dead
+  periods_released q placed quiet =
+      periods_after s t id k here dead began was_dead h (turned q 0 below) (after_release k.period) (turned_clock q 0 below) (others_have_none q 0 below (own placed)) gains
+      dead began was_dead
+      (λ r a at an. absurd (some_not_none at refl)) (λ j r a u other there at an. h.since j r a u there at an)
+      (ended q 0 below (after_release k.period) refl refl refl refl refl)
+      record {
+        place = λ r is. absurd (some_not_none is refl);
+        other = λ r is. (let at = mine.other r is in
+            (at.0, turned_else q 0 below r at.0 (λ e. mine.two q placed (is ∙ ap (λ x. Some x) e)) ∙ at.1));
+        two = λ r is other. some_not_none is refl;
+        none = λ is. quiet;
+        reading = λ n is. (let same = turned_clock q 0 below in let low = mine.reading n is in omega arith);
+        rests = mine.rests;
+      }
+    where
+      below : q < s.places
+      below = (mine.place q placed).0
+
+      gains : (r : ℕ) → HasPlace (after_release k.period) r → HasPlace k.period r ⊎ IsNobodys t r
+      gains r (own is) = absurd (some_not_none is refl)
+      gains r (spare is) = inl (spare is)
