@@ -1,18 +1,13 @@
-use Rattle.std.proofs.Common.{◌<◌, ◌≤◌, ℕ, [], None, inr, refl, ap, sym, arith, ◌∙◌}
+use Rattle.std.proofs.Common.{◌≤◌, ℕ, [], inr, refl, ap, sym, arith, ◌∙◌}
 use Rattle.ell_core.specs.state.Machine.{shared_of}
 use Rattle.ell_cards.specs.Changes.{ownable_if}
 use Rattle.ell_cards.specs.Starts.{IsSharedIn}
-use Rattle.ell_cards.specs.declared.view.View.{View}
 use Rattle.ell_cards.proofs.lemmas.lifetimes.Openings.{shared_there}
 use Rattle.ell_ops.specs.KeySet.{set_of}
 use Rattle.ell_ops.specs.Meaning.{greatest_key}
 use Rattle.ell_tree.specs.Ledgers.{PassModel, TreeModel}
-use Rattle.ell_tree.specs.Looks.{OnlyLooks}
 use Rattle.ell_tree.specs.Promises.{IsQuiet, MayDo}
-use Rattle.ell_tree.specs.Scans.{IsNextIn}
-use Rattle.ell_tree.proofs.lemmas.Looks.{only_none_yet, only_trans}
 use Rattle.ell_tree.proofs.lemmas.Meeting.{meets_none}
-use Rattle.elltree.specs.Calls.{OnlyScans}
 use Rattle.elltree.specs.Handles.{tree_of}
 use Rattle.elltree.specs.declared.handle.Handle.{Handle}
 
@@ -37,15 +32,3 @@ quiet_same t p = record {
   hindered = refl;
   milestones = omega arith;
 }
-
--- no key is above the greatest
-pub none_above : (t : TreeModel) (v : View) (from : ℕ) → greatest_key < from → IsNextIn t v from None
-none_above t v from above key low high = absurd (omega arith)
-
--- a call that does nothing only looks
-pub looks_none : (p : PassModel) (n : ℕ) → OnlyLooks p p n
-looks_none p n = only_trans p p p 0 0 n (only_none_yet p) (only_none_yet p) (omega arith)
-
--- and takes no more than a scan takes
-pub scans_none : (h : Handle) → OnlyScans h h
-scans_none h = record { only = looks_none h.pass _; cards = refl; tree = refl }
