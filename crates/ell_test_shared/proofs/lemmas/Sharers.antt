@@ -81,11 +81,15 @@ member_looking owned t n p q h l = record {
 }
 
 -- and once its looks are ended
-member_ended : (owned : List ℕ) (t : TreeModel) (slots : Option Slots) (p q : PassModel) → IsMember owned t p → EndsLooks slots p q → IsMember owned t q
+member_ended : (owned : List ℕ) (t : TreeModel) (slots : Option Slots) (p q : PassModel) → IsMember owned t p
+    → EndsLooks slots p q → IsMember owned t q
 member_ended owned t None p q h e = subst (λ (r : PassModel). IsMember owned t r) (sym e) h
-member_ended owned t (Some s) p q h e = subst (λ (r : PassModel). IsMember owned t r) (sym e) (record { own = h.own; idle = refl; ownable = h.ownable })
+member_ended owned t (Some s) p q h e =
+    let rests : IsMember owned t _ = record { own = h.own; idle = refl; ownable = h.ownable } in
+    subst (λ (r : PassModel). IsMember owned t r) (sym e) rests
 
-pub member_resting : (owned : List ℕ) (t : TreeModel) (p q : PassModel) → IsMember owned t p → EndsLooks t.plan.slots p q → IsMember owned t q
+pub member_resting : (owned : List ℕ) (t : TreeModel) (p q : PassModel) → IsMember owned t p
+    → EndsLooks t.plan.slots p q → IsMember owned t q
 member_resting owned t p q = member_ended owned t t.plan.slots p q
 
 -- so are the parts of one

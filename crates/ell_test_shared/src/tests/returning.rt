@@ -212,7 +212,7 @@ fn end_looks<G: StepGate>(tree: &Tree<Global>, pass: &mut Pass<Global>, gate: &G
     tree.end_looks(pass, gate);
 }
 
-// A call of worker 1 alone, which is told to the gate as over, a look once it is ended: its pass and what it is answered.
+// A call of worker 1 alone, which is told to the gate as over, a look once it is ended: its pass and the answer.
 fn call_once<G: StepGate>(
     rt: &impl Abort,
     tree: &Tree<Global>,
@@ -253,9 +253,9 @@ fn count_steps(rt: &(impl Abort + AllocGlobal), call: KeyCall) -> u64 {
     tally.begun.saturating_add(tally.steps)
 }
 
-// Holds a call before a step of this number, while keys come and go beside it: how many operations found each slot in use
-// meanwhile. The call is answered as if it were alone, or finds each slot in use too and is made again; and once it is over,
-// slots come back, though its pass then rests.
+// Holds a call before a step of this number, while keys come and go beside it: how many operations found each slot in
+// use meanwhile. The call is answered as if it were alone, or finds each slot in use too and is made again; and once it
+// is over, slots come back, though its pass then rests.
 fn hold<R: Threads + Abort + AllocGlobal + Sync>(
     rt: &R,
     call: KeyCall,
