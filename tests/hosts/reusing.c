@@ -1,8 +1,8 @@
 /* Trees whose cards come back. One handle changes keys long after each card was taken, and is answered as a map, and never refused. Four threads do
    so, each on keys of its own, and add to one that all share, which loses nothing; a call is made again where each card was in use. A thread is
    stopped in the middle of changes, by a signal whose handler waits: meanwhile calls that read are answered, and changes until the cards run out,
-   and once it goes on so are all. And a tree has as many handles as were asked for, and no more at a time: one that is freed makes room for another,
-   also where threads make a handle for a few changes and free it. */
+   and once it goes on so are all. A handle that has looked, and rests, holds no card back. And a tree has as many handles as were asked for, and
+   no more at a time: one that is freed makes room for another, also where threads make a handle for a few changes and free it. */
 #include "elltree.h"
 #include <pthread.h>
 #include <sched.h>
@@ -168,6 +168,37 @@ static long beside_one_that_is_stopped(uint64_t cards) {
     return wrong + (held_back < WANTED);
 }
 
+/* Looks once, in one of four ways, where all keys are there. */
+static long look_once(int way) {
+    struct elltree_pair all[KEYS];
+    uint64_t key = 0, value = 0;
+    size_t count = 0;
+    if (way == 0)
+        return elltree_look(&victim, 40, &value) != ELLTREE_YES || value != 40;
+    if (way == 1)
+        return elltree_range(&victim, 0, 100, all, KEYS, &count, &key) != ELLTREE_YES || count != KEYS;
+    if (way == 2)
+        return elltree_next_at_least(&victim, 41, &key, &value) != ELLTREE_YES || key != 41;
+    return elltree_last_at_most(&victim, 46, &key, &value) != ELLTREE_YES || key != 46;
+}
+
+/* Changes beside a handle that has looked, and makes no further call: none is refused. */
+static long beside_one_that_rests(void) {
+    long wrong = 0;
+    for (int way = 0; way < 4; way++) {
+        int there[KEYS] = {0};
+        long refused = 0;
+        wrong += elltree_open_reusing(&victim, NULL, 0, 2 * KEYS + 20, 2) != ELLTREE_YES;
+        wrong += elltree_another(&victim, &other) != ELLTREE_YES;
+        refused += change_beside(there, &wrong);
+        wrong += look_once(way);
+        for (int round = 0; round < 4; round++)
+            refused += change_beside(there, &wrong);
+        wrong += refused + (elltree_free(&victim) != ELLTREE_YES) + (elltree_free(&other) != ELLTREE_YES);
+    }
+    return wrong;
+}
+
 /* Handles, the first one among them. One that is freed makes room for another. */
 static long as_many_as_asked_for(void) {
     struct elltree_handle all[5] = {ELLTREE_EMPTY, ELLTREE_EMPTY, ELLTREE_EMPTY, ELLTREE_EMPTY, ELLTREE_EMPTY};
@@ -241,8 +272,8 @@ static long made_and_freed(uint64_t cards) {
 }
 
 int main(void) {
-    long wrong = as_many_as_asked_for() + alone(30) + alone(1000) + together(64) + together(1000) + made_and_freed(64);
-    wrong += beside_one_that_is_stopped(100);
+    const long wrong = as_many_as_asked_for() + alone(30) + alone(1000) + together(64) + together(1000) + made_and_freed(64) +
+                       beside_one_that_is_stopped(100) + beside_one_that_rests();
     printf("%ld wrong\n", wrong);
     return wrong != 0;
 }

@@ -38,8 +38,8 @@ look_steps most = 2 * most + 3
 abbrev pub stretch_steps : ℕ → ℕ
 stretch_steps most = 2 * most + 2
 
--- a pass ends its looks: where cards come back, by one step after which it knows no node any more that a look has told it;
--- in any other tree it is as it was
+-- a pass ends its looks: where cards come back, by one step after which it knows no node any more that a look has told
+-- it; in any other tree it is as it was
 abbrev pub EndsLooks : Option Slots → PassModel → PassModel → Type 0
 EndsLooks None old new = new ≡ old
 EndsLooks (Some s) old new = Steps old new (after_rest old.view)

@@ -140,9 +140,9 @@ impl<A: Allocator + Copy> Tree<A> {
         look(&self.table, pass, key, gate)
     }
 
-    /// Ends the looks and scans of a pass. In a tree whose cards come back, call this after them: until then, or until the
-    /// pass begins and ends an operation, no card comes back that its looks might have read. It is one step, of which the
-    /// gate is told as `Look`. In any other tree nothing happens.
+    /// Ends the looks and scans of a pass. In a tree whose cards come back, call this after them: until then, or until
+    /// the pass begins and ends an operation, no card comes back that its looks might have read. It is one step, of
+    /// which the gate is told as `Look`. In any other tree nothing happens.
     pub fn end_looks<G: StepGate>(&self, pass: &mut Pass<A>, gate: &G)
         requires may { IsIdlePassOf self.now pass.old }
         // The pass knows no node any more that a look has told it; or, where no card comes back, it is as it was.

@@ -2,8 +2,6 @@
 pub mod AsBox
 -- the keys of a host's pairs
 pub mod HostPairs
--- what a handle's pass may do, and that a call that does nothing keeps to its bounds
-pub mod May
 -- how a call that changes a key ends
 pub mod Ending
 -- calls on the handle of a slot

@@ -32,8 +32,8 @@ pub record Finds (key : ℕ) (old new : Handle) (there : Option ℕ) : Type 0 wh
   pub beyond : greatest_key < key → (there ≡ None) × (new ≡ old)
   pub tree : new.tree ≡ old.tree
 
--- a call that only looks, once, in at most so many steps: the pass came to `looked`, and knew this by then. Where cards come
--- back, it has then ended the look, by one step more, and elsewhere the handle has that pass.
+-- a call that only looks, once, in at most so many steps: the pass came to `looked`, and knew this by then; where cards
+-- come back, it has then ended the look, by one step more, and elsewhere the handle has that pass
 pub record HasLooked (old new : Handle) (steps : ℕ) (IsKnown : View → Type 0) : Type 0 where
   pub looked : PassModel
   pub so : IsKnown looked.view
@@ -53,7 +53,8 @@ FindsNothing old new there = (there ≡ None) × (new ≡ old)
 
 -- a look: the answer is what the tree had for the key in one state since this look began
 pub record LooksUp (key : ℕ) (old new : Handle) (there : Option ℕ) : Type 0 where
-  pub so : key ≤ greatest_key → HasLooked old new (look_steps (deepest_of old)) (λ v. IsFoundIn (tree_of old) v key there)
+  pub so : key ≤ greatest_key
+      → HasLooked old new (look_steps (deepest_of old)) (λ v. IsFoundIn (tree_of old) v key there)
   pub beyond : greatest_key < key → FindsNothing old new there
 
 -- the end of the keys of a range, of which none is above the greatest
@@ -62,7 +63,8 @@ real_end upto = min upto (greatest_key + 1)
 
 -- a scan of a range, which wrote pairs to an array: the tree's, on its conditions
 pub record Scans (from upto : ℕ) (before after : List Pair) (old new : Handle) (result : Scanned) : Type 0 where
-  pub so : HasScanned old new (λ v. AreFoundIn (tree_of old) v from (end_of (real_end upto) result) (contents_of (written after result)))
+  pub so : HasScanned old new
+      (λ v. AreFoundIn (tree_of old) v from (end_of (real_end upto) result) (contents_of (written after result)))
   pub ordered : AreInOrder from (end_of (real_end upto) result) (written after result)
   pub count : result.count ≤ length before
   pub next : IfSome result.next (λ next. (from ≤ next) × (next < real_end upto) × (result.count ≡ length before))

@@ -1,9 +1,10 @@
-use Rattle.std.proofs.Common.{◌≡◌, ◌≤◌, ℕ, true, false, not, List, Option, None, Some, ap, subst, inl, inr, sym, ◌∙◌, ◌&&◌}
+use Rattle.std.proofs.Common.{◌≡◌, ◌≤◌, ℕ, true, false, not, List, Option, None, Some, ap, subst, inl, inr, refl, sym, ◌∙◌, ◌&&◌}
 use Rattle.std.proofs.lemmas.Bool.{le-leb}
 use Rattle.ell_ops.specs.declared.op.Op.{Op}
 use Rattle.ell_ops.specs.declared.reply.Reply.{Reply}
 use Rattle.ell_ops.specs.KeySet.{set_of}
 use Rattle.ell_ops.specs.Meaning.{greatest_key}
+use Rattle.ell_cards.specs.declared.view.Slots.{Slots}
 use Rattle.ell_core.specs.state.Machine.{shared_of}
 use Rattle.ell_core.specs.state.Machine.{WorkerView}
 use Rattle.ell_tree.proofs.lemmas.Removing.{that_or_other}
@@ -11,7 +12,7 @@ use Rattle.ell_tree.specs.Computing.{Concludes, IsNotDone, PutsValue, RemovesIf,
 use Rattle.ell_tree.specs.declared.operations.NotDone.{NotDone}
 use Rattle.ell_tree.specs.Ends.{Answers, LaidDown}
 use Rattle.ell_tree.specs.Ledgers.{TreeModel, PassModel, Owns}
-use Rattle.ell_tree.specs.Looks.{OnlyLooks}
+use Rattle.ell_tree.specs.Looks.{EndsLooks, OnlyLooks}
 use Rattle.ell_tree.specs.PassParts.{IsLeftPart, IsRightPart, IsUnion}
 use Rattle.std.specs.Option.{option_or}
 use Rattle.ell_tree.specs.Promises.{MayDo}
@@ -78,6 +79,18 @@ member_looking owned t n p q h l = record {
   idle = ap (λ (w : WorkerView). w.operation) l.worker ∙ h.idle;
   ownable = ap (λ (w : WorkerView). w.shared) l.worker ∙ h.ownable;
 }
+
+-- and once its looks are ended
+member_ended : (owned : List ℕ) (t : TreeModel) (slots : Option Slots) (p q : PassModel) → IsMember owned t p
+    → EndsLooks slots p q → IsMember owned t q
+member_ended owned t None p q h e = subst (λ (r : PassModel). IsMember owned t r) (sym e) h
+member_ended owned t (Some s) p q h e =
+    let rests : IsMember owned t _ = record { own = h.own; idle = refl; ownable = h.ownable } in
+    subst (λ (r : PassModel). IsMember owned t r) (sym e) rests
+
+pub member_resting : (owned : List ℕ) (t : TreeModel) (p q : PassModel) → IsMember owned t p
+    → EndsLooks t.plan.slots p q → IsMember owned t q
+member_resting owned t p q = member_ended owned t t.plan.slots p q
 
 -- so are the parts of one
 pub member_left : (owned : List ℕ) (t : TreeModel) (keys : List ℕ) (p q : PassModel) → IsMember owned t p → IsLeftPart keys p q

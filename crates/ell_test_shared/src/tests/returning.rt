@@ -7,7 +7,7 @@ use super::parting::{joined, parted};
 use ell_ops::Op::{self, Delete, Find, Insert, Swap};
 use ell_ops::{Reply, apply_all};
 use ell_test_gates::{Counting, Weaving, two_threads_meet};
-use ell_tree::{NoGate, Pass, StepGate, Tree};
+use ell_tree::{NoGate, Pair, Pass, StepGate, Tree};
 use std::alloc::Global;
 use std::process::Abort;
 use std::thread::{Threads, join};
@@ -203,7 +203,16 @@ fn delete_all(rt: &impl Abort, tree: &Tree<Global>, pass: &mut Pass<Global>)
     }
 }
 
-// A call of worker 1 alone, which is told to the gate as over: its pass and what it is answered.
+// Ends the looks of a pass.
+#[tactic(auto, using(crate::proofs::lemmas::Sharers::member_resting))]
+fn end_looks<G: StepGate>(tree: &Tree<Global>, pass: &mut Pass<Global>, gate: &G)
+    requires { IsSharer tree.now pass.old }
+    ensures { IsSharer tree.now pass.new }
+{
+    tree.end_looks(pass, gate);
+}
+
+// A call of worker 1 alone, which is told to the gate as over, a look once it is ended: its pass and the answer.
 fn call_once<G: StepGate>(
     rt: &impl Abort,
     tree: &Tree<Global>,
@@ -217,6 +226,7 @@ fn call_once<G: StepGate>(
     let mut pass = pass;
     let said = answer(rt, tree, &mut pass, &[], call, gate).ok();
     if let Look(_) = call {
+        end_looks(tree, &mut pass, gate);
         gate.after(pass.label(), true);
     }
     (pass, said)
@@ -243,9 +253,9 @@ fn count_steps(rt: &(impl Abort + AllocGlobal), call: KeyCall) -> u64 {
     tally.begun.saturating_add(tally.steps)
 }
 
-// Holds a call before a step of this number, while keys come and go beside it: how many operations found each slot in use
-// meanwhile. The call is answered as if it were alone, or finds each slot in use too and is made again; and once it is over,
-// slots come back.
+// Holds a call before a step of this number, while keys come and go beside it: how many operations found each slot in
+// use meanwhile. The call is answered as if it were alone, or finds each slot in use too and is made again; and once it
+// is over, slots come back, though its pass then rests.
 fn hold<R: Threads + Abort + AllocGlobal + Sync>(
     rt: &R,
     call: KeyCall,
@@ -257,19 +267,18 @@ fn hold<R: Threads + Abort + AllocGlobal + Sync>(
     let (zero, mut one) = parted(rt, &tree, pass, &[], &[]);
     one.relabel(1);
     let (shared, told) = (&tree, &gate);
-    let ((zero, in_use), (one, said)) = join(
+    let ((mut zero, in_use), (_one, said)) = join(
         rt,
         move || churn(rt, shared, zero, BESIDE, told),
         move || call_once(rt, shared, one, call, told),
     );
-    let mut pass = joined(rt, &tree, &[], zero, one);
     assert!(rt; gate.woven().is_some(), "held at {step}");
     match said {
         Some(said) => assert!(rt; said == wanted, "held at {step}"),
-        None => surely(rt, &tree, &mut pass, call, Some(wanted)),
+        None => surely(rt, &tree, &mut zero, call, Some(wanted)),
     }
-    delete_all(rt, &tree, &mut pass);
-    let (_, after) = churn(rt, &tree, pass, BESIDE, &NoGate);
+    delete_all(rt, &tree, &mut zero);
+    let (_, after) = churn(rt, &tree, zero, BESIDE, &NoGate);
     assert!(rt;
         after == 0,
         "{after} without a slot behind one held at {step}"
@@ -296,6 +305,62 @@ fn a_call_that_is_held_holds_slots_back_until_it_is_over(rt: HostRuntime) {
         }
         let amid = hold(&rt, call, wanted, 4);
         assert!(&rt; 0 < amid, "nothing is held back");
+    }
+}
+
+// A call that only looks.
+#[derive(Clone, Copy)]
+enum Seeing {
+    Key,
+    Range,
+    Next,
+    Last,
+}
+
+// Looks, among keys 1 to 3.
+#[tactic(auto, using(crate::proofs::lemmas::Sharers::member_looking))]
+fn see(rt: &impl Abort, tree: &Tree<Global>, pass: &mut Pass<Global>, seeing: Seeing)
+    requires { IsSharer tree.now pass.old }
+    ensures { IsSharer tree.now pass.new }
+{
+    match seeing {
+        Seeing::Key => {
+            let there = tree.look(pass, 2, &NoGate);
+            assert!(rt; there == Some(20));
+        }
+        Seeing::Range => {
+            let mut room = [Pair { key: 0, value: 0 }; 8];
+            let listed = tree.scan(pass, 0, 10, &mut room, &NoGate);
+            assert!(rt; listed.count == 3 && room[2].value == 30);
+        }
+        Seeing::Next => {
+            let next = tree.next_at_least(pass, 3, &NoGate);
+            assert!(rt; next == Some((3, 30)));
+        }
+        Seeing::Last => {
+            let last = tree.last_at_most(pass, 2, &NoGate);
+            assert!(rt; last == Some((2, 20)));
+        }
+    }
+}
+
+// A pass looks, maybe ends that, and rests: how many of the operations of another pass then find each slot in use.
+fn rest_behind(rt: &(impl Abort + AllocGlobal), seeing: Seeing, is_ended: bool) -> u64 {
+    let (tree, pass) = opened_with_three(rt);
+    let (zero, mut one) = parted(rt, &tree, pass, &[], &[]);
+    see(rt, &tree, &mut one, seeing);
+    if is_ended {
+        end_looks(&tree, &mut one, &NoGate);
+    }
+    churn(rt, &tree, zero, CHANGES, &NoGate).1
+}
+
+#[test]
+fn a_look_holds_slots_back_until_it_is_ended(rt: HostRuntime) {
+    for seeing in [Seeing::Key, Seeing::Range, Seeing::Next, Seeing::Last] {
+        let ended = rest_behind(&rt, seeing, true);
+        assert!(&rt; ended == 0, "{ended} without a slot behind a look");
+        assert!(&rt; 0 < rest_behind(&rt, seeing, false), "nothing is held back");
     }
 }
 
@@ -341,13 +406,13 @@ fn empty(rt: &impl Abort, tree: &Tree<Global>, pass: &mut Pass<Global>, upto: u6
     }
 }
 
-// Has keys fill all slots but the root's and three, which are left to deletes, and go again.
+// Has keys fill all slots but the root's and two, which are left to deletes, and go again.
 fn fill_and_empty(rt: &impl Abort, tree: &Tree<Global>, pass: &mut Pass<Global>)
     requires { IsSharer tree.now pass.old }
     ensures { IsSharer tree.now pass.new }
 {
     let came = fill(rt, tree, pass);
-    assert!(rt; came == 61, "{came} keys");
+    assert!(rt; came == 62, "{came} keys");
     empty(rt, tree, pass, came);
 }
 

@@ -11,8 +11,10 @@ returns c =
     let said = c.last_at_most-there in
     let end : min c.args.key greatest_key + 1 ≡ real_end (c.args.key + 1) = omega arith in record {
       looked = said.new.pass;
-      so = subst (λ (t : TreeModel). IsLastIn t said.new.pass.view (real_end (c.args.key + 1)) said.result) c.deref.ensures
-          (subst (λ e. IsLastIn c.deref.result.now said.new.pass.view e said.result) (ap (λ k. k + 1) c.min.ensures ∙ end) said.ensures.so);
+      so = subst (λ (t : TreeModel). IsLastIn t said.new.pass.view (real_end (c.args.key + 1)) said.result)
+          c.deref.ensures
+          (subst (λ e. IsLastIn c.deref.result.now said.new.pass.view e said.result)
+          (ap (λ k. k + 1) c.min.ensures ∙ end) said.ensures.so);
       one = said.ensures.one;
       only = search rules;
       cards = said.ensures.cards;
