@@ -2,8 +2,6 @@
 pub mod AsBox
 -- the keys of a host's pairs
 pub mod HostPairs
--- how a call that changes a key ends
-pub mod Ending
 -- calls on the handle of a slot
 pub mod Calling
 -- further handles that are refused
