@@ -1,5 +1,9 @@
 -- how deep the nodes are that a pass has met
 pub mod Depths
+-- what the words of slots say
+pub mod SlotWords
+-- what a search for a slot has read
+pub mod Seeking
 -- what contracts see of a table and of a pass
 pub mod Models
 -- how each step call changes what a pass knows
@@ -21,8 +25,6 @@ pub mod Turns
 pub mod TurnEffects
 -- tables as they start, and where runs lead from there
 pub mod Starts
--- what the words of slots say
-pub mod SlotWords
 -- the places of passes and the clock: where their words stand, and what passes know of grace periods
 pub mod Periods
 -- cards that were laid aside

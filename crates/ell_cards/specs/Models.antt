@@ -18,7 +18,9 @@ use Rattle.ell_cards.specs.declared.fault.SplitFault.TheVariants as split_fault
 use Rattle.ell_cards.specs.declared.glance.Glance.{Glance}
 use Rattle.ell_cards.specs.declared.view.Told.{Told}
 use Rattle.ell_cards.specs.declared.view.View.{View}
+use Rattle.ell_cards.specs.declared.view.Seek.{Seek}
 use Rattle.ell_cards.specs.declared.view.Slots.{Slots}
+use Rattle.ell_cards.specs.Seeking.{no_seek}
 
 -- what a table opens with: the keys that may have owners, the start pairs, the last card, if all other keys are
 -- shared, and if the tree is flat; and, if passes have places in it, how many cards have words and how many places
@@ -49,8 +51,8 @@ pub record TableModel : Type 0 where
   pub plan : TablePlan
 
 -- the table that a pass belongs to, what is shown of what it knows, the atomic steps made through it, its label,
--- its safe number: every pass that is in a period began it when the clock was that at least; and the card whose slot
--- it has taken last, if the table has places
+-- its safe number: every pass that is in a period began it when the clock was that at least; and, if the table has
+-- places, the card whose slot it has taken last, and what its last search for a slot has read
 pub record PassModel : Type 0 where
   pub table : TableId
   pub view : View
@@ -58,6 +60,7 @@ pub record PassModel : Type 0 where
   pub label : ℕ
   pub safe : ℕ
   pub slot : Option ℕ
+  pub sought : Seek
 
 -- the ledger of a pass: each key of its own with whether it is present, and with which value
 abbrev pub ledger : PassModel → Ledger
@@ -97,6 +100,7 @@ Sees old new v =
       label = old.label;
       safe = old.safe;
       slot = old.slot;
+      sought = old.sought;
     }
 
 -- the pass counted so many steps, and made none
@@ -113,10 +117,11 @@ Steps old new v =
       label = old.label;
       safe = old.safe;
       slot = old.slot;
+      sought = old.sought;
     }
 
 -- the pass came from another one by a step that both count, and knows this; it has looked at no place yet, and has
--- taken no slot
+-- taken and sought no slot
 abbrev pub StepsOut : PassModel → PassModel → View → Type 0
 StepsOut old new v =
     new ≡ record {
@@ -126,6 +131,7 @@ StepsOut old new v =
       label = old.label;
       safe = 0;
       slot = None;
+      sought = no_seek;
     }
 
 -- of a list, the last first, one is this

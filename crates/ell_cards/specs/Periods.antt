@@ -15,6 +15,7 @@ use Rattle.ell_cards.specs.declared.view.Told.{Told}
 use Rattle.ell_cards.specs.declared.view.Told.TheVariants.{Met, Key}
 use Rattle.ell_cards.specs.declared.view.View.{View}
 use Rattle.ell_cards.specs.Models.{TablePlan, IsFree, IsTold}
+use Rattle.ell_cards.specs.Seeking.{no_seek, could_take, sought_on}
 use Rattle.ell_cards.specs.SlotWords.{slot_of, turn_of, turn_in, card_by, freed_by}
 
 -- the state of a table, with all that its passes know
@@ -120,6 +121,7 @@ no_period = record {
   stamp = None;
   slot = None;
   lost = None;
+  sought = no_seek;
 }
 
 -- the first pass of a table has the first place, if there is one
@@ -164,6 +166,10 @@ pub record StandsAs (old new : Period) : Type 0 where
 -- the word of a slot was read
 abbrev pub after_read : ℕ → ℕ → Period → Period
 after_read slot n p = record p { read = Some (record { slot = slot; word = n }) }
+
+-- the word of a card's slot was read by a search for a slot to take, which begins with it or goes on
+abbrev pub after_seek : Slots → Bool → ℕ → ℕ → Period → Period
+after_seek s begins c n p = record (after_read (slot_of c) n p) { sought = sought_on s begins c (could_take c n p.safe) p.sought }
 
 -- the slot of a card was taken
 abbrev pub after_taking : ℕ → Period → Period

@@ -16,6 +16,7 @@ use Rattle.ell_core.specs.acts.Wins.{InOrder}
 use Rattle.ell_cards.specs.declared.call.Call.TheVariants as call
 use Rattle.ell_cards.specs.declared.view.Slots.{Slots}
 use Rattle.ell_cards.specs.Models.{TablePlan, TableModel, PassModel}
+use Rattle.ell_cards.specs.Seeking.{no_seek}
 use Rattle.ell_cards.specs.Changes.{first_of}
 use Rattle.ell_cards.specs.States.{TableState}
 use Rattle.ell_cards.specs.Turns.{Turn, Makes, TableTurns, TableRun}
@@ -68,7 +69,7 @@ pub record Starts (plan : TablePlan) (s : TableState) : Type 0 where
 pub record OpensBy (plan : TablePlan) (made : TableModel × PassModel) : Type 0 where
   pub table : made.0.plan ≡ plan
   pub pass : made.1
-      ≡ record { table = made.0.id; view = first_of plan; steps = 0; label = 0; safe = 0; slot = None }
+      ≡ record { table = made.0.id; view = first_of plan; steps = 0; label = 0; safe = 0; slot = None; sought = no_seek }
 
 -- every such plan has a table
 pub record StartsSome (plan : TablePlan) : Type 0 where

@@ -93,23 +93,25 @@ KeepsPass plan v then =
     (n : ℕ) (w : View) → then n w → (ledger_keys w.worker.ledger ≡ ledger_keys v.worker.ledger) × SameShare v w
     × IsInside plan w
 
--- a pass made one step that it has not counted yet: its table, its label, its safe number and its
--- slot are as they were
+-- a pass made one step that it has not counted yet: its table, its label, its safe number,
+-- its slot and its search for one are as they were
 pub record SeesBy (old new : PassModel) : Type 0 where
   pub table : new.table ≡ old.table
   pub steps : new.steps ≡ old.steps
   pub label : new.label ≡ old.label
   pub safe : new.safe ≡ old.safe
   pub slot : new.slot ≡ old.slot
+  pub sought : new.sought ≡ old.sought
 
--- a pass made one step: its table, its label, its safe number and its
--- slot are as they were
+-- a pass made one step: its table, its label, its safe number,
+-- its slot and its search for one are as they were
 pub record StepsBy (old new : PassModel) : Type 0 where
   pub table : new.table ≡ old.table
   pub steps : new.steps ≡ one_more old.steps
   pub label : new.label ≡ old.label
   pub safe : new.safe ≡ old.safe
   pub slot : new.slot ≡ old.slot
+  pub sought : new.sought ≡ old.sought
 
 -- what a step call that found this word leaves of a pass: what it knows is as the call says, and what the call
 -- tells is so; what a look has found of its own keys is what its ledger has; it was told no two keys of one node,

@@ -210,6 +210,7 @@ impl<A: Allocator + Copy> CardTable<A> {
         ensures fits { PlaceFits standing.new seat.new.table_id.words seat.new.me.0.period }
         ensures safe { seat.new.me.0.period.safe ≡ seat.old.me.0.period.safe }
         ensures slot { seat.new.me.0.period.slot ≡ seat.old.me.0.period.slot }
+        ensures sought { seat.new.me.0.period.sought ≡ seat.old.me.0.period.sought }
         ensures tree { seat.new.me.0.tree ≡ seat.old.me.0.tree }
         ensures seat { (seat.new.table_id ≡ seat.old.table_id) × (seat.new.me.1 ≡ []) }
     {
@@ -328,6 +329,7 @@ impl<A: Allocator + Copy> CardTable<A> {
         requires slots { self.now.plan.slots ≡ Some slots }
         ensures stands { StandsAs seat.old.me.0.period seat.new.me.0.period }
         ensures slot { seat.new.me.0.period.slot ≡ seat.old.me.0.period.slot }
+        ensures sought { seat.new.me.0.period.sought ≡ seat.old.me.0.period.sought }
         ensures tree { seat.new.me.0.tree ≡ seat.old.me.0.tree }
         ensures seat { (seat.new.table_id ≡ seat.old.table_id) × (seat.new.me.1 ≡ []) }
     {
@@ -360,6 +362,7 @@ impl<A: Allocator + Copy> CardTable<A> {
         ensures safe { result ≡ seat.new.me.0.period.safe }
         ensures stands { StandsAs seat.old.me.0.period seat.new.me.0.period }
         ensures slot { seat.new.me.0.period.slot ≡ seat.old.me.0.period.slot }
+        ensures sought { seat.new.me.0.period.sought ≡ seat.old.me.0.period.sought }
         ensures tree { seat.new.me.0.tree ≡ seat.old.me.0.tree }
         ensures seat { (seat.new.table_id ≡ seat.old.table_id) × (seat.new.me.1 ≡ []) }
     {

@@ -1,15 +1,18 @@
 //! Slots: a card lies in one, at one of the turns there. The word of a slot notes which of the three nodes of its card are dead.
 //! Once all three are, the slot is set free, with a reading of the clock as its stamp, and a pass takes it for the card of a later
 //! turn once that stamp is safe. The steps are not counted.
-ghost use Rattle.std.specs.Prelude.{◌≡◌, ◌≢◌, ◌+◌, ◌*◌, ◌<◌, ◌≤◌, ◌%◌, IfSome, None, Some, [], true, false};
+ghost use Rattle.std.specs.Prelude.{◌≡◌, ◌≢◌, ◌+◌, ◌*◌, ◌<◌, ◌≤◌, ◌%◌, ℕ, IfSome, None, Some, [], true, false};
 ghost use Rattle.ell_word.specs.Node.{greatest_card, greatest_number, card};
 ghost use Rattle.ell_cards.specs.Ages.{KnowsDeadNode, MayStamp};
 ghost use Rattle.ell_cards.specs.Guards.{MayFill};
-ghost use Rattle.ell_cards.specs.Periods.{StandsAs, after_own, after_read, after_stamp, after_taking, has_slot, last_reading, slot_word};
+ghost use Rattle.ell_cards.specs.Periods.{StandsAs, after_own, after_read, after_seek, after_stamp, after_taking, has_slot, last_reading, slot_word};
+ghost use Rattle.ell_cards.specs.Seeking.{FindsNone, FindsNoneIn, left_to_deletes, sought_on};
 ghost use Rattle.ell_cards.specs.SlotWords.{bit_of, card_by, is_noted, slot_of, stamp_in, turn_in, turn_of};
+ghost use Rattle.ell_cards.specs.Stepping.{MayGoOn};
 ghost use Rattle.ell_cards.specs.Tied.{HoldsWaiting};
 
 use crate::pass::Pass;
+use crate::rule::PeriodTelling;
 use crate::table::CardTable;
 use crate::view::{Known, Slots};
 use atomic_table::Seat;
@@ -90,6 +93,7 @@ impl Slots {
         requires { card ≤ greatest_number + 1 }
         ensures from { card ≤ result }
         ensures slot { slot_of result ≤ self.last }
+        ensures first { (c : ℕ) → card ≤ c → slot_of c ≤ self.last → result ≤ c }
     {
         if slot_of(card) <= self.last {
             card
@@ -193,6 +197,7 @@ impl<A: Allocator + Copy> CardTable<A> {
         requires may { MayStamp seat.old.me.0 (card_by slot word) }
         ensures stands { StandsAs seat.old.me.0.period seat.new.me.0.period }
         ensures slot { seat.new.me.0.period.slot ≡ seat.old.me.0.period.slot }
+        ensures sought { seat.new.me.0.period.sought ≡ seat.old.me.0.period.sought }
         ensures safe { seat.new.me.0.period.safe ≡ seat.old.me.0.period.safe }
         ensures tree { seat.new.me.0.tree ≡ seat.old.me.0.tree }
         ensures seat { (seat.new.table_id ≡ seat.old.table_id) × (seat.new.me.1 ≡ []) }
@@ -215,6 +220,7 @@ impl<A: Allocator + Copy> CardTable<A> {
         requires dead { KnowsDeadNode seat.old.me.0.tree node }
         ensures stands { StandsAs seat.old.me.0.period seat.new.me.0.period }
         ensures slot { seat.new.me.0.period.slot ≡ seat.old.me.0.period.slot }
+        ensures sought { seat.new.me.0.period.sought ≡ seat.old.me.0.period.sought }
         ensures safe { seat.new.me.0.period.safe ≡ seat.old.me.0.period.safe }
         ensures tree { seat.new.me.0.tree ≡ seat.old.me.0.tree }
         ensures seat { (seat.new.table_id ≡ seat.old.table_id) × (seat.new.me.1 ≡ []) }
@@ -246,6 +252,7 @@ impl<A: Allocator + Copy> CardTable<A> {
         requires dead { KnowsDeadNode seat.old.me.0.tree node }
         ensures stands { StandsAs seat.old.me.0.period seat.new.me.0.period }
         ensures slot { seat.new.me.0.period.slot ≡ seat.old.me.0.period.slot }
+        ensures sought { seat.new.me.0.period.sought ≡ seat.old.me.0.period.sought }
         ensures safe { seat.new.me.0.period.safe ≡ seat.old.me.0.period.safe }
         ensures tree { seat.new.me.0.tree ≡ seat.old.me.0.tree }
         ensures seat { (seat.new.table_id ≡ seat.old.table_id) × (seat.new.me.1 ≡ []) }
@@ -266,6 +273,7 @@ impl<A: Allocator + Copy> CardTable<A> {
         requires lost { lost ≡ true → seat.old.me.0.period.lost ≡ Some card }
         ensures stands { StandsAs seat.old.me.0.period seat.new.me.0.period }
         ensures slot { seat.new.me.0.period.slot ≡ seat.old.me.0.period.slot }
+        ensures sought { seat.new.me.0.period.sought ≡ seat.old.me.0.period.sought }
         ensures safe { seat.new.me.0.period.safe ≡ seat.old.me.0.period.safe }
         ensures tree { seat.new.me.0.tree ≡ seat.old.me.0.tree }
         ensures seat { (seat.new.table_id ≡ seat.old.table_id) × (seat.new.me.1 ≡ []) }
@@ -349,15 +357,58 @@ impl<A: Allocator + Copy> CardTable<A> {
         }
     }
 
-    // Reads the word of the slot of a card. Returns `true` if the pass could take the slot for that card: it is a slot of the
-    // card's turn already, and not free, or it was set free with a stamp below the pass's safe number.
-    fn is_takeable(&self, pass: &mut Pass<A>, slots: Slots, card: u64) -> bool
+    // Loads the word of the slot of a card for a search, and tells what its caller picked.
+    #[inline(always)]
+    fn load_sought<J: PeriodTelling>(
+        &self,
+        seat: &mut Seat<(), Known>,
+        slots: Slots,
+        card: u64,
+        begins: bool,
+    ) -> u64
+        requires own { seat.old.table_id ≡ self.now.id }
+        requires empty { seat.old.me.1 ≡ [] }
+        requires slots { self.now.plan.slots ≡ Some slots }
+        requires slot { slot_of card ≤ slots.last }
+        requires rule { MayGoOn self.now.plan seat.old.me.0 (slot_word slots (slot_of card)) (λ n. n) J.then }
+        ensures told { J.then result seat.new.me.0.period }
+        ensures tree { seat.new.me.0.tree ≡ seat.old.me.0.tree }
+        ensures seat { (seat.new.table_id ≡ seat.old.table_id) × (seat.new.me.1 ≡ []) }
+    {
+        let _ = begins;
+        self.period_load::<J>(seat, self.slot_address(slots, slot_of(card)))
+    }
+
+    // Reads the word of the slot of a card by a search, which begins with it or goes on.
+    #[inline(always)]
+    fn seek_slot(
+        &self,
+        seat: &mut Seat<(), Known>,
+        slots: Slots,
+        card: u64,
+        begins: bool,
+    ) -> u64
+        requires own { seat.old.table_id ≡ self.now.id }
+        requires empty { seat.old.me.1 ≡ [] }
+        requires slots { self.now.plan.slots ≡ Some slots }
+        requires slot { slot_of card ≤ slots.last }
+        ensures read { seat.new.me.0.period ≡ after_seek slots begins card result seat.old.me.0.period }
+        ensures tree { seat.new.me.0.tree ≡ seat.old.me.0.tree }
+        ensures seat { (seat.new.table_id ≡ seat.old.table_id) × (seat.new.me.1 ≡ []) }
+    {
+        self.load_sought::<Brand>(seat, slots, card, begins)
+    }
+
+    // Reads the word of the slot of a card by a search, which begins with it or goes on. Returns `true` if the pass could take the
+    // slot for that card: it is a slot of the card's turn already, and not free, or it was set free with a stamp below the pass's
+    // safe number.
+    fn is_takeable(&self, pass: &mut Pass<A>, slots: Slots, card: u64, begins: bool) -> bool
         requires own { pass.old.table ≡ self.now.id }
         requires slots { self.now.plan.slots ≡ Some slots }
         requires slot { slot_of card ≤ slots.last }
-        ensures { pass.new ≡ pass.old }
+        ensures { pass.new ≡ record (pass.old) { sought = sought_on slots begins card result pass.old.sought } }
     {
-        let word = self.read_slot(&mut pass.seat, slots, slot_of(card));
+        let word = self.seek_slot(&mut pass.seat, slots, card, begins);
         if word % 8 == 7 {
             stamp_in(word) < pass.standing.safe
         } else {
@@ -371,18 +422,19 @@ impl<A: Allocator + Copy> CardTable<A> {
         requires own { pass.old.table ≡ self.now.id }
         requires slots { self.now.plan.slots ≡ Some slots }
         requires room { card ≤ self.now.plan.last_card }
-        ensures same { pass.new ≡ pass.old }
+        ensures same { pass.new ≡ record (pass.old) { sought = pass.new.sought } }
         ensures found { IfSome result (λ c. (card ≤ c) × (c ≤ self.now.plan.last_card) × (slot_of c ≤ slots.last)) }
+        ensures none { result ≡ None → FindsNone slots self.now.plan.last_card card others pass.new.sought }
     {
         let _ = &self.table;
         let mut next = slots.next_with_slot(card);
         let mut first = None;
         let mut left = others;
-        for _ in 0..=slots.last {
+        for read in 0..slots.last + 1 {
             if self.last_card < next {
                 return None;
             }
-            if self.is_takeable(pass, slots, next) {
+            if self.is_takeable(pass, slots, next, read == 0) {
                 first = first.or(Some(next));
                 if left == 0 {
                     return first;
@@ -403,7 +455,11 @@ impl<A: Allocator + Copy> CardTable<A> {
         requires own { pass.old.table ≡ self.now.id }
         requires room { card ≤ self.now.plan.last_card }
         // What the pass knows of the tree is as it was, and it has made no step that is counted.
-        ensures same { pass.new ≡ record (pass.old) { safe = pass.new.safe } }
+        ensures same { pass.new ≡ record (pass.old) { safe = pass.new.safe; sought = pass.new.sought } }
+        // If there is none, then no number of the table from this card on has a slot; or the pass has read the words of all slots
+        // in a row, or of all that are left to numbers of the table, and could have taken two of them at most, and none if it is for
+        // a delete.
+        ensures none { result ≡ None → FindsNoneIn self.now.plan.slots self.now.plan.last_card card (left_to_deletes for_delete) pass.new.sought }
         // It is a card of the table that has a slot, and none before the one from which it was sought.
         ensures found { IfSome result (λ c. (card ≤ c) × (c ≤ self.now.plan.last_card) × (has_slot self.now.plan.slots c ≡ true)) }
         // A table without places has no slots to be read.

@@ -138,6 +138,17 @@ pub struct Period {
     pub slot: Option<u64>,
     /// The card whose flag it lost last, which was laid aside.
     pub lost: Option<u64>,
+    /// What its last search for a slot to take has read.
+    pub sought: Seek,
+}
+
+/// What a search for a slot has read: of so many numbers in a row, from this one on, the words of their slots, those of numbers that
+/// have slots; and so many of these slots the pass could have taken for them, by its safe number then.
+#[derive(Clone, Copy)]
+pub struct Seek {
+    pub from: u64,
+    pub read: u64,
+    pub takeable: u64,
 }
 
 /// The word of a slot as a pass has read it.

@@ -39,3 +39,5 @@ pub mod Losing
 pub mod TakingSlots
 -- rows of numbers that a pass takes at once
 pub mod Skipping
+-- the row of numbers whose slots a search reads
+pub mod Seeking

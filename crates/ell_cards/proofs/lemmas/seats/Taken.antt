@@ -127,8 +127,8 @@ word_fits plan _ v may last named = omega arith
 
 -- a pass after one step that took this call, before it counts the step
 pub sees_by : (old new : PassModel) (v : View) → SeesBy old new → new.view ≡ v → Sees old new v
-sees_by old new v by known = λ t. record { table = by.table t; view = known t; steps = by.steps t; label = by.label t; safe = by.safe t; slot = by.slot t }
+sees_by old new v by known = λ t. record { table = by.table t; view = known t; steps = by.steps t; label = by.label t; safe = by.safe t; slot = by.slot t; sought = by.sought t }
 
 -- a pass after one step that took this call
 pub steps_by : (old new : PassModel) (v : View) → StepsBy old new → new.view ≡ v → Steps old new v
-steps_by old new v by known = λ t. record { table = by.table t; view = known t; steps = by.steps t; label = by.label t; safe = by.safe t; slot = by.slot t }
+steps_by old new v by known = λ t. record { table = by.table t; view = known t; steps = by.steps t; label = by.label t; safe = by.safe t; slot = by.slot t; sought = by.sought t }

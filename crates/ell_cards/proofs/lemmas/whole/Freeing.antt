@@ -1,4 +1,4 @@
-use Rattle.std.proofs.Common.{◌≡◌, ◌≢◌, ℕ, zero, suc, ◌+◌, ◌*◌, ◌%◌, ◌<◌, ◌≤◌, ◌==◌, true, false, Some, length, get_or, set, inl, inr, ◌⊎◌, refl, sym, ap, ◌∙◌, subst, arith, eq-eqb, ne_eqb, get_or-set_same, get_or-set_other}
+use Rattle.std.proofs.Common.{◌≡◌, ◌≢◌, ℕ, zero, suc, ◌+◌, ◌*◌, ◌%◌, ◌<◌, ◌≤◌, ◌==◌, Bool, true, false, Some, length, get_or, set, inl, inr, ◌⊎◌, refl, sym, ap, ◌∙◌, subst, arith, eq-eqb, ne_eqb, get_or-set_same, get_or-set_other}
 use Rattle.std.proofs.lemmas.Bool.{cases_eq, false≢true}
 use Rattle.std.proofs.lemmas.Bool.Decides.{nat_tests}
 use Rattle.std.proofs.lemmas.Option.{same_Some}
@@ -9,13 +9,15 @@ use Rattle.ell_layout.specs.Words.{put}
 use Rattle.ell_layout.proofs.lemmas.Writes.{put_same, put_other}
 use Rattle.ell_cards.specs.declared.view.Known.{Known}
 use Rattle.ell_cards.specs.declared.view.Period.{Period}
+use Rattle.ell_cards.specs.declared.view.Seek.{Seek}
 use Rattle.ell_cards.specs.declared.view.SlotRead.{SlotRead}
 use Rattle.ell_cards.specs.declared.view.Slots.{Slots}
 use Rattle.ell_cards.specs.Ages.{IsOut, HasPeriods, KnowsDeadNode, KnowsDeadCard, MayStamp}
 use Rattle.ell_cards.specs.Aside.{IsAside}
 use Rattle.ell_cards.specs.Models.{TablePlan}
-use Rattle.ell_cards.specs.Periods.{WholeState, clock_word, slot_word, slots_size, last_reading, card_in, pending_by, after_read, after_stamp, PeriodsAreSound}
-use Rattle.ell_cards.specs.SlotWords.{card_by, turn_in, free_word, is_noted, bit_of}
+use Rattle.ell_cards.specs.Periods.{WholeState, clock_word, slot_word, slots_size, last_reading, card_in, pending_by, after_read, after_seek, after_stamp, PeriodsAreSound}
+use Rattle.ell_cards.specs.Seeking.{could_take, sought_on}
+use Rattle.ell_cards.specs.SlotWords.{card_by, slot_of, turn_in, free_word, is_noted, bit_of}
 use Rattle.ell_cards.specs.States.{TableState}
 use Rattle.ell_cards.specs.Stepping.{MayGoOn}
 use Rattle.ell_cards.proofs.lemmas.runs.Alive.{known_dead_is_dead}
@@ -85,21 +87,21 @@ module _ (plan : TablePlan) (s : Slots) (tree : TableState) (t : WholeState) (id
   dead_by : (x : ℕ) → KnowsDeadNode k.tree x → OutNow x
   dead_by x knows = inl (known_dead_is_dead plan tree id k.tree there knows.0 x knows.1 h.ages.now.machine h.ages.now.uses.outs)
 
-  -- it reads the word of a slot
-  pub reads_now : (slot : ℕ) → slot ≤ s.last
-      → HasPeriods plan s tree (turned_to t id k (after_read slot (get_or t.words (slot_word s slot) 0) k.period) (slot_word s slot) (get_or t.words (slot_word s slot) 0))
-  reads_now slot inside =
+  -- it reads the word of a slot, whatever its search has read then
+  pub reads_now : (slot : ℕ) → slot ≤ s.last → (sought : Seek)
+      → HasPeriods plan s tree (turned_to t id k (record (after_read slot (get_or t.words (slot_word s slot) 0) k.period) { sought = sought }) (slot_word s slot) (get_or t.words (slot_word s slot) 0))
+  reads_now slot inside sought =
       let n = get_or t.words (slot_word s slot) 0 in record {
         dead = h.dead;
         began = h.began;
         was_dead = h.was_dead;
-        periods = slot_read s t id k here h.dead h.began h.was_dead h.periods size slot inside;
-        ages = ages_of_period plan s tree t id k here (record { tree = k.tree; period = after_read slot n k.period }) refl (set t.words (slot_word s slot) n) h.dead h.dead h.was_dead h.was_dead h.ages
+        periods = slot_read s t id k here h.dead h.began h.was_dead h.periods size slot inside sought;
+        ages = ages_of_period plan s tree t id k here (record { tree = k.tree; period = record (after_read slot n k.period) { sought = sought } }) refl (set t.words (slot_word s slot) n) h.dead h.dead h.was_dead h.was_dead h.ages
             h.ages.now.each h.ages.still (λ q a at an. h.ages.since id q a k here at an) (λ j q a u other at placed an. refl)
             (same_noted plan s tree t id k here h (set t.words (slot_word s slot) n) (same_again plan s tree t id k here h size (slot_word s slot) (omega arith)))
             (λ r has i is. subst (λ (x : SlotRead). is_noted x.word i ≡ true → OutNow (4 * card_by x.slot x.word + i)) (same_Some _ r has) (h.ages.noted slot i inside) is)
             (λ c has. h.ages.lost id c k here has);
-        tied = tie_of_period s tree t h.ages.now.machine.stages h.dead h.dead h.was_dead h.was_dead h.tied id k here (after_read slot n k.period) refl (set t.words (slot_word s slot) n)
+        tied = tie_of_period s tree t h.ages.now.machine.stages h.dead h.dead h.was_dead h.was_dead h.tied id k here (record (after_read slot n k.period) { sought = sought }) refl (set t.words (slot_word s slot) n)
             (λ j low. word_again t.words (slot_word s slot) (omega arith) j) (λ other low. ap (card_by other) (same_again plan s tree t id k here h size (slot_word s slot) (omega arith) other))
             (λ c lives. lives) (λ q a at an. inl (at, an, λ c lives. lives)) (λ seat q a u other at placed an c lives. lives) t.homes;
       }
@@ -229,7 +231,7 @@ module _ (plan : TablePlan) (s : Slots) (placed : plan.slots ≡ Some s) (slot :
   pub reads_slot : (k : Known) → MayGoOn plan k (slot_word s slot) (λ n. n) (λ n p. p ≡ after_read slot n k.period)
   reads_slot k =
       goes_on_there plan s placed k (slot_word s slot) (λ n. n) (λ n p. p ≡ after_read slot n k.period) (λ t. after_read slot (get_or t.words (slot_word s slot) 0) k.period)
-      (λ tree t id here there h size. (reads_now plan s tree t id k here there h size slot inside, refl))
+      (λ tree t id here there h size. (reads_now plan s tree t id k here there h size slot inside k.period.sought, refl))
 
   -- whatever slot a word is of
   pub reads_any : (k : Known) (word : ℕ) → word ≡ slot_word s slot
@@ -244,6 +246,21 @@ module _ (plan : TablePlan) (s : Slots) (placed : plan.slots ≡ Some s) (slot :
           let same : o ≡ s = same_Some o s (sym slots ∙ placed) in
           let word : slot_word o r ≡ slot_word s r = ap (λ x. slot_word x r) same in
           omega arith
+
+  -- it reads the word of the slot of a card by its search
+  pub seeks : (begins : Bool) (c : ℕ) → slot_of c ≡ slot → (k : Known) (word : ℕ) → word ≡ slot_word s slot
+      → MayGoOn plan k word (λ n. n) (λ n p. p ≡ after_seek s begins c n k.period)
+  seeks begins c lies k word is =
+      subst (λ i. MayGoOn plan k i (λ n. n) (λ n p. p ≡ after_seek s begins c n k.period)) (sym is)
+      (goes_on_there plan s placed k (slot_word s slot) (λ n. n) (λ n p. p ≡ after_seek s begins c n k.period) (λ t. after_seek s begins c (get_or t.words (slot_word s slot) 0) k.period)
+      (λ tree t id here there h size. (
+        subst (λ x. HasPeriods plan s tree (turned_to t id k (record (after_read x (get_or t.words (slot_word s slot) 0) k.period) { sought = now t }) (slot_word s slot) (get_or t.words (slot_word s slot) 0))) (sym lies)
+            (reads_now plan s tree t id k here there h size slot inside (now t)),
+        refl,
+      )))
+    where
+      now : WholeState → Seek
+      now t = sought_on s begins c (could_take c (get_or t.words (slot_word s slot) 0) k.period.safe) k.period.sought
 
   -- it notes one more node as dead, if the word is as it was
   pub notes_node : (k : Known) (i n : ℕ) → i < 3 → is_noted n i ≡ false → n % 8 ≢ 7 → (n + bit_of i) % 8 ≢ 7 → KnowsDeadNode k.tree (4 * card_by slot n + i)

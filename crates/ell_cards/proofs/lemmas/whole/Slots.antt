@@ -10,6 +10,7 @@ use Rattle.ell_grace.specs.Periods.{GraceIsSound}
 use Rattle.ell_grace.proofs.lemmas.Grace.{grace_goes_on, taken_cards_were_gone}
 use Rattle.ell_cards.specs.declared.view.Known.{Known}
 use Rattle.ell_cards.specs.declared.view.Period.{Period}
+use Rattle.ell_cards.specs.declared.view.Seek.{Seek}
 use Rattle.ell_cards.specs.declared.view.Slots.{Slots}
 use Rattle.ell_cards.specs.Periods.{WholeState, clock_word, place_word, slot_word, slots_size, stamp_at, pending_by, period_in, word_at_place, announced_by, place_says, last_reading, after_read, after_stamp, after_taking, HasPlace, own, spare, StandsAs, PeriodHolds, PeriodsAreSound, grace_of}
 use Rattle.ell_cards.specs.SlotWords.{slot_of, turn_in, stamp_in, free_word, card_by, freed_by}
@@ -171,14 +172,15 @@ module _ (s : Slots) (t : WholeState) (id : ℕ) (k : Known) (here : get_elem? t
     abbrev found : ℕ
     found = get_or t.words (slot_word s slot) 0
 
-    -- it reads that
-    pub slot_read : PeriodsAreSound s (record { words = set t.words (slot_word s slot) (get_or t.words (slot_word s slot) 0); homes = t.homes; views = set t.views id (record { tree = k.tree; period = after_read slot (get_or t.words (slot_word s slot) 0) k.period }) })
+    -- it reads that, whatever its search has read then
+    pub slot_read : (sought : Seek)
+        → PeriodsAreSound s (record { words = set t.words (slot_word s slot) (get_or t.words (slot_word s slot) 0); homes = t.homes; views = set t.views id (record { tree = k.tree; period = record (after_read slot (get_or t.words (slot_word s slot) 0) k.period) { sought = sought } }) })
         dead began was_dead
-    slot_read =
-        slots_after s t id k here dead began was_dead h (set t.words (slot_word s slot) (get_or t.words (slot_word s slot) 0)) (after_read slot found k.period)
+    slot_read sought =
+        slots_after s t id k here dead began was_dead h (set t.words (slot_word s slot) (get_or t.words (slot_word s slot) 0)) (record (after_read slot found k.period) { sought = sought })
         (record { place = refl; other = refl; other_says = refl; announced = refl }) refl refl refl refl refl (again (clock_word s)) (λ q. again (place_word s q))
         dead was.pending was.free h.sound
-        (part_same t.views id k here (record { tree = k.tree; period = after_read slot found k.period }) (λ p. pending_by p.stamp) refl)
+        (part_same t.views id k here (record { tree = k.tree; period = record (after_read slot found k.period) { sought = sought } }) (λ p. pending_by p.stamp) refl)
         (stamps_same s t.words (set t.words (slot_word s slot) (get_or t.words (slot_word s slot) 0)) (λ x low. again (slot_word s x)))
       where
         again : (j : ℕ) → get_or (set t.words (slot_word s slot) (get_or t.words (slot_word s slot) 0)) j 0 ≡ get_or t.words j 0

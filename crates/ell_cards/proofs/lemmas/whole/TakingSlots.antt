@@ -64,7 +64,7 @@ module _ (plan : TablePlan) (s : Slots) (tree : TableState) (t : WholeState) (id
       by : (b : Bool) → (turn_in found == turn_of c) ≡ b
           → HasPeriods plan s tree (turned_to t id k (if b then after_taking c k.period else after_read (slot_of c) found k.period) (slot_word s (slot_of c)) found)
       by true is = own_now (grind (arith, nat_tests))
-      by false is = reads_now plan s tree t id k here (ap (λ l. get_elem? l id) (sym same) ∙ tree_at t.views id k here) h size (slot_of c) inside
+      by false is = reads_now plan s tree t id k here (ap (λ l. get_elem? l id) (sym same) ∙ tree_at t.views id k here) h size (slot_of c) inside k.period.sought
 
   -- or the slot was set free with a stamp below the pass's safe number
   pub takes_now : s.last < 2097152 → (n : ℕ) → get_or t.words (slot_word s (slot_of c)) 0 ≡ n → n % 8 ≡ 7 → stamp_in n < k.period.safe

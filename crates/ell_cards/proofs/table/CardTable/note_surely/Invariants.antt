@@ -9,6 +9,7 @@ invariant-loop g l = record {
   empty : l.seat.me.1 ≡ [];
   stands : StandsAs l.fn.seat.me.0.period l.seat.me.0.period;
   slot : l.seat.me.0.period.slot ≡ l.fn.seat.me.0.period.slot;
+  sought : l.seat.me.0.period.sought ≡ l.fn.seat.me.0.period.sought;
   safe : l.seat.me.0.period.safe ≡ l.fn.seat.me.0.period.safe;
   tree : l.seat.me.0.tree ≡ l.fn.seat.me.0.tree;
 }

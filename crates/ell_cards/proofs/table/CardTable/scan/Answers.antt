@@ -11,6 +11,7 @@ loop-place-init g c =
       tree = search rules;
       stands = search rules;
       slot = search rules;
+      sought = search rules;
       looked = search rules;
       least = search rules;
       safe = λ none. absurd (omega arith);

@@ -1,0 +1,57 @@
+-- What a search for a slot has read.
+use Rattle.std.specs.Prelude.{◌≡◌, ℕ, ◌⊎◌, ◌+◌, ◌*◌, ◌<◌, ◌≤◌, ◌%◌, ◌==◌, ◌&&◌, nat_lt, not, if◌then◌else◌, Bool, Option, IfSome}
+use Rattle.ell_cards.specs.declared.view.Seek.{Seek}
+use Rattle.ell_cards.specs.declared.view.Slots.{Slots}
+use Rattle.ell_cards.specs.SlotWords.{slot_of, turn_of, turn_in, stamp_in}
+
+-- how many of the numbers that have slots come before this one, which has one: each turn has as many as there are slots
+abbrev pub slots_before : Slots → ℕ → ℕ
+slots_before s c = (s.last + 1) * turn_of c + slot_of c
+
+-- whether a pass with a safe number could take the slot of a card, by the slot's word: that is of the card's turn and not
+-- free, or it was set free with a stamp below the safe number
+abbrev pub could_take : ℕ → ℕ → ℕ → Bool
+could_take c n safe = if n % 8 == 7 then nat_lt (stamp_in n) safe else turn_in n == turn_of c
+
+-- a pass that has not sought a slot has read none
+abbrev pub no_seek : Seek
+no_seek = record { from = 0; read = 0; takeable = 0 }
+
+-- whether this number is the next one of the row
+abbrev pub is_next : Slots → ℕ → Seek → Bool
+is_next s c k = slots_before s c == slots_before s k.from + k.read
+
+abbrev pub one_if : Bool → ℕ
+one_if takes = if takes then 1 else 0
+
+-- The word of a card's slot was read, and the pass could take the slot or not. The row goes on by it if the number is
+-- the next one of the row; if it is not, or if a search begins, another row begins with it.
+abbrev pub sought_on : Slots → Bool → ℕ → Bool → Seek → Seek
+sought_on s begins c takes k =
+    if not begins && is_next s c k then record { from = k.from; read = k.read + 1; takeable = k.takeable + one_if takes }
+    else record { from = c; read = 1; takeable = one_if takes }
+
+-- so many slots that it could take a pass leaves to deletes
+abbrev pub left_to_deletes : Bool → ℕ
+left_to_deletes for_delete = if for_delete then 0 else 2
+
+-- of the numbers from one on and up to the last one of a table none has a slot
+abbrev pub NumbersEnd : Slots → ℕ → ℕ → Type 0
+NumbersEnd s last card = (c : ℕ) → card ≤ c → slot_of c ≤ s.last → last < c
+
+-- A row begins with the first number from this one on that has a slot, and has all slots once, or all such numbers up to
+-- the last one of the table; and of the slots that it has, the pass could have taken so many at most.
+pub record HasFew (s : Slots) (last card few : ℕ) (k : Seek) : Type 0 where
+  pub from : card ≤ k.from
+  pub first : (c : ℕ) → card ≤ c → slot_of c ≤ s.last → k.from ≤ c
+  pub far : (k.read ≡ s.last + 1)
+      ⊎ ((c : ℕ) → c ≤ last → slot_of c ≤ s.last → slots_before s c < slots_before s k.from + k.read)
+  pub small : k.takeable ≤ few
+
+-- why a search from a number on found no slot to take, if so many are left: the numbers are at an end, or it has read a
+-- row that has few
+abbrev pub FindsNone : Slots → ℕ → ℕ → ℕ → Seek → Type 0
+FindsNone s last card few k = NumbersEnd s last card ⊎ HasFew s last card few k
+
+abbrev pub FindsNoneIn : Option Slots → ℕ → ℕ → ℕ → Seek → Type 0
+FindsNoneIn slots last card few k = IfSome slots (λ s. FindsNone s last card few k)
