@@ -15,7 +15,7 @@ use Rattle.ell_cards.specs.declared.view.Told.{Told}
 use Rattle.ell_cards.specs.declared.view.Told.TheVariants.{Met, Key}
 use Rattle.ell_cards.specs.declared.view.View.{View}
 use Rattle.ell_cards.specs.Models.{TablePlan, IsFree, IsTold}
-use Rattle.ell_cards.specs.Seeking.{no_seek, could_take, sought_on}
+use Rattle.ell_cards.specs.Seeking.{could_take, missed_none, missed_one, no_seek, sought_on}
 use Rattle.ell_cards.specs.SlotWords.{slot_of, turn_of, turn_in, card_by, freed_by}
 
 -- the state of a table, with all that its passes know
@@ -173,11 +173,18 @@ after_seek s begins c n p = record (after_read (slot_of c) n p) { sought = sough
 
 -- the slot of a card was taken
 abbrev pub after_taking : ℕ → Period → Period
-after_taking c p = record p { read = None; slot = Some c }
+after_taking c p = record p { read = None; slot = Some c; sought = missed_none p.sought }
 
--- the word of a card's slot was read, and so the slot was taken if that card lies there already
+-- or its word was found to be another one, and it could not be taken
+abbrev pub after_missing : ℕ → ℕ → Period → Period
+after_missing c n p = record (after_read (slot_of c) n p) { sought = missed_one p.sought }
+
+-- the word of a card's slot was read, and so the slot was taken if that card lies there already; else it may be one that
+-- could be taken
 abbrev pub after_own : ℕ → ℕ → Period → Period
-after_own c n p = if turn_in n == turn_of c then after_taking c p else after_read (slot_of c) n p
+after_own c n p =
+    if turn_in n == turn_of c then after_taking c p
+    else if could_take c n p.safe then after_read (slot_of c) n p else after_missing c n p
 
 -- the clock was read for a card whose nodes are dead
 abbrev pub after_stamp : ℕ → ℕ → Period → Period

@@ -15,7 +15,7 @@ could_take c n safe = if n % 8 == 7 then nat_lt (stamp_in n) safe else turn_in n
 
 -- a pass that has not sought a slot has read none
 abbrev pub no_seek : Seek
-no_seek = record { from = 0; read = 0; takeable = 0 }
+no_seek = record { from = 0; read = 0; takeable = 0; missed = 0 }
 
 -- whether this number is the next one of the row
 abbrev pub is_next : Slots → ℕ → Seek → Bool
@@ -28,8 +28,16 @@ one_if takes = if takes then 1 else 0
 -- the next one of the row; if it is not, or if a search begins, another row begins with it.
 abbrev pub sought_on : Slots → Bool → ℕ → Bool → Seek → Seek
 sought_on s begins c takes k =
-    if not begins && is_next s c k then record { from = k.from; read = k.read + 1; takeable = k.takeable + one_if takes }
-    else record { from = c; read = 1; takeable = one_if takes }
+    if not begins && is_next s c k then record k { read = k.read + 1; takeable = k.takeable + one_if takes }
+    else record k { from = c; read = 1; takeable = one_if takes }
+
+-- the slot of a card in hand could not be taken
+abbrev pub missed_one : Seek → Seek
+missed_one k = record k { missed = k.missed + 1 }
+
+-- or it was taken
+abbrev pub missed_none : Seek → Seek
+missed_none k = record k { missed = 0 }
 
 -- so many slots that it could take a pass leaves to deletes
 abbrev pub left_to_deletes : Bool → ℕ

@@ -19,7 +19,7 @@ use Rattle.ell_cards.specs.Changes.{left_view, right_view}
 use Rattle.ell_cards.specs.Calls.{May, place_of, atomic_of, left_by}
 use Rattle.ell_cards.specs.Models.{TablePlan, IsFree, MayPart}
 use Rattle.ell_cards.specs.PeriodLaws.{IsInPeriod}
-use Rattle.ell_cards.specs.Periods.{WholeState, IsAtRest, slot_word, slots_size, opening_words, card_in, after_give, given_period}
+use Rattle.ell_cards.specs.Periods.{WholeState, IsAtRest, slot_word, slots_size, opening_words, card_in, after_give, after_taking, given_period}
 use Rattle.ell_cards.specs.Shown.{IsWord, cut_word, IsNear}
 use Rattle.ell_cards.specs.SlotWords.{slot_of, turn_of}
 use Rattle.ell_cards.specs.Starts.{MayStart, IsReached}
@@ -154,7 +154,7 @@ abbrev pub memory_taken : Slots → WholeState → ℕ → Known → ℕ → Who
 memory_taken s t id k c = record {
   words = slice_set t.words (slot_word s (slot_of c)) (8 * turn_of c);
   homes = t.homes;
-  views = slice_set t.views id (record { tree = k.tree; period = record k.period { read = None; slot = Some c } });
+  views = slice_set t.views id (record { tree = k.tree; period = after_taking c k.period });
 }
 
 -- A pass takes the slot of its card in hand, which is not flagged, where a card lies that is dead, and was dead for
@@ -181,7 +181,7 @@ OwnSlotsKeepTies = (plan : TablePlan) (s : Slots) (tree : TableState) (t : Whole
     (record {
       words = slice_set t.words (slot_word s (slot_of c)) (slice_index t.words (slot_word s (slot_of c)));
       homes = t.homes;
-      views = slice_set t.views id (record { tree = k.tree; period = record k.period { read = None; slot = Some c } });
+      views = slice_set t.views id (record { tree = k.tree; period = after_taking c k.period });
     })
     dead was_dead
 

@@ -5,8 +5,8 @@ ghost use Rattle.std.specs.Prelude.{◌≡◌, ◌≢◌, ◌+◌, ◌*◌, ◌<
 ghost use Rattle.ell_word.specs.Node.{greatest_card, greatest_number, card};
 ghost use Rattle.ell_cards.specs.Ages.{KnowsDeadNode, MayStamp};
 ghost use Rattle.ell_cards.specs.Guards.{MayFill};
-ghost use Rattle.ell_cards.specs.Periods.{StandsAs, after_own, after_read, after_seek, after_stamp, after_taking, has_slot, last_reading, slot_word};
-ghost use Rattle.ell_cards.specs.Seeking.{FindsNone, FindsNoneIn, left_to_deletes, sought_on};
+ghost use Rattle.ell_cards.specs.Periods.{StandsAs, after_missing, after_own, after_read, after_seek, after_stamp, after_taking, has_slot, last_reading, slot_word};
+ghost use Rattle.ell_cards.specs.Seeking.{FindsNone, FindsNoneIn, left_to_deletes, missed_none, missed_one, sought_on};
 ghost use Rattle.ell_cards.specs.SlotWords.{bit_of, card_by, is_noted, slot_of, stamp_in, turn_in, turn_of};
 ghost use Rattle.ell_cards.specs.Stepping.{MayGoOn};
 ghost use Rattle.ell_cards.specs.Tied.{HoldsWaiting};
@@ -337,7 +337,7 @@ impl<A: Allocator + Copy> CardTable<A> {
         requires free { word % 8 ≡ 7 }
         requires safe { stamp_in word < seat.old.me.0.period.safe }
         ensures taken { result ≡ true → seat.new.me.0.period ≡ after_taking card seat.old.me.0.period }
-        ensures lost { result ≡ false → seat.new.me.0.period ≡ seat.old.me.0.period }
+        ensures lost { result ≡ false → (n : ℕ) × (seat.new.me.0.period ≡ after_missing card n seat.old.me.0.period) }
         ensures tree { seat.new.me.0.tree ≡ seat.old.me.0.tree }
         ensures seat { (seat.new.table_id ≡ seat.old.table_id) × (seat.new.me.1 ≡ []) }
     {
@@ -381,13 +381,7 @@ impl<A: Allocator + Copy> CardTable<A> {
 
     // Reads the word of the slot of a card by a search, which begins with it or goes on.
     #[inline(always)]
-    fn seek_slot(
-        &self,
-        seat: &mut Seat<(), Known>,
-        slots: Slots,
-        card: u64,
-        begins: bool,
-    ) -> u64
+    fn seek_slot(&self, seat: &mut Seat<(), Known>, slots: Slots, card: u64, begins: bool) -> u64
         requires own { seat.old.table_id ≡ self.now.id }
         requires empty { seat.old.me.1 ≡ [] }
         requires slots { self.now.plan.slots ≡ Some slots }
@@ -489,9 +483,12 @@ impl<A: Allocator + Copy> CardTable<A> {
         // The pass has taken the slot of its card, if the table has places.
         ensures took { result ≡ true → self.now.plan.slots ≢ None → pass.new.slot ≡ Some card }
         // What the pass knows of the tree is as it was, and it has made no step that is counted.
-        ensures same { pass.new ≡ record (pass.old) { slot = pass.new.slot; safe = pass.new.safe } }
+        ensures same { pass.new ≡ record (pass.old) { slot = pass.new.slot; safe = pass.new.safe; sought = pass.new.sought } }
         // If it did not take the slot, it has the slot that it had.
-        ensures kept { result ≡ false → pass.new ≡ record (pass.old) { safe = pass.new.safe } }
+        ensures kept { result ≡ false → pass.new ≡ record (pass.old) { safe = pass.new.safe; sought = pass.new.sought } }
+        // Slots that could not be taken are counted, from the last one on that was taken.
+        ensures missed { result ≡ false → has_slot self.now.plan.slots card ≡ true → pass.new.sought ≡ missed_one pass.old.sought }
+        ensures anew { result ≡ true → self.now.plan.slots ≢ None → pass.new.sought ≡ missed_none pass.old.sought }
         // A table without places has no slots to be taken.
         ensures none { self.now.plan.slots ≡ None → (result ≡ true) × (pass.new ≡ pass.old) }
     {

@@ -142,13 +142,16 @@ pub struct Period {
     pub sought: Seek,
 }
 
-/// What a search for a slot has read: of so many numbers in a row, from this one on, the words of their slots, those of numbers that
-/// have slots; and so many of these slots the pass could have taken for them, by its safe number then.
+/// What a search for a slot has read: the words of the slots of so many numbers in a row, from this one on, of those that have
+/// slots.
 #[derive(Clone, Copy)]
 pub struct Seek {
     pub from: u64,
     pub read: u64,
+    /// So many of these slots it could have taken for those numbers, by its safe number then.
     pub takeable: u64,
+    /// So many slots of cards that it had in hand it could not take, since it took one last.
+    pub missed: u64,
 }
 
 /// The word of a slot as a pass has read it.

@@ -13,7 +13,7 @@ use Rattle.ell_cards.specs.declared.view.Period.{Period}
 use Rattle.ell_cards.specs.declared.view.Slots.{Slots}
 use Rattle.ell_cards.specs.Ages.{IsOut}
 use Rattle.ell_cards.specs.Machines.{HasMachine}
-use Rattle.ell_cards.specs.Periods.{WholeState, slot_word, card_in}
+use Rattle.ell_cards.specs.Periods.{WholeState, slot_word, card_in, after_taking}
 use Rattle.ell_cards.specs.Shown.{cut_word}
 use Rattle.ell_cards.specs.SlotWords.{slot_of, card_by, is_noted}
 use Rattle.ell_cards.specs.States.{TableState}
@@ -83,7 +83,7 @@ own_slots_keep_ties plan s tree t dead was_dead size h trees id k here c hand th
     r = h.ages.now.machine
 
     p : Period
-    p = record k.period { read = None; slot = Some c }
+    p = after_taking c k.period
 
     slot : ℕ
     slot = slot_word s (slot_of c)

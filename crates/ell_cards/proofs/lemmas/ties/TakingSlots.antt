@@ -20,7 +20,7 @@ use Rattle.ell_cards.specs.declared.view.View.{View}
 use Rattle.ell_cards.specs.Ages.{IsOut, AreDead}
 use Rattle.ell_cards.specs.Machines.{HasMachine}
 use Rattle.ell_cards.specs.Models.{TablePlan}
-use Rattle.ell_cards.specs.Periods.{slot_word, card_in}
+use Rattle.ell_cards.specs.Periods.{slot_word, card_in, after_taking}
 use Rattle.ell_cards.specs.SlotWords.{slot_of, turn_of, card_by, is_noted}
 use Rattle.ell_cards.specs.States.{TableState, seat_worker}
 use Rattle.ell_cards.specs.Tied.{HoldsWaiting}
@@ -91,7 +91,7 @@ takes_keep_ties plan s tree t dead was_dead low size h same id k here c hand ins
     r = h.ages.now.machine
 
     p : Period
-    p = record k.period { read = None; slot = Some c }
+    p = after_taking c k.period
 
     words : List ℕ
     words = set t.words (slot_word s (slot_of c)) (8 * turn_of c)

@@ -62,7 +62,7 @@ row_goes_on s card others next zero left left' next' takes k low from inside ins
   );
 }
 row_goes_on s card others next (suc read) left left' next' takes k low from inside inside' after first' fewer row =
-    subst (λ b. RowSoFar s card others next' (suc read + 1) left' (if b then record { from = k.from; read = k.read + 1; takeable = k.takeable + one_if takes } else record { from = next; read = 1; takeable = one_if takes }))
+    subst (λ b. RowSoFar s card others next' (suc read + 1) left' (if b then record k { read = k.read + 1; takeable = k.takeable + one_if takes } else record k { from = next; read = 1; takeable = one_if takes }))
     (sym goes) (record {
       start = λ none. absurd (omega arith);
       on = λ some. (

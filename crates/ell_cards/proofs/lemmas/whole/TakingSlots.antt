@@ -8,10 +8,12 @@ use lib.ListN.{get_elem?}
 use prog.Atomic.{either}
 use Rattle.ell_cards.specs.declared.view.Known.{Known}
 use Rattle.ell_cards.specs.declared.view.Period.{Period}
+use Rattle.ell_cards.specs.declared.view.Seek.{Seek}
 use Rattle.ell_cards.specs.declared.view.Slots.{Slots}
 use Rattle.ell_cards.specs.Ages.{HasPeriods}
 use Rattle.ell_cards.specs.Models.{TablePlan}
-use Rattle.ell_cards.specs.Periods.{WholeState, slot_word, slots_size, after_own, after_read, after_taking}
+use Rattle.ell_cards.specs.Periods.{WholeState, slot_word, slots_size, after_missing, after_own, after_read, after_taking}
+use Rattle.ell_cards.specs.Seeking.{could_take, missed_one}
 use Rattle.ell_cards.specs.SlotWords.{slot_of, turn_of, turn_in, stamp_in}
 use Rattle.ell_cards.specs.States.{TableState}
 use Rattle.ell_cards.specs.Stepping.{MayGoOn}
@@ -57,14 +59,22 @@ module _ (plan : TablePlan) (s : Slots) (tree : TableState) (t : WholeState) (id
         tied = tied.tied;
       }
 
+  -- it reads the slot's word
+  pub reads_so : (sought : Seek) → HasPeriods plan s tree (turned_to t id k (record (after_read (slot_of c) (get_or t.words (slot_word s (slot_of c)) 0) k.period) { sought = sought }) (slot_word s (slot_of c)) (get_or t.words (slot_word s (slot_of c)) 0))
+  reads_so sought = reads_now plan s tree t id k here (ap (λ l. get_elem? l id) (sym same) ∙ tree_at t.views id k here) h size (slot_of c) inside sought
+
   -- so the pass reads the slot's word, and has taken the slot if that is so
   pub owns_now : HasPeriods plan s tree (turned_to t id k (after_own c (get_or t.words (slot_word s (slot_of c)) 0) k.period) (slot_word s (slot_of c)) (get_or t.words (slot_word s (slot_of c)) 0))
   owns_now = by (turn_in found == turn_of c) refl
     where
       by : (b : Bool) → (turn_in found == turn_of c) ≡ b
-          → HasPeriods plan s tree (turned_to t id k (if b then after_taking c k.period else after_read (slot_of c) found k.period) (slot_word s (slot_of c)) found)
+          → HasPeriods plan s tree (turned_to t id k (if b then after_taking c k.period else if could_take c found k.period.safe then after_read (slot_of c) found k.period else after_missing c found k.period) (slot_word s (slot_of c)) found)
       by true is = own_now (grind (arith, nat_tests))
-      by false is = reads_now plan s tree t id k here (ap (λ l. get_elem? l id) (sym same) ∙ tree_at t.views id k here) h size (slot_of c) inside k.period.sought
+      by false is = not_own (could_take c found k.period.safe)
+        where
+          not_own : (b : Bool) → HasPeriods plan s tree (turned_to t id k (if b then after_read (slot_of c) found k.period else after_missing c found k.period) (slot_word s (slot_of c)) found)
+          not_own true = reads_so k.period.sought
+          not_own false = reads_so (missed_one k.period.sought)
 
   -- or the slot was set free with a stamp below the pass's safe number
   pub takes_now : s.last < 2097152 → (n : ℕ) → get_or t.words (slot_word s (slot_of c)) 0 ≡ n → n % 8 ≡ 7 → stamp_in n < k.period.safe
@@ -94,25 +104,25 @@ module _ (plan : TablePlan) (s : Slots) (placed : plan.slots ≡ Some s) (k : Kn
 
   -- it takes the slot, if the word is as it was
   pub takes_slot : s.last < 2097152 → (n : ℕ) → n % 8 ≡ 7 → stamp_in n < k.period.safe
-      → MayGoOn plan k (slot_word s (slot_of c)) (λ m. either (m == n) (8 * turn_of c) m) (λ m p. p ≡ (if m == n then after_taking c k.period else k.period))
+      → MayGoOn plan k (slot_word s (slot_of c)) (λ m. either (m == n) (8 * turn_of c) m) (λ m p. p ≡ (if m == n then after_taking c k.period else after_missing c m k.period))
   takes_slot low n free safe =
-      goes_on_whole plan s placed k (slot_word s (slot_of c)) (λ m. either (m == n) (8 * turn_of c) m) (λ m p. p ≡ (if m == n then after_taking c k.period else k.period))
-      (λ t. if get_or t.words (slot_word s (slot_of c)) 0 == n then after_taking c k.period else k.period)
+      goes_on_whole plan s placed k (slot_word s (slot_of c)) (λ m. either (m == n) (8 * turn_of c) m) (λ m p. p ≡ (if m == n then after_taking c k.period else after_missing c m k.period))
+      (λ t. if get_or t.words (slot_word s (slot_of c)) 0 == n then after_taking c k.period else after_missing c (get_or t.words (slot_word s (slot_of c)) 0) k.period)
       (λ tree t id here same h size. (by tree t id here same h size (cases_eq (get_or t.words (slot_word s (slot_of c)) 0) n), refl))
     where
       after : WholeState → TableState → ℕ → ℕ → Bool → Type 0
-      after t tree id m b = HasPeriods plan s tree (turned_to t id k (if b then after_taking c k.period else k.period) (slot_word s (slot_of c)) (either b (8 * turn_of c) m))
+      after t tree id m b = HasPeriods plan s tree (turned_to t id k (if b then after_taking c k.period else after_missing c m k.period) (slot_word s (slot_of c)) (either b (8 * turn_of c) m))
 
       by : (tree : TableState) (t : WholeState) (id : ℕ) → get_elem? t.views id ≡ some k → trees_of t.views ≡ tree.views → HasPeriods plan s tree t → length t.words ≡ slots_size s
           → (get_or t.words (slot_word s (slot_of c)) 0 ≡ n) ⊎ (get_or t.words (slot_word s (slot_of c)) 0 ≢ n)
-          → HasPeriods plan s tree (turned_to t id k (if get_or t.words (slot_word s (slot_of c)) 0 == n then after_taking c k.period else k.period) (slot_word s (slot_of c))
+          → HasPeriods plan s tree (turned_to t id k (if get_or t.words (slot_word s (slot_of c)) 0 == n then after_taking c k.period else after_missing c (get_or t.words (slot_word s (slot_of c)) 0) k.period) (slot_word s (slot_of c))
           (either (get_or t.words (slot_word s (slot_of c)) 0 == n) (8 * turn_of c) (get_or t.words (slot_word s (slot_of c)) 0)))
       by tree t id here same h size (inl is) =
           subst (after t tree id (get_or t.words (slot_word s (slot_of c)) 0)) (sym (eq-eqb (get_or t.words (slot_word s (slot_of c)) 0) n is))
           (takes_now plan s tree t id k here same h size c hand inside low n is free safe)
       by tree t id here same h size (inr other) =
           subst (after t tree id (get_or t.words (slot_word s (slot_of c)) 0)) (sym (ne_eqb (get_or t.words (slot_word s (slot_of c)) 0) n other))
-          (stays plan s tree t id k here h size (slot_word s (slot_of c)) (omega arith))
+          (reads_so plan s tree t id k here same h size c hand inside (missed_one k.period.sought))
 
   -- whichever card the pass has in hand, and whatever slot's word this is
   one : (d : ℕ) → k.tree.worker.card ≡ Some d → c ≡ d
@@ -126,9 +136,9 @@ module _ (plan : TablePlan) (s : Slots) (placed : plan.slots ≡ Some s) (k : Kn
       (x.0, x.1, x.2, x.3, (λ d has. x.4.0 ∙ ap (λ e. after_own e (get_or t.words word 0) k.period) (one d has), x.4.1, x.4.2))
 
   pub takes_any : s.last < 2097152 → (n word turn : ℕ) → n % 8 ≡ 7 → stamp_in n < k.period.safe → word ≡ slot_word s (slot_of c) → turn ≡ turn_of c
-      → MayGoOn plan k word (λ m. either (m == n) (8 * turn) m) (λ m p. (d : ℕ) → k.tree.worker.card ≡ Some d → p ≡ (if m == n then after_taking d k.period else k.period))
+      → MayGoOn plan k word (λ m. either (m == n) (8 * turn) m) (λ m p. (d : ℕ) → k.tree.worker.card ≡ Some d → p ≡ (if m == n then after_taking d k.period else after_missing d m k.period))
   takes_any low n word turn free safe is at id t h homes here small =
-      let may = subst (λ i. MayGoOn plan k i (λ m. either (m == n) (8 * turn) m) (λ m p. p ≡ (if m == n then after_taking c k.period else k.period))) (sym is)
-      (subst (λ u. MayGoOn plan k (slot_word s (slot_of c)) (λ m. either (m == n) (8 * u) m) (λ m p. p ≡ (if m == n then after_taking c k.period else k.period))) (sym at) (takes_slot low n free safe)) in
+      let may = subst (λ i. MayGoOn plan k i (λ m. either (m == n) (8 * turn) m) (λ m p. p ≡ (if m == n then after_taking c k.period else after_missing c m k.period))) (sym is)
+      (subst (λ u. MayGoOn plan k (slot_word s (slot_of c)) (λ m. either (m == n) (8 * u) m) (λ m p. p ≡ (if m == n then after_taking c k.period else after_missing c m k.period))) (sym at) (takes_slot low n free safe)) in
       let x = may id t h homes here small in
-      (x.0, x.1, x.2, x.3, (λ d has. x.4.0 ∙ ap (λ e. if get_or t.words word 0 == n then after_taking e k.period else k.period) (one d has), x.4.1, x.4.2))
+      (x.0, x.1, x.2, x.3, (λ d has. x.4.0 ∙ ap (λ e. if get_or t.words word 0 == n then after_taking e k.period else after_missing e (get_or t.words word 0) k.period) (one d has), x.4.1, x.4.2))

@@ -1,5 +1,5 @@
 use Rattle.std.proofs.Common.{◌==◌, ap, ◌∙◌}
-use Rattle.ell_cards.specs.Periods.{after_taking, slot_word}
+use Rattle.ell_cards.specs.Periods.{after_missing, after_taking, slot_word}
 use Rattle.ell_cards.proofs.lemmas.whole.TakingSlots.{takes_any, word_was, word_changed}
 use Rattle.ell_cards.proofs.table.CardTable.take_free.Goals as goal
 
@@ -10,10 +10,12 @@ period_exchange-requires-clause-rule g c =
 
 pub returns-clause-taken : goal.returns-clause-taken
 returns-clause-taken g c =
-    word_was (c.period_exchange.result == c.args.word) c.period_exchange.new.seat.me.0.period (after_taking c.args.card c.args.seat.now.me.0.period) c.args.seat.now.me.0.period
-    (c.period_exchange.ensures.told c.args.card c.requires.hand.0)
+    word_was (c.period_exchange.result == c.args.word) c.period_exchange.new.seat.me.0.period (after_taking c.args.card c.args.seat.now.me.0.period)
+    (after_missing c.args.card c.period_exchange.result c.args.seat.now.me.0.period) (c.period_exchange.ensures.told c.args.card c.requires.hand.0)
 
 pub returns-clause-lost : goal.returns-clause-lost
-returns-clause-lost g c =
-    word_changed (c.period_exchange.result == c.args.word) c.period_exchange.new.seat.me.0.period (after_taking c.args.card c.args.seat.now.me.0.period) c.args.seat.now.me.0.period
-    (c.period_exchange.ensures.told c.args.card c.requires.hand.0)
+returns-clause-lost g c = λ other. (
+  c.period_exchange.result,
+  word_changed (c.period_exchange.result == c.args.word) c.period_exchange.new.seat.me.0.period (after_taking c.args.card c.args.seat.now.me.0.period)
+      (after_missing c.args.card c.period_exchange.result c.args.seat.now.me.0.period) (c.period_exchange.ensures.told c.args.card c.requires.hand.0) other,
+)
