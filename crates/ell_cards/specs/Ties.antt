@@ -1,4 +1,4 @@
-use Rattle.std.specs.Prelude.{◌≡◌, ◌≢◌, ℕ, ◌*◌, ◌<◌, ◌≤◌, ◌⊎◌, Bool, true, false, Some, None, List, [], ◌∷◌, ◌++◌, length, slice_index, slice_set, ◌+◌, ◌==◌}
+use Rattle.std.specs.Prelude.{◌≡◌, ◌≢◌, ℕ, ◌*◌, ◌<◌, ◌≤◌, ◌⊎◌, Bool, true, false, Some, List, [], ◌∷◌, ◌++◌, length, slice_index, slice_set, ◌+◌, ◌==◌}
 use Rattle.std.specs.List.{IsDistinct, AllByRecursion}
 use mathlib.Core.Option.{some}
 use mathlib.Core.Option.{Option as Maybe}

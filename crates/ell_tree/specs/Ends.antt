@@ -1,4 +1,4 @@
-use Rattle.std.specs.Prelude.{◌≡◌, ℕ, ◌+◌, ◌*◌, ◌≤◌, ◌↔◌, ◌==◌, Bool, false, Option, None, Some, is_some, IfSome, Result, Ok, Err, ◌∷◌}
+use Rattle.std.specs.Prelude.{◌≡◌, ℕ, ◌+◌, ◌*◌, ◌≤◌, ◌↔◌, ◌⊎◌, ◌==◌, Bool, true, false, Option, None, Some, is_some, IfSome, Result, Ok, Err, ◌∷◌}
 use Rattle.ell_core.specs.statements.Effects.{reply_of_change}
 use Rattle.ell_ops.specs.declared.op.Op.{Op}
 use Rattle.ell_ops.specs.declared.op.Op.TheVariants.{Find, Insert, Delete, Swap}
@@ -10,6 +10,7 @@ use Rattle.ell_cards.specs.Taking.{IsTakenInRuns}
 use Rattle.ell_cards.specs.declared.view.Slots.{Slots}
 use Rattle.ell_cards.specs.Depths.{deepest}
 use Rattle.ell_cards.specs.Models.{PassModel, TablePlan}
+use Rattle.ell_cards.specs.Seeking.{FindsNone, left_to_deletes}
 use Rattle.ell_cards.specs.Stepping.{SameShare}
 use Rattle.ell_tree.specs.declared.operations.NotDone.{NotDone}
 use Rattle.ell_tree.specs.declared.operations.NotDone.TheVariants.{Busy, Spent}
@@ -49,15 +50,36 @@ pub record LaidDown (t : TreeModel) (op : Op) (old new : PassModel) : Type 0 whe
   pub idle : IsIdle new
   pub no_card : new.view.worker.card ≡ None
 
--- the claim word, as the pass read it last, says that all cards are given out; where cards lie in slots, each slot that
--- the pass has asked for may have been in use instead
-abbrev pub AreGivenOut : TablePlan → PassModel → Type 0
-AreGivenOut plan p = plan.slots ≡ None → p.view.next ≡ Some (plan.last_card + 1)
+-- whether an operation is a delete
+abbrev pub is_delete : Op → Bool
+is_delete (Delete key) = true
+is_delete _ = false
+
+-- A pass has sought a slot for an operation from the claim word on, as it read that last, and found none. The numbers of
+-- the table are at an end there; or it has read the words of all slots in a row, and by its safe number then it could
+-- have taken two of them at most, and none if the operation is a delete.
+pub record HasSoughtInVain (s : Slots) (last : ℕ) (op : Op) (p : PassModel) : Type 0 where
+  pub from : ℕ
+  pub next : p.view.next ≡ Some from
+  pub none : FindsNone s last from (left_to_deletes (is_delete op)) p.sought
+
+-- it has claimed so many cards one after the other whose slots it could not take, one more than there are slots
+abbrev pub HasClaimedInVain : Slots → PassModel → Type 0
+HasClaimedInVain s p = s.last + 2 ≤ p.sought.missed
+
+abbrev pub HasNoSlot : Slots → ℕ → Op → PassModel → Type 0
+HasNoSlot s last op p = HasSoughtInVain s last op p ⊎ HasClaimedInVain s p
+
+-- No card is left to an operation: the claim word, as the pass read it last, says that all cards are given out. Where
+-- cards lie in slots, the pass found no slot to take.
+pub record NoneIsLeft (plan : TablePlan) (op : Op) (p : PassModel) : Type 0 where
+  pub given_out : plan.slots ≡ None → p.view.next ≡ Some (plan.last_card + 1)
+  pub no_slot : (s : Slots) → plan.slots ≡ Some s → HasNoSlot s plan.last_card op p
 
 -- why: something was in its way at each try; or its last try got no card
-abbrev pub NotDoneFor : TablePlan → ℕ → PassModel → PassModel → NotDone → Type 0
-NotDoneFor plan tries old new Busy = hindrances old + tries ≤ hindrances new
-NotDoneFor plan tries old new Spent = AreGivenOut plan new
+abbrev pub NotDoneFor : TablePlan → ℕ → Op → PassModel → PassModel → NotDone → Type 0
+NotDoneFor plan tries op old new Busy = hindrances old + tries ≤ hindrances new
+NotDoneFor plan tries op old new Spent = NoneIsLeft plan op new
 
 -- of so many tries at most, those that something hindered which was over by then are counted
 pub record CountsTries (tries : ℕ) (old new : PassModel) : Type 0 where
@@ -125,7 +147,7 @@ TakesIfDelete t (Swap key was value) old new there = Unit {0}
 abbrev pub Ends : TreeModel → ℕ → Op → PassModel → PassModel → Result Reply NotDone → Type 0
 Ends t tries op old new (Ok said) = Answers t op said old new × Meets old.view new.view
 Ends t tries op old new (Err why) =
-    LaidDown t op old new × NotDoneFor t.plan tries old new why × Meets old.view new.view
+    LaidDown t op old new × NotDoneFor t.plan tries op old new why × Meets old.view new.view
 
 -- the most steps of a find, where no internal node is below more internal nodes than this
 abbrev pub find_steps : ℕ → ℕ

@@ -34,7 +34,7 @@ use Rattle.ell_cards.specs.Stepping.{SameShare}
 use Rattle.ell_tree.specs.Counts.{Took}
 use Rattle.ell_tree.specs.CardsTaken.{TakesNoCard}
 use Rattle.ell_tree.specs.Called.{IsTakeCalled}
-use Rattle.ell_tree.specs.Ends.{Answers, AreGivenOut, TakesValue, reply_by}
+use Rattle.ell_tree.specs.Ends.{Answers, NoneIsLeft, TakesValue, reply_by}
 use Rattle.ell_tree.specs.Hindrances.{AreOver, Meets, StillKnows, way_of}
 use Rattle.ell_tree.specs.Keeping.{IsSeenAt}
 use Rattle.ell_tree.specs.Milestones.{GivesOut, SeesMilestone}
@@ -80,6 +80,7 @@ pub record Lays (op : Op) (old new : PassModel) : Type 0 where
   pub hindered : new.view.hindered ≡ tries_hindered old.view
   pub knows : StillKnows old.view new.view
   pub next : new.view.next ≡ old.view.next
+  pub sought : new.sought ≡ old.sought
   pub facts : new.view.worker.knows ≡ old.view.worker.knows
   pub least : new.view.next_at_least ≡ old.view.next_at_least
   pub idle : IsIdle new
@@ -105,7 +106,7 @@ pub record Halts (op : Op) (old new : PassModel) : Type 0 where
 abbrev pub TryEnds : TreeModel → Op → PassModel → PassModel → Tried → Type 0
 TryEnds t op old new (tried.Answered had) =
     Answers t op (reply_by op had) old new × Meets old.view new.view × (new.view.next_at_least ≤ t.plan.last_card + 1)
-TryEnds t op old new tried.Spent = Halts op old new × AreGivenOut t.plan new
+TryEnds t op old new tried.Spent = Halts op old new × NoneIsLeft t.plan op new
 TryEnds t op old new tried.Hindered =
     Halts op old new × (length old.view.hindrances + 1 ≤ length (way_of op new.view) + length new.view.hindrances)
     × SeesMilestone t.plan.last_card old.view new.view
@@ -179,7 +180,7 @@ Claims plan op place node_key old new (claimed.Card c) =
     HasCard op place (expected_tag old.view) (filling_of c node_key old.view) new.view c × (c ≤ plan.last_card)
     × (new.view.hindrances ≡ old.view.hindrances) × GivesOut plan.last_card old.view new.view × HasSlotOf plan c new
 Claims plan op place node_key old new claimed.NoneLeft =
-    HasNone old new × AreGivenOut plan new × (new.view.hindrances ≡ old.view.hindrances)
+    HasNone old new × NoneIsLeft plan op new × (new.view.hindrances ≡ old.view.hindrances)
 Claims plan op place node_key old new claimed.Lost =
     HasNone old new × Meets old.view new.view × (length old.view.hindrances + 1 ≤ length new.view.hindrances)
     × GivesOut plan.last_card old.view new.view
@@ -190,7 +191,7 @@ pub record HoldsAside (plan : TablePlan) (p : PassModel) : Type 0 where
   pub ready : MayTake (flat_from plan) p.view.worker
   pub below : (c : ℕ) → p.view.worker.card ≡ Some c → c < p.view.next_at_least
 
--- a card was claimed in vain: the pass stands where it stood, and would fill a card with what it would have filled it
+-- a card was claimed in vain, whose slot could not be taken: the pass stands where it stood, and would fill a card with what it would have filled it
 pub record ClaimsInVain (plan : TablePlan) (old new : PassModel) : Type 0 where
   pub slots : plan.slots ≢ None
   pub hand : HoldsAside plan new
@@ -198,6 +199,7 @@ pub record ClaimsInVain (plan : TablePlan) (old new : PassModel) : Type 0 where
   pub here : new.view.here ≡ old.view.here
   pub values : value_told new.view.told ≡ value_told old.view.told
   pub hindrances : new.view.hindrances ≡ old.view.hindrances
+  pub missed : new.sought.missed ≡ old.sought.missed + 1
 
 -- what comes of claiming the next card
 abbrev pub ClaimsNext : TablePlan → Op → Place → ℕ → PassModel → PassModel → Next → Type 0

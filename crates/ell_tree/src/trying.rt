@@ -10,7 +10,7 @@ ghost use Rattle.ell_tree.specs.CardsTaken.{NextTakes, AskTakes};
 ghost use Rattle.ell_tree.specs.Keeping.{KeepsIn};
 ghost use Rattle.ell_tree.specs.Searches.{IsAt};
 ghost use Rattle.ell_tree.specs.Tries.{HasSlotOf, ClaimsNext, HoldsAside, Claims};
-ghost use Rattle.ell_tree.specs.Ends.{claim_steps};
+ghost use Rattle.ell_tree.specs.Ends.{claim_steps, is_delete};
 
 use crate::gate::{Kind, StepGate};
 use crate::searching::Place;
@@ -116,8 +116,7 @@ fn claim_next<A: Allocator + Copy, G: StepGate>(
     if first > table.last_card() {
         return Next::NoneLeft;
     }
-    let for_delete = matches!(op, Op::Delete(_));
-    let Some(card) = table.next_takeable(pass, first, for_delete) else {
+    let Some(card) = table.next_takeable(pass, first, is_delete(op)) else {
         return Next::NoneLeft;
     };
     gate.before(label, Kind::Exchange(Exchange::Claim));
@@ -129,6 +128,13 @@ fn claim_next<A: Allocator + Copy, G: StepGate>(
     } else {
         Next::InUse
     }
+}
+
+// Whether an operation is a delete.
+fn is_delete(op: Op) -> bool
+    ensures { result ≡ is_delete op }
+{
+    matches!(op, Op::Delete(_))
 }
 
 // Claims all cards from the next one to this one, if no other pass has taken the next one: just that, where each card has words of

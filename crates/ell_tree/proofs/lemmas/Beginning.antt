@@ -87,6 +87,7 @@ lays old new op s busy = subst (λ (m : PassModel). Lays op old m) (sym s) (reco
   hindered = refl;
   knows = λ f h. h;
   next = refl;
+  sought = refl;
   facts = refl;
   least = refl;
   idle = refl;

@@ -9,12 +9,14 @@ use Rattle.ell_core.specs.state.Facts.{known_of}
 use Rattle.ell_core.proofs.lemmas.outcomes.Decide.{some_not_none}
 use Rattle.ell_cards.specs.declared.view.Hindrance.{Hindrance}
 use Rattle.ell_cards.specs.declared.view.Hindrance.TheVariants.{Claim}
+use Rattle.ell_cards.specs.declared.view.Seek.{Seek}
 use Rattle.ell_cards.specs.declared.view.Slots.{Slots}
 use Rattle.ell_cards.specs.declared.view.View.{View}
 use Rattle.ell_cards.specs.Models.{TablePlan, PassModel, Steps, flat_from, latest, earlier, Does}
 use Rattle.ell_cards.specs.Changes.{expected_tag, filling_for, filling_of, tag_of_claim, value_told}
 use Rattle.ell_cards.specs.Guards.{MayClaim, MayFill, Wants}
 use Rattle.ell_cards.specs.Periods.{most_claims}
+use Rattle.ell_cards.specs.Seeking.{FindsNone, FindsNoneIn, left_to_deletes, missed_one}
 use Rattle.ell_cards.specs.Skipping.{after_claimed_row, after_row, IsAfterRow}
 use Rattle.ell_cards.proofs.lemmas.views.Afters.{after_next}
 use Rattle.ell_cards.proofs.lemmas.views.Rows.{rows_keep, wants_same}
@@ -26,7 +28,7 @@ use Rattle.ell_tree.specs.declared.searching.Place.{Place}
 use Rattle.ell_tree.specs.declared.trying.Claimed.{Claimed}
 use Rattle.ell_tree.specs.declared.trying.Claimed.TheVariants as claimed
 use Rattle.ell_tree.specs.CardsTaken.{AskTakes, TakesNoCard}
-use Rattle.ell_tree.specs.Ends.{claim_steps}
+use Rattle.ell_tree.specs.Ends.{claim_steps, is_delete, NoneIsLeft}
 use Rattle.ell_tree.specs.Hindrances.{Meets}
 use Rattle.ell_tree.specs.Keeping.{LosesNothing, KeepsIn}
 use Rattle.ell_tree.specs.Searches.{seen, IsAt}
@@ -70,7 +72,7 @@ may_claim_at plan old new c node_key op place s busy hand low at calm wants =
     (ap (λ (r : Search). r.node) at.search) at.told (ap (λ (r : Search). r.parent) at.search) (clean_word place.parent.update.state place.parent.update.card calm) wants
 
 -- a pass that takes a slot after its steps, or finds it in use, keeps what it kept
-pub keeps_slot : (plan : TablePlan) (a d e : PassModel) (n : ℕ) → KeepsIn plan a d n → e ≡ record d { slot = e.slot; safe = e.safe } → KeepsIn plan a e n
+pub keeps_slot : (plan : TablePlan) (a d e : PassModel) (n : ℕ) → KeepsIn plan a d n → e ≡ record d { slot = e.slot; safe = e.safe; sought = e.sought } → KeepsIn plan a e n
 keeps_slot plan a d e n k same = record {
   table = ap (λ (p : PassModel). p.table) same ∙ k.table;
   label = ap (λ (p : PassModel). p.label) same ∙ k.label;
@@ -81,7 +83,7 @@ keeps_slot plan a d e n k same = record {
 }
 
 -- A pass read the claim word, and then perhaps found another safe number. It may claim the next card then.
-module _ (a b e : PassModel) (first node_key : ℕ) (read : Steps a b (after_next first a.view)) (same : e ≡ record b { safe = e.safe }) (low : a.view.next_at_least ≤ first) where
+module _ (a b e : PassModel) (first node_key : ℕ) (read : Steps a b (after_next first a.view)) (same : e ≡ record b { safe = e.safe; sought = e.sought }) (low : a.view.next_at_least ≤ first) where
   pub may_claim_there : (plan : TablePlan) (op : Op) (place : Place) → Does a.view op → HoldsAside plan a → IsAt a.view place → place.parent.update.state ≡ state.Clean
       → Wants (flat_from plan) a.view op place.parent.node place.node place.key node_key → MayClaim (flat_from plan) e.view first node_key
   may_claim_there plan op place busy hand at calm wants =
@@ -146,7 +148,7 @@ module _ (a b e : PassModel) (first node_key : ℕ) (read : Steps a b (after_nex
 
     -- also once its slot is taken, and nothing was in the way
     pub taken_claims : (plan : TablePlan) (op : Op) (place : Place) (f : PassModel) → ClaimsAll true → Does a.view op → IsAt a.view place
-        → 1 ≤ first → last ≤ plan.last_card → f ≡ record d { slot = f.slot; safe = f.safe } → HasSlotOf plan last f → Claims plan op place node_key a f (claimed.Card last)
+        → 1 ≤ first → last ≤ plan.last_card → f ≡ record d { slot = f.slot; safe = f.safe; sought = f.sought } → HasSlotOf plan last f → Claims plan op place node_key a f (claimed.Card last)
     taken_claims plan op place f s busy at some room took slot =
         let view = ap (λ (p : PassModel). p.view) took in (
           subst (λ (w : View). HasCard op place (expected_tag a.view) (filling_of last node_key a.view) w last) (sym view) (has_card op place s busy at),
@@ -157,8 +159,9 @@ module _ (a b e : PassModel) (first node_key : ℕ) (read : Steps a b (after_nex
         )
 
     -- or it may be laid aside
-    pub in_vain : (plan : TablePlan) (f : PassModel) → plan.slots ≢ None → plan.flat ≡ true → ClaimsAll true → f.view ≡ d.view → ClaimsInVain plan a f
-    in_vain plan f places flat s view =
+    pub in_vain : (plan : TablePlan) (f : PassModel) → plan.slots ≢ None → plan.flat ≡ true → ClaimsAll true → f.view ≡ d.view → e.sought.missed ≡ b.sought.missed
+        → f.sought ≡ missed_one d.sought → ClaimsInVain plan a f
+    in_vain plan f places flat s view none missed =
         let r = subst (IsAfterRow first last node_key (after_next first a.view)) (sym view) (row s) in
         record {
           slots = places;
@@ -170,6 +173,11 @@ module _ (a b e : PassModel) (first node_key : ℕ) (read : Steps a b (after_nex
           here = r.here;
           values = r.values;
           hindrances = r.hindrances;
+          missed =
+              let now = ap (λ (k : Seek). k.missed) missed in
+              let claimed = ap (λ (p : PassModel). p.sought.missed) s in
+              let before = ap (λ (p : PassModel). p.sought.missed) read in
+              omega (arith, now, claimed, none, before);
         }
 
     -- if it lost them, no card was taken, and that was in the way
@@ -198,6 +206,7 @@ pub record HasAsked (plan : TablePlan) (n : ℕ) (old new : PassModel) : Type 0 
   pub values : value_told new.view.told ≡ value_told old.view.told
   pub hindrances : new.view.hindrances ≡ old.view.hindrances
   pub slots : 0 < n → plan.slots ≢ None
+  pub missed : n ≤ new.sought.missed
   pub taken : plan.slots ≡ None → TakesNoCard old new
 
 -- none was at first
@@ -210,6 +219,7 @@ asked_none plan p none = record {
   values = refl;
   hindrances = refl;
   slots = λ some. absurd (omega (arith, some));
+  missed = omega arith;
   taken = λ empty. refl;
 }
 
@@ -233,6 +243,7 @@ asked_more plan n old mid new h keeps vain = record {
   values = vain.values ∙ h.values;
   hindrances = vain.hindrances ∙ h.hindrances;
   slots = λ some. vain.slots;
+  missed = omega (arith, h.missed, vain.missed);
   taken = λ empty. absurd (vain.slots empty);
 }
 
@@ -327,6 +338,43 @@ pub asked_in_vain : (plan : TablePlan) (n : ℕ) (old mid : PassModel) (op : Op)
     → Claims plan op place node_key old mid claimed.NoneLeft
 asked_in_vain plan n old mid op place node_key h all = (
   record { unflagged = λ c holds. aside_unflagged plan mid c h.hand holds; search = h.search },
-  λ empty. absurd (asked_slots plan n old mid h all empty),
+  record {
+    given_out = λ empty. absurd (asked_slots plan n old mid h all empty);
+    no_slot = λ s is. (let many = all ∙ ap most_claims is in inr (omega (arith, many, h.missed)));
+  },
   h.hindrances,
 )
+
+-- a search for a slot was in vain
+pub sought_in_vain : (plan : TablePlan) (op : Op) (p : PassModel) (from : ℕ) → plan.slots ≢ None → p.view.next ≡ Some from
+    → FindsNoneIn plan.slots plan.last_card from (left_to_deletes (is_delete op)) p.sought → NoneIsLeft plan op p
+sought_in_vain plan op p from places next none = record {
+  given_out = λ empty. absurd (places empty);
+  no_slot = λ s is. inl record {
+    from = from;
+    next = next;
+    none = subst (λ o. FindsNoneIn o plan.last_card from (left_to_deletes (is_delete op)) p.sought) is none;
+  };
+}
+
+-- all numbers were given out
+pub numbers_at_end : (plan : TablePlan) (op : Op) (p : PassModel) (from : ℕ) → p.view.next ≡ Some from → plan.last_card < from
+    → (plan.slots ≡ None → from ≤ plan.last_card + 1) → NoneIsLeft plan op p
+numbers_at_end plan op p from next past most = record {
+  given_out = λ empty. next ∙ ap (λ n. Some n) (omega (arith, past, most empty));
+  no_slot = λ s is. inl record { from = from; next = next; none = inl (λ c up inside. omega (arith, up, past)) };
+}
+
+-- a pass that has found no card left has found it still once the operation is laid down
+pub still_none : (plan : TablePlan) (op : Op) (old new : PassModel) → new.view.next ≡ old.view.next → new.sought ≡ old.sought → NoneIsLeft plan op old → NoneIsLeft plan op new
+still_none plan op old new next sought none = record {
+  given_out = λ empty. next ∙ none.given_out empty;
+  no_slot = λ s is. elim (none.no_slot s is) [
+    | inl vain ↦ inl record {
+        from = vain.from;
+        next = next ∙ vain.next;
+        none = subst (FindsNone s plan.last_card vain.from (left_to_deletes (is_delete op))) (sym sought) vain.none;
+      }
+    | inr many ↦ inr (subst (λ (k : Seek). s.last + 2 ≤ k.missed) (sym sought) many)
+  ];
+}

@@ -9,11 +9,11 @@ pub took_none : (a : PassModel) (n : ℕ) → Took a a n
 took_none a n = record { steps = omega arith; made = omega arith }
 
 -- one step, to this view
-pub took_one : (a : PassModel) (v : View) → v.made ≡ a.view.made + 1 → Took a (record { table = a.table; view = v; steps = one_more a.steps; label = a.label; safe = a.safe; slot = a.slot }) 1
+pub took_one : (a : PassModel) (v : View) → v.made ≡ a.view.made + 1 → Took a (record { table = a.table; view = v; steps = one_more a.steps; label = a.label; safe = a.safe; slot = a.slot; sought = a.sought }) 1
 took_one a v made = record { steps = omega arith; made = omega (arith, made) }
 
 -- one step to this view that is not counted yet
-pub took_unseen : (a : PassModel) (v : View) → v.made ≡ a.view.made + 1 → Took a (record { table = a.table; view = v; steps = a.steps; label = a.label; safe = a.safe; slot = a.slot }) 1
+pub took_unseen : (a : PassModel) (v : View) → v.made ≡ a.view.made + 1 → Took a (record { table = a.table; view = v; steps = a.steps; label = a.label; safe = a.safe; slot = a.slot; sought = a.sought }) 1
 took_unseen a v made = record { steps = omega arith; made = omega (arith, made) }
 
 -- steps that are not counted yet, one after the other

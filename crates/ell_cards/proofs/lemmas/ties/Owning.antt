@@ -1,5 +1,5 @@
 -- A pass whose card in hand lies in its slot already, as each card of the first turn does, takes that slot as it is: that keeps memory tied.
-use Rattle.std.proofs.Common.{◌≡◌, ◌≢◌, ◌+◌, ◌*◌, ◌<◌, ◌≤◌, ℕ, Bool, true, Some, None, List, get_or, set, refl, sym, ap, ◌∙◌, subst, ⊎_elim, arith}
+use Rattle.std.proofs.Common.{◌≡◌, ◌≢◌, ◌+◌, ◌*◌, ◌<◌, ◌≤◌, ℕ, Bool, true, Some, List, get_or, set, refl, sym, ap, ◌∙◌, subst, ⊎_elim, arith}
 use mathlib.Core.Option.{some}
 use mathlib.Core.Option.{Option as Maybe}
 use lib.ListN.{get_elem?}

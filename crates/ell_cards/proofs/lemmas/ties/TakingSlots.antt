@@ -1,5 +1,5 @@
 -- A pass that takes a slot for its card in hand keeps memory tied: that card waits, so it is not dead, and nobody else has it in hand.
-use Rattle.std.proofs.Common.{◌≡◌, ◌+◌, ◌*◌, ◌<◌, ◌≤◌, ℕ, zero, suc, inl, inr, Bool, true, false, Some, None, List, get_or, set, refl, sym, ap, ◌∙◌, subst, arith, true≢false, get_or-set_same, get_or-set_other}
+use Rattle.std.proofs.Common.{◌≡◌, ◌+◌, ◌*◌, ◌<◌, ◌≤◌, ℕ, zero, suc, inl, inr, Bool, true, false, Some, List, get_or, set, refl, sym, ap, ◌∙◌, subst, arith, true≢false, get_or-set_same, get_or-set_other}
 use Rattle.std.proofs.lemmas.Bool.{cases_eq, false≢true}
 use mathlib.Core.Option.{some}
 use lib.ListN.{get_elem?}

@@ -22,7 +22,7 @@ use Rattle.ell_cards.specs.Whole.{trees_of}
 use Rattle.ell_cards.proofs.lemmas.ties.Owning.{own_slots_keep_ties}
 use Rattle.ell_cards.proofs.lemmas.ties.TakingSlots.{takes_keep_ties}
 use Rattle.ell_cards.proofs.lemmas.whole.Freeing.{reads_now}
-use Rattle.ell_cards.proofs.lemmas.whole.Going.{turned_to, stays, goes_on_whole}
+use Rattle.ell_cards.proofs.lemmas.whole.Going.{turned_to, goes_on_whole}
 use Rattle.ell_cards.proofs.lemmas.whole.Slots.{slot_owned, slot_taken, taken_is_dead, taken_was_dead_for}
 use Rattle.ell_cards.proofs.lemmas.whole.Trees.{tree_at}
 

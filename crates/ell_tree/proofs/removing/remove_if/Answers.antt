@@ -5,7 +5,7 @@ use Rattle.ell_ops.specs.Meaning.{found}
 use Rattle.ell_cards.proofs.lemmas.runs.Tries.{more_tries}
 use Rattle.ell_tree.specs.Called.{IsTakeCalled}
 use Rattle.ell_tree.specs.Computing.{Concludes, IsUntouched, round_steps_in}
-use Rattle.ell_tree.specs.Ends.{Answers, AreGivenOut, LaidDown, TakesValue, find_steps}
+use Rattle.ell_tree.specs.Ends.{Answers, LaidDown, NoneIsLeft, TakesValue, find_steps}
 use Rattle.ell_tree.specs.Ledgers.{Owns, present_in}
 use Rattle.ell_tree.specs.Promises.{IsOthersDoing}
 use Rattle.ell_tree.specs.CardsTaken.{TakesByHindered}
@@ -138,7 +138,7 @@ returns-in-Err-Spent-clause-not_done g c =
     let op = Delete c.args.key in
     let l = c.loop-round in
     let new = c.remove_or_read.new.pass in
-    let laid : LaidDown t op l.pass new × AreGivenOut t.plan new = search rules in
+    let laid : LaidDown t op l.pass new × NoneIsLeft t.plan op new = search rules in
     record {
       untouched = untouched_trans c.args.pass.now l.pass new l.invariant.untouched (untouched_laid t op l.pass new laid.0);
       last = record { op = op; on = refl; nothing = inl laid.0.nothing };
