@@ -419,6 +419,7 @@ impl<A: Allocator + Copy> CardTable<A> {
         ensures same { pass.new ≡ record (pass.old) { sought = pass.new.sought } }
         ensures found { IfSome result (λ c. (card ≤ c) × (c ≤ self.now.plan.last_card) × (slot_of c ≤ slots.last)) }
         ensures none { result ≡ None → FindsNone slots self.now.plan.last_card card others pass.new.sought }
+        ensures missed { pass.new.sought.missed ≡ pass.old.sought.missed }
     {
         let _ = &self.table;
         let mut next = slots.next_with_slot(card);
@@ -454,6 +455,8 @@ impl<A: Allocator + Copy> CardTable<A> {
         // in a row, or of all that are left to numbers of the table, and could have taken two of them at most, and none if it is for
         // a delete.
         ensures none { result ≡ None → FindsNoneIn self.now.plan.slots self.now.plan.last_card card (left_to_deletes for_delete) pass.new.sought }
+        // No slot of a card in hand was missed by that.
+        ensures missed { pass.new.sought.missed ≡ pass.old.sought.missed }
         // It is a card of the table that has a slot, and none before the one from which it was sought.
         ensures found { IfSome result (λ c. (card ≤ c) × (c ≤ self.now.plan.last_card) × (has_slot self.now.plan.slots c ≡ true)) }
         // A table without places has no slots to be read.

@@ -359,9 +359,9 @@ sought_in_vain plan op p from places next none = record {
 
 -- all numbers were given out
 pub numbers_at_end : (plan : TablePlan) (op : Op) (p : PassModel) (from : ℕ) → p.view.next ≡ Some from → plan.last_card < from
-    → (plan.slots ≡ None → from ≤ plan.last_card + 1) → NoneIsLeft plan op p
+    → from ≤ plan.last_card + 1 → NoneIsLeft plan op p
 numbers_at_end plan op p from next past most = record {
-  given_out = λ empty. next ∙ ap (λ n. Some n) (omega (arith, past, most empty));
+  given_out = λ empty. next ∙ ap (λ n. Some n) (omega (arith, past, most));
   no_slot = λ s is. inl record { from = from; next = next; none = inl (λ c up inside. omega (arith, up, past)) };
 }
 

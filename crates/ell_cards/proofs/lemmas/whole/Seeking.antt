@@ -1,4 +1,4 @@
-use Rattle.std.proofs.Common.{◌≡◌, ℕ, zero, suc, ◌+◌, ◌-◌, ◌*◌, ◌<◌, ◌≤◌, ◌==◌, ◌&&◌, not, Bool, true, inl, inr, refl, sym, ap, ◌∙◌, subst, arith, eq-eqb, ne_eqb, if◌then◌else◌}
+use Rattle.std.proofs.Common.{◌≡◌, ℕ, zero, suc, ◌+◌, ◌-◌, ◌*◌, ◌<◌, ◌≤◌, ◌==◌, ◌&&◌, not, Bool, true, false, inl, inr, refl, sym, ap, ◌∙◌, subst, arith, eq-eqb, ne_eqb, if◌then◌else◌}
 use Rattle.std.proofs.Math.Nat.{mul-add, mul-one}
 use Rattle.std.proofs.lemmas.Bool.{cases_eq}
 use Rattle.ell_cards.specs.declared.view.Seek.{Seek}
@@ -34,6 +34,14 @@ next_in_row s c d low in_c in_d less first = elim (cases_eq (slot_of c) s.last) 
   where
     mul_zero : (n : ℕ) → n * 0 ≡ 0
     mul_zero n = omega arith
+
+-- a search misses no slot of a card in hand
+pub sought_misses_none : (s : Slots) (begins : Bool) (c : ℕ) (takes : Bool) (k : Seek) → (sought_on s begins c takes k).missed ≡ k.missed
+sought_misses_none s begins c takes k = by (not begins && is_next s c k)
+  where
+    by : (b : Bool) → (if b then record k { read = k.read + 1; takeable = k.takeable + one_if takes } else record k { from = c; read = 1; takeable = one_if takes }).missed ≡ k.missed
+    by true = refl
+    by false = refl
 
 -- What a search has read that began at a card and is to read the slot of this number next: so many slots, and it may
 -- find so many more that it could take.

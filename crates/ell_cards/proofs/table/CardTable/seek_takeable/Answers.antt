@@ -2,7 +2,7 @@ use Rattle.std.proofs.Common.{rules, ◌≡◌, ◌+◌, ◌==◌, ap, sym, ◌�
 use Rattle.ell_cards.specs.Models.{PassModel}
 use Rattle.ell_cards.specs.declared.view.Seek.{Seek}
 use Rattle.ell_cards.specs.Seeking.{one_if, sought_on}
-use Rattle.ell_cards.proofs.lemmas.whole.Seeking.{RowSoFar, row_goes_on}
+use Rattle.ell_cards.proofs.lemmas.whole.Seeking.{RowSoFar, row_goes_on, sought_misses_none}
 use Rattle.ell_cards.proofs.lemmas.whole.Words.{last_fits}
 use Rattle.ell_cards.proofs.table.CardTable.seek_takeable.Goals as goal
 use Rattle.ell_cards.proofs.table.CardTable.seek_takeable.Goals.{then-is_takeable+else-left-eq0, else-is_takeable}
@@ -19,6 +19,7 @@ loop-read-preserved g c =
       | else-is_takeable w ↦ (let is = ap one_if w.if-is_takeable.false in let left = w.left-is in omega arith)
     ] in record {
       pass = now ∙ ap (λ (p : PassModel). record p { sought = read }) was.pass ∙ ap (λ (k : Seek). record c.args.pass.now { sought = k }) (sym (ap (λ (p : PassModel). p.sought) now));
+      missed = ap (λ (p : PassModel). p.sought.missed) now ∙ (sought_misses_none c.args.slots (c.loop-read.read == 0) c.loop-read.next c.is_takeable.result c.loop-read.pass.sought ∙ was.missed);
       from = omega arith;
       slot = next.ensures.slot;
       first = elim c.if-is_takeable.branch [

@@ -8,6 +8,7 @@ use Rattle.ell_cards.proofs.table.CardTable.seek_takeable.Given as goal
 abbrev pub invariant-loop-read : goal.invariant-loop-read
 invariant-loop-read g l = record {
   pass : l.pass ≡ record l.fn.pass { sought = l.pass.sought };
+  missed : l.pass.sought.missed ≡ l.fn.pass.sought.missed;
   from : l.fn.card ≤ l.next;
   slot : slot_of l.next ≤ l.slots.last;
   first : IfSome l.first (λ c. (l.fn.card ≤ c) × (c ≤ l.fn.self.plan.last_card) × (slot_of c ≤ l.slots.last));
