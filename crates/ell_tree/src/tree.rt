@@ -398,7 +398,9 @@ impl<A: Allocator + Copy> Tree<A> {
         // On a key of the pass, it answers as a map that has the pass's keys, which becomes the map after the call. On
         // any key, the answer is that of one thread at one point of the call, in every run. A call without an answer
         // changes nothing in any run: `Busy` is returned only after as many hindrances as tries, and `Spent` only if no
-        // card is left. What was in its way is over.
+        // card is left: the claim word says so; or, where cards come back, the pass has read the words of all slots in
+        // a row, and could have taken two at most, and none for a delete; or it has claimed in vain one card more than
+        // there are slots. What was in its way is over.
         ensures ends { Ends self.now tries (Insert key value) pass.old pass.new (replied result) }
         // The pass was answered this call and no other, or nothing if the call has no answer.
         ensures called { IsCalled (Insert key value) pass.old pass.new (replied result) }
@@ -434,7 +436,9 @@ impl<A: Allocator + Copy> Tree<A> {
         // The answer is the value that the key has, which becomes the new one exactly if it is `was`: on a key of the
         // pass in the pass's map, and on any key as of one thread at one point of the call, in every run. A call
         // without an answer changes nothing in any run: `Busy` is returned only after as many hindrances as tries, and
-        // `Spent` only if no card is left. What was in its way is over.
+        // `Spent` only if no card is left: the claim word says so; or, where cards come back, the pass has read the
+        // words of all slots in a row, and could have taken two at most, and none for a delete; or it has claimed in
+        // vain one card more than there are slots. What was in its way is over.
         ensures ends { Ends self.now tries (Swap key was value) pass.old pass.new (found_or_not_done result) }
         // The pass was answered this call and no other, or nothing if the call has no answer.
         ensures called { IsCalled (Swap key was value) pass.old pass.new (found_or_not_done result) }
@@ -482,7 +486,9 @@ impl<A: Allocator + Copy> Tree<A> {
         // Of all that the pass was answered by the call, only the last has changed anything: what put the value.
         ensures called { IsPutCalled key value pass.old pass.new result }
         // A call without an answer changes nothing of what the pass has, and has nothing in hand. Its last operation
-        // changes nothing in any run. `Spent` is returned only if no card is left.
+        // changes nothing in any run. `Spent` is returned only if no card is left: the claim word says so; or, where
+        // cards come back, the pass has read the words of all slots in a row, and could have taken two at most, and
+        // none for a delete; or it has claimed in vain one card more than there are slots.
         ensures not_done { IfErr result (IsNotDone self.now key pass.old pass.new) }
         // `Busy` is returned only after all tries: each was hindered, or answered by what another pass had changed.
         ensures tried { result ≡ Err Busy → AreTried tries pass.old pass.new }
@@ -523,7 +529,9 @@ impl<A: Allocator + Copy> Tree<A> {
         // Of all that the pass was answered by the call, only the last has changed anything: the swap of the value.
         ensures called { IsUpdateCalled key (F.post f) pass.old pass.new result }
         // A call without an answer changes nothing of what the pass has, and has nothing in hand. Its last operation
-        // changes nothing in any run. `Spent` is returned only if no card is left.
+        // changes nothing in any run. `Spent` is returned only if no card is left: the claim word says so; or, where
+        // cards come back, the pass has read the words of all slots in a row, and could have taken two at most, and
+        // none for a delete; or it has claimed in vain one card more than there are slots.
         ensures not_done { IfErr result (IsNotDone self.now key pass.old pass.new) }
         // `Busy` is returned only after all tries: each was hindered, or answered by what another pass had changed.
         ensures tried { result ≡ Err Busy → AreTried tries pass.old pass.new }
@@ -565,7 +573,9 @@ impl<A: Allocator + Copy> Tree<A> {
         // Of all that the pass was answered by the call, only the last has changed anything: the swap of the value.
         ensures called { IsUpdateCalled key (IsSum addend) pass.old pass.new result }
         // A call without an answer changes nothing of what the pass has, and has nothing in hand. Its last operation
-        // changes nothing in any run. `Spent` is returned only if no card is left.
+        // changes nothing in any run. `Spent` is returned only if no card is left: the claim word says so; or, where
+        // cards come back, the pass has read the words of all slots in a row, and could have taken two at most, and
+        // none for a delete; or it has claimed in vain one card more than there are slots.
         ensures not_done { IfErr result (IsNotDone self.now key pass.old pass.new) }
         // `Busy` is returned only after all tries: each was hindered, or answered by what another pass had changed.
         ensures tried { result ≡ Err Busy → AreTried tries pass.old pass.new }
@@ -602,7 +612,9 @@ impl<A: Allocator + Copy> Tree<A> {
         // On a key of the pass, it answers as a map that has the pass's keys, which becomes the map after the call. On
         // any key, the answer is that of one thread at one point of the call, in every run. A call without an answer
         // changes nothing in any run: `Busy` is returned only after as many hindrances as tries, and `Spent` only if no
-        // card is left. What was in its way is over.
+        // card is left: the claim word says so; or, where cards come back, the pass has read the words of all slots in
+        // a row, and could have taken two at most, and none for a delete; or it has claimed in vain one card more than
+        // there are slots. What was in its way is over.
         ensures ends { Ends self.now tries (Delete key) pass.old pass.new (replied result) }
         // The pass was answered this call and no other, or nothing if the call has no answer. The call took a value
         // exactly if it says so.
@@ -637,7 +649,9 @@ impl<A: Allocator + Copy> Tree<A> {
         // On a key of the pass, it answers as a map that has the pass's keys, which becomes the map after the call. On
         // any key, the answer is that of one thread at one point of the call, in every run. A call without an answer
         // changes nothing in any run: `Busy` is returned only after as many hindrances as tries, and `Spent` only if no
-        // card is left. What was in its way is over.
+        // card is left: the claim word says so; or, where cards come back, the pass has read the words of all slots in
+        // a row, and could have taken two at most, and none for a delete; or it has claimed in vain one card more than
+        // there are slots. What was in its way is over.
         ensures ends { Ends self.now tries (Delete key) pass.old pass.new (replied (whether result)) }
         // The pass was answered this call and no other, which took the value that it returns; or nothing, if the call
         // has no answer.
@@ -683,7 +697,9 @@ impl<A: Allocator + Copy> Tree<A> {
         // `was`.
         ensures called { IsRemoveCalled key was pass.old pass.new result }
         // A call without an answer changes nothing of what the pass has, and has nothing in hand. Its last operation
-        // changes nothing in any run. `Spent` is returned only if no card is left.
+        // changes nothing in any run. `Spent` is returned only if no card is left: the claim word says so; or, where
+        // cards come back, the pass has read the words of all slots in a row, and could have taken two at most, and
+        // none for a delete; or it has claimed in vain one card more than there are slots.
         ensures not_done { IfErr result (IsNotDone self.now key pass.old pass.new) }
         // `Busy` is returned only after all tries: each was hindered, or the key was read anew.
         ensures tried { result ≡ Err Busy → AreTriedOrRead tries pass.old pass.new }

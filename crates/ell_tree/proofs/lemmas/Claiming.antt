@@ -16,7 +16,7 @@ use Rattle.ell_cards.specs.Models.{TablePlan, PassModel, Steps, flat_from, lates
 use Rattle.ell_cards.specs.Changes.{expected_tag, filling_for, filling_of, tag_of_claim, value_told}
 use Rattle.ell_cards.specs.Guards.{MayClaim, MayFill, Wants}
 use Rattle.ell_cards.specs.Periods.{most_claims}
-use Rattle.ell_cards.specs.Seeking.{FindsNone, FindsNoneIn, left_to_deletes, missed_one}
+use Rattle.ell_cards.specs.Seeking.{FindsNone, left_to_deletes, missed_one}
 use Rattle.ell_cards.specs.Skipping.{after_claimed_row, after_row, IsAfterRow}
 use Rattle.ell_cards.proofs.lemmas.views.Afters.{after_next}
 use Rattle.ell_cards.proofs.lemmas.views.Rows.{rows_keep, wants_same}
@@ -345,36 +345,16 @@ asked_in_vain plan n old mid op place node_key h all = (
   h.hindrances,
 )
 
--- a search for a slot was in vain
-pub sought_in_vain : (plan : TablePlan) (op : Op) (p : PassModel) (from : ℕ) → plan.slots ≢ None → p.view.next ≡ Some from
-    → FindsNoneIn plan.slots plan.last_card from (left_to_deletes (is_delete op)) p.sought → NoneIsLeft plan op p
-sought_in_vain plan op p from places next none = record {
-  given_out = λ empty. absurd (places empty);
-  no_slot = λ s is. inl record {
-    from = from;
-    next = next;
-    none = subst (λ o. FindsNoneIn o plan.last_card from (left_to_deletes (is_delete op)) p.sought) is none;
-  };
-}
-
--- all numbers were given out
-pub numbers_at_end : (plan : TablePlan) (op : Op) (p : PassModel) (from : ℕ) → p.view.next ≡ Some from → plan.last_card < from
-    → from ≤ plan.last_card + 1 → NoneIsLeft plan op p
-numbers_at_end plan op p from next past most = record {
-  given_out = λ empty. next ∙ ap (λ n. Some n) (omega (arith, past, most));
-  no_slot = λ s is. inl record { from = from; next = next; none = inl (λ c up inside. omega (arith, up, past)) };
-}
-
 -- a pass that has found no card left has found it still once the operation is laid down
 pub still_none : (plan : TablePlan) (op : Op) (old new : PassModel) → new.view.next ≡ old.view.next → new.sought ≡ old.sought → NoneIsLeft plan op old → NoneIsLeft plan op new
 still_none plan op old new next sought none = record {
   given_out = λ empty. next ∙ none.given_out empty;
   no_slot = λ s is. elim (none.no_slot s is) [
     | inl vain ↦ inl record {
-        from = vain.from;
-        next = next ∙ vain.next;
-        none = subst (FindsNone s plan.last_card vain.from (left_to_deletes (is_delete op))) (sym sought) vain.none;
-      }
+      from = vain.from;
+      next = next ∙ vain.next;
+      none = subst (FindsNone s plan.last_card vain.from (left_to_deletes (is_delete op))) (sym sought) vain.none;
+    }
     | inr many ↦ inr (subst (λ (k : Seek). s.last + 2 ≤ k.missed) (sym sought) many)
   ];
 }

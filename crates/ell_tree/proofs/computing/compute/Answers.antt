@@ -5,12 +5,12 @@ use Rattle.ell_core.specs.statements.Effects.{reply_of_change}
 use Rattle.ell_cards.proofs.lemmas.runs.Tries.{more_tries}
 use Rattle.ell_tree.specs.Called.{put_by, tries_in}
 use Rattle.ell_tree.specs.Computing.{IsUntouched, ReadsValue, round_steps_in}
-use Rattle.ell_tree.specs.Ends.{LaidDown, find_steps}
+use Rattle.ell_tree.specs.Ends.{LaidDown, NoneIsLeft, find_steps}
 use Rattle.ell_tree.specs.Ledgers.{Owns, present_in}
 use Rattle.ell_tree.specs.Promises.{IsOthersDoing}
 use Rattle.ell_tree.specs.CardsTaken.{TakesByHindered}
 use Rattle.ell_core.proofs.lemmas.outcomes.Decide.{some_not_none}
-use Rattle.ell_tree.proofs.lemmas.Computing.{untouched_by, untouched_laid, untouched_self, untouched_trans, concludes, find_leaves, found_not_yes, reads_own, reads_after, reads_last, laid_last, may_still}
+use Rattle.ell_tree.proofs.lemmas.Computing.{untouched_by, untouched_laid, untouched_self, untouched_trans, concludes, find_leaves, found_not_yes, reads_own, reads_after, reads_last, laid_last, may_still, put_on}
 use Rattle.ell_tree.proofs.lemmas.Counts.{took_in, took_in_within, took_in_trans}
 use Rattle.ell_tree.proofs.lemmas.Milestones.{milestones_most}
 use Rattle.ell_tree.proofs.lemmas.Rounds.{rounds_within, one_round_more, spends_none, by_rounds, not_some}
@@ -177,3 +177,18 @@ returns-then-is_some-clause-tried g c = λ not_done.
     let l = c.loop-round in
     let all : l._round ≡ c.args.tries = omega (arith, c.loop-round-test.false, l.auto._round-end) in
     omega (arith, all, l.invariant.made)
+
+-- no card was left
+pub returns-in-Err-Spent-clause-not_done : goal.returns-in-Err-Spent-clause-not_done
+returns-in-Err-Spent-clause-not_done g c =
+    let t = c.args.table.now in
+    let key = c.args.key in
+    let l = c.loop-round in
+    let new = c.replace.new.pass in
+    let op = put_by key c.in-Some.value l.was in
+    let laid : LaidDown t op l.pass new × NoneIsLeft t.plan op new = search rules in
+    record {
+      untouched = untouched_trans c.args.pass.now l.pass new l.invariant.untouched (untouched_laid t op l.pass new laid.0);
+      last = record { op = op; on = put_on key c.in-Some.value l.was; nothing = inl laid.0.nothing };
+      why = laid.1;
+    }
