@@ -25,7 +25,7 @@ use std::alloc::Allocator;
 pub(crate) enum Tried {
     /// An answer: the value that an insert adds or a delete takes away, if it changes the map, or that a swap finds.
     Answered(Option<u64>),
-    /// No card is left.
+    /// No card is left, or no slot was found that could be taken.
     Spent,
     /// Something was in its way.
     Hindered,
@@ -35,7 +35,7 @@ pub(crate) enum Tried {
 #[derive(Clone, Copy)]
 pub(crate) enum Claimed {
     Card(u64),
-    /// All cards are given out.
+    /// All cards are given out, or no slot was found that could be taken.
     NoneLeft,
     /// Another pass took the one that was next.
     Lost,
@@ -46,7 +46,7 @@ pub(crate) enum Claimed {
 enum Next {
     /// It is in hand, with its slot if cards lie in slots.
     Taken(u64),
-    /// All cards are given out.
+    /// All cards are given out, or no slot was found that could be taken.
     NoneLeft,
     /// Another pass took it.
     Lost,
