@@ -52,7 +52,7 @@ pub record TableModel : Type 0 where
 
 -- the table that a pass belongs to, what is shown of what it knows, the atomic steps made through it, its label,
 -- its safe number: every pass that is in a period began it when the clock was that at least; and, if the table has
--- places, the card whose slot it has taken last, and what its last search for a slot has read
+-- places, the card whose slot it has taken last, and what it has read in its last search for one
 pub record PassModel : Type 0 where
   pub table : TableId
   pub view : View

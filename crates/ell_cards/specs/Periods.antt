@@ -169,7 +169,8 @@ after_read slot n p = record p { read = Some (record { slot = slot; word = n }) 
 
 -- the word of a card's slot was read by a search for a slot to take, which begins with it or goes on
 abbrev pub after_seek : Slots → Bool → ℕ → ℕ → Period → Period
-after_seek s begins c n p = record (after_read (slot_of c) n p) { sought = sought_on s begins c (could_take c n p.safe) p.sought }
+after_seek s begins c n p =
+    record (after_read (slot_of c) n p) { sought = sought_on s begins c (could_take c n p.safe) p.sought }
 
 -- the slot of a card was taken
 abbrev pub after_taking : ℕ → Period → Period
@@ -179,8 +180,8 @@ after_taking c p = record p { read = None; slot = Some c; sought = missed_none p
 abbrev pub after_missing : ℕ → ℕ → Period → Period
 after_missing c n p = record (after_read (slot_of c) n p) { sought = missed_one p.sought }
 
--- the word of a card's slot was read, and so the slot was taken if that card lies there already; else it may be one that
--- could be taken
+-- the word of a card's slot was read, and so the slot was taken if that card lies there already; else it may be one
+-- that could be taken
 abbrev pub after_own : ℕ → ℕ → Period → Period
 after_own c n p =
     if turn_in n == turn_of c then after_taking c p

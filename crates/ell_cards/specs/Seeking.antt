@@ -8,8 +8,8 @@ use Rattle.ell_cards.specs.SlotWords.{slot_of, turn_of, turn_in, stamp_in}
 abbrev pub slots_before : Slots → ℕ → ℕ
 slots_before s c = (s.last + 1) * turn_of c + slot_of c
 
--- whether a pass with a safe number could take the slot of a card, by the slot's word: that is of the card's turn and not
--- free, or it was set free with a stamp below the safe number
+-- whether a pass with a safe number could take the slot of a card, by the slot's word: that is of the card's turn and
+-- not free, or it was set free with a stamp below the safe number
 abbrev pub could_take : ℕ → ℕ → ℕ → Bool
 could_take c n safe = if n % 8 == 7 then nat_lt (stamp_in n) safe else turn_in n == turn_of c
 
@@ -31,15 +31,15 @@ sought_on s begins c takes k =
     if not begins && is_next s c k then record k { read = k.read + 1; takeable = k.takeable + one_if takes }
     else record k { from = c; read = 1; takeable = one_if takes }
 
--- the slot of a card in hand could not be taken
+-- the slot of a card in hand could not be taken, which is counted
 abbrev pub missed_one : Seek → Seek
 missed_one k = record k { missed = k.missed + 1 }
 
--- or it was taken
+-- or it was taken, and the count begins anew
 abbrev pub missed_none : Seek → Seek
 missed_none k = record k { missed = 0 }
 
--- so many slots that it could take a pass leaves to deletes
+-- how many slots that it could take a pass leaves to deletes
 abbrev pub left_to_deletes : Bool → ℕ
 left_to_deletes for_delete = if for_delete then 0 else 2
 
@@ -47,8 +47,8 @@ left_to_deletes for_delete = if for_delete then 0 else 2
 abbrev pub NumbersEnd : Slots → ℕ → ℕ → Type 0
 NumbersEnd s last card = (c : ℕ) → card ≤ c → slot_of c ≤ s.last → last < c
 
--- A row begins with the first number from this one on that has a slot, and has all slots once, or all such numbers up to
--- the last one of the table; and of the slots that it has, the pass could have taken so many at most.
+-- A row begins with the first number from this one on that has a slot, and has each slot once, or all such numbers up
+-- to the last one of the table; and of its slots the pass could have taken so many at most.
 pub record HasFew (s : Slots) (last card few : ℕ) (k : Seek) : Type 0 where
   pub from : card ≤ k.from
   pub first : (c : ℕ) → card ≤ c → slot_of c ≤ s.last → k.from ≤ c

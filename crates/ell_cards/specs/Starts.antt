@@ -69,7 +69,15 @@ pub record Starts (plan : TablePlan) (s : TableState) : Type 0 where
 pub record OpensBy (plan : TablePlan) (made : TableModel × PassModel) : Type 0 where
   pub table : made.0.plan ≡ plan
   pub pass : made.1
-      ≡ record { table = made.0.id; view = first_of plan; steps = 0; label = 0; safe = 0; slot = None; sought = no_seek }
+      ≡ record {
+        table = made.0.id;
+        view = first_of plan;
+        steps = 0;
+        label = 0;
+        safe = 0;
+        slot = None;
+        sought = no_seek;
+      }
 
 -- every such plan has a table
 pub record StartsSome (plan : TablePlan) : Type 0 where

@@ -300,8 +300,8 @@ impl<A: Allocator + Copy> CardTable<A> {
         requires right { right.table ≡ self.now.id }
         requires left_free { IsFree left.view }
         requires right_free { IsFree right.view }
-        // The pass has the keys and the shares of both, and the left one's safe number, slot and search. Its count of steps in a row
-        // is one more than the greater of the two counts.
+        // The pass has the keys and the shares of both, and the left one's safe number, slot and search. Its count of
+        // steps in a row is one more than the greater of the two counts.
         ensures joined { IfOk result (λ both. both ≡ record {
           table = left.table;
           view = joined_view left.view right.view;

@@ -337,7 +337,8 @@ impl<A: Allocator + Copy> CardTable<A> {
         requires free { word % 8 ≡ 7 }
         requires safe { stamp_in word < seat.old.me.0.period.safe }
         ensures taken { result ≡ true → seat.new.me.0.period ≡ after_taking card seat.old.me.0.period }
-        ensures lost { result ≡ false → (n : ℕ) × (seat.new.me.0.period ≡ after_missing card n seat.old.me.0.period) }
+        ensures lost { result ≡ false →
+            (n : ℕ) × (seat.new.me.0.period ≡ after_missing card n seat.old.me.0.period) }
         ensures tree { seat.new.me.0.tree ≡ seat.old.me.0.tree }
         ensures seat { (seat.new.table_id ≡ seat.old.table_id) × (seat.new.me.1 ≡ []) }
     {
@@ -393,9 +394,9 @@ impl<A: Allocator + Copy> CardTable<A> {
         self.load_sought::<Brand>(seat, slots, card, begins)
     }
 
-    // Reads the word of the slot of a card by a search, which begins with it or goes on. Returns `true` if the pass could take the
-    // slot for that card: it is a slot of the card's turn already, and not free, or it was set free with a stamp below the pass's
-    // safe number.
+    // Reads the word of the slot of a card by a search, which begins with it or goes on. Returns `true` if the pass
+    // could take the slot for that card: it is a slot of the card's turn already, and not free, or it was set free with
+    // a stamp below the pass's safe number.
     fn is_takeable(&self, pass: &mut Pass<A>, slots: Slots, card: u64, begins: bool) -> bool
         requires own { pass.old.table ≡ self.now.id }
         requires slots { self.now.plan.slots ≡ Some slots }
@@ -451,10 +452,11 @@ impl<A: Allocator + Copy> CardTable<A> {
         requires room { card ≤ self.now.plan.last_card }
         // What the pass knows of the tree is as it was, and it has made no step that is counted.
         ensures same { pass.new ≡ record (pass.old) { safe = pass.new.safe; sought = pass.new.sought } }
-        // If there is none, then no number of the table from this card on has a slot; or the pass has read the words of all slots
-        // in a row, or of all that are left to numbers of the table, and could have taken two of them at most, and none if it is for
-        // a delete.
-        ensures none { result ≡ None → FindsNoneIn self.now.plan.slots self.now.plan.last_card card (left_to_deletes for_delete) pass.new.sought }
+        // If there is none, then no number of the table from this card on has a slot; or the pass has read the words of
+        // all slots in a row, or of all that are left to numbers of the table, and could have taken two of them at
+        // most, and none if it is for a delete.
+        ensures none { result ≡ None → FindsNoneIn self.now.plan.slots self.now.plan.last_card card
+            (left_to_deletes for_delete) pass.new.sought }
         // No slot of a card in hand was missed by that.
         ensures missed { pass.new.sought.missed ≡ pass.old.sought.missed }
         // It is a card of the table that has a slot, and none before the one from which it was sought.
@@ -486,12 +488,16 @@ impl<A: Allocator + Copy> CardTable<A> {
         // The pass has taken the slot of its card, if the table has places.
         ensures took { result ≡ true → self.now.plan.slots ≢ None → pass.new.slot ≡ Some card }
         // What the pass knows of the tree is as it was, and it has made no step that is counted.
-        ensures same { pass.new ≡ record (pass.old) { slot = pass.new.slot; safe = pass.new.safe; sought = pass.new.sought } }
+        ensures same { pass.new ≡
+            record (pass.old) { slot = pass.new.slot; safe = pass.new.safe; sought = pass.new.sought } }
         // If it did not take the slot, it has the slot that it had.
-        ensures kept { result ≡ false → pass.new ≡ record (pass.old) { safe = pass.new.safe; sought = pass.new.sought } }
+        ensures kept { result ≡ false →
+            pass.new ≡ record (pass.old) { safe = pass.new.safe; sought = pass.new.sought } }
         // Slots that could not be taken are counted, from the last one on that was taken.
-        ensures missed { result ≡ false → has_slot self.now.plan.slots card ≡ true → pass.new.sought ≡ missed_one pass.old.sought }
-        ensures anew { result ≡ true → self.now.plan.slots ≢ None → pass.new.sought ≡ missed_none pass.old.sought }
+        ensures missed { result ≡ false → has_slot self.now.plan.slots card ≡ true →
+            pass.new.sought ≡ missed_one pass.old.sought }
+        ensures anew { result ≡ true → self.now.plan.slots ≢ None →
+            pass.new.sought ≡ missed_none pass.old.sought }
         // A table without places has no slots to be taken.
         ensures none { self.now.plan.slots ≡ None → (result ≡ true) × (pass.new ≡ pass.old) }
     {

@@ -138,19 +138,20 @@ pub struct Period {
     pub slot: Option<u64>,
     /// The card whose flag it lost last, which was laid aside.
     pub lost: Option<u64>,
-    /// What its last search for a slot to take has read.
+    /// What it has read in its last search for a slot to take.
     pub sought: Seek,
 }
 
-/// What a search for a slot has read: the words of the slots of so many numbers in a row, from this one on, of those that have
-/// slots.
+/// What a pass has read in its last search for a slot: a row of numbers that have slots, one after the other.
 #[derive(Clone, Copy)]
 pub struct Seek {
+    /// The first number of the row.
     pub from: u64,
+    /// Of so many numbers in a row, from that one on, it has read the words of their slots.
     pub read: u64,
-    /// So many of these slots it could have taken for those numbers, by its safe number then.
+    /// So many of these slots it could have taken for them, by its safe number then.
     pub takeable: u64,
-    /// So many slots of cards that it had in hand it could not take, since it took one last.
+    /// So many cards that it had in hand since it took a slot last had slots that it could not take.
     pub missed: u64,
 }
 

@@ -113,7 +113,8 @@ Replaces t key was value old new (Ok Done) =
 Replaces t key was value old new (Ok (Lost there)) =
     IsUntouched old new × ReadsValue t key there old new × (Owns old key → present_in old key ≢ was)
     × (tries_in old.view.answers < tries_in new.view.answers)
-Replaces t key was value old new (Err why) = LaidDown t (put_by key value was) old new × RanOut t.plan (put_by key value was) new why
+Replaces t key was value old new (Err why) =
+    LaidDown t (put_by key value was) old new × RanOut t.plan (put_by key value was) new why
 
 -- what comes of one try to remove a key that has a value
 abbrev pub RemovesOnce : TreeModel → ℕ → ℕ → PassModel → PassModel → Result Bool NotDone → Type 0

@@ -55,15 +55,15 @@ abbrev pub is_delete : Op → Bool
 is_delete (Delete key) = true
 is_delete _ = false
 
--- A pass has sought a slot for an operation from the claim word on, as it read that last, and found none. The numbers of
--- the table are at an end there; or it has read the words of all slots in a row, and by its safe number then it could
--- have taken two of them at most, and none if the operation is a delete.
+-- A pass has sought a slot for an operation from the claim word on, as it read that last, and found none. The numbers
+-- of the table are at an end there; or it has read the words of all slots in a row, and by its safe number then it
+-- could have taken two of them at most, and none if the operation is a delete.
 pub record HasSoughtInVain (s : Slots) (last : ℕ) (op : Op) (p : PassModel) : Type 0 where
   pub from : ℕ
   pub next : p.view.next ≡ Some from
   pub none : FindsNone s last from (left_to_deletes (is_delete op)) p.sought
 
--- it has claimed so many cards one after the other whose slots it could not take, one more than there are slots
+-- since it took a slot last, it has claimed so many cards whose slots it could not take, one more than there are slots
 abbrev pub HasClaimedInVain : Slots → PassModel → Type 0
 HasClaimedInVain s p = s.last + 2 ≤ p.sought.missed
 

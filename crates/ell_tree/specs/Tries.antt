@@ -191,7 +191,8 @@ pub record HoldsAside (plan : TablePlan) (p : PassModel) : Type 0 where
   pub ready : MayTake (flat_from plan) p.view.worker
   pub below : (c : ℕ) → p.view.worker.card ≡ Some c → c < p.view.next_at_least
 
--- a card was claimed in vain, whose slot could not be taken: the pass stands where it stood, and would fill a card with what it would have filled it
+-- a card was claimed in vain, whose slot could not be taken: the pass stands where it stood, and would fill a card with
+-- what it would have filled it
 pub record ClaimsInVain (plan : TablePlan) (old new : PassModel) : Type 0 where
   pub slots : plan.slots ≢ None
   pub hand : HoldsAside plan new
