@@ -168,9 +168,9 @@ abbrev pub after_read : ℕ → ℕ → Period → Period
 after_read slot n p = record p { read = Some (record { slot = slot; word = n }) }
 
 -- the word of a card's slot was read by a search for a slot to take, which begins with it or goes on
-abbrev pub after_seek : Slots → Bool → ℕ → ℕ → Period → Period
-after_seek s begins c n p =
-    record (after_read (slot_of c) n p) { sought = sought_on s begins c (could_take c n p.safe) p.sought }
+abbrev pub after_seek : Slots → Bool → ℕ → ℕ → ℕ → Period → Period
+after_seek s begins c made n p =
+    record (after_read (slot_of c) n p) { sought = sought_on s begins c made (could_take c n p.safe) p.sought }
 
 -- the slot of a card was taken
 abbrev pub after_taking : ℕ → Period → Period

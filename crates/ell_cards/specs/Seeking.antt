@@ -15,7 +15,7 @@ could_take c n safe = if n % 8 == 7 then nat_lt (stamp_in n) safe else turn_in n
 
 -- a pass that has not sought a slot has read none
 abbrev pub no_seek : Seek
-no_seek = record { from = 0; read = 0; takeable = 0; missed = 0 }
+no_seek = record { from = 0; read = 0; takeable = 0; made = 0; missed = 0 }
 
 -- whether this number is the next one of the row
 abbrev pub is_next : Slots → ℕ → Seek → Bool
@@ -25,11 +25,12 @@ abbrev pub one_if : Bool → ℕ
 one_if takes = if takes then 1 else 0
 
 -- The word of a card's slot was read, and the pass could take the slot or not. The row goes on by it if the number is
--- the next one of the row; if it is not, or if a search begins, another row begins with it.
-abbrev pub sought_on : Slots → Bool → ℕ → Bool → Seek → Seek
-sought_on s begins c takes k =
+-- the next one of the row; if it is not, or if a search begins, another row begins with it, where the pass has made so
+-- many step calls.
+abbrev pub sought_on : Slots → Bool → ℕ → ℕ → Bool → Seek → Seek
+sought_on s begins c made takes k =
     if not begins && is_next s c k then record k { read = k.read + 1; takeable = k.takeable + one_if takes }
-    else record k { from = c; read = 1; takeable = one_if takes }
+    else record k { from = c; read = 1; takeable = one_if takes; made = made }
 
 -- the slot of a card in hand could not be taken, which is counted
 abbrev pub missed_one : Seek → Seek
@@ -48,18 +49,20 @@ abbrev pub NumbersEnd : Slots → ℕ → ℕ → Type 0
 NumbersEnd s last card = (c : ℕ) → card ≤ c → slot_of c ≤ s.last → last < c
 
 -- A row begins with the first number from this one on that has a slot, and has each slot once, or all such numbers up
--- to the last one of the table; and of its slots the pass could have taken so many at most.
-pub record HasFew (s : Slots) (last card few : ℕ) (k : Seek) : Type 0 where
+-- to the last one of the table; it began where the pass had made so many step calls; and of its slots the pass could
+-- have taken so many at most.
+pub record HasFew (s : Slots) (last card few made : ℕ) (k : Seek) : Type 0 where
   pub from : card ≤ k.from
   pub first : (c : ℕ) → card ≤ c → slot_of c ≤ s.last → k.from ≤ c
   pub far : (k.read ≡ s.last + 1)
       ⊎ ((c : ℕ) → c ≤ last → slot_of c ≤ s.last → slots_before s c < slots_before s k.from + k.read)
+  pub began : k.made ≡ made
   pub small : k.takeable ≤ few
 
 -- why a search from a number on found no slot to take, if so many are left: the numbers are at an end, or it has read a
 -- row that has few
-abbrev pub FindsNone : Slots → ℕ → ℕ → ℕ → Seek → Type 0
-FindsNone s last card few k = NumbersEnd s last card ⊎ HasFew s last card few k
+abbrev pub FindsNone : Slots → ℕ → ℕ → ℕ → ℕ → Seek → Type 0
+FindsNone s last card few made k = NumbersEnd s last card ⊎ HasFew s last card few made k
 
-abbrev pub FindsNoneIn : Option Slots → ℕ → ℕ → ℕ → Seek → Type 0
-FindsNoneIn slots last card few k = IfSome slots (λ s. FindsNone s last card few k)
+abbrev pub FindsNoneIn : Option Slots → ℕ → ℕ → ℕ → ℕ → Seek → Type 0
+FindsNoneIn slots last card few made k = IfSome slots (λ s. FindsNone s last card few made k)

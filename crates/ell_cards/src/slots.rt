@@ -387,7 +387,8 @@ impl<A: Allocator + Copy> CardTable<A> {
         requires empty { seat.old.me.1 ≡ [] }
         requires slots { self.now.plan.slots ≡ Some slots }
         requires slot { slot_of card ≤ slots.last }
-        ensures read { seat.new.me.0.period ≡ after_seek slots begins card result seat.old.me.0.period }
+        ensures read { seat.new.me.0.period ≡ after_seek slots begins card seat.old.me.0.tree.made result
+            seat.old.me.0.period }
         ensures tree { seat.new.me.0.tree ≡ seat.old.me.0.tree }
         ensures seat { (seat.new.table_id ≡ seat.old.table_id) × (seat.new.me.1 ≡ []) }
     {
@@ -401,7 +402,8 @@ impl<A: Allocator + Copy> CardTable<A> {
         requires own { pass.old.table ≡ self.now.id }
         requires slots { self.now.plan.slots ≡ Some slots }
         requires slot { slot_of card ≤ slots.last }
-        ensures { pass.new ≡ record (pass.old) { sought = sought_on slots begins card result pass.old.sought } }
+        ensures { pass.new ≡
+            record (pass.old) { sought = sought_on slots begins card pass.old.view.made result pass.old.sought } }
     {
         let word = self.seek_slot(&mut pass.seat, slots, card, begins);
         if word % 8 == 7 {
@@ -419,7 +421,8 @@ impl<A: Allocator + Copy> CardTable<A> {
         requires room { card ≤ self.now.plan.last_card }
         ensures same { pass.new ≡ record (pass.old) { sought = pass.new.sought } }
         ensures found { IfSome result (λ c. (card ≤ c) × (c ≤ self.now.plan.last_card) × (slot_of c ≤ slots.last)) }
-        ensures none { result ≡ None → FindsNone slots self.now.plan.last_card card others pass.new.sought }
+        ensures none { result ≡ None → FindsNone slots self.now.plan.last_card card others pass.old.view.made
+            pass.new.sought }
         ensures missed { pass.new.sought.missed ≡ pass.old.sought.missed }
     {
         let _ = &self.table;
@@ -454,9 +457,9 @@ impl<A: Allocator + Copy> CardTable<A> {
         ensures same { pass.new ≡ record (pass.old) { safe = pass.new.safe; sought = pass.new.sought } }
         // If there is none, then no number of the table from this card on has a slot; or the pass has read the words of
         // all slots in a row, or of all that are left to numbers of the table, and could have taken two of them at
-        // most, and none if it is for a delete.
+        // most, and none if it is for a delete. It has begun that row in this call.
         ensures none { result ≡ None → FindsNoneIn self.now.plan.slots self.now.plan.last_card card
-            (left_to_deletes for_delete) pass.new.sought }
+            (left_to_deletes for_delete) pass.old.view.made pass.new.sought }
         // No slot of a card in hand was missed by that.
         ensures missed { pass.new.sought.missed ≡ pass.old.sought.missed }
         // It is a card of the table that has a slot, and none before the one from which it was sought.

@@ -248,11 +248,11 @@ module _ (plan : TablePlan) (s : Slots) (placed : plan.slots ≡ Some s) (slot :
           omega arith
 
   -- it reads the word of the slot of a card by its search
-  pub seeks : (begins : Bool) (c : ℕ) → slot_of c ≡ slot → (k : Known) (word : ℕ) → word ≡ slot_word s slot
-      → MayGoOn plan k word (λ n. n) (λ n p. p ≡ after_seek s begins c n k.period)
-  seeks begins c lies k word is =
-      subst (λ i. MayGoOn plan k i (λ n. n) (λ n p. p ≡ after_seek s begins c n k.period)) (sym is)
-      (goes_on_there plan s placed k (slot_word s slot) (λ n. n) (λ n p. p ≡ after_seek s begins c n k.period) (λ t. after_seek s begins c (get_or t.words (slot_word s slot) 0) k.period)
+  pub seeks : (begins : Bool) (c made : ℕ) → slot_of c ≡ slot → (k : Known) (word : ℕ) → word ≡ slot_word s slot
+      → MayGoOn plan k word (λ n. n) (λ n p. p ≡ after_seek s begins c made n k.period)
+  seeks begins c made lies k word is =
+      subst (λ i. MayGoOn plan k i (λ n. n) (λ n p. p ≡ after_seek s begins c made n k.period)) (sym is)
+      (goes_on_there plan s placed k (slot_word s slot) (λ n. n) (λ n p. p ≡ after_seek s begins c made n k.period) (λ t. after_seek s begins c made (get_or t.words (slot_word s slot) 0) k.period)
       (λ tree t id here there h size. (
         subst (λ x. HasPeriods plan s tree (turned_to t id k (record (after_read x (get_or t.words (slot_word s slot) 0) k.period) { sought = now t }) (slot_word s slot) (get_or t.words (slot_word s slot) 0))) (sym lies)
             (reads_now plan s tree t id k here there h size slot inside (now t)),
@@ -260,7 +260,7 @@ module _ (plan : TablePlan) (s : Slots) (placed : plan.slots ≡ Some s) (slot :
       )))
     where
       now : WholeState → Seek
-      now t = sought_on s begins c (could_take c (get_or t.words (slot_word s slot) 0) k.period.safe) k.period.sought
+      now t = sought_on s begins c made (could_take c (get_or t.words (slot_word s slot) 0) k.period.safe) k.period.sought
 
   -- it notes one more node as dead, if the word is as it was
   pub notes_node : (k : Known) (i n : ℕ) → i < 3 → is_noted n i ≡ false → n % 8 ≢ 7 → (n + bit_of i) % 8 ≢ 7 → KnowsDeadNode k.tree (4 * card_by slot n + i)

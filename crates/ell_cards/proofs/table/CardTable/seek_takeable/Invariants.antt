@@ -12,5 +12,5 @@ invariant-loop-read g l = record {
   from : l.fn.card ≤ l.next;
   slot : slot_of l.next ≤ l.slots.last;
   first : IfSome l.first (λ c. (l.fn.card ≤ c) × (c ≤ l.fn.self.plan.last_card) × (slot_of c ≤ l.slots.last));
-  row : RowSoFar l.slots l.fn.card l.fn.others l.next l.read l.left l.pass.sought;
+  row : RowSoFar l.slots l.fn.card l.fn.others l.fn.pass.view.made l.next l.read l.left l.pass.sought;
 }
