@@ -98,7 +98,7 @@ pub record LastChangesNothing (t : TreeModel) (key : ℕ) (v : View) : Type 0 wh
 -- one got no card
 abbrev pub RanOut : TablePlan → Op → PassModel → NotDone → Type 0
 RanOut plan op new Busy = Unit {0}
-RanOut plan op new Spent = NoneIsLeft plan op new
+RanOut plan op new Spent = NoneIsLeft plan op 1 new
 
 -- a call of several operations on a key has ended without an answer, and has changed nothing
 pub record IsNotDone (t : TreeModel) (key : ℕ) (old new : PassModel) (not_done : NotDone) : Type 0 where

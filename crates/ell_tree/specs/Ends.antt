@@ -57,29 +57,32 @@ is_delete _ = false
 
 -- A pass has sought a slot for an operation from the claim word on, as it read that last, and found none. The numbers
 -- of the table are at an end there; or it has read the words of all slots in a row, and by its safe number then it
--- could have taken two of them at most, and none if the operation is a delete.
-pub record HasSoughtInVain (s : Slots) (last : ℕ) (op : Op) (p : PassModel) : Type 0 where
+-- could have taken two of them at most, and none if the operation is a delete. It has made so many step calls at most
+-- since it began that row.
+pub record HasSoughtInVain (s : Slots) (last : ℕ) (op : Op) (steps : ℕ) (p : PassModel) : Type 0 where
   pub from : ℕ
+  pub made : ℕ
   pub next : p.view.next ≡ Some from
-  pub none : FindsNone s last from (left_to_deletes (is_delete op)) p.sought
+  pub none : FindsNone s last from (left_to_deletes (is_delete op)) made p.sought
+  pub since : p.view.made ≤ made + steps
 
 -- since it took a slot last, it has claimed so many cards whose slots it could not take, one more than there are slots
 abbrev pub HasClaimedInVain : Slots → PassModel → Type 0
 HasClaimedInVain s p = s.last + 2 ≤ p.sought.missed
 
-abbrev pub HasNoSlot : Slots → ℕ → Op → PassModel → Type 0
-HasNoSlot s last op p = HasSoughtInVain s last op p ⊎ HasClaimedInVain s p
+abbrev pub HasNoSlot : Slots → ℕ → Op → ℕ → PassModel → Type 0
+HasNoSlot s last op steps p = HasSoughtInVain s last op steps p ⊎ HasClaimedInVain s p
 
 -- No card is left to an operation: the claim word, as the pass read it last, says that all cards are given out. Where
--- cards lie in slots, the pass found no slot to take.
-pub record NoneIsLeft (plan : TablePlan) (op : Op) (p : PassModel) : Type 0 where
+-- cards lie in slots, the pass found no slot to take, and has made so many step calls at most since.
+pub record NoneIsLeft (plan : TablePlan) (op : Op) (steps : ℕ) (p : PassModel) : Type 0 where
   pub given_out : plan.slots ≡ None → p.view.next ≡ Some (plan.last_card + 1)
-  pub no_slot : (s : Slots) → plan.slots ≡ Some s → HasNoSlot s plan.last_card op p
+  pub no_slot : (s : Slots) → plan.slots ≡ Some s → HasNoSlot s plan.last_card op steps p
 
--- why: something was in its way at each try; or its last try got no card
+-- why: something was in its way at each try; or its last try got no card, and was laid down by the next step call
 abbrev pub NotDoneFor : TablePlan → ℕ → Op → PassModel → PassModel → NotDone → Type 0
 NotDoneFor plan tries op old new Busy = hindrances old + tries ≤ hindrances new
-NotDoneFor plan tries op old new Spent = NoneIsLeft plan op new
+NotDoneFor plan tries op old new Spent = NoneIsLeft plan op 1 new
 
 -- of so many tries at most, those that something hindered which was over by then are counted
 pub record CountsTries (tries : ℕ) (old new : PassModel) : Type 0 where

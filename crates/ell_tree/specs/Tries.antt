@@ -106,7 +106,7 @@ pub record Halts (op : Op) (old new : PassModel) : Type 0 where
 abbrev pub TryEnds : TreeModel → Op → PassModel → PassModel → Tried → Type 0
 TryEnds t op old new (tried.Answered had) =
     Answers t op (reply_by op had) old new × Meets old.view new.view × (new.view.next_at_least ≤ t.plan.last_card + 1)
-TryEnds t op old new tried.Spent = Halts op old new × NoneIsLeft t.plan op new
+TryEnds t op old new tried.Spent = Halts op old new × NoneIsLeft t.plan op 0 new
 TryEnds t op old new tried.Hindered =
     Halts op old new × (length old.view.hindrances + 1 ≤ length (way_of op new.view) + length new.view.hindrances)
     × SeesMilestone t.plan.last_card old.view new.view
@@ -180,7 +180,7 @@ Claims plan op place node_key old new (claimed.Card c) =
     HasCard op place (expected_tag old.view) (filling_of c node_key old.view) new.view c × (c ≤ plan.last_card)
     × (new.view.hindrances ≡ old.view.hindrances) × GivesOut plan.last_card old.view new.view × HasSlotOf plan c new
 Claims plan op place node_key old new claimed.NoneLeft =
-    HasNone old new × NoneIsLeft plan op new × (new.view.hindrances ≡ old.view.hindrances)
+    HasNone old new × NoneIsLeft plan op 0 new × (new.view.hindrances ≡ old.view.hindrances)
 Claims plan op place node_key old new claimed.Lost =
     HasNone old new × Meets old.view new.view × (length old.view.hindrances + 1 ≤ length new.view.hindrances)
     × GivesOut plan.last_card old.view new.view

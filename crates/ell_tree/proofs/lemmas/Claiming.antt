@@ -28,6 +28,7 @@ use Rattle.ell_tree.specs.declared.searching.Place.{Place}
 use Rattle.ell_tree.specs.declared.trying.Claimed.{Claimed}
 use Rattle.ell_tree.specs.declared.trying.Claimed.TheVariants as claimed
 use Rattle.ell_tree.specs.CardsTaken.{AskTakes, TakesNoCard}
+use Rattle.ell_tree.specs.Counts.{Took}
 use Rattle.ell_tree.specs.Ends.{claim_steps, is_delete, NoneIsLeft}
 use Rattle.ell_tree.specs.Hindrances.{Meets}
 use Rattle.ell_tree.specs.Keeping.{LosesNothing, KeepsIn}
@@ -345,15 +346,31 @@ asked_in_vain plan n old mid op place node_key h all = (
   h.hindrances,
 )
 
+-- all numbers were given out
+pub numbers_at_end : (plan : TablePlan) (op : Op) (p : PassModel) (from : ℕ) → p.view.next ≡ Some from → plan.last_card < from → from ≤ plan.last_card + 1
+    → NoneIsLeft plan op 0 p
+numbers_at_end plan op p from next past most = record {
+  given_out = λ empty. next ∙ ap (λ n. Some n) (omega (arith, past, most));
+  no_slot = λ s is. inl record {
+    from = from;
+    made = p.view.made;
+    next = next;
+    none = inl (λ c up inside. omega (arith, up, past));
+    since = omega arith;
+  };
+}
+
 -- a pass that has found no card left has found it still once the operation is laid down
-pub still_none : (plan : TablePlan) (op : Op) (old new : PassModel) → new.view.next ≡ old.view.next → new.sought ≡ old.sought → NoneIsLeft plan op old → NoneIsLeft plan op new
-still_none plan op old new next sought none = record {
+pub still_none : (plan : TablePlan) (op : Op) (old new : PassModel) → new.view.next ≡ old.view.next → new.sought ≡ old.sought → Took old new 1 → NoneIsLeft plan op 0 old → NoneIsLeft plan op 1 new
+still_none plan op old new next sought took none = record {
   given_out = λ empty. next ∙ none.given_out empty;
   no_slot = λ s is. elim (none.no_slot s is) [
     | inl vain ↦ inl record {
       from = vain.from;
+      made = vain.made;
       next = next ∙ vain.next;
-      none = subst (FindsNone s plan.last_card vain.from (left_to_deletes (is_delete op))) (sym sought) vain.none;
+      none = subst (FindsNone s plan.last_card vain.from (left_to_deletes (is_delete op)) vain.made) (sym sought) vain.none;
+      since = omega (arith, took.made, vain.since);
     }
     | inr many ↦ inr (subst (λ (k : Seek). s.last + 2 ≤ k.missed) (sym sought) many)
   ];

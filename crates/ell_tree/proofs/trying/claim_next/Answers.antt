@@ -1,7 +1,7 @@
-use Rattle.std.proofs.Common.{rules, ◌≢◌, None, ap}
+use Rattle.std.proofs.Common.{rules, ◌≢◌, None, ap, arith}
 use Rattle.std.proofs.lemmas.Option.{same_Some}
 use Rattle.ell_cards.specs.Models.{PassModel}
-use Rattle.ell_tree.proofs.lemmas.Claiming.{may_claim_there, may_fill, row_goes, keeps_slot, taken_claims, in_vain, lost_claims}
+use Rattle.ell_tree.proofs.lemmas.Claiming.{numbers_at_end, may_claim_there, may_fill, row_goes, keeps_slot, taken_claims, in_vain, lost_claims}
 use Rattle.ell_tree.proofs.trying.claim_next.Goals as goal
 
 pub claim_up_to-requires-clause-may : goal.claim_up_to-requires-clause-may
@@ -46,3 +46,13 @@ returns-else-take_slot-clause-claims g c =
     in_vain c.args.pass.now c.next-first.new.pass c.next_takeable.new.pass c.next-first.result c.args.node_key c.next-first.ensures.step c.next_takeable.ensures.same c.next-first.ensures.least
     c.claim_up_to.new.pass c.in-Some.card c.in-Some.ensures.found.0 c.args.table.now.plan c.take_slot.new.pass places (c.requires.flat places) c.if-not-claim_up_to.ensures
     (ap (λ (p : PassModel). p.view) c.take_slot.ensures.same) c.next_takeable.ensures.missed (c.take_slot.ensures.missed c.if-take_slot.false c.in-Some.ensures.found.2)
+
+-- all numbers were given out
+pub returns-then-first-last_card-clause-claims : goal.returns-then-first-last_card-clause-claims
+returns-then-first-last_card-clause-claims g c =
+    let past = c.if-first-last_card.true in (
+      search rules,
+      numbers_at_end c.args.table.now.plan c.args.op c.next-first.new.pass c.next-first.result (ap (λ (p : PassModel). p.view.next) c.next-first.ensures.step)
+          (omega (arith, past, c.last_card.ensures.cards)) c.next-first.ensures.room,
+      search rules,
+    )
