@@ -457,7 +457,7 @@ impl<A: Allocator + Copy> CardTable<A> {
         ensures same { pass.new ≡ record (pass.old) { safe = pass.new.safe; sought = pass.new.sought } }
         // If there is none, then no number of the table from this card on has a slot; or the pass has read the words of
         // all slots in a row, or of all that are left to numbers of the table, and could have taken two of them at
-        // most, and none if it is for a delete. It has begun that row in this call.
+        // most, and none if it is for a delete. It has made no step call since it began that row.
         ensures none { result ≡ None → FindsNoneIn self.now.plan.slots self.now.plan.last_card card
             (left_to_deletes for_delete) pass.old.view.made pass.new.sought }
         // No slot of a card in hand was missed by that.
