@@ -436,9 +436,7 @@ impl<A: Allocator + Copy> Tree<A> {
         // The answer is the value that the key has, which becomes the new one exactly if it is `was`: on a key of the
         // pass in the pass's map, and on any key as of one thread at one point of the call, in every run. A call
         // without an answer changes nothing in any run: `Busy` is returned only after as many hindrances as tries, and
-        // `Spent` only if no card is left: the claim word says so; or, where cards come back, the pass has read the
-        // words of all slots in a row, and could have taken two at most, and none for a delete; or it has claimed in
-        // vain one card more than there are slots. What was in its way is over.
+        // `Spent` only if no card is left, as by an insert. What was in its way is over.
         ensures ends { Ends self.now tries (Swap key was value) pass.old pass.new (found_or_not_done result) }
         // The pass was answered this call and no other, or nothing if the call has no answer.
         ensures called { IsCalled (Swap key was value) pass.old pass.new (found_or_not_done result) }
@@ -486,9 +484,7 @@ impl<A: Allocator + Copy> Tree<A> {
         // Of all that the pass was answered by the call, only the last has changed anything: what put the value.
         ensures called { IsPutCalled key value pass.old pass.new result }
         // A call without an answer changes nothing of what the pass has, and has nothing in hand. Its last operation
-        // changes nothing in any run. `Spent` is returned only if no card is left: the claim word says so; or, where
-        // cards come back, the pass has read the words of all slots in a row, and could have taken two at most, and
-        // none for a delete; or it has claimed in vain one card more than there are slots.
+        // changes nothing in any run. `Spent` is returned only if no card is left, as by an insert or a delete.
         ensures not_done { IfErr result (IsNotDone self.now key pass.old pass.new) }
         // `Busy` is returned only after all tries: each was hindered, or answered by what another pass had changed.
         ensures tried { result ≡ Err Busy → AreTried tries pass.old pass.new }
@@ -529,9 +525,7 @@ impl<A: Allocator + Copy> Tree<A> {
         // Of all that the pass was answered by the call, only the last has changed anything: the swap of the value.
         ensures called { IsUpdateCalled key (F.post f) pass.old pass.new result }
         // A call without an answer changes nothing of what the pass has, and has nothing in hand. Its last operation
-        // changes nothing in any run. `Spent` is returned only if no card is left: the claim word says so; or, where
-        // cards come back, the pass has read the words of all slots in a row, and could have taken two at most, and
-        // none for a delete; or it has claimed in vain one card more than there are slots.
+        // changes nothing in any run. `Spent` is returned only if no card is left, as by an insert or a delete.
         ensures not_done { IfErr result (IsNotDone self.now key pass.old pass.new) }
         // `Busy` is returned only after all tries: each was hindered, or answered by what another pass had changed.
         ensures tried { result ≡ Err Busy → AreTried tries pass.old pass.new }
@@ -573,9 +567,7 @@ impl<A: Allocator + Copy> Tree<A> {
         // Of all that the pass was answered by the call, only the last has changed anything: the swap of the value.
         ensures called { IsUpdateCalled key (IsSum addend) pass.old pass.new result }
         // A call without an answer changes nothing of what the pass has, and has nothing in hand. Its last operation
-        // changes nothing in any run. `Spent` is returned only if no card is left: the claim word says so; or, where
-        // cards come back, the pass has read the words of all slots in a row, and could have taken two at most, and
-        // none for a delete; or it has claimed in vain one card more than there are slots.
+        // changes nothing in any run. `Spent` is returned only if no card is left, as by an insert or a delete.
         ensures not_done { IfErr result (IsNotDone self.now key pass.old pass.new) }
         // `Busy` is returned only after all tries: each was hindered, or answered by what another pass had changed.
         ensures tried { result ≡ Err Busy → AreTried tries pass.old pass.new }
@@ -697,9 +689,7 @@ impl<A: Allocator + Copy> Tree<A> {
         // `was`.
         ensures called { IsRemoveCalled key was pass.old pass.new result }
         // A call without an answer changes nothing of what the pass has, and has nothing in hand. Its last operation
-        // changes nothing in any run. `Spent` is returned only if no card is left: the claim word says so; or, where
-        // cards come back, the pass has read the words of all slots in a row, and could have taken two at most, and
-        // none for a delete; or it has claimed in vain one card more than there are slots.
+        // changes nothing in any run. `Spent` is returned only if no card is left, as by an insert or a delete.
         ensures not_done { IfErr result (IsNotDone self.now key pass.old pass.new) }
         // `Busy` is returned only after all tries: each was hindered, or the key was read anew.
         ensures tried { result ≡ Err Busy → AreTriedOrRead tries pass.old pass.new }
