@@ -4,16 +4,13 @@
 #include "sections.h"
 
 enum {
-    CARDS_FIRST = 128,   /* of an empty map, if nobody asks for another number: it is made the sooner */
-    CARDS_LEAST = 512,   /* of another section */
-    CARDS_USUAL = 16384, /* up to so many are doubled at once where calls had to wait for some */
-    RENEWAL_PERCENT = 5,
-    RENEWAL_MICROSECONDS = 5000,
+    CARDS_FIRST = 128,    /* of an empty map, if nobody asks for another number: it is made the sooner */
+    CARDS_LEAST = 512,    /* of another section */
+    CARDS_USUAL = 16384,  /* up to so many are doubled where calls had to wait for some */
     TRIES = 64,           /* of one call of the library, so that none holds its place for long */
+    TRIES_FOR_CARDS = 8,  /* of a call that finds none where there are enough, before the section is renewed */
     PAIRS_AT_ONCE = 4096, /* for which an array of pairs has room at first */
     SAMPLE = 64,          /* of so many changes on a place one is weighed */
-    KEY_IN_CARDS = 3,     /* a key takes a renewal about as long as so many cards */
-    REST_IN_CARDS = 1000, /* and so does what it has to do without keys and cards */
     ORDERS = 64           /* words by which the thread sanitizer tells keys apart */
 };
 
@@ -81,7 +78,6 @@ struct renewal {
     size_t difference_count;
     uint64_t effort; /* what it has taken so far, in nanoseconds of a processor */
     uint64_t pause;  /* for how long it closes the barrier next */
-    uint64_t left;   /* cards of the first section, when it began */
     uint64_t times;  /* so many times the cards that seem right, as heirs have failed */
 };
 
