@@ -80,8 +80,6 @@ int main(void) {
     long wrong = 0;
     int cancels = 0;
     settings.cards = CARDS;
-    settings.renewal_percent = 100;
-    settings.renewal_microseconds = 1;
     wrong += elltree_map_from_sorted(&map, NULL, 0, &settings, sizeof settings) != ELLTREE_YES;
     for (uint64_t i = 0; i < WORKERS; i++) {
         workers[i].number = i;
