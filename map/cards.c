@@ -1,6 +1,6 @@
 /* How many cards the sections get. A key that is present has a leaf and an inner node, and each of them may keep a card from coming back. Some
-   cards have both: where keys are only added, about one card is kept for each key, and where they come and go at random, 1.7. The more others
-   there are, the sooner a change finds one. */
+   cards have both: where keys are only added, about one card is kept for each key, where they come and go at random, 1.7, and where each key gets
+   other values, 2. The more others there are, the sooner a change finds one. */
 #include "cards.h"
 #include "numbers.h"
 
@@ -29,9 +29,9 @@ static uint64_t cards_of_each(const struct elltree_map *map, const struct renewa
     const uint64_t keys = renewal->there.count / parts, usual = cards_for(keys);
     if (parts > 1 || renewal->count > 1)
         return usual;
-    if (has_few_cards(section, keys))
+    if (renewal->reason == MANY_KEYS && has_few_cards(section, keys))
         return cards_for(keys_to_come(map, keys));
-    if (renewal->reason == NO_CARDS) /* threads that stood still in calls held them back */
+    if (renewal->reason == NO_CARDS && section->cards >= keys / 4 * 9) /* the keys keep fewer: threads that stood still in calls held some back */
         return at_least(at_most(2 * section->cards, CARDS_USUAL), usual);
     return usual;
 }
