@@ -24,9 +24,16 @@ static uint64_t first_cards(const struct elltree_map *map, uint64_t keys, uint32
     return keys ? cards_for(keys / parts) : CARDS_FIRST;
 }
 
+/* How many they get if those before had so many, which were too few: no fewer than the section has got along with. */
+static uint64_t more_cards(const struct section *section, uint64_t failed, uint32_t parts) {
+    return at_most(at_least(2 * failed, section->cards / parts), ELLTREE_CARDS_MAX);
+}
+
 static uint64_t cards_of_each(const struct elltree_map *map, const struct renewal *renewal, uint32_t parts) {
     const struct section *section = renewal->sections[0];
     const uint64_t keys = renewal->there.count / parts, usual = cards_for(keys);
+    if (renewal->failed)
+        return more_cards(section, renewal->failed, parts);
     if (parts > 1 || renewal->count > 1)
         return usual;
     if (renewal->reason == MANY_KEYS && has_few_cards(section, keys))

@@ -159,11 +159,31 @@ static int32_t get_fresh(struct elltree_map *map, struct place *place, struct se
     return ELLTREE_YES;
 }
 
-/* Where a section has cards enough, a call on it whose thread does not run just now holds some back. It is likely to go on soon. */
+/* Gives the place back, and has the section renewed, but waits for that no longer than for others' calls to go on: then the call looks again for a
+   card, of the same tree or of a fresh one. */
+static int32_t await_cards(struct elltree_map *map, struct place *place, struct section *section) {
+    const bool taken = take_renewal(section);
+    int32_t code = ELLTREE_YES;
+    note_spent(section);
+    give_back(place);
+    if (taken)
+        code = renew(map, section, NO_CARDS, false);
+    else
+        (void)take_up(map, NULL);
+    rest(UINT32_MAX);
+    return code;
+}
+
+/* Where a section has cards enough, calls on it whose threads don't run just now hold some back. They are likely to go on soon. */
 static __attribute__((noinline)) int32_t get_cards(struct elltree_map *map, struct place *place, struct section *section, unsigned *tries) {
-    if (*tries >= TRIES_FOR_CARDS || has_few_cards(section, recount(map, section)))
+    if (has_few_cards(section, recount(map, section)))
         return get_fresh(map, place, section);
+    if (*tries >= TRIES_FOR_CARDS)
+        return await_cards(map, place, section);
     give_back(place);
     rest(SPINS - TRIES_FOR_CARDS / 2 + (*tries)++);
     return ELLTREE_YES;
 }
+
+/* Notes that a call has found a card, so that no call waits for the renewal any more. */
+static __attribute__((noinline, cold)) void note_found(struct section *section) { atomic_store(&section->spent_at, 0); }

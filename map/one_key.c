@@ -29,6 +29,8 @@ static inline __attribute__((always_inline)) int32_t call(struct elltree_map *ma
         code = work_on(place, seat, request);
         if (__builtin_expect(heirs && request->changed, 0))
             carry_over(heirs, seat, seat_of(heir_of(heirs, request->key), place), request->key, request->state);
+        if (__builtin_expect(tries != 0, 0) && code >= 0)
+            note_found(section);
         if (__builtin_expect(code == ELLTREE_SPENT, 0))
             code = get_cards(map, place, section, &tries) == ELLTREE_YES ? ELLTREE_BUSY : ELLTREE_NO_MEMORY;
         else if (__builtin_expect(is_weighed(place), 0))

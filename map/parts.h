@@ -78,7 +78,7 @@ struct renewal {
     size_t difference_count;
     uint64_t effort; /* what it has taken so far, in nanoseconds of a processor */
     uint64_t pause;  /* for how long it closes the barrier next */
-    uint64_t times;  /* so many times the cards that seem right, as heirs have failed */
+    uint64_t failed; /* how many cards each heir had when they failed, or 0 */
 };
 
 #endif

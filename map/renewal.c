@@ -107,7 +107,8 @@ static int32_t begin(struct elltree_map *map, struct renewal *renewal) {
     int32_t code = read_first(map, renewal);
     if (code != ELLTREE_YES)
         return code;
-    cards = at_most(renewal->times * cards_of_each(map, renewal, number_of_parts(&map->barrier, renewal->there.count)), ELLTREE_CARDS_MAX);
+    cards = cards_of_each(map, renewal, number_of_parts(&map->barrier, renewal->there.count));
+    renewal->failed = cards; /* if they do */
     code = make_heirs(&map->barrier, &renewal->heirs, renewal->sections[0]->first, renewal->sections[renewal->count - 1]->upto, renewal->there.items,
                       renewal->there.count, cards);
     if (code != ELLTREE_YES)
@@ -242,7 +243,6 @@ static void begin_to_take_back(struct renewal *renewal, int32_t code) {
 /* There were too few cards for what calls have changed meanwhile, and the next heirs get more. */
 static void begin_anew(struct renewal *renewal) {
     renewal->code = ELLTREE_YES;
-    renewal->times *= 2;
     renewal->stage = BEGINS;
 }
 
@@ -392,6 +392,6 @@ static int32_t renew_section(struct elltree_map *map, struct section *section, e
         leave_section(map, section);
         return ELLTREE_NO_MEMORY;
     }
-    *renewal = (struct renewal){.sections = {section}, .count = 1, .reason = reason, .stage = BEGINS, .code = ELLTREE_YES, .times = 1};
+    *renewal = (struct renewal){.sections = {section}, .count = 1, .reason = reason, .stage = BEGINS, .code = ELLTREE_YES};
     return waits ? go_on_to_the_end(map, renewal) : go_on_or_leave(map, renewal);
 }

@@ -169,7 +169,8 @@ int main(void) {
     __atomic_store_n(&is_renewed, 1, __ATOMIC_SEQ_CST);
     pthread_join(renewing, NULL);
     wrong += refused;
-    printf("%d histories of %d calls, %llu renewals, %ld out of order, %ld wrong\n", rounds, ALL, (unsigned long long)renewals(), out_of_order, wrong);
+    printf("%d histories of %d calls, %llu renewals, %ld out of order, %ld wrong\n", rounds, ALL, (unsigned long long)renewals(), out_of_order,
+           wrong);
     elltree_map_free(map);
     return wrong + out_of_order != 0;
 }
