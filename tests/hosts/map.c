@@ -14,10 +14,11 @@
 #define OPS 200000
 #endif
 enum { MOST = 64, KEYS = 32, COUNTERS = 4, CARDS = 3000, STEADY = 40, TOKENS = 8, MANY = 20000, CROWD = 4, KEPT = 4000000 };
-enum { RENEWALS = 25, RESTED = 3, PATIENCE = 1000 };
+enum { RENEWALS = 25, RENEWALS_OF_MANY = 4, RESTED = 2, PATIENCE = 2000 };
 
 static struct elltree_map *map;
-static int working; /* how many threads share the map, and part the keys among them */
+static int working;       /* how many threads share the map, and part the keys among them */
+static uint64_t renewals; /* that are to be beside them; where threads are many, each takes long on a busy machine */
 
 static uint64_t next(uint64_t *seed) { return *seed ^= *seed << 13, *seed ^= *seed >> 7, *seed ^= *seed << 17; }
 
@@ -149,7 +150,7 @@ static void range(struct worker *w) {
 static void *work(void *given) {
     struct worker *w = given;
     uint64_t was;
-    for (int i = 0; i < OPS / working || counts_of_map().renewals < RENEWALS; i++) {
+    for (int i = 0; i < OPS / working || counts_of_map().renewals < renewals; i++) {
         const uint64_t random = next(&w->seed) >> 10;
         const int place = (int)(random % KEYS);
         if (random >> 20 & 1)
@@ -219,9 +220,10 @@ static long share(int count, uint32_t calls) {
         w[t].seed = 88172645463325252u + (uint64_t)t * 7919;
     }
     working = count - 1;
+    renewals = count < MOST ? RENEWALS : RENEWALS_OF_MANY;
     wrong += run_beside_renewals(work_or_sleep, w, sizeof *w, count);
     snprintf(name, sizeof name, "%d threads", count);
-    return end_map(name, wrong + compare(w, count), RENEWALS);
+    return end_map(name, wrong + compare(w, count), renewals);
 }
 
 /* The bytes that the process has taken from the allocator and not given back. What the allocator keeps for later depends on how the threads met. */

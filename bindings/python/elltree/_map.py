@@ -287,7 +287,7 @@ class Map(Ordered, collections.abc.MutableMapping[int, int]):
         return self._core.pairs()
 
     def renew(self) -> None:
-        """Renews all sections now, one after the other, so that the renewals come at a moment of the program's choice."""
+        """Renews all sections now, one after the other: those that have more cards than their keys need give cards back."""
         self._core.renew()
 
     def counts(self) -> dict[str, int]:

@@ -45,7 +45,7 @@ pub struct MapCounts {
     pub early_renewals: u64,
     /// How long a processor was at work on renewals.
     pub renewal_time: Duration,
-    /// The sum of the pauses in which calls on a section waited for its renewal.
+    /// The sum of the pauses in which calls waited for a renewal.
     pub pauses: Duration,
     /// The longest of these pauses.
     pub longest_pause: Duration,
@@ -650,7 +650,7 @@ impl Map {
         }
     }
 
-    /// Renews all sections now, one after the other, so that a program has renewals at a moment of its choice.
+    /// Renews all sections now, one after the other: those that have more cards than their keys need give cards back.
     ///
     /// # Errors
     ///
