@@ -139,18 +139,23 @@ static __attribute__((noinline)) void give_back_and_renew(struct elltree_map *ma
         (void)!renew(map, section, reason, false);
 }
 
-/* Notes when calls on a section began to wait for cards. */
-static void note_spent(struct section *section) {
+/* What a call does that finds no card. */
+
+/* Notes that calls on a section wait for cards, unless some do so already: whether they do so often. */
+static bool note_spent(struct section *section) {
     uint64_t none = 0;
-    if (!atomic_load(&section->spent_at))
-        atomic_compare_exchange_strong(&section->spent_at, &none, now());
+    if (atomic_load(&section->spent_at) || !atomic_compare_exchange_strong(&section->spent_at, &none, now()))
+        return false;
+    return atomic_fetch_add(&section->waits, 1) + 1 >= WAITS_FOR_CARDS && section->cards < CARDS_USUAL;
 }
+
+/* Notes that a call has found a card again. */
+static __attribute__((noinline, cold)) void note_found(struct section *section) { atomic_store(&section->spent_at, 0); }
 
 /* Gives the place back, and waits until the section is renewed: by this thread, if no other one renews it, or if its renewal was left. */
 static int32_t get_fresh(struct elltree_map *map, struct place *place, struct section *section) {
     const uint32_t ended = atomic_load(&map->ended);
     const bool taken = take_renewal(section);
-    note_spent(section);
     give_back(place);
     if (taken)
         return renew(map, section, NO_CARDS, true);
@@ -159,31 +164,20 @@ static int32_t get_fresh(struct elltree_map *map, struct place *place, struct se
     return ELLTREE_YES;
 }
 
-/* Gives the place back, and has the section renewed, but waits for that no longer than for others' calls to go on: then the call looks again for a
-   card, of the same tree or of a fresh one. */
-static int32_t await_cards(struct elltree_map *map, struct place *place, struct section *section) {
-    const bool taken = take_renewal(section);
-    int32_t code = ELLTREE_YES;
-    note_spent(section);
-    give_back(place);
-    if (taken)
-        code = renew(map, section, NO_CARDS, false);
-    else
-        (void)take_up(map, NULL);
-    rest(UINT32_MAX);
-    return code;
-}
-
-/* Where a section has cards enough, calls on it whose threads don't run just now hold some back. They are likely to go on soon. */
+/* Where a section has cards enough, calls hold some of them back whose threads don't run just now. They are likely to go on soon, as others wait. If
+   one that only reads does not, or this happens often, the section is renewed: a fresh tree is not held back by that one, but for a call that changes
+   keys a renewal would have to wait too. */
 static __attribute__((noinline)) int32_t get_cards(struct elltree_map *map, struct place *place, struct section *section, unsigned *tries) {
-    if (has_few_cards(section, recount(map, section)))
+    struct wait wait = {0, 0};
+    const bool waits_often = note_spent(section);
+    if (waits_often || *tries > TRIES_FOR_CARDS || atomic_load(&section->renewing) || has_few_cards(section, recount(map, section)))
         return get_fresh(map, place, section);
-    if (*tries >= TRIES_FOR_CARDS)
-        return await_cards(map, place, section);
     give_back(place);
-    rest(SPINS - TRIES_FOR_CARDS / 2 + (*tries)++);
+    (void)take_up(map, NULL);
+    *tries += *tries == 0;
+    if (await_calls(&map->barrier, &wait, READS, now() + PATIENCE))
+        ++*tries;
+    else if (wait.busy % 4 == READS)
+        *tries = TRIES_FOR_CARDS + 1;
     return ELLTREE_YES;
 }
-
-/* Notes that a call has found a card, so that no call waits for the renewal any more. */
-static __attribute__((noinline, cold)) void note_found(struct section *section) { atomic_store(&section->spent_at, 0); }

@@ -8,7 +8,9 @@ enum {
     CARDS_LEAST = 512,    /* of another section */
     CARDS_USUAL = 16384,  /* up to so many are doubled where calls had to wait for some */
     TRIES = 64,           /* of one call of the library, so that none holds its place for long */
-    TRIES_FOR_CARDS = 8,  /* of a call that finds none where there are enough, before the section is renewed */
+    TRIES_FOR_CARDS = 6,  /* of a call that finds none though the calls under way have ended, before the section is renewed */
+    WAITS_FOR_CARDS = 8,  /* after so many of its calls' waits a section gets more */
+    PATIENCE = 1000000,   /* so long such a call waits for those under way, in nanoseconds, before it sees what kind they are */
     PAIRS_AT_ONCE = 4096, /* for which an array of pairs has room at first */
     SAMPLE = 64,          /* of so many changes on a place one is weighed */
     ORDERS = 64           /* words by which the thread sanitizer tells keys apart */

@@ -26,7 +26,8 @@ struct section {
     uint64_t cards, keys;                 /* its cards, and the keys that it began with */
     uint64_t renewals;                    /* how many the map had when it was made */
     _Alignas(LINE) _Atomic bool renewing; /* whether a thread renews it, or has renewed it */
-    _Atomic uint64_t spent_at;            /* when a call waited for cards first, or 0 */
+    _Atomic uint64_t spent_at;            /* since when calls wait for cards, or 0 */
+    _Atomic uint32_t waits;               /* how often calls have begun to wait for them */
     _Atomic int64_t about;                /* how many keys it has, as far as the calls tell that were weighed since it was counted */
     struct seat seats[];                  /* one for each place, and the last for the thread that renews the section */
 };
