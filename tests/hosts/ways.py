@@ -147,7 +147,7 @@ def unlike_the_list():
     faults = ["the module is there, and ctypes too"] if "elltree._functions" in sys.modules else []
     for core, of in ((_library.compiled.HandleCore, OF_SLOTS), (_library.compiled.MapCore, OF_MAPS)):
         methods = {name: method.__doc__ for name, method in vars(core).items() if not name.startswith("_") and name != "answer"}
-        for name in sorted(methods.keys() | of.keys() - {"open", "from_sorted", "free"}):
+        for name in sorted(methods.keys() | of.keys() - {"open", "open_reusing", "from_sorted", "free"}):
             if methods.get(name, "no method") not in (of.get(name, "nothing"), None):
                 faults.append(f"{core.__name__}.{name} has {methods.get(name)}, and the list {of.get(name)}")
     return faults

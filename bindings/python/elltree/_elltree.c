@@ -302,7 +302,8 @@ static PyObject *handle_new(PyTypeObject *type, PyObject *given, PyObject *named
     if (named || !PyArg_ParseTuple(given, "OOO", &list, &cards, &handles) || !(start = pairs_in(list, &count)))
         return NULL;
     comes_back = handles != Py_None;
-    if (as_number(cards, kind_of('c'), &number) && (!comes_back || as_number(handles, kind_of('h'), &most)) && (core = PyType_GenericAlloc(type, 0))) {
+    if (as_number(cards, kind_of('c'), &number) && (!comes_back || as_number(handles, kind_of('h'), &most)) &&
+        (core = PyType_GenericAlloc(type, 0))) {
         struct elltree_handle *handle = &core_of(core)->handle;
         Py_BEGIN_ALLOW_THREADS
         code = comes_back ? elltree_open_reusing(handle, start, count, number, (uint32_t)most) : elltree_open(handle, start, count, number);
