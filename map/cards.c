@@ -11,6 +11,10 @@ static bool has_few_cards(const struct section *section, uint64_t keys) { return
 
 static bool has_many_cards(const struct section *section, uint64_t keys) { return section->cards > 2 * cards_for(keys); }
 
+static bool has_few_for_changes(const struct elltree_map *map, const struct section *section) {
+    return section->cards < CARDS_USUAL && map->cards < 2 * CARDS_USUAL && SAMPLE * atomic_load(&section->weighed) > USES_OF_A_CARD * section->cards;
+}
+
 /* For how many keys a section gets cards whose keys become more: half as many again, or so many that there are cards enough until it is parted. */
 static uint64_t keys_to_come(const struct elltree_map *map, uint64_t keys) {
     const uint64_t most = section_keys(&map->barrier) / 8 * 7;
@@ -38,7 +42,28 @@ static uint64_t cards_of_each(const struct elltree_map *map, const struct renewa
         return usual;
     if (renewal->reason == MANY_KEYS && has_few_cards(section, keys))
         return cards_for(keys_to_come(map, keys));
+    if (renewal->reason == FEW_CARDS)
+        return at_least(at_most(4 * section->cards, CARDS_USUAL), usual);
     if (renewal->reason == NO_CARDS && section->cards >= keys / 4 * 9) /* the keys keep fewer: threads that stood still in calls held some back */
         return at_least(at_most(2 * section->cards, CARDS_USUAL), usual);
     return usual;
+}
+
+/* Whether a key lies near the least or the greatest one of these pairs. */
+static bool is_near_an_end(const struct pairs *pairs, uint64_t key) {
+    size_t low = 0, high = pairs->count;
+    while (low < high) {
+        const size_t middle = low + (high - low) / 2;
+        if (pairs->items[middle].key < key)
+            low = middle + 1;
+        else
+            high = middle;
+    }
+    return low < pairs->count / 8 || low > pairs->count / 8 * 7;
+}
+
+/* Keys may come in order. Then the heir in which they come gets enough for those that come while the heirs are made. */
+static struct cards cards_of_heirs(const struct elltree_map *map, const struct renewal *renewal, uint32_t parts) {
+    const bool is_in_order = parts > 1 && renewal->key != NO_KEY && is_near_an_end(&renewal->there, renewal->key);
+    return (struct cards){cards_of_each(map, renewal, parts), is_in_order ? renewal->key : NO_KEY, CARDS_CARRIED};
 }

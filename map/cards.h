@@ -5,10 +5,12 @@
 
 /* How many cards each section of a new map has, if so many keys are in so many sections. */
 static uint64_t first_cards(const struct elltree_map *map, uint64_t keys, uint32_t parts);
-/* How many cards each heir of a renewal gets. */
-static uint64_t cards_of_each(const struct elltree_map *map, const struct renewal *renewal, uint32_t parts);
+/* How many cards the heirs of a renewal get. */
+static struct cards cards_of_heirs(const struct elltree_map *map, const struct renewal *renewal, uint32_t parts);
 /* Whether a section has few cards for so many keys. */
 static bool has_few_cards(const struct section *section, uint64_t keys);
+/* Whether it has few for as many changes as calls make, in a map that has few. */
+static bool has_few_for_changes(const struct elltree_map *map, const struct section *section);
 /* Whether it has more than twice as many as such a section gets. */
 static bool has_many_cards(const struct section *section, uint64_t keys);
 

@@ -106,7 +106,7 @@ static bool ascend(const struct elltree_pair *pairs, size_t count) {
 
 /* Gives a new map its first sections, with these pairs. */
 static int32_t fill(struct elltree_map *map, const struct elltree_pair *pairs, size_t count) {
-    const uint64_t cards = first_cards(map, count, number_of_parts(&map->barrier, count));
+    const struct cards cards = {first_cards(map, count, number_of_parts(&map->barrier, count)), NO_KEY, 0};
     struct heirs *heirs;
     struct directory *directory;
     int32_t code = make_heirs(&map->barrier, &heirs, 0, UINT64_MAX, pairs, count, cards);

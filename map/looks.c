@@ -38,10 +38,13 @@ static bool may_be_joined(const struct elltree_map *map, const struct directory 
 
 /* Weighs a call that has given its section so many keys more, and tells whether that is to be renewed, and why. */
 static enum reason weigh_change(struct elltree_map *map, struct section *section, int32_t more) {
+    atomic_fetch_add_explicit(&section->weighed, 1, memory_order_relaxed);
     if (more)
         atomic_fetch_add_explicit(&section->about, SAMPLE * (int64_t)more, memory_order_relaxed);
     if (more > 0 && has_many_keys(map, section))
         return MANY_KEYS;
+    if (has_few_for_changes(map, section))
+        return FEW_CARDS;
     return more < 0 && may_be_joined(map, directory_of(map), section) ? FEW_KEYS : NO_REASON;
 }
 
@@ -66,7 +69,7 @@ static void look_at_another(struct elltree_map *map) {
         reason = NO_REASON;
     give_back(place);
     if (reason != NO_REASON)
-        (void)!renew_section(map, section, reason, false);
+        (void)!renew_section(map, section, reason, NO_KEY, false);
 }
 
 /* Whether what was replaced and is still read takes too much memory for another renewal. */
@@ -75,7 +78,7 @@ static bool has_too_many_waiting(const struct elltree_map *map) {
 }
 
 /* Renews a section that this thread has taken for that, and looks at two others. */
-static int32_t renew(struct elltree_map *map, struct section *section, enum reason reason, bool waits) {
+static int32_t renew(struct elltree_map *map, struct section *section, enum reason reason, uint64_t key, bool waits) {
     int32_t code;
     while (has_too_many_waiting(map)) {
         (void)take_up(map, NULL);
@@ -85,7 +88,7 @@ static int32_t renew(struct elltree_map *map, struct section *section, enum reas
         }
         rest(UINT32_MAX);
     }
-    code = renew_section(map, section, reason, waits);
+    code = renew_section(map, section, reason, key, waits);
     look_at_another(map);
     look_at_another(map);
     return code;
@@ -116,15 +119,15 @@ static void join_passed(struct elltree_map *map) {
     taken = may_be_joined(map, directory, section) && take_renewal(section);
     give_back(place);
     if (taken)
-        (void)!renew_section(map, section, FEW_KEYS, false);
+        (void)!renew_section(map, section, FEW_KEYS, NO_KEY, false);
 }
 
 /* What a call does that changes a key. */
 
 /* Gives the place back, and sees to what this call has found, if it was weighed, and to what others have left. If memory is refused, the map goes on
    as it is. */
-static __attribute__((noinline)) void give_back_and_renew(struct elltree_map *map, struct place *place, struct section *section, int32_t more,
-                                                          bool is_weighed) {
+static __attribute__((noinline)) void give_back_and_renew(struct elltree_map *map, struct place *place, struct section *section, uint64_t key,
+                                                          int32_t more, bool is_weighed) {
     const bool is_due = atomic_exchange(&section->due, false);
     enum reason reason = is_due && may_be_joined(map, directory_of(map), section) ? FEW_KEYS : NO_REASON;
     bool taken;
@@ -136,7 +139,7 @@ static __attribute__((noinline)) void give_back_and_renew(struct elltree_map *ma
     if (atomic_load(&map->passed))
         join_passed(map);
     if (taken)
-        (void)!renew(map, section, reason, false);
+        (void)!renew(map, section, reason, key, false);
 }
 
 /* What a call does that finds no card. */
@@ -153,12 +156,12 @@ static bool note_spent(struct section *section) {
 static __attribute__((noinline, cold)) void note_found(struct section *section) { atomic_store(&section->spent_at, 0); }
 
 /* Gives the place back, and waits until the section is renewed: by this thread, if no other one renews it, or if its renewal was left. */
-static int32_t get_fresh(struct elltree_map *map, struct place *place, struct section *section) {
+static int32_t get_fresh(struct elltree_map *map, struct place *place, struct section *section, uint64_t key) {
     const uint32_t ended = atomic_load(&map->ended);
     const bool taken = take_renewal(section);
     give_back(place);
     if (taken)
-        return renew(map, section, NO_CARDS, true);
+        return renew(map, section, NO_CARDS, key, true);
     if (!take_up(map, section))
         wait_while(&map->ended, ended);
     return ELLTREE_YES;
@@ -167,11 +170,12 @@ static int32_t get_fresh(struct elltree_map *map, struct place *place, struct se
 /* Where a section has cards enough, calls hold some of them back whose threads don't run just now. They are likely to go on soon, as others wait. If
    one that only reads does not, or this happens often, the section is renewed: a fresh tree is not held back by that one, but for a call that changes
    keys a renewal would have to wait too. */
-static __attribute__((noinline)) int32_t get_cards(struct elltree_map *map, struct place *place, struct section *section, unsigned *tries) {
+static __attribute__((noinline)) int32_t get_cards(struct elltree_map *map, struct place *place, struct section *section, uint64_t key,
+                                                   unsigned *tries) {
     struct wait wait = {0, 0};
     const bool waits_often = note_spent(section);
     if (waits_often || *tries > TRIES_FOR_CARDS || atomic_load(&section->renewing) || has_few_cards(section, recount(map, section)))
-        return get_fresh(map, place, section);
+        return get_fresh(map, place, section, key);
     give_back(place);
     (void)take_up(map, NULL);
     *tries += *tries == 0;

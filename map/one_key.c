@@ -32,11 +32,11 @@ static inline __attribute__((always_inline)) int32_t call(struct elltree_map *ma
         if (__builtin_expect(tries != 0, 0) && code >= 0)
             note_found(section);
         if (__builtin_expect(code == ELLTREE_SPENT, 0))
-            code = get_cards(map, place, section, &tries) == ELLTREE_YES ? ELLTREE_BUSY : ELLTREE_NO_MEMORY;
+            code = get_cards(map, place, section, request->key, &tries) == ELLTREE_YES ? ELLTREE_BUSY : ELLTREE_NO_MEMORY;
         else if (__builtin_expect(is_weighed(place), 0))
-            give_back_and_renew(map, place, section, request->more, true);
+            give_back_and_renew(map, place, section, request->key, request->more, true);
         else if (__builtin_expect(is_due, 0))
-            give_back_and_renew(map, place, section, request->more, false);
+            give_back_and_renew(map, place, section, request->key, request->more, false);
         else
             give_back(place);
     } while (code == ELLTREE_BUSY);

@@ -103,12 +103,12 @@ static int32_t read_first(struct elltree_map *map, struct renewal *renewal) {
 
 /* Steps 1 and 2: from here on calls carry over what they change. */
 static int32_t begin(struct elltree_map *map, struct renewal *renewal) {
-    uint64_t cards;
+    struct cards cards;
     int32_t code = read_first(map, renewal);
     if (code != ELLTREE_YES)
         return code;
-    cards = cards_of_each(map, renewal, number_of_parts(&map->barrier, renewal->there.count));
-    renewal->failed = cards; /* if they do */
+    cards = cards_of_heirs(map, renewal, number_of_parts(&map->barrier, renewal->there.count));
+    renewal->failed = cards.each; /* if they do */
     code = make_heirs(&map->barrier, &renewal->heirs, renewal->sections[0]->first, renewal->sections[renewal->count - 1]->upto, renewal->there.items,
                       renewal->there.count, cards);
     if (code != ELLTREE_YES)
@@ -386,12 +386,12 @@ static bool take_up(struct elltree_map *map, const struct section *section) {
 }
 
 /* Begins a renewal of a section that this thread has taken for that, and leaves it where it would have to wait, unless the caller has to wait. */
-static int32_t renew_section(struct elltree_map *map, struct section *section, enum reason reason, bool waits) {
+static int32_t renew_section(struct elltree_map *map, struct section *section, enum reason reason, uint64_t key, bool waits) {
     struct renewal *renewal = malloc(sizeof *renewal);
     if (!renewal) {
         leave_section(map, section);
         return ELLTREE_NO_MEMORY;
     }
-    *renewal = (struct renewal){.sections = {section}, .count = 1, .reason = reason, .stage = BEGINS, .code = ELLTREE_YES};
+    *renewal = (struct renewal){.sections = {section}, .count = 1, .reason = reason, .key = key, .stage = BEGINS, .code = ELLTREE_YES};
     return waits ? go_on_to_the_end(map, renewal) : go_on_or_leave(map, renewal);
 }

@@ -94,10 +94,10 @@ static uint32_t number_of_parts(const struct barrier *barrier, uint64_t keys) {
     return keys > most ? (uint32_t)((keys + half - 1) / half) : 1;
 }
 
-/* Makes sections of about the same number of pairs each, for all keys from one on and below another. Each has these cards. If it is refused,
-   nothing is made. */
+/* Makes sections of about the same number of pairs each, for all keys from one on and below another, with these cards. If it is refused, nothing is
+   made. */
 static int32_t make_heirs(const struct barrier *barrier, struct heirs **made, uint64_t first, uint64_t upto, const struct elltree_pair *pairs,
-                          size_t count, uint64_t cards) {
+                          size_t count, struct cards cards) {
     const uint32_t parts = number_of_parts(barrier, count);
     struct heirs *heirs = malloc(sizeof *heirs + parts * sizeof(struct section *));
     int32_t code = heirs ? ELLTREE_YES : ELLTREE_NO_MEMORY;
@@ -106,8 +106,9 @@ static int32_t make_heirs(const struct barrier *barrier, struct heirs **made, ui
     atomic_init(&heirs->failed, false);
     for (heirs->count = 0; code == ELLTREE_YES && heirs->count < parts; heirs->count += code == ELLTREE_YES) {
         const size_t from = count * heirs->count / parts, end = count * (heirs->count + UINT64_C(1)) / parts;
-        code = make_section(barrier, &heirs->sections[heirs->count], heirs->count ? pairs[from].key : first, end < count ? pairs[end].key : upto,
-                            count ? pairs + from : NULL, end - from, cards);
+        const uint64_t least = heirs->count ? pairs[from].key : first, behind = end < count ? pairs[end].key : upto;
+        const uint64_t more = cards.key >= least && cards.key < behind ? cards.more : 0;
+        code = make_section(barrier, &heirs->sections[heirs->count], least, behind, count ? pairs + from : NULL, end - from, cards.each + more);
     }
     if (code != ELLTREE_YES)
         free_heirs(barrier, heirs);

@@ -13,7 +13,7 @@ struct seat {
 };
 
 /* Why a section is renewed. */
-enum reason { NO_REASON, NO_CARDS, FEW_KEYS, MANY_KEYS, MANY_CARDS, WANTED };
+enum reason { NO_REASON, NO_CARDS, FEW_CARDS, FEW_KEYS, MANY_KEYS, MANY_CARDS, WANTED };
 
 /* What calls read of a section is written before they see it, but for `heirs`, `replaced` and `due`. `renewing` guards what is written later, but for
    what calls count. */
@@ -28,6 +28,7 @@ struct section {
     _Alignas(LINE) _Atomic bool renewing; /* whether a thread renews it, or has renewed it */
     _Atomic uint64_t spent_at;            /* since when calls wait for cards, or 0 */
     _Atomic uint32_t waits;               /* how often calls have begun to wait for them */
+    _Atomic uint64_t weighed;             /* how many of its changes were weighed */
     _Atomic int64_t about;                /* how many keys it has, as far as the calls tell that were weighed since it was counted */
     struct seat seats[];                  /* one for each place, and the last for the thread that renews the section */
 };
@@ -67,9 +68,14 @@ static uint64_t count_section(const struct barrier *barrier, const struct sectio
 /* Frees a section and its tree. */
 static void free_section(const struct barrier *barrier, struct section *section);
 
-/* Makes sections of these pairs, for all keys from one on and below another, with so many cards each, those of its pairs among them. */
+/* How many cards heirs get, those of their pairs among them: each so many, and the one with this key some more. */
+struct cards {
+    uint64_t each, key, more;
+};
+
+/* Makes sections of these pairs, for all keys from one on and below another, with these cards. */
 static int32_t make_heirs(const struct barrier *barrier, struct heirs **made, uint64_t first, uint64_t upto, const struct elltree_pair *pairs,
-                          size_t count, uint64_t cards);
+                          size_t count, struct cards cards);
 /* Frees heirs, with their sections. */
 static void free_heirs(const struct barrier *barrier, struct heirs *heirs);
 /* The heir that a key belongs to. */
