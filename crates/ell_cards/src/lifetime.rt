@@ -36,14 +36,15 @@ use std::alloc::{AllocError, Allocator};
 use std::marker::Brand;
 
 impl<A: Allocator + Copy> CardTable<A> {
-    /// Creates a table of this kind, of a tree that has these start keys with their values, balanced, with this many cards
-    /// to be claimed, 1 to `CARDS_MAX`, and one pass that owns these keys: those of them that are start keys are present,
-    /// the others absent. The tree of the start keys has a card for each of them, so the number of the last card is the
-    /// number of cards asked for plus that of the start keys. The last card of a table with places has the number
-    /// `NUMBER_MAX`, but only the cards asked for and those of the start keys have words and may be claimed. `BadCards` is
-    /// returned exactly if the number of cards asked for is not 1 to `CARDS_MAX`, and `NoMemory` if an allocation fails.
-    /// Conditions: the keys are strictly ascending, and at most `KEY_MAX`; the start keys
-    /// are strictly ascending, at most `START_MAX`, and each is among the keys or shared; there are at most 1,000,000 places.
+    /// Creates a table of this kind, of a tree that has these start keys with their values, balanced, with this many
+    /// cards to be claimed, 1 to `CARDS_MAX`, and one pass that owns these keys: those of them that are start keys
+    /// are present, the others absent. The tree of the start keys has a card for each of them, so the number of the
+    /// last card is the number of cards asked for plus that of the start keys. The last card of a table with places
+    /// has the number `NUMBER_MAX`, but only the cards asked for and those of the start keys have words and may be
+    /// claimed. `BadCards` is returned exactly if the number of cards asked for is not 1 to `CARDS_MAX`, and
+    /// `NoMemory` if an allocation fails. Conditions: the keys are strictly ascending, and at most `KEY_MAX`; the
+    /// start keys are strictly ascending, at most `START_MAX`, and each is among the keys or shared; there are at
+    /// most 1,000,000 places.
     pub fn reserve(
         alloc: A,
         start: &[(u64, u64)],
@@ -128,9 +129,9 @@ impl<A: Allocator + Copy> CardTable<A> {
         Ok((table, pass))
     }
 
-    /// Returns the number of the last card. Without places it is how many cards there are besides card 0, including those of
-    /// the start keys, at most `CARD_MAX`. Of a table with places it is `NUMBER_MAX`, the greatest number that a card may have,
-    /// and fewer cards have words.
+    /// Returns the number of the last card. Without places it is how many cards there are besides card 0, including
+    /// those of the start keys, at most `CARD_MAX`. Of a table with places it is `NUMBER_MAX`, the greatest number
+    /// that a card may have, and fewer cards have words.
     pub fn last_card(&self) -> u64
         // Returns the number of the last card.
         ensures cards { result ≡ self.now.plan.last_card }
@@ -194,11 +195,11 @@ impl<A: Allocator + Copy> CardTable<A> {
         }
     }
 
-    /// Parts a pass with nothing in hand: the left part gets these keys of its own, ascending, and the right part gets
-    /// the rest, a part of the share and, if the table has places, one of them: it looks for a free one behind the place
-    /// that the pass found last, and at each place once. `TooManyPasses` is returned exactly if the pass may not be parted,
-    /// and in a table with places also if no place was found free; `NoMemory` is returned if an allocation fails. Either way
-    /// the pass is as it was.
+    /// Parts a pass with nothing in hand: the left part gets these keys of its own, ascending, and the right part
+    /// gets the rest, a part of the share and, if the table has places, one of them: it looks for a free one behind
+    /// the place that the pass found last, and at each place once. `TooManyPasses` is returned exactly if the pass
+    /// may not be parted, and in a table with places also if no place was found free; `NoMemory` is returned if an
+    /// allocation fails. Either way the pass is as it was.
     pub fn split(
         &self,
         pass: Pass<A>,
@@ -212,8 +213,8 @@ impl<A: Allocator + Copy> CardTable<A> {
         ensures left { IfOk result (λ parts. Steps pass parts.0 (left_view left_keys.now pass.view)) }
         // The right part gets the other keys, and a piece of the share, and has the safe number 0, and no slot.
         ensures right { IfOk result (λ parts. StepsOut pass parts.1 (right_view left_keys.now pass.view)) }
-        // Without places, `TooManyPasses` is returned exactly if the tree shares keys and the share is the least one; the
-        // only other error is `NoMemory`. The pass is then returned as it was.
+        // Without places, `TooManyPasses` is returned exactly if the tree shares keys and the share is the least one;
+        // the only other error is `NoMemory`. The pass is then returned as it was.
         ensures may { OnOk result (MayPart pass.view) }
         ensures refused { IfErr result (λ refused. refused.0 ≡ pass) }
         ensures why { IfErr result (λ refused. SplitRefuses self.now.plan.slots pass.view refused.1) }
@@ -230,8 +231,8 @@ impl<A: Allocator + Copy> CardTable<A> {
         }
     }
 
-    // Parts a pass: one part has these keys, and the other those, and a place, if the table has places. If no place is left,
-    // the pass is as it was.
+    // Parts a pass: one part has these keys, and the other those, and a place, if the table has places. If no place
+    // is left, the pass is as it was.
     fn split_as<J: SplitBy>(
         &self,
         pass: Pass<A>,
@@ -346,8 +347,9 @@ impl<A: Allocator + Copy> CardTable<A> {
         })
     }
 
-    /// Gives a pass up. If the table has places, and the pass is in no operation and no look, its place is free from now on, so
-    /// that a later split finds it. Without places nothing happens. Its keys and its share stay with nobody.
+    /// Gives a pass up. If the table has places, and the pass is in no operation and no look, its place is free from
+    /// now on, so that a later split finds it. Without places nothing happens. Its keys and its share stay with
+    /// nobody.
     pub fn release(&self, pass: Pass<A>)
         requires own { pass.table ≡ self.now.id }
     {
@@ -365,7 +367,8 @@ impl<A: Allocator + Copy> CardTable<A> {
         let (Some(slots), Some(place)) = (self.slots, standing.place) else {
             return;
         };
-        // What it has set free may be taken by those that begin a period from now on, however few slots each pass takes.
+        // What it has set free may be taken by those that begin a period from now on, however few slots each pass
+        // takes.
         self.advance(&mut seat, slots);
         self.give_up(&mut seat, slots, place);
     }

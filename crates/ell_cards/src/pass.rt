@@ -84,7 +84,15 @@ impl<A: Allocator + Copy> Model for Pass<A> {
 
     ghost Value = { PassModel };
 
-    ghost view = { λ p. record { table = p.seat.table_id; view = shown p.seat.me.0.tree; steps = p.steps; label = p.label; safe = p.seat.me.0.period.safe; slot = p.seat.me.0.period.slot; sought = p.seat.me.0.period.sought } };
+    ghost view = { λ p. record {
+      table = p.seat.table_id;
+      view = shown p.seat.me.0.tree;
+      steps = p.steps;
+      label = p.label;
+      safe = p.seat.me.0.period.safe;
+      slot = p.seat.me.0.period.slot;
+      sought = p.seat.me.0.period.sought;
+    } };
 
     ghost invariant = { IsPass };
 }

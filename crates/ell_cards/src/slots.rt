@@ -1,6 +1,6 @@
-//! Slots: a card lies in one, at one of the turns there. The word of a slot notes which of the three nodes of its card are dead.
-//! Once all three are, the slot is set free, with a reading of the clock as its stamp, and a pass takes it for the card of a later
-//! turn once that stamp is safe. The steps are not counted.
+//! Slots: a card lies in one, at one of the turns there. The word of a slot notes which of the three nodes of its
+//! card are dead. Once all three are, the slot is set free, with a reading of the clock as its stamp, and a pass
+//! takes it for the card of a later turn once that stamp is safe. The steps are not counted.
 ghost use Rattle.std.specs.Prelude.{◌≡◌, ◌≢◌, ◌+◌, ◌*◌, ◌<◌, ◌≤◌, ◌%◌, ℕ, IfSome, None, Some, [], true, false};
 ghost use Rattle.ell_word.specs.Node.{greatest_card, greatest_number, card};
 ghost use Rattle.ell_cards.specs.Ages.{KnowsDeadNode, MayStamp};
@@ -26,7 +26,8 @@ const NUMBERS_PER_TURN: u64 = 2_097_152;
 /// How many turns there are.
 const TURNS: u64 = 1_048_576;
 
-/// How many slots are left to deletes: a pass takes one for another change only if so many more could be taken behind it.
+/// How many slots are left to deletes: a pass takes one for another change only if so many more could be taken behind
+/// it.
 const LEFT_TO_DELETES: u64 = 2;
 
 /// Returns the slot in which a card lies.
@@ -80,14 +81,15 @@ fn is_noted(word: u64, place: u64) -> bool
 }
 
 impl Slots {
-    /// Returns how many slots a pass takes until it looks at all places again: few enough that the clock goes on several times while
-    /// all slots are taken once, and at most 64, so that a look at a place is seldom.
+    /// Returns how many slots a pass takes until it looks at all places again: few enough that the clock goes on
+    /// several times while all slots are taken once, and at most 64, so that a look at a place is seldom.
     #[inline(always)]
     fn takings_per_look(self) -> u64 {
         (self.last / 8).clamp(1, 64)
     }
 
-    /// Returns the least number of a card that has a slot, from this card on: the first one of the turn behind, if the card has none.
+    /// Returns the least number of a card that has a slot, from this card on: the first one of the turn behind, if
+    /// the card has none.
     #[inline(always)]
     fn next_with_slot(self, card: u64) -> u64
         requires { card ≤ greatest_number + 1 }
@@ -140,8 +142,8 @@ impl<A: Allocator + Copy> CardTable<A> {
         self.period_load::<Brand>(seat, self.slot_address(slots, slot))
     }
 
-    // Reads the clock for the card that lay in a slot when the pass read its word, and whose nodes it knows to be dead, or which
-    // it has laid aside.
+    // Reads the clock for the card that lay in a slot when the pass read its word, and whose nodes it knows to be
+    // dead, or which it has laid aside.
     fn stamp(&self, seat: &mut Seat<(), Known>, slots: Slots, slot: u64, word: u64) -> u64
         requires own { seat.old.table_id ≡ self.now.id }
         requires empty { seat.old.me.1 ≡ [] }
@@ -157,8 +159,8 @@ impl<A: Allocator + Copy> CardTable<A> {
         self.period_load::<Brand>(seat, self.clock_address(slots))
     }
 
-    // Notes one more node of the card in a slot as dead, by its place on the card, if the slot's word is this still. Returns
-    // `true` if it was.
+    // Notes one more node of the card in a slot as dead, by its place on the card, if the slot's word is this still.
+    // Returns `true` if it was.
     fn note_one(
         &self,
         seat: &mut Seat<(), Known>,
@@ -184,8 +186,8 @@ impl<A: Allocator + Copy> CardTable<A> {
         self.period_exchange::<Brand>(seat, self.slot_address(slots, slot), word, noted) == word
     }
 
-    // Sets a slot free, all nodes of whose card the pass knows to be dead, or whose card it has laid aside, if the slot's word
-    // is this still. Returns `true` if it was.
+    // Sets a slot free, all nodes of whose card the pass knows to be dead, or whose card it has laid aside, if the
+    // slot's word is this still. Returns `true` if it was.
     fn set_free(&self, seat: &mut Seat<(), Known>, slots: Slots, slot: u64, word: u64) -> bool
         requires own { seat.old.table_id ≡ self.now.id }
         requires empty { seat.old.me.1 ≡ [] }
@@ -208,8 +210,8 @@ impl<A: Allocator + Copy> CardTable<A> {
         self.period_exchange::<Brand>(seat, self.slot_address(slots, slot), word, free) == word
     }
 
-    // Notes a node that the pass knows to be dead in the word of its slot, unless that does so already, or another card lies
-    // there by now. Returns whether it set the slot free by that, or `None` if the word changed meanwhile.
+    // Notes a node that the pass knows to be dead in the word of its slot, unless that does so already, or another
+    // card lies there by now. Returns whether it set the slot free by that, or `None` if the word changed meanwhile.
     fn note_dead(&self, seat: &mut Seat<(), Known>, slots: Slots, node: u64) -> Option<bool>
         requires own { seat.old.table_id ≡ self.now.id }
         requires empty { seat.old.me.1 ≡ [] }
@@ -240,8 +242,8 @@ impl<A: Allocator + Copy> CardTable<A> {
         }
     }
 
-    // Notes such a node, even if the word changes meanwhile: it does so at most twice, as the two other nodes of the card are
-    // noted. Returns whether it set the slot free.
+    // Notes such a node, even if the word changes meanwhile: it does so at most twice, as the two other nodes of the
+    // card are noted. Returns whether it set the slot free.
     fn note_surely(&self, seat: &mut Seat<(), Known>, slots: Slots, node: u64) -> bool
         requires own { seat.old.table_id ≡ self.now.id }
         requires empty { seat.old.me.1 ≡ [] }
@@ -265,8 +267,8 @@ impl<A: Allocator + Copy> CardTable<A> {
         false
     }
 
-    /// Sets the slot of a card free if the pass has laid the card aside, as it lost the card's flag: nobody else knows of the
-    /// card. It does nothing if the table has no places.
+    /// Sets the slot of a card free if the pass has laid the card aside, as it lost the card's flag: nobody else
+    /// knows of the card. It does nothing if the table has no places.
     pub(crate) fn free_aside(&self, seat: &mut Seat<(), Known>, card: u64, lost: bool)
         requires own { seat.old.table_id ≡ self.now.id }
         requires empty { seat.old.me.1 ≡ [] }
@@ -291,9 +293,10 @@ impl<A: Allocator + Copy> CardTable<A> {
         }
     }
 
-    /// Notes a node that the pass knows to be dead: one that its card, which is over, has taken out of the tree, or one of that
-    /// card which never comes into it. Once all three nodes of a card are noted, its slot is free. Returns `true` if it became
-    /// free by this call. It does nothing if the table has no places. Its steps are not counted.
+    /// Notes a node that the pass knows to be dead: one that its card, which is over, has taken out of the tree, or
+    /// one of that card which never comes into it. Once all three nodes of a card are noted, its slot is free.
+    /// Returns `true` if it became free by this call. It does nothing if the table has no places. Its steps are not
+    /// counted.
     pub fn retire(&self, pass: &mut Pass<A>, node: u64) -> bool
         requires own { pass.old.table ≡ self.now.id }
         requires dead { KnowsDeadNode pass.old.view node }
@@ -325,8 +328,8 @@ impl<A: Allocator + Copy> CardTable<A> {
         self.period_load::<Brand>(seat, self.slot_address(slots, slot_of(card)))
     }
 
-    // Takes the slot of a card in hand that was set free with a stamp below the pass's safe number, if the slot's word is this
-    // still. Returns `true` if it was.
+    // Takes the slot of a card in hand that was set free with a stamp below the pass's safe number, if the slot's
+    // word is this still. Returns `true` if it was.
     fn take_free(&self, seat: &mut Seat<(), Known>, slots: Slots, card: u64, word: u64) -> bool
         requires own { seat.old.table_id ≡ self.now.id }
         requires empty { seat.old.me.1 ≡ [] }
@@ -413,8 +416,8 @@ impl<A: Allocator + Copy> CardTable<A> {
         }
     }
 
-    // Returns the least number of a card, from this card on, whose slot the pass could take, if it could take so many others too. It
-    // reads the word of each slot once.
+    // Returns the least number of a card, from this card on, whose slot the pass could take, if it could take so many
+    // others too. It reads the word of each slot once.
     fn seek_takeable(&self, pass: &mut Pass<A>, slots: Slots, card: u64, others: u64) -> Option<u64>
         requires own { pass.old.table ≡ self.now.id }
         requires slots { self.now.plan.slots ≡ Some slots }
@@ -445,11 +448,12 @@ impl<A: Allocator + Copy> CardTable<A> {
         None
     }
 
-    /// Returns the least number of a card, from this card on, whose slot the pass could take by `take_slot` as it read the slots'
-    /// words: at most one round of them, and one more if there was none, and the places then tell of a greater safe number. Returns
-    /// `None` if there is none, or none that the table has; and, unless it is for a delete, if fewer than two more could be taken
-    /// behind it. A slot that could be taken can be until a claim passes its number, so some are left to deletes even if keys fill
-    /// all others. Without places, each card has words of its own, and this is the card itself. Its steps are not counted.
+    /// Returns the least number of a card, from this card on, whose slot the pass could take by `take_slot` as it
+    /// read the slots' words: at most one round of them, and one more if there was none, and the places then tell of
+    /// a greater safe number. Returns `None` if there is none, or none that the table has; and, unless it is for a
+    /// delete, if fewer than two more could be taken behind it. A slot that could be taken can be until a claim
+    /// passes its number, so some are left to deletes even if keys fill all others. Without places, each card has
+    /// words of its own, and this is the card itself. Its steps are not counted.
     pub fn next_takeable(&self, pass: &mut Pass<A>, card: u64, for_delete: bool) -> Option<u64>
         requires own { pass.old.table ≡ self.now.id }
         requires room { card ≤ self.now.plan.last_card }
@@ -482,9 +486,9 @@ impl<A: Allocator + Copy> CardTable<A> {
         }
     }
 
-    /// Takes the slot of the card in hand, if that card lies there already, as each one of the first turn does, or if the slot was
-    /// set free with a stamp below the pass's safe number. Returns `true` if it did: in a table without places always, and never
-    /// where the card has no slot. Its steps are not counted.
+    /// Takes the slot of the card in hand, if that card lies there already, as each one of the first turn does, or if
+    /// the slot was set free with a stamp below the pass's safe number. Returns `true` if it did: in a table without
+    /// places always, and never where the card has no slot. Its steps are not counted.
     pub fn take_slot(&self, pass: &mut Pass<A>, card: u64) -> bool
         requires own { pass.old.table ≡ self.now.id }
         requires may { MayFill pass.old.view card }

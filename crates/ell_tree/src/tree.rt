@@ -398,9 +398,9 @@ impl<A: Allocator + Copy> Tree<A> {
         // On a key of the pass, it answers as a map that has the pass's keys, which becomes the map after the call. On
         // any key, the answer is that of one thread at one point of the call, in every run. A call without an answer
         // changes nothing in any run: `Busy` is returned only after as many hindrances as tries, and `Spent` only if no
-        // card is left: the claim word says so; or, where cards come back, the pass has read the words of all slots in
-        // a row, and could have taken two at most, and none for a delete; or it has claimed in vain one card more than
-        // there are slots. What was in its way is over.
+        // card is left: the claim word says so; or, where cards come back, no number with a slot is left, or the pass
+        // has read the words of all slots that are left to numbers, in a row, and could have taken two at most, and
+        // none for a delete; or it has claimed in vain one card more than there are slots. What was in its way is over.
         ensures ends { Ends self.now tries (Insert key value) pass.old pass.new (replied result) }
         // The pass was answered this call and no other, or nothing if the call has no answer.
         ensures called { IsCalled (Insert key value) pass.old pass.new (replied result) }
@@ -604,9 +604,9 @@ impl<A: Allocator + Copy> Tree<A> {
         // On a key of the pass, it answers as a map that has the pass's keys, which becomes the map after the call. On
         // any key, the answer is that of one thread at one point of the call, in every run. A call without an answer
         // changes nothing in any run: `Busy` is returned only after as many hindrances as tries, and `Spent` only if no
-        // card is left: the claim word says so; or, where cards come back, the pass has read the words of all slots in
-        // a row, and could have taken two at most, and none for a delete; or it has claimed in vain one card more than
-        // there are slots. What was in its way is over.
+        // card is left: the claim word says so; or, where cards come back, no number with a slot is left, or the pass
+        // has read the words of all slots that are left to numbers, in a row, and could have taken two at most, and
+        // none for a delete; or it has claimed in vain one card more than there are slots. What was in its way is over.
         ensures ends { Ends self.now tries (Delete key) pass.old pass.new (replied result) }
         // The pass was answered this call and no other, or nothing if the call has no answer. The call took a value
         // exactly if it says so.
@@ -641,9 +641,9 @@ impl<A: Allocator + Copy> Tree<A> {
         // On a key of the pass, it answers as a map that has the pass's keys, which becomes the map after the call. On
         // any key, the answer is that of one thread at one point of the call, in every run. A call without an answer
         // changes nothing in any run: `Busy` is returned only after as many hindrances as tries, and `Spent` only if no
-        // card is left: the claim word says so; or, where cards come back, the pass has read the words of all slots in
-        // a row, and could have taken two at most, and none for a delete; or it has claimed in vain one card more than
-        // there are slots. What was in its way is over.
+        // card is left: the claim word says so; or, where cards come back, no number with a slot is left, or the pass
+        // has read the words of all slots that are left to numbers, in a row, and could have taken two at most, and
+        // none for a delete; or it has claimed in vain one card more than there are slots. What was in its way is over.
         ensures ends { Ends self.now tries (Delete key) pass.old pass.new (replied (whether result)) }
         // The pass was answered this call and no other, which took the value that it returns; or nothing, if the call
         // has no answer.

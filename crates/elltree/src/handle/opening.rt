@@ -18,10 +18,10 @@ use std::sync::Arc;
 pub const HANDLES_MAX: u64 = 1_000_000;
 
 impl Handle {
-    /// Opens a flat tree with the given number of cards that has the start keys with their values, and returns its first
-    /// handle. Returns `BadStart` if the start keys do not strictly ascend or there are more than `START_MAX`, then
-    /// `BadKey` if a start key is above `KEY_MAX`, then `BadCards` if the number of cards is not 1 to 1,000,000, and
-    /// only then `NoMemory` if an allocation fails.
+    /// Opens a flat tree with the given number of cards that has the start keys with their values, and returns its
+    /// first handle. Returns `BadStart` if the start keys do not strictly ascend or there are more than `START_MAX`,
+    /// then `BadKey` if a start key is above `KEY_MAX`, then `BadCards` if the number of cards is not 1 to 1,000,000,
+    /// and only then `NoMemory` if an allocation fails.
     pub fn open(alloc: Global, start: &[Pair], cards: u64) -> Result<Handle, Refusal>
         // The handle is the first of a new flat tree with the start pairs and the cards asked for, and has the whole
         // share.
@@ -110,8 +110,8 @@ impl Handle {
         }
     }
 
-    /// Gives the handle up. In a tree whose cards come back, it makes room for another one; its share stays with nobody.
-    /// The tree goes with its last handle.
+    /// Gives the handle up. In a tree whose cards come back, it makes room for another one; its share stays with
+    /// nobody. The tree goes with its last handle.
     pub fn release(self) {
         let Handle { tree, pass } = self;
         tree.release(pass);
