@@ -23,7 +23,8 @@ use Rattle.ell_core.specs.statements.Readers.{from_of, upto_of}
 use Rattle.ell_cards.specs.declared.glance.Glance.{Glance}
 use Rattle.ell_cards.specs.declared.glance.Stretch.{Stretch}
 use Rattle.ell_cards.specs.declared.view.View.{View}
-use Rattle.ell_cards.specs.Models.{IsTold, Knows, KnowsCard, Does, StandsAt, IsFree, HasCome, HasComeWhole, stored_at}
+use Rattle.ell_cards.specs.Sayings.{put_says, delete_says}
+use Rattle.ell_cards.specs.Models.{IsTold, Knows, KnowsDelete, Does, StandsAt, IsFree, HasCome, HasComeWhole, stored_at}
 use Rattle.ell_ops.specs.declared.reply.Reply.{Reply}
 use Rattle.ell_core.specs.soundness.Sound.{MayChange}
 use Rattle.ell_core.specs.statements.Effects.{reply_of_change}
@@ -100,9 +101,14 @@ NamesNode _ = ⊥
 abbrev pub KnowsWhere : View → ℕ → Type 0
 KnowsWhere v c = (x : ℕ) × (IsTold v (Info c field.P x) ⊎ IsTold v (Info c field.Gp x))
 
--- info: the card is known flagged or marked, the pass was told where, and this word of it never changes
+-- a card is known flagged or marked that says this word, by whose card it is
+abbrev pub KnowsSaying : View → ℕ → Field → Type 0
+KnowsSaying v c f = (Knows v (IFlagged c) × (put_says f ≡ true)) ⊎ (KnowsDelete v c × (delete_says f ≡ true))
+
+-- info: the card is known flagged or marked and says this word, which never changes, and the pass was told where it is
+-- flagged or marks
 pub record MayAsk (v : View) (c : ℕ) (f : Field) : Type 0 where
-  pub knows : KnowsCard v c
+  pub knows : KnowsSaying v c f
   pub place : KnowsWhere v c
   pub fixed : is_fixed f ≡ true
 

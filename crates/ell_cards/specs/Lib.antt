@@ -8,6 +8,8 @@ pub mod Seeking
 pub mod Models
 -- how each step call changes what a pass knows
 pub mod Changes
+-- which words a card says
+pub mod Sayings
 -- what each step call asks of what the pass knows
 pub mod Guards
 -- the step calls as one table: the word that each touches, what it does to it, its event, the change, the guard, what

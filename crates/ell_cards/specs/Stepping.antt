@@ -1,4 +1,4 @@
-use Rattle.std.specs.Prelude.{◌≡◌, ◌≢◌, ℕ, None, Some, List, [], ◌-◌}
+use Rattle.std.specs.Prelude.{◌≡◌, ◌≢◌, ℕ, Bool, None, Some, List, [], ◌-◌}
 use mathlib.Core.Option.{some}
 use lib.ListN.{get_elem?}
 use Rattle.std.specs.List.Sorted.{IsStrictlyIncreasing}
@@ -16,7 +16,7 @@ use Rattle.ell_cards.specs.Naming.{IsNamed, IsPlaced}
 use Rattle.ell_cards.specs.Calls.{Exchange, atomic_of, after, May, Tells}
 use Rattle.ell_cards.specs.Shown.{cut_word, shown, shown_call, CanBeShown}
 use Rattle.ell_cards.specs.States.{TableState}
-use Rattle.ell_cards.specs.Tied.{HasStored, MayInMemory}
+use Rattle.ell_cards.specs.Tied.{HasStoredAll, MayInMemory}
 use Rattle.ell_cards.specs.Turns.{found_by, view_after}
 use Rattle.ell_cards.specs.Starts.{IsReached}
 use Rattle.ell_cards.specs.Looking.{KeysAreFixed, ValuesAreFixed, ReadsItsOwn, MissesItsOwn}
@@ -79,9 +79,9 @@ PartsShare old left right = (share : Share) → HasShare share old
 abbrev pub IsInside : TablePlan → View → Type 0
 IsInside plan v = IsNamed plan.last_card v × IsPlaced (last_slot plan) v
 
--- a pass has taken the slot of a card, and has stored each word of it
-abbrev pub IsWholeIn : PassModel → ℕ → Type 0
-IsWholeIn p c = (p.slot ≡ Some c) × ((f : Field) → HasStored p.view f)
+-- a pass has taken the slot of a card, and has stored each word of it that is said
+abbrev pub IsWholeIn : PassModel → ℕ → (Field → Bool) → Type 0
+IsWholeIn p c said = (p.slot ≡ Some c) × HasStoredAll p.view said
 
 -- a call asks this of the slots, if the table has places
 abbrev pub MayInTable : TablePlan → PassModel → Call → Type 0

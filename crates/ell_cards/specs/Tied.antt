@@ -12,6 +12,7 @@ use Rattle.ell_cards.specs.declared.view.Slots.{Slots}
 use Rattle.ell_cards.specs.declared.view.View.{View}
 use Rattle.ell_cards.specs.Models.{Has}
 use Rattle.ell_cards.specs.Periods.{WholeState, card_in}
+use Rattle.ell_cards.specs.Sayings.{says, put_says, delete_says}
 use Rattle.ell_cards.specs.Shown.{cut_word}
 use Rattle.ell_cards.specs.SlotWords.{slot_of}
 use Rattle.ell_cards.specs.States.{TableState}
@@ -32,10 +33,14 @@ HoldsWaiting v c = (v.worker.card ≡ Some c) × (v.worker.flagged ≡ false)
 abbrev pub HasStored : View → Field → Type 0
 HasStored v f = (x : ℕ) × Has v.stores (f, x)
 
--- a field of a card that is kept in memory: of a card that has won its flag each, and of one in hand those that
--- were stored
+-- a pass has stored each field that is said
+abbrev pub HasStoredAll : View → (Field → Bool) → Type 0
+HasStoredAll v said = (f : Field) → said f ≡ true → HasStored v f
+
+-- a field of a card that is kept in memory: of a card that has won its flag each one that it says, and of one in hand
+-- those that were stored
 pub data IsKept (stage : Stages) (views : List Known) (c : ℕ) (f : Field) : Type 0 where
-  won : HasWon stage c → IsKept stage views c f
+  won : HasWon stage c → says (stage c) f ≡ true → IsKept stage views c f
   stored : (seat : ℕ) (k : Known) → get_elem? views seat ≡ some k → HoldsWaiting k.tree c → HasStored k.tree f
       → IsKept stage views c f
 
@@ -64,11 +69,11 @@ pub record IsTied (s : Slots) (tree : TableState) (t : WholeState) (stage : Stag
       → HasStored k.tree f → k.period.slot ≡ Some c
 
 -- what a call asks beside what it asks of the tree: what is stored goes to the slot that the pass has taken, and a card
--- is flagged whose fields were all stored there
+-- is flagged of which all that it says was stored there
 abbrev pub MayInMemory : Option ℕ → View → Call → Type 0
 MayInMemory slot v (call.Fill c f value) = slot ≡ Some c
-MayInMemory slot v (call.IFlag c p from) = (slot ≡ Some c) × ((f : Field) → HasStored v f)
-MayInMemory slot v (call.DFlag c gp from) = (slot ≡ Some c) × ((f : Field) → HasStored v f)
+MayInMemory slot v (call.IFlag c p from) = (slot ≡ Some c) × HasStoredAll v put_says
+MayInMemory slot v (call.DFlag c gp from) = (slot ≡ Some c) × HasStoredAll v delete_says
 MayInMemory slot v _ = Unit {0}
 
 -- a call sets the flag of a card

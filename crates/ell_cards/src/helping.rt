@@ -25,9 +25,9 @@ use ell_word::{Link, State, Update};
 use std::alloc::Allocator;
 
 impl<A: Allocator + Copy> CardTable<A> {
-    /// Reads a word of a card that the pass knows flagged or marked: grandparent, parent, leaf, the word that was read, or key.
-    /// The first three are nodes of the table, ever deeper; an insert's grandparent is 0. The leaf's word has the tag that
-    /// the card expects with it.
+    /// Reads a word of a card that the pass knows flagged or marked: parent or leaf; of a delete's card also the
+    /// grandparent, or the word that was read; and of another one a key. Nodes are of the table, ever deeper. The leaf's
+    /// word has the tag that the card expects with it.
     #[inline(always)]
     pub fn info(&self, pass: &mut Pass<A>, card: u64, field: Field) -> u64
         requires own { pass.old.table ≡ self.now.id }

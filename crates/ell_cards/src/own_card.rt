@@ -6,6 +6,7 @@ ghost use Rattle.ell_core.specs.declared.exchange.Exchange.TheVariants as exchan
 ghost use Rattle.ell_cards.specs.Models.{Steps, flat_from};
 ghost use Rattle.ell_cards.specs.Changes.{after_claim, after_fill, after_flag, if_won, exchanged, found_update, found_word};
 ghost use Rattle.ell_cards.specs.Skipping.{after_claimed_row};
+ghost use Rattle.ell_cards.specs.Sayings.{delete_says, put_says};
 ghost use Rattle.ell_cards.specs.Stepping.{IsWholeIn};
 ghost use Rattle.ell_cards.specs.Guards.{MayClaim, MayFill, MayIFlag, MayDFlag};
 
@@ -69,7 +70,7 @@ impl<A: Allocator + Copy> CardTable<A> {
 
     /// Flags the parent for the insert whose card is in hand, filled: exchanges the update that was read there for the
     /// card's flag. If that fails, the error is the update that was found, and the card is laid aside. If the table has
-    /// places, each word of the card was stored; and if the flag fails, the card's slot is set free, by steps that are not
+    /// places, each word that the card says was stored; and if the flag fails, the card's slot is set free, by steps that are not
     /// counted.
     #[inline(always)]
     pub fn iflag(
@@ -81,7 +82,7 @@ impl<A: Allocator + Copy> CardTable<A> {
     ) -> Result<(), Update>
         requires own { pass.old.table ≡ self.now.id }
         requires may { MayIFlag pass.old.view card parent from }
-        requires whole { self.now.plan.slots ≢ None → IsWholeIn pass.old card }
+        requires whole { self.now.plan.slots ≢ None → IsWholeIn pass.old card put_says }
         // It makes one step and counts it. The pass then knows exactly what this call tells.
         ensures step { Steps pass.old pass.new (exchanged (if_won (is_ok result) exchange.IFlag card)
             (found_word (packed from) result) (after_flag (is_ok result) (IFlagged card) parent
@@ -101,7 +102,7 @@ impl<A: Allocator + Copy> CardTable<A> {
 
     /// Flags the grandparent for the delete whose card is in hand, filled: exchanges the update that was read there for
     /// the card's flag. If that fails, the error is the update that was found, and the card is laid aside. If the table
-    /// has places, each word of the card was stored; and if the flag fails, the card's slot is set free, by steps that are
+    /// has places, each word that the card says was stored; and if the flag fails, the card's slot is set free, by steps that are
     /// not counted.
     #[inline(always)]
     pub fn dflag(
@@ -113,7 +114,7 @@ impl<A: Allocator + Copy> CardTable<A> {
     ) -> Result<(), Update>
         requires own { pass.old.table ≡ self.now.id }
         requires may { MayDFlag pass.old.view card grandparent from }
-        requires whole { self.now.plan.slots ≢ None → IsWholeIn pass.old card }
+        requires whole { self.now.plan.slots ≢ None → IsWholeIn pass.old card delete_says }
         // It makes one step and counts it. The pass then knows exactly what this call tells.
         ensures step { Steps pass.old pass.new (exchanged (if_won (is_ok result) exchange.DFlag card)
             (found_word (packed from) result) (after_flag (is_ok result) (DFlagged card) grandparent

@@ -174,19 +174,10 @@ abbrev pub claim_steps : Option Slots → ℕ
 claim_steps None = 2
 claim_steps (Some s) = 2 * s.last + 4
 
--- how many words of its card an insert or a swap stores, and how many a delete: where cards lie in slots all of them
-abbrev pub put_stores : Option Slots → ℕ
-put_stores None = 10
-put_stores (Some s) = 12
-
-abbrev pub delete_stores : Option Slots → ℕ
-delete_stores None = 4
-delete_stores (Some s) = 12
-
 -- how many steps more a try takes at most where cards lie in slots
 abbrev pub slot_steps : Option Slots → ℕ
 slot_steps None = 0
-slot_steps (Some s) = 2 * s.last + 10
+slot_steps (Some s) = 2 * s.last + 2
 
 -- the most steps of a try in a table, of what it does after its search, and of so many tries
 abbrev pub try_steps_in : TablePlan → ℕ

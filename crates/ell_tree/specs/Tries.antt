@@ -209,17 +209,6 @@ ClaimsNext plan op place node_key old new next.NoneLeft = Claims plan op place n
 ClaimsNext plan op place node_key old new next.Lost = Claims plan op place node_key old new claimed.Lost
 ClaimsNext plan op place node_key old new next.InUse = ClaimsInVain plan old new
 
--- a pass that stored 0 in these fields of the card in hand, the last one first, a step each
-abbrev pub zeroed : List Field → PassModel → PassModel
-zeroed [] p = p
-zeroed (f ∷ fs) p =
-    record (zeroed fs p) { view = after_fill f 0 (zeroed fs p).view; steps = one_more (zeroed fs p).steps }
-
--- it did so where cards lie in slots, and nothing where they do not
-abbrev pub cleared : Option Slots → List Field → PassModel → PassModel
-cleared None fields p = p
-cleared (Some s) fields p = zeroed fields p
-
 -- the card in hand was filled in so many steps, and nothing else was done
 pub record Fills (old new : PassModel) (n : ℕ) : Type 0 where
   pub table : new.table ≡ old.table

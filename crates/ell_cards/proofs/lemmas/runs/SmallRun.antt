@@ -253,9 +253,9 @@ at_4 = run_leads at_3 insert_flags
 mark_is_lost_asks : RunAsks small_plan at_4 mark_is_lost
 mark_is_lost_asks =
     (refl, (record { knows = refl; place = told_at 2 _ _ refl }, told_at 4 _ _ refl))
-    ▸ (refl, record { knows = inl refl; place = (4, inl (told_at 0 _ _ refl)); fixed = refl })
-    ▸ (refl, record { knows = inl refl; place = (4, inl (told_at 2 _ _ refl)); fixed = refl })
-    ▸ (refl, record { knows = inl refl; place = (4, inl (told_at 3 _ _ refl)); fixed = refl })
+    ▸ (refl, record { knows = inl (refl, refl); place = (4, inl (told_at 0 _ _ refl)); fixed = refl })
+    ▸ (refl, record { knows = inl (refl, refl); place = (4, inl (told_at 2 _ _ refl)); fixed = refl })
+    ▸ (refl, record { knows = inl (refl, refl); place = (4, inl (told_at 3 _ _ refl)); fixed = refl })
     ▸ (refl, record { parent_key = infinity1; right_key = 7; left_key = 5; knows = refl; parent = told_at 4 _ _ refl; leaf = told_at 2 _ _ refl; expects = told_at 3 _ _ refl; told_parent = told_at 13 _ _ refl; told_right = told_at 1 _ _ refl; told_left = told_at 0 _ _ refl; brings = refl; side = refl })
     ▸ (refl, record { knows = refl; place = told_at 4 _ _ refl })
     ▸ (refl, record { knows = refl; place = told_at 6 _ _ refl })

@@ -217,7 +217,7 @@ module _ (plan : TablePlan) (s : TableState) (reached : IsReached plan s) (seat 
       let side : insert_side w c ≡ right =
       sym (right_side w k.stages c said) ∙ ((λ t. nat_le ((ap w.key p_is ∙ told_key plan now k seat v there p may.parent_key may.told_parent) t)
       (told_is plan now k seat v there c field.RightLeafKey may.right_key may.told_right t)) ∙ sym may.side) in
-      let un = unended v there c (record { knows = inl may.knows; place = (p, inl may.parent); fixed = refl }) in
+      let un = unended v there c (record { knows = inl (may.knows, refl); place = (p, inl may.parent); fixed = refl }) in
       near_at plan has.outs.stages now k to.stages (w.p c) p right (insert_side w c) (w.expects c) l.tag p_is side
       (told_tag plan now k seat v there c l.tag may.expects) (record {
         is = child_read plan now k seat v there (w.p c) (insert_side w c) said.parent.inner said.parent.born;
@@ -238,7 +238,7 @@ module _ (plan : TablePlan) (s : TableState) (reached : IsReached plan s) (seat 
       let side : delete_side w c ≡ right =
       sym ((to.invariant.words.deletes c).marked mark).side ∙ ((λ t. nat_le ((ap w.key gp_is ∙ told_key plan now k seat v there gp may.grandparent_key may.told_grandparent) t)
       ((ap w.key y_is ∙ told_key plan now k seat v there y may.sibling_key may.told_sibling) t)) ∙ sym may.side) in
-      let un = unended v there c (record { knows = inr (inr may.knows); place = (gp, inr may.grandparent); fixed = refl }) in
+      let un = unended v there c (record { knows = inr (inr may.knows, refl); place = (gp, inr may.grandparent); fixed = refl }) in
       near_at plan has.outs.stages now k to.stages (w.gp c) gp right (delete_side w c) (w.expects c) p.tag gp_is side
       (told_tag plan now k seat v there c p.tag may.expects) (record {
         is = child_read plan now k seat v there (w.gp c) (delete_side w c) said.grandparent.inner said.grandparent.born;

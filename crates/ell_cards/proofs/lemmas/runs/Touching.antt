@@ -61,6 +61,7 @@ use Rattle.ell_cards.specs.Runs.{GoesBy}
 use Rattle.ell_cards.specs.Touching.{forgets, Touched, AtNode, OfCard, AtRoot, touched_by, IsWordOf, WasThere, CallsTouchTheirWords, CallsTouchNothingGone, TablesHaveOuts, KnowsTakenOut, KnownTakenOutIsGone}
 use Rattle.ell_cards.proofs.lemmas.seats.Seats.{mine_is, set_there}
 use Rattle.ell_cards.proofs.lemmas.seats.Entries.{with_entry}
+use Rattle.ell_cards.proofs.lemmas.seats.Taken.{known_by}
 use Rattle.ell_cards.proofs.lemmas.lifetimes.Splits.{of_split}
 use Rattle.ell_cards.proofs.lemmas.lifetimes.Joins.{of_join}
 use Rattle.ell_cards.proofs.lemmas.stepping.Looks.{child_read}
@@ -285,16 +286,19 @@ module _ (plan : TablePlan) (m : Machine) (stage : Stages) (first : Invariant m 
           → (e : Told) → Has (told_info (depth_there v c f) c f n v.told) e → Fine e
       info_since c f may un n is = by f refl
         where
+          known : KnowsCard v c
+          known = known_by v c f may.knows
+
           said : (g : Field) → f ≡ g → word r.words c g ≡ says_by g n
           said g same =
               subst (λ k. word r.words c k ≡ says_by k n) same
-              (says plan s r id v there c f n may.knows may.fixed (sym (r.settled c f (known_settled plan s r id v there c may.knows)) ∙ sym is))
+              (says plan s r id v there c f n known may.fixed (sym (r.settled c f (known_settled plan s r id v there c known)) ∙ sym is))
 
           by : (g : Field) → f ≡ g → (e : Told) → Has (told_info (depth_there v c g) c g n v.told) e → Fine e
           by field.Gp same = with_entry Fine (Info c field.Gp n) (Met n ∷ v.told) un
-              (with_entry Fine (Met n) v.told (subst (λ x. Fine (Met x)) (said field.Gp same) (above_fine c may.knows un)) old)
+              (with_entry Fine (Met n) v.told (subst (λ x. Fine (Met x)) (said field.Gp same) (above_fine c known un)) old)
           by field.P same = with_entry Fine (Info c field.P n) (met_at (depth_there v c field.P) n v.told) un
-              (met_since from.stages (depth_there v c field.P) n v.told (subst (λ x. Fine (Met x)) (said field.P same) (parent_fine c may.knows un)) old)
+              (met_since from.stages (depth_there v c field.P) n v.told (subst (λ x. Fine (Met x)) (said field.P same) (parent_fine c known un)) old)
           by field.L same = with_entry Fine (Info c field.L (link_in n).node) (Expects c (link_in n).tag ∷ v.told) un
               (with_entry Fine (Expects c (link_in n).tag) v.told tt old)
           by field.Was same = with_entry Fine (Info c field.Was n) v.told un old
@@ -430,7 +434,7 @@ module _ (plan : TablePlan) (m : Machine) (stage : Stages) (first : Invariant m 
       touches (call.Down x right) may = (old (Met x) (met.node x may.stands)).1
       touches (call.KeyOf x) may = (old (Met x) may).1
       touches (call.ValueOf x) may = (old (Met x) may.0).1
-      touches (call.Info c f) may = (asked_un c f may, known_unstarted c may.knows)
+      touches (call.Info c f) may = (asked_un c f may, known_unstarted c (known_by v c f may.knows))
       touches (call.FrozenChild c p right) may = (marked_parent c p may.knows may.place).1
       touches (call.LookDown at to right) may = (old (Met at.node) may.met).1
       touches (call.Fill c f value) may =

@@ -18,7 +18,7 @@ use Rattle.ell_cards.specs.Models.{TablePlan, Has, KnowsCard}
 use Rattle.ell_cards.specs.Naming.{EntryIsNamed, EntryIsPlaced, IsNamed, IsPlaced}
 use Rattle.ell_cards.specs.SlotWords.{slot_of}
 use Rattle.ell_cards.proofs.lemmas.lifetimes.Idle.{root_alone}
-use Rattle.ell_cards.proofs.lemmas.seats.Taken.{known_fits}
+use Rattle.ell_cards.proofs.lemmas.seats.Taken.{known_by, known_fits}
 
 -- a card that is no later than the last slot has a slot up to that
 low_slot : (last c : ℕ) → c ≤ last → slot_of c ≤ last
@@ -82,7 +82,7 @@ module _ (last : ℕ) where
   place_fits plan (call.Down x right) v may fill placed = at_card (card x) (child_field right) (placed.node x may.stands)
   place_fits plan (call.KeyOf x) v may fill placed = at_card (card x) (key_field (x % 4)) (placed.entries (Met x) may)
   place_fits plan (call.ValueOf x) v may fill placed = at_card (card x) (value_field (x % 4)) (placed.entries (Met x) may.0)
-  place_fits plan (call.Info c f) v may fill placed = at_card c f (placed.facts c may.knows)
+  place_fits plan (call.Info c f) v may fill placed = at_card c f (placed.facts c (known_by v c f may.knows))
   place_fits plan (call.FrozenChild c p right) v may fill placed = at_card (card p) (child_field right) (placed.entries (Info c field.P p) may.place)
   place_fits plan call.Look v may fill placed = at_card 0 (child_field false) (omega arith)
   place_fits plan (call.LookDown from key right) v may fill placed = at_card (card from.node) (child_field right) (placed.entries (Met from.node) may.met)

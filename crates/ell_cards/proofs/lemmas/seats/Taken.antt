@@ -26,6 +26,7 @@ use Rattle.ell_ops.specs.declared.reply.Reply.TheVariants.{Yes, Found}
 use Rattle.ell_core.specs.declared.fact.Fact.{Fact}
 use Rattle.ell_word.specs.declared.update.Update.{Update}
 use Rattle.ell_cards.specs.Models.{TablePlan}
+use Rattle.ell_cards.specs.Guards.{KnowsSaying}
 
 -- settling a key leaves the keys
 settled_keys : (k : ℕ) (b : Entry) (l : List (ℕ × Entry)) → ledger_keys (with_entry k b l) ≡ ledger_keys l
@@ -94,6 +95,11 @@ taken_keeps plan c v n w t = (t.keys, t.share, (t.named, t.inside))
 address_fits : (cards c : ℕ) (f : Field) → c ≤ cards → address c f < table_size cards
 address_fits cards c f low = let small = place_small f in omega arith
 
+-- a card for whose word a pass may ask is known flagged or marked
+pub known_by : (v : View) (c : ℕ) (f : Field) → KnowsSaying v c f → KnowsCard v c
+known_by v c f (inl insert) = inl insert.0
+known_by v c f (inr delete) = inr delete.0
+
 -- a known card is one of the table
 pub known_fits : (cards : ℕ) (v : View) (c : ℕ) → IsNamed cards v → KnowsCard v c → c ≤ cards
 known_fits cards v c named (inl k) = named.facts (IFlagged c) k
@@ -106,7 +112,7 @@ word_fits plan (call.Upd x) v may last named = address_fits last (card x) field.
 word_fits plan (call.Down x right) v may last named = address_fits last (card x) (child_field right) (named.node x may.stands)
 word_fits plan (call.KeyOf x) v may last named = address_fits last (card x) (key_field (x % 4)) (named.entries (Met x) may)
 word_fits plan (call.ValueOf x) v may last named = address_fits last (card x) (value_field (x % 4)) (named.entries (Met x) may.0)
-word_fits plan (call.Info c f) v may last named = address_fits last c f (known_fits last v c named may.knows)
+word_fits plan (call.Info c f) v may last named = address_fits last c f (known_fits last v c named (known_by v c f may.knows))
 word_fits plan (call.FrozenChild c p right) v may last named = address_fits last (card p) (child_field right) (named.entries (Info c field.P p) may.place).1
 word_fits plan call.Look v may last named = address_fits last 0 (child_field false) (omega arith)
 word_fits plan (call.LookDown from key right) v may last named = address_fits last (card from.node) (child_field right) (named.entries (Met from.node) may.met)

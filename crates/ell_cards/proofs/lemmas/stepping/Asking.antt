@@ -18,6 +18,7 @@ use Rattle.ell_cards.specs.Depths.{depth_told, depth_under, met_at, level, tells
 use Rattle.ell_cards.specs.Models.{IsTold, Has, earlier, InTable, KnowsCard, KnowsDelete}
 use Rattle.ell_cards.specs.Changes.{told_info, depth_there}
 use Rattle.ell_core.specs.state.Facts.{known_of}
+use Rattle.ell_cards.proofs.lemmas.seats.Taken.{known_by}
 use Rattle.ell_cards.proofs.lemmas.views.Afters.{after_info, after_frozen_child}
 use Rattle.ell_cards.specs.Guards.{MayAsk, KnowsPlace}
 use Rattle.ell_cards.specs.Calls.{child_address, TellsNode}
@@ -155,11 +156,12 @@ module _ (plan : TablePlan) (s : TableState) (r : HasMachine plan s) (id : ℕ) 
   keeps_info c f may =
       let n = get_or s.words (address c f) 0 in
       let h = r.views id v here in
-      let is : table_word r.words c f ≡ n = sym (r.settled c f (known_settled plan s r id v here c may.knows)) in
-      let said = says c f n may.knows may.fixed is in
+      let known = known_by v c f may.knows in
+      let is : table_word r.words c f ≡ n = sym (r.settled c f (known_settled plan s r id v here c known)) in
+      let said = says c f n known may.fixed is in
       is_no_event plan s r id v here (call.Info c f)
       (kept_told plan s r id v here (after_info c f n v) refl (record {
-        entries = info_entries c f n may.knows may.fixed is;
+        entries = info_entries c f n known may.fixed is;
         here = λ y key at told. info_more (depth_there v c f) c f n v.told (Key y key) (h.here y key at told);
         hand = h.hand;
         read = h.read;
@@ -167,7 +169,7 @@ module _ (plan : TablePlan) (s : TableState) (r : HasMachine plan s) (id : ℕ) 
         knew = h.knew;
         walk = h.walk;
       }) (address c f))
-      refl refl (tells_node c f n may.knows said)
+      refl refl (tells_node c f n known said)
 
   -- frozen_child
   pub keeps_frozen_child : (c p : ℕ) (right : Bool) → KnowsPlace v (Marked c) c field.P p → IsEvent plan s r id v (call.FrozenChild c p right)

@@ -23,10 +23,11 @@ use Rattle.ell_cards.specs.Calls.{word_of, atomic_of, left_by, after, May, slot_
 use Rattle.ell_cards.specs.Changes.{after_claim, after_flag, after_mark, is_mark_of, with_fact, unmarking}
 use Rattle.ell_cards.specs.Models.{TablePlan, Has, latest, earlier}
 use Rattle.ell_cards.specs.Periods.{WholeState, slot_word, card_in}
+use Rattle.ell_cards.specs.Sayings.{says}
 use Rattle.ell_cards.specs.Shown.{cut_word}
 use Rattle.ell_cards.specs.SlotWords.{slot_of, card_by}
 use Rattle.ell_cards.specs.States.{TableState}
-use Rattle.ell_cards.specs.Tied.{LiesThere, HasWon, HoldsWaiting, HasStored, IsKept, IsTied, MayInMemory, FlagsCard}
+use Rattle.ell_cards.specs.Tied.{LiesThere, HasWon, HoldsWaiting, HasStored, HasStoredAll, IsKept, IsTied, MayInMemory, FlagsCard}
 use Rattle.ell_cards.specs.Ties.{card_touched, TouchesTied}
 use Rattle.ell_cards.specs.Tied.IsKept.{won, stored}
 use Rattle.ell_cards.specs.Touching.{touched_by}
@@ -37,6 +38,7 @@ use Rattle.ell_cards.proofs.lemmas.whole.Rests.{has_none}
 use Rattle.ell_cards.proofs.lemmas.whole.Seats.{before_clock, clock_before_slots}
 use Rattle.ell_cards.proofs.lemmas.whole.Slots.{card_lies}
 use Rattle.ell_cards.proofs.lemmas.ties.Touched.{spots, no_claim, no_flat}
+use Rattle.ell_cards.proofs.lemmas.ties.Winning.{flag_says}
 
 -- a call fills this field
 abbrev pub FillsField : Call → Field → Type 0
@@ -105,9 +107,9 @@ waited_before plan (call.Mark c p was) n v d h =
     mark_waits (n == was) c p (unpacked n) (call.Mark c p was) n v (after (call.Mark c p was) n v) d refl refl h
 waited_before plan c n v d h = same_waits c n v (after c n v) d refl refl refl h
 
--- a card that a call flags is in hand, and all its fields were stored in its slot
+-- a card that a call flags is in hand, and all that it says was stored in its slot
 flag_in_hand : (plan : TablePlan) (c : Call) (k : Known) → May plan c k.tree → MayInMemory k.period.slot k.tree c → (d : ℕ) → FlagsCard c d
-    → HoldsWaiting k.tree d × (k.period.slot ≡ Some d) × ((f : Field) → HasStored k.tree f)
+    → HoldsWaiting k.tree d × (k.period.slot ≡ Some d) × HasStoredAll k.tree (flag_says c)
 flag_in_hand plan (call.IFlag c p from) k may mem d is = ((may.may.holds ∙ ap Some (sym is), may.may.unflagged), mem.0 ∙ ap Some (sym is), mem.1)
 flag_in_hand plan (call.DFlag c gp from) k may mem d is = ((may.may.holds ∙ ap Some (sym is), may.may.unflagged), mem.0 ∙ ap Some (sym is), mem.1)
 flag_in_hand plan _ k may mem d is = absurd is
@@ -140,7 +142,9 @@ module _ (plan : TablePlan) (s : Slots) (low : s.last < 2097152) (tree : TableSt
     (tied : IsTied s tree t stage dead was_dead) (id : ℕ) (k : Known) (here : get_elem? t.views id ≡ some k) (c : Call) (may : May plan c k.tree) (mem : MayInMemory k.period.slot k.tree c)
     (touch : TouchesTied s t.words tree c) (room : table_size s.last ≤ length t.words) (fits : word_of c < length tree.words)
     (small : get_or (set tree.words (word_of c) (left_by (atomic_of c) (found_by tree c))) 0 0 < 2 ^ 64)
-    (wins : (d : ℕ) → HasWon next d → HasWon stage d ⊎ FlagsCard c d) (n : ℕ) (is : n ≡ cut_word (left_by (atomic_of c) (found_by tree c))) where
+    (wins : (d : ℕ) → HasWon next d → HasWon stage d ⊎ FlagsCard c d)
+    (kinds : (d : ℕ) (f : Field) → HasWon stage d → says (next d) f ≡ true → says (stage d) f ≡ true)
+    (flagged : (d : ℕ) (f : Field) → FlagsCard c d → says (next d) f ≡ true → flag_says c f ≡ true) (n : ℕ) (is : n ≡ cut_word (left_by (atomic_of c) (found_by tree c))) where
   abbrev d : ℕ
   d = card_touched (touched_by c)
 
@@ -218,9 +222,9 @@ module _ (plan : TablePlan) (s : Slots) (low : s.last < 2097152) (tree : TableSt
 
   -- what is kept after the call was kept before it, but for what the call stores
   kept_before : (e : ℕ) (f : Field) → IsKept next views e f → IsKept stage t.views e f ⊎ (place_of c ≡ slot_address e f)
-  kept_before e f (won has) = elim (wins e has) [
-    | inl had ↦ inl (won had)
-    | inr flags ↦ (let hand = flag_in_hand plan c k may mem e flags in inl (stored id k here hand.0 (hand.2 f)))
+  kept_before e f (won has said) = elim (wins e has) [
+    | inl had ↦ inl (won had (kinds e f had said))
+    | inr flags ↦ (let hand = flag_in_hand plan c k may mem e flags in inl (stored id k here hand.0 (hand.2 f (flagged e f flags said))))
   ]
   kept_before e f (stored seat u at waits has) = ⊎_elim
       (λ (q : (seat ≡ id) × (knows ≡ u)). mine (subst (λ (x : Known). HoldsWaiting x.tree e) (sym q.1) waits) (subst (λ (x : Known). HasStored x.tree f) (sym q.1) has))

@@ -13,7 +13,7 @@ use Rattle.ell_cards.specs.Whole.{joined_known, spent_known}
 use Rattle.ell_cards.proofs.lemmas.whole.Ages.{AgesOn}
 use Rattle.ell_cards.proofs.lemmas.whole.Handovers.{at_end, ages_after_split, ages_after_join}
 use Rattle.ell_cards.proofs.lemmas.whole.Rests.{is_at_rest}
-use Rattle.ell_cards.proofs.lemmas.ties.Winning.{won_before}
+use Rattle.ell_cards.proofs.lemmas.ties.Winning.{won_before, says_before}
 use Rattle.ell_cards.proofs.lemmas.ties.Views.{StaysSo, same, idle, blank, tie_stays}
 
 pub splits_keep_ties : SplitsKeepTies
@@ -44,7 +44,7 @@ splits_keep_ties plan s tree t dead was_dead low h id k here there keys free may
 
     tied : IsTied s (state_split tree id k.tree keys) (record { words = t.words; homes = t.homes; views = set t.views id left ++ right ∷ [] }) on.ages.now.machine.stages dead was_dead
     tied = tie_stays s low tree (state_split tree id k.tree keys) t h.ages.now.machine.stages on.ages.now.machine.stages dead was_dead h.tied refl t.words
-        (λ i inside. refl) (λ slot inside. refl) (λ c. won_before h.ages.now.machine.stages on.ages.now.machine.stages on.later c (on.wins c))
+        (λ i inside. refl) (λ slot inside. refl) (λ c. won_before h.ages.now.machine.stages on.ages.now.machine.stages on.later c (on.wins c)) (λ c. says_before h.ages.now.machine.stages on.ages.now.machine.stages on.later c)
         (set t.views id left ++ right ∷ []) stays t.homes
 
 pub joins_keep_ties : JoinsKeepTies
@@ -77,4 +77,4 @@ joins_keep_ties plan s tree t dead was_dead low h id other k l here here' there 
 
     tied : IsTied s after (record { words = t.words; homes = t.homes; views = views }) on.ages.now.machine.stages dead was_dead
     tied = tie_stays s low tree after t h.ages.now.machine.stages on.ages.now.machine.stages dead was_dead h.tied refl t.words
-        (λ i inside. refl) (λ slot inside. refl) (λ c. won_before h.ages.now.machine.stages on.ages.now.machine.stages on.later c (on.wins c)) views stays t.homes
+        (λ i inside. refl) (λ slot inside. refl) (λ c. won_before h.ages.now.machine.stages on.ages.now.machine.stages on.later c (on.wins c)) (λ c. says_before h.ages.now.machine.stages on.ages.now.machine.stages on.later c) views stays t.homes

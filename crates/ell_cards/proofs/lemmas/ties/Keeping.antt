@@ -16,7 +16,7 @@ use Rattle.ell_cards.specs.Turns.{Makes, TableTurns, found_by, state_after}
 use Rattle.ell_cards.proofs.lemmas.runs.TurnsOfRuns.{steps_stay_inside}
 use Rattle.ell_cards.proofs.lemmas.whole.Ages.{AgesOn, ages_after_call}
 use Rattle.ell_cards.proofs.lemmas.whole.Trees.{slots_stay}
-use Rattle.ell_cards.proofs.lemmas.ties.Winning.{won_by_call}
+use Rattle.ell_cards.proofs.lemmas.ties.Winning.{won_by_call, says_before, flag_kind}
 use Rattle.ell_cards.proofs.lemmas.ties.Touched.{IsReady, claim_is_word, touched_tied}
 use Rattle.ell_cards.proofs.lemmas.ties.Calls.{tie_after_call}
 use Rattle.ell_cards.specs.Starts.{IsReached}
@@ -57,7 +57,9 @@ module _ (plan : TablePlan) (s : Slots) (tree : TableState) (t : WholeState) (de
   tied homes = let now = (goes homes).ages.now.machine in
       tie_after_call plan s low tree t h.ages.now.machine.stages now.stages dead was_dead h.tied id k here c may mem touch room
       (steps_stay_inside plan tree h.ages.now.machine id k.tree c there may) (claim_is_word plan after now)
-      (won_by_call plan tree h.ages.now.machine id k.tree there now.stages (goes homes).later c may (goes homes).wins) n refl homes
+      (won_by_call plan tree h.ages.now.machine id k.tree there now.stages (goes homes).later c may (goes homes).wins)
+      (says_before h.ages.now.machine.stages now.stages (goes homes).later)
+      (flag_kind plan tree h.ages.now.machine id k.tree there now.stages (goes homes).later c may) n refl homes
 
 pub calls_keep_ties : CallsKeepTies
 calls_keep_ties plan s tree t dead was_dead reached low room h id k here there ready c may mem = (

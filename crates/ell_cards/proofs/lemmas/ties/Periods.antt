@@ -23,7 +23,7 @@ use Rattle.ell_cards.specs.Tied.IsKept.{won, stored}
 -- what is kept where a pass knows something else of periods was kept before
 pub kept_of_period : (stage : Stages) (views : List Known) (id : ℕ) (k : Known) → get_elem? views id ≡ some k → (p : Period) (c : ℕ) (f : Field)
     → IsKept stage (set views id (record { tree = k.tree; period = p })) c f → IsKept stage views c f
-kept_of_period stage views id k here p c f (won has) = won has
+kept_of_period stage views id k here p c f (won has said) = won has said
 kept_of_period stage views id k here p c f (stored seat u at waits has) =
     let now : Known = record { tree = k.tree; period = p } in
     ⊎_elim

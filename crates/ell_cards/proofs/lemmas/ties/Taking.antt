@@ -73,7 +73,7 @@ module _ (s : Slots) (low : s.last < 2097152) (tree : TableState) (t : WholeStat
   none_kept f kept = by (kept_of_period stage t.views id k here p c f kept)
     where
       by : IsKept stage t.views c f → ⊥
-      by (won has) = unwon has
+      by (won has said) = unwon has
       by (stored seat u at waits' has) =
           let same = one seat u at waits'.0 in
           untaken (own u (ap (get_elem? t.views) (sym same) ∙ at) waits' has)

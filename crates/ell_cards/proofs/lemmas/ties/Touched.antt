@@ -1,6 +1,6 @@
 -- The word that a call touches is tied: it is one of the slots, its card lies there, and memory has there what is cut of what
 -- the tree has.
-use Rattle.std.proofs.Common.{◌≡◌, ◌≢◌, ◌⊎◌, ℕ, ◌%◌, ◌^◌, ◌<◌, inl, inr, Bool, true, false, Some, List, ◌∷◌, ◌+◌, ◌*◌, get_or, refl, sym, ap, ◌∙◌, subst, arith}
+use Rattle.std.proofs.Common.{◌≡◌, ◌≢◌, ◌⊎◌, ℕ, zero, suc, ◌%◌, ◌^◌, ◌<◌, inl, inr, Bool, true, false, Some, List, ◌∷◌, ◌+◌, ◌*◌, get_or, refl, sym, ap, ◌∙◌, subst, arith}
 use mathlib.Core.Option.{some}
 use lib.ListN.{get_elem?}
 use Rattle.ell_word.specs.Node.{card}
@@ -10,7 +10,8 @@ use Rattle.ell_layout.specs.Layout.{address, table_size}
 use Rattle.ell_layout.specs.Words.{key_field, value_field, child_field}
 use Rattle.ell_layout.proofs.lemmas.Listed.{address_in_table, addresses_apart}
 use Rattle.ell_core.specs.declared.fact.Fact.TheVariants as fact
-use Rattle.ell_core.specs.history.Stages.{Stages, Born, is_start}
+use Rattle.ell_core.proofs.lemmas.stages.Order.{insert_won-insert}
+use Rattle.ell_core.specs.history.Stages.{Stages, Born, is_start, is_delete}
 use Rattle.ell_core.specs.state.Machine.{Worker}
 use Rattle.ell_grace.specs.Dead.{IsDead, HasUses}
 use Rattle.ell_cards.specs.declared.call.Call.{Call}
@@ -22,10 +23,12 @@ use Rattle.ell_cards.specs.declared.view.View.{View}
 use Rattle.ell_cards.specs.Ages.{IsOut, ForgotWhen}
 use Rattle.ell_cards.specs.Aside.{IsAside, CallsTouchNoCardAside}
 use Rattle.ell_cards.specs.Calls.{word_of, May, slot_address, place_of}
+use Rattle.ell_cards.specs.Guards.{KnowsSaying}
 use Rattle.ell_cards.specs.Laws.{machine_of_table}
 use Rattle.ell_cards.specs.Machines.{HasMachine}
 use Rattle.ell_cards.specs.Models.{TablePlan, IsTold, KnowsCard}
 use Rattle.ell_cards.specs.Periods.{WholeState, IsAtRest}
+use Rattle.ell_cards.specs.Sayings.{says, put_says}
 use Rattle.ell_cards.specs.Shown.{cut_word}
 use Rattle.ell_cards.specs.SlotWords.{slot_of}
 use Rattle.ell_cards.specs.Starts.{IsReached}
@@ -38,41 +41,64 @@ use Rattle.ell_cards.specs.Turns.{Turn, Makes, CallIsMade, TableRun, found_by}
 use Rattle.ell_cards.proofs.lemmas.seats.Seats.{mine_is, mine_sound, relies, stands_born}
 use Rattle.ell_cards.proofs.lemmas.shown.CutWords.{cut_same}
 use Rattle.ell_cards.proofs.lemmas.stepping.Exchanges.{told_is}
-use Rattle.ell_cards.proofs.lemmas.stepping.Known.{insert_flagged, insert_changed, known_delete, delete_cut, delete_unmarkable}
+use Rattle.ell_cards.proofs.lemmas.stepping.Known.{insert_flagged, insert_changed, known_delete, is_known_delete, delete_cut, delete_unmarkable}
 use Rattle.ell_cards.proofs.lemmas.runs.Alive.{calls_touch_no_dead_card}
 use Rattle.ell_cards.proofs.lemmas.runs.Aside.{aside_not_won, aside_in_run}
 use Rattle.ell_cards.proofs.lemmas.whole.Rests.{rest_touches_the_root}
-use Rattle.ell_cards.proofs.lemmas.ties.Winning.{start_won, born_won, insert_is_won, delete_is_won, marked_is_won}
+use Rattle.ell_cards.proofs.lemmas.ties.Winning.{start_won, born_won, start_is_put, born_is_put, insert_is_put, says_by, insert_is_won, delete_is_won, marked_is_won}
+
+-- the field that a call touches is one that a card says which is no delete's, unless it asks for a field, or stores one
+abbrev pub IsField : Call → Field → Type 0
+IsField (call.Info c g) f = g ≡ f
+IsField (call.Fill c g value) f = Unit {0}
+IsField c f = put_says f ≡ true
 
 -- the word of a call in the tree, and in memory: the claim word, or a field of the card that it touches
-abbrev pub IsSpot : ℕ → ℕ → ℕ → Type 0
-IsSpot d word place = ((d ≡ 0) × (word ≡ 0) × (place ≡ 0)) ⊎ ((f : Field) × (word ≡ address d f) × (place ≡ slot_address d f))
+abbrev pub IsSpot : Call → Type 0
+IsSpot c =
+    ((card_touched (touched_by c) ≡ 0) × (word_of c ≡ 0) × (place_of c ≡ 0))
+    ⊎ ((f : Field) × (word_of c ≡ address (card_touched (touched_by c)) f) × (place_of c ≡ slot_address (card_touched (touched_by c)) f) × IsField c f)
 
-pub spots : (c : Call) → IsSpot (card_touched (touched_by c)) (word_of c) (place_of c)
-spots (call.Upd x) = inr (field.Update, refl, refl)
-spots (call.Down x right) = inr (child_field right, refl, refl)
-spots (call.KeyOf x) = inr (key_field (x % 4), refl, refl)
-spots (call.ValueOf x) = inr (value_field (x % 4), refl, refl)
-spots (call.Info c f) = inr (f, refl, refl)
-spots (call.FrozenChild c p right) = inr (child_field right, refl, refl)
-spots (call.LookDown from to right) = inr (child_field right, refl, refl)
-spots (call.Fill c f value) = inr (f, refl, refl)
-spots (call.IFlag c p from) = inr (field.Update, refl, refl)
-spots (call.IChild c p l q right) = inr (child_field right, refl, refl)
-spots (call.IUnflag c p) = inr (field.Update, refl, refl)
-spots (call.DFlag c gp from) = inr (field.Update, refl, refl)
-spots (call.Mark c p was) = inr (field.Update, refl, refl)
-spots (call.DChild c gp p s right) = inr (child_field right, refl, refl)
-spots (call.DUnflag c gp) = inr (field.Update, refl, refl)
-spots (call.Backtrack c gp) = inr (field.Update, refl, refl)
+-- keys, values and children are said
+said_key : (k : ℕ) → put_says (key_field k) ≡ true
+said_key zero = refl
+said_key (suc zero) = refl
+said_key (suc (suc k)) = refl
+
+said_value : (k : ℕ) → put_says (value_field k) ≡ true
+said_value zero = refl
+said_value (suc zero) = refl
+said_value (suc (suc k)) = refl
+
+said_child : (right : Bool) → put_says (child_field right) ≡ true
+said_child true = refl
+said_child false = refl
+
+pub spots : (c : Call) → IsSpot c
+spots (call.Upd x) = inr (field.Update, refl, refl, refl)
+spots (call.Down x right) = inr (child_field right, refl, refl, said_child right)
+spots (call.KeyOf x) = inr (key_field (x % 4), refl, refl, said_key (x % 4))
+spots (call.ValueOf x) = inr (value_field (x % 4), refl, refl, said_value (x % 4))
+spots (call.Info c f) = inr (f, refl, refl, refl)
+spots (call.FrozenChild c p right) = inr (child_field right, refl, refl, said_child right)
+spots (call.LookDown from to right) = inr (child_field right, refl, refl, said_child right)
+spots (call.Fill c f value) = inr (f, refl, refl, tt)
+spots (call.IFlag c p from) = inr (field.Update, refl, refl, refl)
+spots (call.IChild c p l q right) = inr (child_field right, refl, refl, said_child right)
+spots (call.IUnflag c p) = inr (field.Update, refl, refl, refl)
+spots (call.DFlag c gp from) = inr (field.Update, refl, refl, refl)
+spots (call.Mark c p was) = inr (field.Update, refl, refl, refl)
+spots (call.DChild c gp p s right) = inr (child_field right, refl, refl, said_child right)
+spots (call.DUnflag c gp) = inr (field.Update, refl, refl, refl)
+spots (call.Backtrack c gp) = inr (field.Update, refl, refl, refl)
 spots call.Next = inl (refl, refl, refl)
 spots (call.Claim c q) = inl (refl, refl, refl)
-spots call.Look = inr (child_field false, refl, refl)
-spots call.Rest = inr (key_field 0, refl, refl)
-spots (call.Begin op) = inr (key_field 0, refl, refl)
-spots call.Again = inr (key_field 0, refl, refl)
-spots call.Leave = inr (key_field 0, refl, refl)
-spots (call.Answer said) = inr (key_field 0, refl, refl)
+spots call.Look = inr (child_field false, refl, refl, said_child false)
+spots call.Rest = inr (key_field 0, refl, refl, said_key 0)
+spots (call.Begin op) = inr (key_field 0, refl, refl, said_key 0)
+spots call.Again = inr (key_field 0, refl, refl, said_key 0)
+spots call.Leave = inr (key_field 0, refl, refl, said_key 0)
+spots (call.Answer said) = inr (key_field 0, refl, refl, said_key 0)
 
 -- no field has the address of the claim word, nor of the one behind it
 pub no_claim : (c : ℕ) (f : Field) → address c f ≢ 0
@@ -81,18 +107,31 @@ no_claim c f e = absurd (omega arith)
 pub no_flat : (c : ℕ) (f : Field) → address c f ≢ 1
 no_flat c f e = absurd (omega arith)
 
--- the card that a call touches has won its flag, unless it is filled
+-- the card that a call touches has won its flag, and is no delete's, or says the word for which the call asks; unless the
+-- call fills it
 abbrev pub WonUnlessFilled : Stages → Call → Type 0
 WonUnlessFilled stage (call.Fill c f value) = Unit {0}
-WonUnlessFilled stage c = HasWon stage (card_touched (touched_by c))
+WonUnlessFilled stage (call.Info c f) = HasWon stage c × (says (stage c) f ≡ true)
+WonUnlessFilled stage c = HasWon stage (card_touched (touched_by c)) × (is_delete (stage (card_touched (touched_by c))) ≡ false)
+
+-- so it says the word that the call touches
+abbrev pub SaysUnlessFilled : Stages → Call → Field → Type 0
+SaysUnlessFilled stage (call.Fill c f value) g = Unit {0}
+SaysUnlessFilled stage c g = says (stage (card_touched (touched_by c))) g ≡ true
+
+says_field : (stage : Stages) (c : Call) → WonUnlessFilled stage c → (f : Field) → IsField c f → SaysUnlessFilled stage c f
+says_field stage (call.Fill c g value) has f is = tt
+says_field stage (call.Info c g) has f is = subst (λ x. says (stage c) x ≡ true) is has.1
+says_field stage c has f is = says_by false (stage (card_touched (touched_by c))) has.1 f ∙ is
 
 module _ (plan : TablePlan) (s : TableState) (r : HasMachine plan s) (id : ℕ) (v : View) (here : get_elem? s.views id ≡ some v) where
   -- a node that came into the tree is of such a card
-  of_node : (x y : ℕ) → x ≡ y → Born r.stages x → HasWon r.stages (card y)
-  of_node x y same born = subst (λ z. HasWon r.stages (card z)) same (born_won (r.stages (card x)) (x % 4) born)
+  of_node : (x y : ℕ) → x ≡ y → Born r.stages x → HasWon r.stages (card y) × (is_delete (r.stages (card y)) ≡ false)
+  of_node x y same born = subst (λ z. HasWon r.stages (card z) × (is_delete (r.stages (card z)) ≡ false)) same
+      (born_won (r.stages (card x)) (x % 4) born, born_is_put (r.stages (card x)) (x % 4) born)
 
   -- a node that was met
-  met : (x : ℕ) → IsTold v (Met x) → HasWon r.stages (card x)
+  met : (x : ℕ) → IsTold v (Met x) → HasWon r.stages (card x) × (is_delete (r.stages (card x)) ≡ false)
   met x told = of_node x x refl ((r.views id v here).entries (Met x) told)
 
   -- a card that is known flagged or marked
@@ -101,15 +140,24 @@ module _ (plan : TablePlan) (s : TableState) (r : HasMachine plan s) (id : ℕ) 
   known c (inr (inl k)) = delete_is_won (r.stages c) ((mine_sound plan s r id v here).facts (fact.DFlagged c) k)
   known c (inr (inr k)) = marked_is_won (r.stages c) ((mine_sound plan s r id v here).facts (fact.Marked c) k)
 
-  root : HasWon r.stages 0
-  root = start_won (r.stages 0) (ap (λ st. is_start st) r.invariant.words.opening)
+  -- it says the word for which a pass that knows it may ask
+  asked : (c : ℕ) (f : Field) → KnowsSaying v c f → HasWon r.stages c × (says (r.stages c) f ≡ true)
+  asked c f (inl (k, said)) =
+      let insert = insert_won-insert (r.stages c) ((mine_sound plan s r id v here).facts (fact.IFlagged c) k) in
+      (known c (inl k), says_by false (r.stages c) (insert_is_put (r.stages c) insert) f ∙ said)
+  asked c f (inr (k, said)) = (known c (inr k), says_by true (r.stages c) (is_known_delete plan s r id v here c k) f ∙ said)
+
+  root : HasWon r.stages 0 × (is_delete (r.stages 0) ≡ false)
+  root =
+      let start = ap (λ st. is_start st) r.invariant.words.opening in
+      (start_won (r.stages 0) start, start_is_put (r.stages 0) start)
 
   pub touched_won : (c : Call) → May plan c v → WonUnlessFilled r.stages c
   touched_won (call.Upd x) may = of_node x x refl (stands_born plan s r id v here x may.stands)
   touched_won (call.Down x right) may = of_node x x refl (stands_born plan s r id v here x may.stands)
   touched_won (call.KeyOf x) may = met x may
   touched_won (call.ValueOf x) may = met x may.0
-  touched_won (call.Info c f) may = known c may.knows
+  touched_won (call.Info c f) may = asked c f may.knows
   touched_won (call.FrozenChild c p right) may =
       of_node (r.words.p c) p (told_is plan s r id v here c field.P p may.place) (known_delete plan s r id v here c (inr may.knows)).parent.born
   touched_won (call.LookDown from to right) may = met from.node may.met
@@ -142,7 +190,7 @@ module _ (plan : TablePlan) (s : TableState) (r : HasMachine plan s) (id : ℕ) 
 kept_off : (plan : TablePlan) (s : TableState) (r : HasMachine plan s) (seat : ℕ) (v : View) → get_elem? s.views seat ≡ some v → (c : Call) → May plan c v
     → (d : ℕ) → IsAside r.stages s.views d → card_touched (touched_by c) ≢ d
 kept_off plan s r seat v there (call.Fill c f value) may d aside is = aside.nobody seat v there (may.holds ∙ ap Some is)
-kept_off plan s r seat v there c may d aside is = aside_not_won plan s r d aside (subst (HasWon r.stages) is (touched_won plan s r seat v there c may))
+kept_off plan s r seat v there c may d aside is = aside_not_won plan s r d aside (subst (HasWon r.stages) is (touched_won plan s r seat v there c may).0)
 
 -- no call touches a word of a card that was laid aside
 pub aside_untouched : (plan : TablePlan) (s : TableState) (r : HasMachine plan s) (seat : ℕ) (v : View) → get_elem? s.views seat ≡ some v → (c : Call) → May plan c v
@@ -226,14 +274,14 @@ module _ (plan : TablePlan) (s : Slots) (tree : TableState) (t : WholeState) (r 
   ]
 
   -- and what it says is there
-  finds_won : HasWon r.stages d → get_or t.words (place_of c) 0 ≡ cut_word (found_by tree c)
-  finds_won has = elim (spots c) [
+  finds_won : HasWon r.stages d → ((f : Field) → IsField c f → says (r.stages d) f ≡ true) → get_or t.words (place_of c) 0 ≡ cut_word (found_by tree c)
+  finds_won has said = elim (spots c) [
     | inl claim ↦ ap (λ i. get_or t.words i 0) claim.2 ∙ (tied.claim ∙ (sym (cut_same (get_or tree.words 0 0) (claim_is_word plan tree r))
         ∙ ap (λ i. cut_word (get_or tree.words i 0)) (sym claim.1)))
     | inr spot ↦
         let lies = lies_won has in
         ap (λ i. get_or t.words i 0) spot.2
-        ∙ (tied.at (slot_of d) spot.0 lies.0 (won (subst (HasWon r.stages) (sym lies.1) has))
+        ∙ (tied.at (slot_of d) spot.0 lies.0 (won (subst (HasWon r.stages) (sym lies.1) has) (ap (λ e. says (r.stages e) spot.0) lies.1 ∙ said spot.0 spot.3))
         ∙ (ap (λ e. cut_word (get_or tree.words (address e spot.0) 0)) lies.1 ∙ ap (λ i. cut_word (get_or tree.words i 0)) (sym spot.1)))
   ]
 
@@ -248,14 +296,15 @@ pub touched_lies : (plan : TablePlan) (s : Slots) (tree : TableState) (t : Whole
     → IsReady plan tree id k was_dead → (c : Call) → May plan c k.tree → MayInMemory k.period.slot k.tree c → LiesThere s t.words (card_touched (touched_by c))
 touched_lies plan s tree t r dead was_dead tied id k here there ready (call.Fill c f value) may mem = tied.hand id c k here mem (may.holds, may.unflagged)
 touched_lies plan s tree t r dead was_dead tied id k here there ready c may mem =
-    lies_won plan s tree t r dead was_dead tied id k here there ready c may (touched_won plan tree r id k.tree there c may)
+    lies_won plan s tree t r dead was_dead tied id k here there ready c may (touched_won plan tree r id k.tree there c may).0
 
 touched_finds : (plan : TablePlan) (s : Slots) (tree : TableState) (t : WholeState) (r : HasMachine plan tree) (dead : ℕ → Bool) (was_dead : ℕ → ℕ → Bool)
     → IsTied s tree t r.stages dead was_dead → (id : ℕ) (k : Known) → get_elem? t.views id ≡ some k → get_elem? tree.views id ≡ some k.tree
     → IsReady plan tree id k was_dead → (c : Call) → May plan c k.tree → FindsTied t.words tree c
 touched_finds plan s tree t r dead was_dead tied id k here there ready (call.Fill c f value) may = tt
 touched_finds plan s tree t r dead was_dead tied id k here there ready c may =
-    finds_won plan s tree t r dead was_dead tied id k here there ready c may (touched_won plan tree r id k.tree there c may)
+    let has = touched_won plan tree r id k.tree there c may in
+    finds_won plan s tree t r dead was_dead tied id k here there ready c may has.0 (says_field r.stages c has)
 
 -- the word that a call touches is tied
 pub touched_tied : (plan : TablePlan) (s : Slots) (tree : TableState) (t : WholeState) (r : HasMachine plan tree) (dead : ℕ → Bool) (was_dead : ℕ → ℕ → Bool)

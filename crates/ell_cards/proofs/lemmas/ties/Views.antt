@@ -1,5 +1,5 @@
 -- Memory stays tied to its tree where passes come to know something else, while the words of slots are as they were.
-use Rattle.std.proofs.Common.{◌≡◌, ◌<◌, ◌≤◌, ℕ, Bool, false, Some, None, List, get_or, sym, ap, ◌∙◌, subst, arith}
+use Rattle.std.proofs.Common.{◌≡◌, ◌<◌, ◌≤◌, ℕ, Bool, false, Some, None, true, List, get_or, sym, ap, ◌∙◌, subst, arith}
 use mathlib.Core.Option.{some}
 use mathlib.Core.Option.{Option as Maybe}
 use lib.ListN.{get_elem?}
@@ -11,6 +11,7 @@ use Rattle.ell_core.proofs.lemmas.outcomes.Decide.{some_not_none}
 use Rattle.ell_cards.specs.declared.view.Known.{Known}
 use Rattle.ell_cards.specs.declared.view.Slots.{Slots}
 use Rattle.ell_cards.specs.Periods.{WholeState, slot_word, card_in}
+use Rattle.ell_cards.specs.Sayings.{says}
 use Rattle.ell_cards.specs.Shown.{cut_word}
 use Rattle.ell_cards.specs.SlotWords.{slot_of, card_by}
 use Rattle.ell_cards.specs.States.{TableState}
@@ -31,7 +32,8 @@ module _ (s : Slots) (low : s.last < 2097152) (tree tree' : TableState) (t : Who
     (tied : IsTied s tree t stage dead was_dead) (cards : tree'.words ≡ tree.words) (words : List ℕ)
     (slots : (i : ℕ) → i < table_size s.last → get_or words i 0 ≡ get_or t.words i 0)
     (lie : (slot : ℕ) → slot ≤ s.last → get_or words (slot_word s slot) 0 ≡ get_or t.words (slot_word s slot) 0)
-    (wins : (c : ℕ) → HasWon next c → HasWon stage c) (views : List Known) (stays : (seat : ℕ) (u : Known) → get_elem? views seat ≡ some u → StaysSo t.views seat u) where
+    (wins : (c : ℕ) → HasWon next c → HasWon stage c)
+    (kinds : (c : ℕ) (f : Field) → HasWon stage c → says (next c) f ≡ true → says (stage c) f ≡ true) (views : List Known) (stays : (seat : ℕ) (u : Known) → get_elem? views seat ≡ some u → StaysSo t.views seat u) where
   cards_stay : (slot : ℕ) → slot ≤ s.last → card_in s words slot ≡ card_in s t.words slot
   cards_stay slot inside = ap (card_by slot) (lie slot inside)
 
@@ -39,7 +41,7 @@ module _ (s : Slots) (low : s.last < 2097152) (tree tree' : TableState) (t : Who
   lies_on c lies = (lies.0, cards_stay (slot_of c) lies.0 ∙ lies.1)
 
   kept_before : (c : ℕ) (f : Field) → IsKept next views c f → IsKept stage t.views c f
-  kept_before c f (won has) = won (wins c has)
+  kept_before c f (won has said) = won (wins c has) (kinds c f (wins c has) said)
   kept_before c f (stored seat u at waits has) = elim (stays seat u at) [
     | same there ↦ stored seat u there waits has
     | goes_on k there is placed an slot ↦ stored seat k there (subst (λ v. HoldsWaiting v c) is waits) (subst (λ v. HasStored v f) is has)

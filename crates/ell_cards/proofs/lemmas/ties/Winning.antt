@@ -1,20 +1,26 @@
 -- Which cards have won their flag after a call: those that had, and the one whose flag the call wins.
 use Rattle.std.proofs.Common.{◌≡◌, ◌⊎◌, ℕ, ◌+◌, ◌<◌, ◌==◌, if◌then◌else◌, inl, inr, Bool, true, false, Some, List, [], ◌∷◌, ◌++◌, length, refl, sym, ap, ◌∙◌, subst, arith, eqb-true}
 use Rattle.std.proofs.lemmas.List.{length-append}
+use Rattle.ell_ops.specs.declared.op.Op.{Op}
+use Rattle.ell_ops.specs.declared.op.Op.TheVariants.{Find, Insert, Delete, Swap}
 use mathlib.Core.Option.{some}
 use lib.ListN.{get_elem?}
+use Rattle.ell_core.specs.acts.Searching.{put_of}
 use Rattle.ell_core.specs.acts.Wins.{win_for}
+use Rattle.ell_core.proofs.lemmas.outcomes.Decide.{some_not_none}
 use Rattle.ell_core.specs.declared.exchange.Exchange.{Exchange}
 use Rattle.ell_core.specs.declared.exchange.Exchange.TheVariants as exchange
 use Rattle.ell_core.specs.declared.fact.Fact.TheVariants as fact
 use Rattle.ell_core.specs.history.Later.{StagesLater, wins_of}
-use Rattle.ell_core.specs.history.Stages.{Stage, Stages, is_claimed, waits, is_start, insert_won, delete_won, is_changed, is_marked, is_cut, is_unmarkable, is_node_born}
+use Rattle.ell_core.specs.history.Stages.{Stage, Stages, is_claimed, waits, is_start, is_insert, is_delete, insert_won, delete_won, is_changed, is_marked, is_cut, is_unmarkable, is_node_born}
+use Rattle.ell_layout.specs.declared.field.Field.{Field}
 use Rattle.ell_cards.specs.declared.call.Call.{Call}
 use Rattle.ell_cards.specs.declared.call.Call.TheVariants as call
 use Rattle.ell_cards.specs.declared.view.View.{View}
 use Rattle.ell_cards.specs.Calls.{May, atomic_of, is_won}
 use Rattle.ell_cards.specs.Machines.{HasMachine}
-use Rattle.ell_cards.specs.Models.{TablePlan}
+use Rattle.ell_cards.specs.Models.{TablePlan, Does}
+use Rattle.ell_cards.specs.Sayings.{says, put_says, delete_says}
 use Rattle.ell_cards.specs.States.{TableState}
 use Rattle.ell_cards.specs.Tied.{HasWon, FlagsCard}
 use Rattle.ell_cards.specs.TurnEffects.{turn_wins}
@@ -38,6 +44,36 @@ some_won s h = (grind arith, grind arith)
 -- so it is of a card that is this far
 pub born_won : (s : Stage) (place : ℕ) → is_node_born s place ≡ true → IsWonStage s
 born_won s place h = (grind arith, grind arith)
+
+-- and that one is no delete's
+pub born_is_put : (s : Stage) (place : ℕ) → is_node_born s place ≡ true → is_delete s ≡ false
+born_is_put s place h = grind arith
+
+pub start_is_put : (s : Stage) → is_start s ≡ true → is_delete s ≡ false
+start_is_put s h = grind arith
+
+pub insert_is_put : (s : Stage) → is_insert s ≡ true → is_delete s ≡ false
+insert_is_put s h = grind arith
+
+-- a card that has won its flag is of the opening tree, an insert's or a delete's
+won_kinds : (s : Stage) → IsWonStage s → (is_start s ≡ true) ⊎ ((is_insert s ≡ true) ⊎ (is_delete s ≡ true))
+won_kinds s (claimed, settled) = grind arith
+
+-- so it keeps its kind
+pub kind_stays : (old new : Stages) → StagesLater old new → (d : ℕ) → HasWon old d → is_delete (new d) ≡ is_delete (old d)
+kind_stays old new later d won = elim (won_kinds (old d) won) [
+  | inl start ↦ start_is_put (new d) (later.start d ∙ start) ∙ sym (start_is_put (old d) start)
+  | inr (inl insert) ↦ insert_is_put (new d) (later.insert d insert) ∙ sym (insert_is_put (old d) insert)
+  | inr (inr delete) ↦ later.delete d delete ∙ sym delete
+]
+
+-- what a card says goes by its kind
+pub says_by : (b : Bool) (s : Stage) → is_delete s ≡ b → (f : Field) → says s f ≡ (if b then delete_says f else put_says f)
+says_by b s is f = ap (λ x. if x then delete_says f else put_says f) is
+
+-- and says no more than it did
+pub says_before : (old new : Stages) → StagesLater old new → (d : ℕ) (f : Field) → HasWon old d → says (new d) f ≡ true → says (old d) f ≡ true
+says_before old new later d f won said = ap (λ b. if b then delete_says f else put_says f) (sym (kind_stays old new later d won)) ∙ said
 
 pub insert_is_won : (s : Stage) → insert_won s ≡ true → IsWonStage s
 insert_is_won s h = (grind arith, grind arith)
@@ -79,6 +115,11 @@ none_for : (b : Bool) (none : List Exchange) → (if b then none else none) ≡ 
 none_for true none = refl
 none_for false none = refl
 
+-- what the card says that a call flags
+abbrev pub flag_says : Call → Field → Bool
+flag_says (call.IFlag c p from) f = put_says f
+flag_says c f = delete_says f
+
 module _ (plan : TablePlan) (s : TableState) (r : HasMachine plan s) (id : ℕ) (v : View) (here : get_elem? s.views id ≡ some v) where
   -- whatever a call wins for a card that is no flag, that card has won its flag
   pub gains : (c : Call) → May plan c v → (d : ℕ) → (turn_wins s (Makes id c) d ≡ []) ⊎ (HasWon r.stages d ⊎ FlagsCard c d)
@@ -110,6 +151,23 @@ module _ (plan : TablePlan) (s : TableState) (r : HasMachine plan s) (id : ℕ) 
   ]
   gains (call.Claim c q) may d = inl (none_for (is_won (atomic_of (call.Claim c q)) (found_by s (call.Claim c q))) [])
   gains _ may d = inl refl
+
+  -- a card that a call flags says what the call asks to be stored of it
+  pub flag_kind : (new : Stages) → StagesLater r.stages new → (c : Call) → May plan c v → (d : ℕ) (f : Field) → FlagsCard c d → says (new d) f ≡ true → flag_says c f ≡ true
+  flag_kind new later (call.IFlag c p from) may d f is said = by may.op may.busy may.puts
+    where
+      puts : is_insert (r.stages c) ≡ true → put_says f ≡ true
+      puts insert = sym (says_by false (new c) (insert_is_put (new c) (later.insert c insert)) f) ∙ subst (λ e. says (new e) f ≡ true) is said
+
+      by : (op : Op) → Does v op → put_of op ≡ Some may.what → put_says f ≡ true
+      by (Insert k value) busy is = puts ((mine_sound plan s r id v here).unflagged (Insert k value) c busy may.may.holds may.may.unflagged).claimed.0
+      by (Swap k was value) busy is = puts ((mine_sound plan s r id v here).unflagged (Swap k was value) c busy may.may.holds may.may.unflagged).claimed.0
+      by (Find k) busy none = absurd (some_not_none none refl)
+      by (Delete k) busy none = absurd (some_not_none none refl)
+  flag_kind new later (call.DFlag c gp from) may d f is said =
+      let delete = ((mine_sound plan s r id v here).unflagged (Delete may.key) c may.busy may.may.holds may.may.unflagged).claimed.0 in
+      sym (says_by true (new c) (later.delete c delete) f) ∙ subst (λ e. says (new e) f ≡ true) is said
+  flag_kind new later _ may d f is said = absurd is
 
   -- so who has won its flag after a call had won it before, or the call wins it
   pub won_by_call : (new : Stages) → StagesLater r.stages new → (c : Call) → May plan c v

@@ -145,7 +145,7 @@ module _ (plan : TablePlan) (s : WholeState) (h : IsWhole plan s) (id : ℕ) (k 
       -- each card has a slot of its own, so the word stands in memory where it does in the tree
       word_at : (d : Call) → May plan d k.tree → place_of d ≡ word_of d
       word_at (call.Fill e f value) may = ap (λ x. address x f) (own_slot e (let low = tree_named.hand e may.holds in let few = few_plain none in omega arith))
-      word_at d may = at_won d (touched_won plan h.tree tree_kept id k.tree tree_here d may)
+      word_at d may = at_won d (touched_won plan h.tree tree_kept id k.tree tree_here d may).0
         where
           at_won : (d : Call) → HasWon tree_kept.stages (card_touched (touched_by d)) → place_of d ≡ word_of d
           at_won d has =
@@ -281,8 +281,8 @@ was_stored (e ∷ es) f x (earlier _ _ _ h) = let old = was_stored es f x h in (
 -- what a call that is shown asks of memory is what the call asks
 asks_whole : (slot : Option ℕ) (v : View) (c : Call) → MayInMemory slot (shown v) (shown_call c) → MayInMemory slot v c
 asks_whole slot v (call.Fill e f value) asks = asks
-asks_whole slot v (call.IFlag e p from) asks = (asks.0, λ f. was_stored v.stores f (asks.1 f).0 (asks.1 f).1)
-asks_whole slot v (call.DFlag e gp from) asks = (asks.0, λ f. was_stored v.stores f (asks.1 f).0 (asks.1 f).1)
+asks_whole slot v (call.IFlag e p from) asks = (asks.0, λ f said. was_stored v.stores f (asks.1 f said).0 (asks.1 f said).1)
+asks_whole slot v (call.DFlag e gp from) asks = (asks.0, λ f said. was_stored v.stores f (asks.1 f said).0 (asks.1 f said).1)
 asks_whole slot v _ asks = tt
 
 -- it touches the word that the call touches

@@ -16,9 +16,8 @@ returns g c =
     let s2 = stores_more a c.fill.new.pass c.fill-2.new.pass _ 1 field.P place.parent.node s1 c.fill-2.ensures in
     let s3 = stores_more a c.fill-2.new.pass c.fill-3.new.pass _ 2 field.L word s2 c.fill-3.ensures in
     let s4 = stores_more a c.fill-3.new.pass c.fill-4.new.pass _ 3 field.Was was s3 c.fill-4.ensures in
-    let slots = c.args.table.now.plan.slots in record {
-      fills = fills_delete slots a c.fill-4.new.pass c.clear_rest.new.pass above.node place.parent.node word was s4 c.clear_rest.ensures place.node above.tag
+    record {
+      fills = fills_delete a c.fill-4.new.pass above.node place.parent.node word was s4 place.node above.tag
           (packed place.parent.update) c.requires.card.1.says (c.word-leaf.ensures ∙ ap linked c.node_with.ensures) c.pack-was.ensures;
-      whole = λ some. whole_delete slots a c.fill-4.new.pass c.clear_rest.new.pass above.node place.parent.node word was s4 c.clear_rest.ensures c.args.card some
-          (c.requires.slot some);
+      whole = λ some. whole_delete a c.fill-4.new.pass above.node place.parent.node word was s4 c.args.card (c.requires.slot some);
     }

@@ -27,13 +27,13 @@ returns g c =
     let s8 = stores_more a c.fill-7.new.pass c.fill-8.new.pass _ 7 field.RightLeafKey greater s7 c.fill-8.ensures in
     let s9 = stores_more a c.fill-8.new.pass c.fill-9.new.pass _ 8 field.LeftValue values.0 s8 c.fill-9.ensures in
     let s10 = stores_more a c.fill-9.new.pass c.fill-10.new.pass _ 9 field.RightValue values.1 s9 c.fill-10.ensures in
-    let slots = c.args.table.now.plan.slots in record {
-      fills = fills_insert slots a c.fill-10.new.pass c.clear_rest.new.pass place.parent.node word c.args.node_key lesser greater left right update values.0 values.1 s10 c.clear_rest.ensures
+    record {
+      fills = fills_insert a c.fill-10.new.pass place.parent.node word c.args.node_key lesser greater left right update values.0 values.1 s10
           c.args.card c.args.what.key c.args.what.value place.node place.parent.tag place.key place.value c.requires.card.card.says
           (c.word-below.ensures ∙ ap linked c.node_with.ensures) c.min-lesser.ensures c.max-greater.ensures c.card_children-left.ensures.left c.card_children-left.ensures.right
           c.update_word-clean.ensures sides.0 sides.1;
-      whole = λ some. whole_insert slots a c.fill-10.new.pass c.clear_rest.new.pass place.parent.node word c.args.node_key lesser greater left right update values.0 values.1 s10
-          c.clear_rest.ensures c.args.card some (c.requires.slot some);
+      whole = λ some. whole_insert a c.fill-10.new.pass place.parent.node word c.args.node_key lesser greater left right update values.0 values.1 s10
+          c.args.card (c.requires.slot some);
     }
   where
     sides : (c.if-key-place.left_value.0 ≡ (if nat_lt c.args.what.key c.args.place.key then c.args.what.value else c.args.place.value))
