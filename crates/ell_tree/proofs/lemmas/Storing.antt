@@ -1,4 +1,4 @@
-use Rattle.std.proofs.Common.{◌≡◌, ℕ, ◌+◌, if◌then◌else◌, nat_lt, min, max, Bool, true, false, false≢true, List, [], ◌∷◌, Some, refl, sym, ◌∙◌, ap, subst, arith}
+use Rattle.std.proofs.Common.{◌≡◌, ℕ, ◌+◌, if◌then◌else◌, nat_lt, min, max, Bool, true, false, true≢false, List, [], ◌∷◌, Some, refl, sym, ◌∙◌, ap, subst, arith}
 use Rattle.ell_layout.specs.declared.field.Field.{Field}
 use Rattle.ell_layout.specs.declared.field.Field.TheVariants as field
 use Rattle.ell_word.specs.Link.{linked}
@@ -88,8 +88,8 @@ fills a b n stores says h planned same =
 -- all that an insert's card says is among it
 said_of_insert : (parent word node_key lesser greater left right update left_value right_value : ℕ) (f : Field) → put_says f ≡ true
     → (x : ℕ) × Has (insert_words parent word node_key lesser greater left right update left_value right_value) (f, x)
-said_of_insert parent word node_key lesser greater left right update left_value right_value field.Gp is = absurd (false≢true is)
-said_of_insert parent word node_key lesser greater left right update left_value right_value field.Was is = absurd (false≢true is)
+said_of_insert parent word node_key lesser greater left right update left_value right_value field.Gp is = absurd (true≢false (sym is))
+said_of_insert parent word node_key lesser greater left right update left_value right_value field.Was is = absurd (true≢false (sym is))
 said_of_insert parent word node_key lesser greater left right update left_value right_value field.RightValue is = (right_value, latest _ _)
 said_of_insert parent word node_key lesser greater left right update left_value right_value field.LeftValue is = (left_value, earlier _ _ _ (latest _ _))
 said_of_insert parent word node_key lesser greater left right update left_value right_value field.RightLeafKey is = (greater, earlier _ _ _ (earlier _ _ _ (latest _ _)))
@@ -145,14 +145,14 @@ said_of_delete grandparent parent leaf was field.Was is = (was, latest _ _)
 said_of_delete grandparent parent leaf was field.L is = (leaf, earlier _ _ _ (latest _ _))
 said_of_delete grandparent parent leaf was field.P is = (parent, earlier _ _ _ (earlier _ _ _ (latest _ _)))
 said_of_delete grandparent parent leaf was field.Gp is = (grandparent, earlier _ _ _ (earlier _ _ _ (earlier _ _ _ (latest _ _))))
-said_of_delete grandparent parent leaf was field.Key is = absurd (false≢true is)
-said_of_delete grandparent parent leaf was field.Left is = absurd (false≢true is)
-said_of_delete grandparent parent leaf was field.Right is = absurd (false≢true is)
-said_of_delete grandparent parent leaf was field.Update is = absurd (false≢true is)
-said_of_delete grandparent parent leaf was field.LeftLeafKey is = absurd (false≢true is)
-said_of_delete grandparent parent leaf was field.RightLeafKey is = absurd (false≢true is)
-said_of_delete grandparent parent leaf was field.LeftValue is = absurd (false≢true is)
-said_of_delete grandparent parent leaf was field.RightValue is = absurd (false≢true is)
+said_of_delete grandparent parent leaf was field.Key is = absurd (true≢false (sym is))
+said_of_delete grandparent parent leaf was field.Left is = absurd (true≢false (sym is))
+said_of_delete grandparent parent leaf was field.Right is = absurd (true≢false (sym is))
+said_of_delete grandparent parent leaf was field.Update is = absurd (true≢false (sym is))
+said_of_delete grandparent parent leaf was field.LeftLeafKey is = absurd (true≢false (sym is))
+said_of_delete grandparent parent leaf was field.RightLeafKey is = absurd (true≢false (sym is))
+said_of_delete grandparent parent leaf was field.LeftValue is = absurd (true≢false (sym is))
+said_of_delete grandparent parent leaf was field.RightValue is = absurd (true≢false (sym is))
 
 -- it is filled by four stores
 module _ (a b : PassModel) (grandparent parent word was : ℕ) (h : Stores a b (delete_words grandparent parent word was) 4) where
