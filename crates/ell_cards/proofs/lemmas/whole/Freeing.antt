@@ -22,7 +22,7 @@ use Rattle.ell_cards.specs.CardNodes.{has_node, KnowsDeadNodes}
 use Rattle.ell_cards.specs.Models.{TablePlan}
 use Rattle.ell_cards.specs.Periods.{WholeState, clock_word, slot_word, slots_size, last_reading, card_in, pending_by, after_read, after_seek, after_stamp, PeriodsAreSound}
 use Rattle.ell_cards.specs.Seeking.{could_take, sought_on}
-use Rattle.ell_cards.specs.SlotWords.{card_by, slot_of, turn_in, free_word, is_noted}
+use Rattle.ell_cards.specs.SlotWords.{card_by, slot_of, turn_of, turn_in, free_word, is_noted}
 use Rattle.ell_cards.specs.States.{TableState}
 use Rattle.ell_cards.specs.Stepping.{MayGoOn}
 use Rattle.ell_cards.proofs.lemmas.runs.Alive.{known_dead_is_dead}
@@ -62,6 +62,10 @@ noted_or n m (suc (suc zero)) is = elim (or_odd (n / 4) (m / 4) (sym (ap (λ x. 
   | inr one ↦ inr (eq-eqb (m / 4 % 2) 1 one)
 ]
 noted_or n m (suc (suc (suc i))) is = absurd (false≢true is)
+
+-- a card lies in its slot by each word of its turn
+pub lies_by : (c slot n : ℕ) → slot ≡ slot_of c → turn_in n ≡ turn_of c → card_by slot n ≡ c
+lies_by c slot n at turn = omega arith
 
 -- so it is dead, if these are
 pub noted_dead : (v : View) (c slot n m : ℕ) (nodes : CardNodes) → card_by slot n ≡ c → ((i : ℕ) → is_noted m i ≡ has_node nodes i) → KnowsDeadNodes v c nodes
