@@ -33,6 +33,8 @@ pub mod Periods
 pub mod Aside
 -- what is dead in a table's tree, and was when periods began
 pub mod Ages
+-- some of the three nodes of a card
+pub mod CardNodes
 -- the rule of a table: its tree, and its periods
 pub mod Whole
 -- what the safe numbers of passes tell

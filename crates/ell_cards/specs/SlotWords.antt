@@ -25,12 +25,6 @@ is_noted n (suc zero) = n / 2 % 2 == 1
 is_noted n (suc (suc zero)) = n / 4 % 2 == 1
 is_noted n (suc (suc (suc k))) = false
 
--- the bit of a node
-abbrev pub bit_of : ℕ → ℕ
-bit_of zero = 1
-bit_of (suc zero) = 2
-bit_of (suc (suc k)) = 4
-
 -- the card that lies in a slot, by the slot's word
 abbrev pub card_by : ℕ → ℕ → ℕ
 card_by slot n = 2097152 * turn_in n + slot

@@ -2,6 +2,7 @@
 #![tactic(auto)]
 
 mod call;
+mod card_nodes;
 mod closed;
 mod fault;
 mod glance;
@@ -22,6 +23,7 @@ mod view;
 mod walking;
 
 pub use call::Call;
+pub use card_nodes::CardNodes;
 pub use closed::Closed;
 pub use fault::{CardFault, SplitFault};
 pub use glance::{Glance, Stretch};

@@ -1,16 +1,18 @@
 //! Slots: a card lies in one, at one of the turns there. The word of a slot notes which of the three nodes of its
 //! card are dead. Once all three are, the slot is set free, with a reading of the clock as its stamp, and a pass
 //! takes it for the card of a later turn once that stamp is safe. The steps are not counted.
-ghost use Rattle.std.specs.Prelude.{◌≡◌, ◌≢◌, ◌+◌, ◌*◌, ◌<◌, ◌≤◌, ◌%◌, ℕ, IfSome, None, Some, [], true, false};
-ghost use Rattle.ell_word.specs.Node.{greatest_card, greatest_number, card};
+ghost use Rattle.std.specs.Prelude.{◌≡◌, ◌≢◌, ◌+◌, ◌*◌, ◌<◌, ◌≤◌, ◌%◌, ◌⊎◌, ℕ, IfSome, None, Some, [], true, false};
+ghost use Rattle.ell_word.specs.Node.{greatest_card, greatest_number};
 ghost use Rattle.ell_cards.specs.Ages.{KnowsDeadNode, MayStamp};
+ghost use Rattle.ell_cards.specs.CardNodes.{KnowsDeadNodes};
 ghost use Rattle.ell_cards.specs.Guards.{MayFill};
 ghost use Rattle.ell_cards.specs.Periods.{StandsAs, after_missing, after_own, after_read, after_seek, after_stamp, after_taking, has_slot, last_reading, slot_word};
 ghost use Rattle.ell_cards.specs.Seeking.{FindsNone, FindsNoneIn, left_to_deletes, missed_none, missed_one, sought_on};
-ghost use Rattle.ell_cards.specs.SlotWords.{bit_of, card_by, is_noted, slot_of, stamp_in, turn_in, turn_of};
+ghost use Rattle.ell_cards.specs.SlotWords.{card_by, is_noted, slot_of, stamp_in, turn_in, turn_of};
 ghost use Rattle.ell_cards.specs.Stepping.{MayGoOn};
 ghost use Rattle.ell_cards.specs.Tied.{HoldsWaiting};
 
+use crate::card_nodes::CardNodes;
 use crate::pass::Pass;
 use crate::rule::PeriodTelling;
 use crate::table::CardTable;
@@ -60,24 +62,6 @@ fn stamp_in(word: u64) -> u64
     ensures { result ≡ stamp_in word }
 {
     word / 8_388_608
-}
-
-// Returns the bit that notes a node as dead, by the node's place on its card.
-#[inline(always)]
-fn bit_of(place: u64) -> u64
-    requires { place < 3 }
-    ensures { result ≡ bit_of place }
-{
-    1 << place
-}
-
-// Returns `true` if a word notes a node as dead, by the node's place on its card.
-#[inline(always)]
-fn is_noted(word: u64, place: u64) -> bool
-    requires { place < 3 }
-    ensures { result ≡ is_noted word place }
-{
-    word / bit_of(place) % 2 == 1
 }
 
 impl Slots {
@@ -159,30 +143,29 @@ impl<A: Allocator + Copy> CardTable<A> {
         self.period_load::<Brand>(seat, self.clock_address(slots))
     }
 
-    // Notes one more node of the card in a slot as dead, by its place on the card, if the slot's word is this still.
-    // Returns `true` if it was.
-    fn note_one(
+    // Notes more nodes of the card in a slot as dead, by another word of the slot that notes them too, if its word is
+    // this still. Returns `true` if it was.
+    fn note_more(
         &self,
         seat: &mut Seat<(), Known>,
         slots: Slots,
         slot: u64,
-        place: u64,
         word: u64,
+        noted: u64,
     ) -> bool
         requires own { seat.old.table_id ≡ self.now.id }
         requires empty { seat.old.me.1 ≡ [] }
         requires slots { self.now.plan.slots ≡ Some slots }
         requires slot { slot ≤ slots.last }
-        requires place { place < 3 }
-        requires lacks { is_noted word place ≡ false }
+        requires turn { turn_in noted ≡ turn_in word }
         requires taken { word % 8 ≢ 7 }
-        requires others { (word + bit_of place) % 8 ≢ 7 }
-        requires dead { KnowsDeadNode seat.old.me.0.tree (4 * card_by slot word + place) }
+        requires others { noted % 8 ≢ 7 }
+        requires dead { (i : ℕ) → is_noted noted i ≡ true →
+            (is_noted word i ≡ true) ⊎ KnowsDeadNode seat.old.me.0.tree (4 * card_by slot word + i) }
         ensures period { seat.new.me.0.period ≡ seat.old.me.0.period }
         ensures tree { seat.new.me.0.tree ≡ seat.old.me.0.tree }
         ensures seat { (seat.new.table_id ≡ seat.old.table_id) × (seat.new.me.1 ≡ []) }
     {
-        let noted = word + bit_of(place);
         self.period_exchange::<Brand>(seat, self.slot_address(slots, slot), word, noted) == word
     }
 
@@ -210,16 +193,22 @@ impl<A: Allocator + Copy> CardTable<A> {
         self.period_exchange::<Brand>(seat, self.slot_address(slots, slot), word, free) == word
     }
 
-    // Notes a node that the pass knows to be dead in the word of its slot, unless that does so already, or another
-    // card lies there by now. Returns whether it set the slot free by that, or `None` if the word changed meanwhile.
-    fn note_dead(&self, seat: &mut Seat<(), Known>, slots: Slots, node: u64) -> Option<bool>
+    // Notes nodes of a card that the pass knows to be dead in the word of the card's slot, by one step for all of them,
+    // unless that does so already, or another card lies there by now. Returns whether it set the slot free by that, or
+    // `None` if the word changed meanwhile.
+    fn note_dead(
+        &self,
+        seat: &mut Seat<(), Known>,
+        slots: Slots,
+        card: u64,
+        nodes: CardNodes,
+    ) -> Option<bool>
         requires own { seat.old.table_id ≡ self.now.id }
         requires empty { seat.old.me.1 ≡ [] }
         requires slots { self.now.plan.slots ≡ Some slots }
-        requires slot { slot_of (card node) ≤ slots.last }
+        requires slot { slot_of card ≤ slots.last }
         requires low { slots.last < 2097152 }
-        requires place { node % 4 < 3 }
-        requires dead { KnowsDeadNode seat.old.me.0.tree node }
+        requires dead { KnowsDeadNodes seat.old.me.0.tree card nodes }
         ensures stands { StandsAs seat.old.me.0.period seat.new.me.0.period }
         ensures slot { seat.new.me.0.period.slot ≡ seat.old.me.0.period.slot }
         ensures sought { seat.new.me.0.period.sought ≡ seat.old.me.0.period.sought }
@@ -227,31 +216,35 @@ impl<A: Allocator + Copy> CardTable<A> {
         ensures tree { seat.new.me.0.tree ≡ seat.old.me.0.tree }
         ensures seat { (seat.new.table_id ≡ seat.old.table_id) × (seat.new.me.1 ≡ []) }
     {
-        let card = card_of(node);
         let slot = slot_of(card);
-        let place = node % 4;
         let word = self.read_slot(seat, slots, slot);
-        if turn_in(word) != turn_of(card) || is_noted(word, place) {
+        let noted = word | nodes.bits();
+        if turn_in(word) != turn_of(card) || noted == word {
             return Some(false);
         }
-        if (word + bit_of(place)) % 8 == 7 {
+        if noted % 8 == 7 {
             self.set_free(seat, slots, slot, word).then_some(true)
         } else {
-            self.note_one(seat, slots, slot, place, word)
+            self.note_more(seat, slots, slot, word, noted)
                 .then_some(false)
         }
     }
 
-    // Notes such a node, even if the word changes meanwhile: it does so at most twice, as the two other nodes of the
-    // card are noted. Returns whether it set the slot free.
-    fn note_surely(&self, seat: &mut Seat<(), Known>, slots: Slots, node: u64) -> bool
+    // Notes such nodes, even if the word changes meanwhile: it does so at most twice until they are noted, as each time
+    // another node of the card is. Returns whether it set the slot free.
+    fn note_surely(
+        &self,
+        seat: &mut Seat<(), Known>,
+        slots: Slots,
+        card: u64,
+        nodes: CardNodes,
+    ) -> bool
         requires own { seat.old.table_id ≡ self.now.id }
         requires empty { seat.old.me.1 ≡ [] }
         requires slots { self.now.plan.slots ≡ Some slots }
-        requires slot { slot_of (card node) ≤ slots.last }
+        requires slot { slot_of card ≤ slots.last }
         requires low { slots.last < 2097152 }
-        requires place { node % 4 < 3 }
-        requires dead { KnowsDeadNode seat.old.me.0.tree node }
+        requires dead { KnowsDeadNodes seat.old.me.0.tree card nodes }
         ensures stands { StandsAs seat.old.me.0.period seat.new.me.0.period }
         ensures slot { seat.new.me.0.period.slot ≡ seat.old.me.0.period.slot }
         ensures sought { seat.new.me.0.period.sought ≡ seat.old.me.0.period.sought }
@@ -260,7 +253,7 @@ impl<A: Allocator + Copy> CardTable<A> {
         ensures seat { (seat.new.table_id ≡ seat.old.table_id) × (seat.new.me.1 ≡ []) }
     {
         for _ in 0..3 {
-            if let Some(freed) = self.note_dead(seat, slots, node) {
+            if let Some(freed) = self.note_dead(seat, slots, card, nodes) {
                 return freed;
             }
         }
@@ -293,10 +286,8 @@ impl<A: Allocator + Copy> CardTable<A> {
         }
     }
 
-    /// Notes a node that the pass knows to be dead: one that its card, which is over, has taken out of the tree, or
-    /// one of that card which never comes into it. Once all three nodes of a card are noted, its slot is free.
-    /// Returns `true` if it became free by this call. It does nothing if the table has no places. Its steps are not
-    /// counted.
+    /// Notes a node that the pass knows to be dead, as `retire_nodes` notes several of one card. Returns `true` if its
+    /// card's slot became free by this call.
     pub fn retire(&self, pass: &mut Pass<A>, node: u64) -> bool
         requires own { pass.old.table ≡ self.now.id }
         requires dead { KnowsDeadNode pass.old.view node }
@@ -305,13 +296,28 @@ impl<A: Allocator + Copy> CardTable<A> {
         // A table without places has no slots that become free.
         ensures none { self.now.plan.slots ≡ None → result ≡ false }
     {
+        self.retire_nodes(pass, card_of(node), CardNodes::only(node))
+    }
+
+    /// Notes nodes of one card that the pass knows to be dead, all of them by one step: those that a card which is over
+    /// has taken out of the tree, or those of that card which never come into it. Once all three nodes of a card are
+    /// noted, its slot is free. Returns `true` if it became free by this call. It does nothing if the table has no
+    /// places. Its steps are not counted.
+    pub fn retire_nodes(&self, pass: &mut Pass<A>, card: u64, nodes: CardNodes) -> bool
+        requires own { pass.old.table ≡ self.now.id }
+        requires dead { KnowsDeadNodes pass.old.view card nodes }
+        // What the pass knows of the tree is as it was, and it has made no step that is counted.
+        ensures same { pass.new ≡ pass.old }
+        // A table without places has no slots that become free.
+        ensures none { self.now.plan.slots ≡ None → result ≡ false }
+    {
         let Some(slots) = self.slots else {
             return false;
         };
-        if slot_of(card_of(node)) > slots.last || node % 4 == 3 {
+        if slot_of(card) > slots.last {
             return false;
         }
-        self.note_surely(&mut pass.seat, slots, node)
+        self.note_surely(&mut pass.seat, slots, card, nodes)
     }
 
     // Reads the word of the slot of a card in hand, and so takes the slot if that card lies there already.

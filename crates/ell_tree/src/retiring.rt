@@ -5,14 +5,15 @@ ghost use Rattle.ell_word.specs.Node.{greatest_number};
 ghost use Rattle.ell_core.specs.declared.fact.Fact.TheVariants.{DOver};
 ghost use Rattle.ell_layout.specs.declared.field.Field.TheVariants as field;
 ghost use Rattle.ell_cards.specs.declared.view.Told.TheVariants.{Info};
+ghost use Rattle.ell_cards.specs.Ages.{KnowsDeadNode};
 ghost use Rattle.ell_cards.specs.Dead.{KnowsDeleteEnded};
 ghost use Rattle.ell_cards.specs.Models.{IsTold, Knows};
 ghost use Rattle.ell_tree.specs.Retiring.{HasPut};
 
 use crate::searching::Place;
-use ell_cards::{CardTable, Pass};
+use ell_cards::{CardNodes, CardTable, Pass};
 use ell_core::Put;
-use ell_word::{internal_of, is_internal, left_leaf_of, right_leaf_of};
+use ell_word::{card_of, is_internal, left_leaf_of, right_leaf_of};
 use std::alloc::Allocator;
 
 /// Notes what the card of an insert or a swap has taken out, and which of its nodes never come. Where it went above an
@@ -41,8 +42,12 @@ pub(crate) fn retire_put<A: Allocator + Copy>(
     }
     table.retire(pass, place.node);
     if place.key == what.key {
-        table.retire(pass, internal_of(card));
-        table.retire(pass, left_leaf_of(card));
+        let left_out = CardNodes {
+            internal: true,
+            left: true,
+            right: false,
+        };
+        table.retire_nodes(pass, card, left_out);
     }
 }
 
@@ -55,25 +60,37 @@ pub(crate) fn retire_deleted<A: Allocator + Copy>(
     leaf: u64,
 )
     requires own { pass.old.table ≡ table.now.id }
-    requires limit { card ≤ greatest_number }
     requires over { Knows pass.old.view (DOver card) }
     requires parent { IsTold pass.old.view (Info card field.P parent) }
     requires leaf { IsTold pass.old.view (Info card field.L leaf) }
     ensures same { pass.new ≡ pass.old }
 {
-    table.retire(pass, parent);
-    table.retire(pass, leaf);
+    retire_both(table, pass, parent, leaf);
     retire_own(table, pass, card);
+}
+
+// Notes two nodes that are dead, by one step where they lie on one card.
+fn retire_both<A: Allocator + Copy>(table: &CardTable<A>, pass: &mut Pass<A>, one: u64, other: u64)
+    requires own { pass.old.table ≡ table.now.id }
+    requires one { KnowsDeadNode pass.old.view one }
+    requires other { KnowsDeadNode pass.old.view other }
+    ensures same { pass.new ≡ pass.old }
+{
+    let card = card_of(one);
+    if card_of(other) == card {
+        let both = CardNodes::only(one).and(CardNodes::only(other));
+        table.retire_nodes(pass, card, both);
+    } else {
+        table.retire(pass, one);
+        table.retire(pass, other);
+    }
 }
 
 /// Notes the nodes of a delete's card that has ended: none of them comes.
 pub(crate) fn retire_own<A: Allocator + Copy>(table: &CardTable<A>, pass: &mut Pass<A>, card: u64)
     requires own { pass.old.table ≡ table.now.id }
-    requires limit { card ≤ greatest_number }
     requires ended { KnowsDeleteEnded pass.old.view card }
     ensures same { pass.new ≡ pass.old }
 {
-    table.retire(pass, internal_of(card));
-    table.retire(pass, left_leaf_of(card));
-    table.retire(pass, right_leaf_of(card));
+    table.retire_nodes(pass, card, CardNodes::all());
 }

@@ -14,3 +14,5 @@ pub mod Searches
 pub mod TakenValues
 -- the view after a row of claims
 pub mod Rows
+-- nodes of a card that a pass knows to be dead
+pub mod DeadNodes

@@ -1,4 +1,5 @@
-use Rattle.std.proofs.Common.{◌≡◌, ◌≢◌, ◌⊎◌, ℕ, ◌<◌, ◌≤◌, Some, inl, inr, refl, ◌∙◌, subst, max, min, true, arith}
+use Rattle.std.proofs.Common.{◌≡◌, ◌≢◌, ◌⊎◌, false, ℕ, zero, suc, ◌+◌, ◌*◌, ◌<◌, ◌≤◌, Some, inl, inr, refl, ◌∙◌, subst, max, min, true, arith}
+use Rattle.std.proofs.lemmas.Bool.{false≢true}
 use Rattle.ell_ops.specs.declared.op.Op.{Op}
 use Rattle.ell_word.specs.Node.{IsInternal, card, left_leaf, right_leaf}
 use Rattle.ell_core.specs.declared.fact.Fact.TheVariants as fact
@@ -10,6 +11,7 @@ use Rattle.ell_layout.specs.Words.{IsLeaf}
 use Rattle.ell_cards.specs.declared.view.Told.TheVariants.{Info}
 use Rattle.ell_cards.specs.declared.view.View.{View}
 use Rattle.ell_cards.specs.Ages.{KnowsDeadNode}
+use Rattle.ell_cards.specs.CardNodes.{KnowsDeadNodes, all_nodes}
 use Rattle.ell_cards.specs.Dead.{KnowsDeleteEnded}
 use Rattle.ell_cards.specs.Models.{IsTold, Knows, Does}
 use Rattle.ell_tree.specs.declared.searching.Place.{Place}
@@ -19,8 +21,14 @@ use Rattle.ell_tree.specs.Retiring.{HasPut}
 use Rattle.ell_tree.specs.Searches.{node_with}
 
 -- none of the nodes of a delete's card that has ended comes
-pub own_dead : (v : View) (c x : ℕ) → KnowsDeleteEnded v c → card x ≡ c → KnowsDeadNode v x
+own_dead : (v : View) (c x : ℕ) → KnowsDeleteEnded v c → card x ≡ c → KnowsDeadNode v x
 own_dead v c x ended on = (c, inr (on, inl ended))
+
+pub own_nodes_dead : (v : View) (c : ℕ) → KnowsDeleteEnded v c → KnowsDeadNodes v c all_nodes
+own_nodes_dead v c ended zero is = own_dead v c (4 * c + 0) ended (omega arith)
+own_nodes_dead v c ended (suc zero) is = own_dead v c (4 * c + 1) ended (omega arith)
+own_nodes_dead v c ended (suc (suc zero)) is = own_dead v c (4 * c + 2) ended (omega arith)
+own_nodes_dead v c ended (suc (suc (suc i))) is = absurd (false≢true is)
 
 -- a delete that is over has taken its parent and its leaf out
 pub parent_dead : (v : View) (c x : ℕ) → Knows v (fact.DOver c) → IsTold v (Info c field.P x) → KnowsDeadNode v x
@@ -35,7 +43,7 @@ module _ (what : Put) (place : Place) (v : View) (c : ℕ) (h : HasPut what plac
   below_dead outer = (c, inl (inl (h.over, outer, h.below)))
 
   -- where that had its key, what is not the card's right leaf never comes
-  pub replaced_dead : (x : ℕ) → place.key ≡ what.key → card x ≡ c → x ≢ right_leaf c → KnowsDeadNode v x
+  replaced_dead : (x : ℕ) → place.key ≡ what.key → card x ≡ c → x ≢ right_leaf c → KnowsDeadNode v x
   replaced_dead x same on other =
       let lesser : min what.key place.key ≡ what.key = omega (arith, same) in
       let greater : max what.key place.key ≡ what.key = omega (arith, same) in (
@@ -53,6 +61,12 @@ module _ (what : Put) (place : Place) (v : View) (c : ℕ) (h : HasPut what plac
           ),
         ),
       )
+
+  pub replaced_nodes_dead : place.key ≡ what.key → KnowsDeadNodes v c (record { internal = true; left = true; right = false })
+  replaced_nodes_dead same zero is = replaced_dead (4 * c + 0) same (omega arith) (λ e. omega arith)
+  replaced_nodes_dead same (suc zero) is = replaced_dead (4 * c + 1) same (omega arith) (λ e. omega arith)
+  replaced_nodes_dead same (suc (suc zero)) is = absurd (false≢true is)
+  replaced_nodes_dead same (suc (suc (suc i))) is = absurd (false≢true is)
 
   -- above an internal node the leaf of that node's key is not used
   unused_dead : (x : ℕ) → IsInternal place.node → card x ≡ c

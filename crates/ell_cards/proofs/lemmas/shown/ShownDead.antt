@@ -1,9 +1,11 @@
 -- A node that is dead by what is shown of what a pass knows is dead by that itself.
-use Rattle.std.proofs.Common.{ℕ, inl, inr}
+use Rattle.std.proofs.Common.{ℕ, ◌+◌, ◌*◌, inl, inr}
 use Rattle.ell_layout.specs.declared.field.Field.TheVariants as field
+use Rattle.ell_cards.specs.declared.card_nodes.CardNodes.{CardNodes}
 use Rattle.ell_cards.specs.declared.view.Told.TheVariants.{Info}
 use Rattle.ell_cards.specs.declared.view.View.{View}
 use Rattle.ell_cards.specs.Ages.{KnowsDeadNode}
+use Rattle.ell_cards.specs.CardNodes.{KnowsDeadNodes}
 use Rattle.ell_cards.specs.Dead.{KnowsReplaced, KnowsUnused, KnowsNeverComes, KnowsDead}
 use Rattle.ell_cards.specs.Shown.{shown}
 use Rattle.ell_cards.specs.Touching.{KnowsTakenOut}
@@ -65,3 +67,6 @@ dead_whole v c x (inr never) = inr (never_comes_whole v c x never)
 
 pub dead_node_whole : (v : View) (x : ℕ) → KnowsDeadNode (shown v) x → KnowsDeadNode v x
 dead_node_whole v x h = (h.0, dead_whole v h.0 x h.1)
+
+pub dead_nodes_whole : (v : View) (c : ℕ) (nodes : CardNodes) → KnowsDeadNodes (shown v) c nodes → KnowsDeadNodes v c nodes
+dead_nodes_whole v c nodes dead i is = dead_node_whole v (4 * c + i) (dead i is)

@@ -1,4 +1,6 @@
-use Rattle.std.proofs.Common.{◌≡◌, ◌≢◌, ℕ, zero, suc, ◌+◌, ◌*◌, ◌%◌, ◌<◌, ◌≤◌, ◌==◌, Bool, true, false, Some, length, get_or, set, inl, inr, ◌⊎◌, refl, sym, ap, ◌∙◌, subst, arith, eq-eqb, ne_eqb, get_or-set_same, get_or-set_other}
+use Rattle.std.proofs.Common.{◌≡◌, ◌≢◌, ℕ, zero, suc, ◌+◌, ◌*◌, ◌/◌, ◌%◌, ◌<◌, ◌≤◌, ◌==◌, Bool, true, false, Some, length, get_or, set, inl, inr, ◌⊎◌, refl, sym, ap, ◌∙◌, subst, arith, eq-eqb, ne_eqb, get_or-set_same, get_or-set_other}
+use Rattle.std.specs.Int.Bits.{bit_or, or_zero_l, or_zero_r}
+use Rattle.std.proofs.lemmas.Nat.{or_shr, or_mod, or_lt, le_or_l}
 use Rattle.std.proofs.lemmas.Bool.{cases_eq, false≢true}
 use Rattle.std.proofs.lemmas.Bool.Decides.{nat_tests}
 use Rattle.std.proofs.lemmas.Option.{same_Some}
@@ -7,17 +9,20 @@ use lib.ListN.{get_elem?}
 use prog.Atomic.{either}
 use Rattle.ell_layout.specs.Words.{put}
 use Rattle.ell_layout.proofs.lemmas.Writes.{put_same, put_other}
+use Rattle.ell_cards.specs.declared.card_nodes.CardNodes.{CardNodes}
 use Rattle.ell_cards.specs.declared.view.Known.{Known}
 use Rattle.ell_cards.specs.declared.view.Period.{Period}
 use Rattle.ell_cards.specs.declared.view.Seek.{Seek}
 use Rattle.ell_cards.specs.declared.view.SlotRead.{SlotRead}
 use Rattle.ell_cards.specs.declared.view.Slots.{Slots}
+use Rattle.ell_cards.specs.declared.view.View.{View}
 use Rattle.ell_cards.specs.Ages.{IsOut, HasPeriods, KnowsDeadNode, KnowsDeadCard, MayStamp}
 use Rattle.ell_cards.specs.Aside.{IsAside}
+use Rattle.ell_cards.specs.CardNodes.{has_node, KnowsDeadNodes}
 use Rattle.ell_cards.specs.Models.{TablePlan}
 use Rattle.ell_cards.specs.Periods.{WholeState, clock_word, slot_word, slots_size, last_reading, card_in, pending_by, after_read, after_seek, after_stamp, PeriodsAreSound}
 use Rattle.ell_cards.specs.Seeking.{could_take, sought_on}
-use Rattle.ell_cards.specs.SlotWords.{card_by, slot_of, turn_in, free_word, is_noted, bit_of}
+use Rattle.ell_cards.specs.SlotWords.{card_by, slot_of, turn_of, turn_in, free_word, is_noted}
 use Rattle.ell_cards.specs.States.{TableState}
 use Rattle.ell_cards.specs.Stepping.{MayGoOn}
 use Rattle.ell_cards.proofs.lemmas.runs.Alive.{known_dead_is_dead}
@@ -28,54 +33,67 @@ use Rattle.ell_cards.proofs.lemmas.whole.Steps.{word_again}
 use Rattle.ell_cards.proofs.lemmas.whole.Seats.{period_was}
 use Rattle.ell_cards.proofs.lemmas.whole.Slots.{slot_read, card_stamped, slot_noted, slot_freed, freed_card}
 
--- a bit more is noted, and the turn is as it was
-pub noted_turn : (n k : ℕ) → k < 3 → is_noted n k ≡ false → turn_in (n + bit_of k) ≡ turn_in n
-noted_turn n zero low lacks = grind (arith, nat_tests)
-noted_turn n (suc zero) low lacks = grind (arith, nat_tests)
-noted_turn n (suc (suc zero)) low lacks = grind (arith, nat_tests)
-noted_turn n (suc (suc (suc k))) low lacks = omega arith
+-- more nodes are noted, and the turn is as it was
+pub noted_turn : (n m : ℕ) → m < 8 → turn_in (bit_or n m) ≡ turn_in n
+noted_turn n m low =
+    let none : m / 8 ≡ 0 = omega arith in
+    ap (λ x. x % 1048576) (or_shr n m 3 ∙ (ap (bit_or (n / 8)) none ∙ or_zero_r (n / 8)))
 
-noted_or : (n k i : ℕ) → k < 3 → is_noted n k ≡ false → is_noted (n + bit_of k) i ≡ true → (is_noted n i ≡ true) ⊎ (i ≡ k)
-noted_or n zero zero low lacks is = inr refl
-noted_or n zero (suc zero) low lacks is = inl (grind (arith, nat_tests))
-noted_or n zero (suc (suc zero)) low lacks is = inl (grind (arith, nat_tests))
-noted_or n (suc zero) zero low lacks is = inl (grind (arith, nat_tests))
-noted_or n (suc zero) (suc zero) low lacks is = inr refl
-noted_or n (suc zero) (suc (suc zero)) low lacks is = inl (grind (arith, nat_tests))
-noted_or n (suc (suc zero)) zero low lacks is = inl (grind (arith, nat_tests))
-noted_or n (suc (suc zero)) (suc zero) low lacks is = inl (grind (arith, nat_tests))
-noted_or n (suc (suc zero)) (suc (suc zero)) low lacks is = inr refl
-noted_or n (suc (suc (suc k))) i low lacks is = absurd (omega arith)
-noted_or n zero (suc (suc (suc i))) low lacks is = absurd (false≢true is)
-noted_or n (suc zero) (suc (suc (suc i))) low lacks is = absurd (false≢true is)
-noted_or n (suc (suc zero)) (suc (suc (suc i))) low lacks is = absurd (false≢true is)
+-- what is noted then was noted, or is one of these
+or_odd : (n m : ℕ) → bit_or n m % 2 ≡ 1 → (n % 2 ≡ 1) ⊎ (m % 2 ≡ 1)
+or_odd n m odd = by (n % 2) (m % 2) (omega arith) (omega arith) (sym (or_mod n m 1) ∙ odd)
+  where
+    by : (x y : ℕ) → x < 2 → y < 2 → bit_or x y ≡ 1 → (x ≡ 1) ⊎ (y ≡ 1)
+    by (suc zero) y x_low y_low one = inl refl
+    by zero y x_low y_low one = inr (sym (or_zero_l y) ∙ one)
+    by (suc (suc x)) y x_low y_low one = absurd (omega arith)
 
--- all nodes but one are noted, if the last bit makes the word one that notes all
-pub all_noted : (n k i : ℕ) → k < 3 → i < 3 → is_noted n k ≡ false → (n + bit_of k) % 8 ≡ 7 → (is_noted n i ≡ true) ⊎ (i ≡ k)
-all_noted n zero zero low few lacks all = inr refl
-all_noted n zero (suc zero) low few lacks all = inl (grind (arith, nat_tests))
-all_noted n zero (suc (suc zero)) low few lacks all = inl (grind (arith, nat_tests))
-all_noted n (suc zero) zero low few lacks all = inl (grind (arith, nat_tests))
-all_noted n (suc zero) (suc zero) low few lacks all = inr refl
-all_noted n (suc zero) (suc (suc zero)) low few lacks all = inl (grind (arith, nat_tests))
-all_noted n (suc (suc zero)) zero low few lacks all = inl (grind (arith, nat_tests))
-all_noted n (suc (suc zero)) (suc zero) low few lacks all = inl (grind (arith, nat_tests))
-all_noted n (suc (suc zero)) (suc (suc zero)) low few lacks all = inr refl
-all_noted n (suc (suc (suc k))) i low few lacks all = absurd (omega arith)
-all_noted n zero (suc (suc (suc i))) low few lacks all = absurd (omega arith)
-all_noted n (suc zero) (suc (suc (suc i))) low few lacks all = absurd (omega arith)
-all_noted n (suc (suc zero)) (suc (suc (suc i))) low few lacks all = absurd (omega arith)
+pub noted_or : (n m i : ℕ) → is_noted (bit_or n m) i ≡ true → (is_noted n i ≡ true) ⊎ (is_noted m i ≡ true)
+noted_or n m zero is = elim (or_odd n m (grind (arith, nat_tests))) [
+  | inl was ↦ inl (eq-eqb (n % 2) 1 was)
+  | inr one ↦ inr (eq-eqb (m % 2) 1 one)
+]
+noted_or n m (suc zero) is = elim (or_odd (n / 2) (m / 2) (sym (ap (λ x. x % 2) (or_shr n m 1)) ∙ grind (arith, nat_tests))) [
+  | inl was ↦ inl (eq-eqb (n / 2 % 2) 1 was)
+  | inr one ↦ inr (eq-eqb (m / 2 % 2) 1 one)
+]
+noted_or n m (suc (suc zero)) is = elim (or_odd (n / 4) (m / 4) (sym (ap (λ x. x % 2) (or_shr n m 2)) ∙ grind (arith, nat_tests))) [
+  | inl was ↦ inl (eq-eqb (n / 4 % 2) 1 was)
+  | inr one ↦ inr (eq-eqb (m / 4 % 2) 1 one)
+]
+noted_or n m (suc (suc (suc i))) is = absurd (false≢true is)
+
+-- a card lies in its slot by each word of its turn
+pub lies_by : (c slot n : ℕ) → slot ≡ slot_of c → turn_in n ≡ turn_of c → card_by slot n ≡ c
+lies_by c slot n at turn = omega arith
+
+-- so it is dead, if these are
+pub noted_dead : (v : View) (c slot n m : ℕ) (nodes : CardNodes) → card_by slot n ≡ c → ((i : ℕ) → is_noted m i ≡ has_node nodes i) → KnowsDeadNodes v c nodes
+    → (i : ℕ) → is_noted (bit_or n m) i ≡ true → (is_noted n i ≡ true) ⊎ KnowsDeadNode v (4 * card_by slot n + i)
+noted_dead v c slot n m nodes lies bits dead i is = elim (noted_or n m i is) [
+  | inl was ↦ inl was
+  | inr new ↦ inr (subst (λ d. KnowsDeadNode v (4 * d + i)) (sym lies) (dead i (sym (bits i) ∙ new)))
+]
+
+-- a word with all three bits notes all three nodes, and no more can be noted in it
+pub all_noted : (n i : ℕ) → i < 3 → n % 8 ≡ 7 → is_noted n i ≡ true
+all_noted n zero few all = grind (arith, nat_tests)
+all_noted n (suc zero) few all = grind (arith, nat_tests)
+all_noted n (suc (suc zero)) few all = grind (arith, nat_tests)
+all_noted n (suc (suc (suc i))) few all = absurd (omega arith)
+
+pub full_stays : (n m : ℕ) → m < 8 → n % 8 ≡ 7 → bit_or n m ≡ n
+full_stays n m low all =
+    let none : m / 8 ≡ 0 = omega arith in
+    let above : bit_or n m / 8 ≡ n / 8 = or_shr n m 3 ∙ (ap (bit_or (n / 8)) none ∙ or_zero_r (n / 8)) in
+    let bits : bit_or n m % 8 ≡ bit_or (n % 8) (m % 8) = or_mod n m 3 in
+    let most = or_lt 3 (n % 8) (m % 8) (omega arith) (omega arith) in
+    let least = le_or_l (n % 8) (m % 8) in
+    omega arith
 
 -- nor does the turn change where a slot is set free
 freed_turn : (n reading : ℕ) → turn_in (free_word (turn_in n) reading) ≡ turn_in n
 freed_turn n reading = omega arith
-
--- a word that lacks a node sets nothing free
-pub lacks_some : (n k : ℕ) → k < 3 → is_noted n k ≡ false → n % 8 ≢ 7
-lacks_some n zero low lacks e = grind (arith, nat_tests)
-lacks_some n (suc zero) low lacks e = grind (arith, nat_tests)
-lacks_some n (suc (suc zero)) low lacks e = grind (arith, nat_tests)
-lacks_some n (suc (suc (suc k))) low lacks e = omega arith
 
 -- the steps of a pass on the words of slots, as those of a whole table
 module _ (plan : TablePlan) (s : Slots) (tree : TableState) (t : WholeState) (id : ℕ) (k : Known) (here : get_elem? t.views id ≡ some k)
@@ -193,16 +211,16 @@ module _ (plan : TablePlan) (s : Slots) (tree : TableState) (t : WholeState) (id
             (h.ages.noted other i low) is
       ]
 
-  -- one more node of the card that lies in a slot is noted as dead
-  pub notes_now : (slot i : ℕ) → slot ≤ s.last → i < 3 → (n : ℕ) → get_or t.words (slot_word s slot) 0 ≡ n → is_noted n i ≡ false → n % 8 ≢ 7 → (n + bit_of i) % 8 ≢ 7
-      → KnowsDeadNode k.tree (4 * card_by slot n + i)
-      → HasPeriods plan s tree (turned_to t id k k.period (slot_word s slot) (n + bit_of i))
-  notes_now slot i inside low n is lacks some_bit some_bit' knows =
-      turns_now slot (n + bit_of i) inside (noted_turn n i low lacks ∙ ap turn_in (sym is))
-      (slot_noted s t id k here h.dead h.began h.was_dead h.periods size slot inside (n + bit_of i) (λ e. some_bit (ap (λ x. x % 8) (sym is) ∙ e)) some_bit')
-      (λ j noted. subst (λ turn. OutNow (4 * (2097152 * turn + slot) + j)) (sym (noted_turn n i low lacks)) (elim (noted_or n i j low lacks noted) [
-        | inl was ↦ subst (λ x. is_noted x j ≡ true → OutNow (4 * card_by slot x + j)) is (h.ages.noted slot j inside) was
-        | inr e ↦ subst (λ x. OutNow (4 * card_by slot n + x)) (sym e) (dead_by (4 * card_by slot n + i) knows)
+  -- more nodes of the card that lies in a slot are noted as dead
+  pub notes_now : (slot n m : ℕ) → slot ≤ s.last → get_or t.words (slot_word s slot) 0 ≡ n → turn_in m ≡ turn_in n → n % 8 ≢ 7 → m % 8 ≢ 7
+      → ((i : ℕ) → is_noted m i ≡ true → (is_noted n i ≡ true) ⊎ KnowsDeadNode k.tree (4 * card_by slot n + i))
+      → HasPeriods plan s tree (turned_to t id k k.period (slot_word s slot) m)
+  notes_now slot n m inside is turn some_bit some_bit' knows =
+      turns_now slot m inside (turn ∙ ap turn_in (sym is))
+      (slot_noted s t id k here h.dead h.began h.was_dead h.periods size slot inside m (λ e. some_bit (ap (λ x. x % 8) (sym is) ∙ e)) some_bit')
+      (λ i noted. subst (λ x. OutNow (4 * (2097152 * x + slot) + i)) (sym turn) (elim (knows i noted) [
+        | inl was ↦ subst (λ x. is_noted x i ≡ true → OutNow (4 * card_by slot x + i)) is (h.ages.noted slot i inside) was
+        | inr dead ↦ dead_by (4 * card_by slot n + i) dead
       ]))
 
   -- or the slot is set free, if all nodes of the card are dead
@@ -262,23 +280,24 @@ module _ (plan : TablePlan) (s : Slots) (placed : plan.slots ≡ Some s) (slot :
       now : WholeState → Seek
       now t = sought_on s begins c made (could_take c (get_or t.words (slot_word s slot) 0) k.period.safe) k.period.sought
 
-  -- it notes one more node as dead, if the word is as it was
-  pub notes_node : (k : Known) (i n : ℕ) → i < 3 → is_noted n i ≡ false → n % 8 ≢ 7 → (n + bit_of i) % 8 ≢ 7 → KnowsDeadNode k.tree (4 * card_by slot n + i)
-      → MayGoOn plan k (slot_word s slot) (λ m. either (m == n) (n + bit_of i) m) (λ m p. p ≡ k.period)
-  notes_node k i n low lacks some_bit some_bit' knows =
-      goes_on_there plan s placed k (slot_word s slot) (λ m. either (m == n) (n + bit_of i) m) (λ m p. p ≡ k.period) (λ t. k.period)
+  -- it notes more nodes as dead, if the word is as it was
+  pub notes_nodes : (k : Known) (n m : ℕ) → turn_in m ≡ turn_in n → n % 8 ≢ 7 → m % 8 ≢ 7
+      → ((i : ℕ) → is_noted m i ≡ true → (is_noted n i ≡ true) ⊎ KnowsDeadNode k.tree (4 * card_by slot n + i))
+      → MayGoOn plan k (slot_word s slot) (λ x. either (x == n) m x) (λ x p. p ≡ k.period)
+  notes_nodes k n m turn some_bit some_bit' knows =
+      goes_on_there plan s placed k (slot_word s slot) (λ x. either (x == n) m x) (λ x p. p ≡ k.period) (λ t. k.period)
       (λ tree t id here there h size. (by tree t id here there h size (cases_eq (get_or t.words (slot_word s slot) 0) n), refl))
     where
       by : (tree : TableState) (t : WholeState) (id : ℕ) → get_elem? t.views id ≡ some k → get_elem? tree.views id ≡ some k.tree → HasPeriods plan s tree t → length t.words ≡ slots_size s
           → (get_or t.words (slot_word s slot) 0 ≡ n) ⊎ (get_or t.words (slot_word s slot) 0 ≢ n)
-          → HasPeriods plan s tree (turned_to t id k k.period (slot_word s slot) (either (get_or t.words (slot_word s slot) 0 == n) (n + bit_of i) (get_or t.words (slot_word s slot) 0)))
+          → HasPeriods plan s tree (turned_to t id k k.period (slot_word s slot) (either (get_or t.words (slot_word s slot) 0 == n) m (get_or t.words (slot_word s slot) 0)))
       by tree t id here there h size (inl is) =
-          subst (λ m. HasPeriods plan s tree (turned_to t id k k.period (slot_word s slot) m))
-          (sym (ap (λ b. either b (n + bit_of i) (get_or t.words (slot_word s slot) 0)) (eq-eqb (get_or t.words (slot_word s slot) 0) n is)))
-          (notes_now plan s tree t id k here there h size slot i inside low n is lacks some_bit some_bit' knows)
+          subst (λ x. HasPeriods plan s tree (turned_to t id k k.period (slot_word s slot) x))
+          (sym (ap (λ b. either b m (get_or t.words (slot_word s slot) 0)) (eq-eqb (get_or t.words (slot_word s slot) 0) n is)))
+          (notes_now plan s tree t id k here there h size slot n m inside is turn some_bit some_bit' knows)
       by tree t id here there h size (inr other) =
-          subst (λ m. HasPeriods plan s tree (turned_to t id k k.period (slot_word s slot) m))
-          (sym (ap (λ b. either b (n + bit_of i) (get_or t.words (slot_word s slot) 0)) (ne_eqb (get_or t.words (slot_word s slot) 0) n other)))
+          subst (λ x. HasPeriods plan s tree (turned_to t id k k.period (slot_word s slot) x))
+          (sym (ap (λ b. either b m (get_or t.words (slot_word s slot) 0)) (ne_eqb (get_or t.words (slot_word s slot) 0) n other)))
           (stays plan s tree t id k here h size (slot_word s slot) (omega arith))
 
   -- or it sets the slot free, if all nodes of its card are dead

@@ -1,9 +1,14 @@
 use Rattle.std.proofs.Common.{sym, subst}
-use Rattle.ell_cards.specs.Ages.{KnowsDeadNode}
-use Rattle.ell_cards.specs.Models.{PassModel}
-use Rattle.ell_cards.proofs.lemmas.shown.ShownDead.{dead_node_whole}
+use Rattle.ell_word.specs.Node.{card}
+use Rattle.ell_cards.specs.declared.card_nodes.CardNodes.{CardNodes}
+use Rattle.ell_cards.specs.CardNodes.{KnowsDeadNodes}
+use Rattle.ell_cards.proofs.lemmas.views.DeadNodes.{dead_alone}
 use Rattle.ell_cards.proofs.table.CardTable.retire.Goals as goal
 
-pub note_surely-requires-clause-dead : goal.note_surely-requires-clause-dead
-note_surely-requires-clause-dead g c =
-    dead_node_whole c.pass.inside.seat.me.0.tree c.args.node (subst (λ (m : PassModel). KnowsDeadNode m.view c.args.node) (sym c.pass.view_is) c.requires.dead)
+pub retire_nodes-requires-clause-dead : goal.retire_nodes-requires-clause-dead
+retire_nodes-requires-clause-dead g c =
+    let v = c.args.pass.now.view in
+    let x = c.args.node in
+    subst (λ y. KnowsDeadNodes v y c.only.result) (sym c.card_of.ensures)
+    (subst (λ (nodes : CardNodes). KnowsDeadNodes v (card x) nodes) (sym c.only.ensures)
+    (dead_alone v x c.requires.dead))

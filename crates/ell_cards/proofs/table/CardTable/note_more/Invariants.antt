@@ -1,5 +1,5 @@
 use Rattle.std.specs.Prelude.{◌≡◌}
-use Rattle.ell_cards.proofs.table.CardTable.note_one.Given as goal
+use Rattle.ell_cards.proofs.table.CardTable.note_more.Given as goal
 
 abbrev pub ghosts-period_exchange : goal.ghosts-period_exchange
 ghosts-period_exchange g a = record { then = λ n p. p ≡ a.seat.now.me.0.period }
