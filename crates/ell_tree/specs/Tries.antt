@@ -17,10 +17,9 @@ use Rattle.ell_cards.specs.declared.view.Told.{Told}
 use Rattle.ell_cards.specs.declared.view.Told.TheVariants.{Expects}
 use Rattle.ell_cards.specs.declared.view.Hindrance.{Hindrance}
 use Rattle.ell_cards.specs.declared.view.Hindrance.TheVariants.{Found}
-use Rattle.ell_cards.specs.declared.view.Slots.{Slots}
 use Rattle.ell_cards.specs.declared.view.View.{View}
-use Rattle.ell_cards.specs.Models.{one_more, flat_from, TablePlan, PassModel, Has, IsTold, Knows, Does, StandsAt}
-use Rattle.ell_cards.specs.Changes.{after_fill, value_told, expected_tag, told_filling, filling_of, tagged, with_stores, tries_hindered}
+use Rattle.ell_cards.specs.Models.{flat_from, TablePlan, PassModel, Has, IsTold, Knows, Does, StandsAt}
+use Rattle.ell_cards.specs.Changes.{value_told, expected_tag, told_filling, filling_of, tagged, with_stores, tries_hindered}
 use Rattle.ell_cards.specs.Guards.{IsFilled, MayFill}
 use Rattle.ell_tree.specs.declared.searching.Place.{Place}
 use Rattle.ell_tree.specs.declared.trying.Claimed.{Claimed}
