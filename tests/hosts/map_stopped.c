@@ -1,8 +1,10 @@
 /* A thread is stopped by a signal while it works on a map, most often inside a call.
-   If it only reads, nothing waits for it: the calls of other threads go on, on its key too, through any number of renewals, and so do snapshots.
+   If it only reads, nothing waits for it: the calls of other threads go on, on its key too, through any number of changes, and so do snapshots. If it
+   stands still inside a call, it holds back the cards of its tree, so that the map is renewed, which is enough once: it reads the old tree.
    If it changes a key, the others' calls go on too, also while a renewal waits for it. A renewal waits only if the thread is inside a call, and ends
-   once it goes on. A call that finds no card waits for that renewal, while calls that read go on. The thread makes fewer calls than there are
-   cards, so that it never renews by itself: calls that change keys would wait for a thread that is stopped while it has closed the barrier. */
+   once it goes on. Other changes go on until they have used up the cards of the section, which it holds back, and then wait for it, while calls that
+   read go on. The stopped thread never renews by itself: calls that change keys would wait for a thread that is stopped while it has closed the
+   barrier. */
 #define _GNU_SOURCE
 #include "elltree_map.h"
 #include <pthread.h>
@@ -11,7 +13,7 @@
 #include <time.h>
 #include <unistd.h>
 
-enum { ROUNDS = 60, CALLS = 1000, PUTS = 100000, FEW = 300, MANY = 100000, BUDGET = 50000, STILL = 3000, LIMIT = 200 };
+enum { ROUNDS = 60, CALLS = 1000, PUTS = 100000, FEW = 300, ENOUGH = 3, MANY = 100000, BUDGET = 50000, STILL = 3000, LIMIT = 280 };
 
 static struct elltree_map *map;
 static int is_stopped, may_go_on, is_over, reads;
@@ -61,8 +63,6 @@ static long begin(uint64_t cards, pthread_t *worker, long *worker_wrong) {
     const struct elltree_pair start = {1, 0};
     long wrong;
     settings.cards = cards;
-    settings.renewal_percent = 100;
-    settings.renewal_microseconds = 1;
     is_over = may_go_on = 0;
     added = 0;
     budget = BUDGET;
@@ -98,8 +98,8 @@ static long call(uint64_t calls, uint64_t *own) {
     return wrong;
 }
 
-/* The thread reads, and is stopped for as long as this takes. */
-static long stop_reader(void) {
+/* The thread reads, and is stopped for as long as this takes. It holds back the cards of one tree at most. */
+static long stop_reader(long *renewed) {
     struct elltree_pair out[16];
     pthread_t worker;
     uint64_t own = 0, before;
@@ -108,7 +108,8 @@ static long stop_reader(void) {
     reads = 1;
     wrong = begin(FEW, &worker, &worker_wrong);
     before = renewals();
-    wrong += call(PUTS, &own) + (renewals() < before + 100);
+    wrong += call(PUTS, &own) + (renewals() > before + ENOUGH);
+    *renewed += renewals() > before;
     wrong += elltree_map_pairs(map, out, 16, &count) != ELLTREE_YES || count != 9;
     wrong += elltree_map_renew(map) != ELLTREE_YES;
     let_go_on();
@@ -151,23 +152,26 @@ static void *use_up(void *given) {
     return NULL;
 }
 
-/* The thread changes a key, and another one finds no card: if it waits, calls that read go on meanwhile. */
+/* The thread changes a key, and another one finds no card, after it has made many calls: it waits, and calls that read go on meanwhile. */
 static long stop_writer_at_the_end(long *waited) {
     pthread_t worker, user;
     uint64_t value, before;
     long worker_wrong = 0, user_wrong = 0, wrong;
     reads = 0;
+    __atomic_store_n(&ended, 0, __ATOMIC_SEQ_CST);
     wrong = begin(MANY, &worker, &worker_wrong);
     pthread_create(&user, NULL, use_up, &user_wrong);
     do {
         before = __atomic_load_n(&ended, __ATOMIC_SEQ_CST);
         for (int i = 0; i < STILL; i++)
             wait_a_while();
+        for (int i = 0; i < CALLS; i++)
+            wrong += elltree_map_get(map, 1, &value) != ELLTREE_YES;
     } while (before != __atomic_load_n(&ended, __ATOMIC_SEQ_CST));
-    *waited += before < 3 * MANY - 1;
-    for (int i = 0; i < CALLS; i++)
-        wrong += elltree_map_get(map, 1, &value) != ELLTREE_YES;
-    wrong += before != __atomic_load_n(&ended, __ATOMIC_SEQ_CST);
+    if (before < 3 * MANY - 1) {
+        ++*waited;
+        wrong += before < MANY / 2;
+    }
     let_go_on();
     pthread_join(user, NULL);
     return wrong + end(worker, 0) + user_wrong + worker_wrong;
@@ -175,19 +179,19 @@ static long stop_writer_at_the_end(long *waited) {
 
 int main(void) {
     struct sigaction action = {0};
-    long wrong = 0, waited = 0, for_cards = 0;
-    int at_the_end = 0;
+    long wrong = 0, waited = 0, for_cards = 0, renewed = 0;
+    int readers = 0, at_the_end = 0;
     action.sa_handler = stop;
     alarm(LIMIT); /* if a call waits for ever */
     wrong += sigaction(SIGUSR1, &action, NULL) != 0;
-    for (int i = 0; i < ROUNDS / 10; i++)
-        wrong += stop_reader();
+    for (; readers < ROUNDS / 10 || (!renewed && readers < ROUNDS); readers++) /* the thread may be between two calls */
+        wrong += stop_reader(&renewed);
     for (int i = 0; i < ROUNDS; i++)
         wrong += stop_writer(&waited);
     for (; at_the_end < ROUNDS / 10 || (!for_cards && at_the_end < ROUNDS); at_the_end++) /* on a busy machine it may take more */
         wrong += stop_writer_at_the_end(&for_cards);
-    wrong += (waited == 0) + (for_cards == 0);
-    printf("%d stops, in %ld of which a renewal waited, and in %ld a call without a card, %ld wrong\n", ROUNDS + ROUNDS / 10 + at_the_end, waited,
-           for_cards, wrong);
+    wrong += (renewed == 0) + (waited == 0) + (for_cards == 0);
+    printf("%d stops, %ld of a reader that held back cards, in %ld a renewal waited, and in %ld a call without a card, %ld wrong\n",
+           readers + ROUNDS + at_the_end, renewed, waited, for_cards, wrong);
     return wrong != 0;
 }
