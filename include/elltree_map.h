@@ -280,7 +280,7 @@ ELLTREE_MUST_USE int32_t elltree_map_extend(struct elltree_map *map, const struc
 ELLTREE_MUST_USE int32_t elltree_map_pairs(struct elltree_map *map, struct elltree_pair *out, size_t room, size_t *count);
 
 /* Renews all sections now, one after the other, and returns ELLTREE_YES. A section that has more cards than its keys need, as it had more keys once
-   or a thread was stopped in a call on it, gives cards back. If the call is refused, the sections of the least keys may have been renewed.
+   or threads stood still in calls on it, gives cards back. If the call is refused, the sections of the least keys may have been renewed.
    Refusals: ELLTREE_NULL, ELLTREE_NO_MEMORY, ELLTREE_FORKED. */
 ELLTREE_MUST_USE int32_t elltree_map_renew(struct elltree_map *map);
 

@@ -3,6 +3,7 @@
    nanosleep. */
 #include "barrier.h"
 #include "clock.h"
+#include "numbers.h"
 #include "order.h"
 #include <linux/futex.h>
 #include <sched.h>
@@ -10,7 +11,7 @@
 #include <time.h>
 #include <unistd.h>
 
-enum { SPINS = 100, YIELDS = 200, REST_NANOSECONDS = 50000 };
+enum { SEEN_AT_ONCE = 64, SPINS = 100, YIELDS = 200, REST_NANOSECONDS = 50000 };
 
 /* Waits for a thread that is about to be done: briefly at first, and longer if it seems to be stopped. */
 static void rest(unsigned tries) {
@@ -116,13 +117,30 @@ static bool has_ended(struct place *place, uint64_t *busy, enum kind kind, uint6
     return true;
 }
 
+/* Waits for the calls of this kind, or a later one, on so many places from that of a wait on: whether they have ended. It looks at all these places
+   before it waits for one, so that it waits for fewer calls that began later. */
+static bool await_some(struct barrier *barrier, struct wait *wait, uint32_t count, enum kind kind, uint64_t until) {
+    uint64_t busy[SEEN_AT_ONCE];
+    for (uint32_t i = 0; i < count; i++)
+        busy[i] = atomic_load(&barrier->places[wait->number + i].busy);
+    if (wait->busy) /* it was looked at before */
+        busy[0] = wait->busy;
+    for (uint32_t i = 0; i < count; i++, wait->number++) {
+        wait->busy = busy[i];
+        if (!has_ended(&barrier->places[wait->number], &wait->busy, kind, until))
+            return false;
+    }
+    wait->busy = 0;
+    return true;
+}
+
 /* Waits for every call of this kind, or a later one, that was under way when the wait began, but not beyond a time: whether they have ended. Calls
    that begin later see what the thread has stored before the wait, in a sequentially consistent way. */
 static bool await_calls(struct barrier *barrier, struct wait *wait, enum kind kind, uint64_t until) {
-    for (; wait->number <= barrier->mask; wait->number++, wait->busy = 0)
-        if (!has_ended(&barrier->places[wait->number], &wait->busy, kind, until))
-            return false;
-    return true;
+    bool have_ended = true;
+    while (have_ended && wait->number <= barrier->mask)
+        have_ended = await_some(barrier, wait, at_most(SEEN_AT_ONCE, barrier->mask + 1 - wait->number), kind, until);
+    return have_ended;
 }
 
 static void open_barrier(struct barrier *barrier) {

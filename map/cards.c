@@ -15,6 +15,11 @@ static bool has_few_for_changes(const struct elltree_map *map, const struct sect
     return section->cards < CARDS_USUAL && map->cards < 2 * CARDS_USUAL && SAMPLE * atomic_load(&section->weighed) > USES_OF_A_CARD * section->cards;
 }
 
+/* How many a section gets at most where more calls are under way than there are processors. */
+static uint64_t most_held(const struct elltree_map *map) { return CARDS_HELD / at_least(map->sections, 1); }
+
+static bool has_few_for_held(const struct elltree_map *map, const struct section *section) { return section->cards <= most_held(map) / 2; }
+
 /* For how many keys a section gets cards whose keys become more: half as many again, or so many that there are cards enough until it is parted. */
 static uint64_t keys_to_come(const struct elltree_map *map, uint64_t keys) {
     const uint64_t most = section_keys(&map->barrier) / 8 * 7;
@@ -33,6 +38,11 @@ static uint64_t more_cards(const struct section *section, uint64_t failed, uint3
     return at_most(at_least(2 * failed, section->cards / parts), ELLTREE_CARDS_MAX);
 }
 
+/* How many it gets if its keys keep fewer, so that calls hold the others back: twice as many up to a number, and no fewer than it has. */
+static uint64_t doubled(const struct section *section) {
+    return at_most(at_least(section->cards, at_most(2 * section->cards, CARDS_USUAL)), ELLTREE_CARDS_MAX);
+}
+
 static uint64_t cards_of_each(const struct elltree_map *map, const struct renewal *renewal, uint32_t parts) {
     const struct section *section = renewal->sections[0];
     const uint64_t keys = renewal->there.count / parts, usual = cards_for(keys);
@@ -42,10 +52,12 @@ static uint64_t cards_of_each(const struct elltree_map *map, const struct renewa
         return usual;
     if (renewal->reason == MANY_KEYS && has_few_cards(section, keys))
         return cards_for(keys_to_come(map, keys));
+    if (renewal->reason == HELD_CARDS)
+        return at_least(at_most(8 * section->cards, most_held(map)), usual);
     if (renewal->reason == FEW_CARDS)
         return at_least(at_most(4 * section->cards, CARDS_USUAL), usual);
-    if (renewal->reason == NO_CARDS && section->cards >= keys / 4 * 9) /* the keys keep fewer: threads that stood still in calls held some back */
-        return at_least(at_most(2 * section->cards, CARDS_USUAL), usual);
+    if (renewal->reason == NO_CARDS && section->cards >= keys / 4 * 9)
+        return at_least(doubled(section), usual);
     return usual;
 }
 

@@ -11,6 +11,8 @@ static struct cards cards_of_heirs(const struct elltree_map *map, const struct r
 static bool has_few_cards(const struct section *section, uint64_t keys);
 /* Whether it has few for as many changes as calls make, in a map that has few. */
 static bool has_few_for_changes(const struct elltree_map *map, const struct section *section);
+/* Whether it has few where more calls are under way than there are processors. */
+static bool has_few_for_held(const struct elltree_map *map, const struct section *section);
 /* Whether it has more than twice as many as such a section gets. */
 static bool has_many_cards(const struct section *section, uint64_t keys);
 

@@ -65,6 +65,7 @@ static struct elltree_map *new_map(const struct elltree_map_settings *settings) 
         all[i] = (struct place){.number = i, .until = 1 + i % SAMPLE, .chance = chance + i * UINT32_C(2654435769)};
     map->settings = *settings;
     map->forks = atomic_load(&forks);
+    map->processors = processors;
     map->barrier.mask = places - 1;
     map->barrier.places = all;
     return map;

@@ -155,30 +155,48 @@ static bool note_spent(struct section *section) {
 /* Notes that a call has found a card again. */
 static __attribute__((noinline, cold)) void note_found(struct section *section) { atomic_store(&section->spent_at, 0); }
 
+/* Whether more calls are under way than there are processors, so that threads don't run just now that are inside a call. */
+static bool exceed_processors(const struct elltree_map *map) {
+    uint32_t calls = 0;
+    for (uint32_t i = 0; i <= map->barrier.mask; i++)
+        calls += atomic_load_explicit(&map->barrier.places[i].busy, memory_order_relaxed) % 4 != FREE;
+    return calls > map->processors;
+}
+
+/* Why a section is to be renewed where a call has found no card, or NO_REASON if the call waits for those that others hold back. */
+static enum reason why_fresh(struct elltree_map *map, struct section *section, unsigned tries) {
+    const bool waits_often = note_spent(section);
+    if (has_few_cards(section, recount(map, section)))
+        return NO_CARDS;
+    if (has_few_for_held(map, section) && exceed_processors(map))
+        return HELD_CARDS;
+    return waits_often || tries > TRIES_FOR_CARDS || atomic_load(&section->renewing) ? NO_CARDS : NO_REASON;
+}
+
 /* Gives the place back, and waits until the section is renewed: by this thread, if no other one renews it, or if its renewal was left. */
-static int32_t get_fresh(struct elltree_map *map, struct place *place, struct section *section, uint64_t key) {
+static int32_t get_fresh(struct elltree_map *map, struct place *place, struct section *section, enum reason reason, uint64_t key) {
     const uint32_t ended = atomic_load(&map->ended);
     const bool taken = take_renewal(section);
     give_back(place);
     if (taken)
-        return renew(map, section, NO_CARDS, key, true);
+        return renew(map, section, reason, key, true);
     if (!take_up(map, section))
         wait_while(&map->ended, ended);
     return ELLTREE_YES;
 }
 
 /* Where a section has cards enough, calls hold some of them back whose threads don't run just now. They are likely to go on soon, as others wait. If
-   one that only reads does not, or this happens often, the section is renewed: a fresh tree is not held back by that one, but for a call that changes
-   keys a renewal would have to wait too. */
+   one that only reads does not, this happens often, or more calls are under way than there are processors, the section is renewed: a fresh tree is not
+   held back by that one, and has more cards, but for a call that changes keys a renewal would have to wait too. */
 static __attribute__((noinline)) int32_t get_cards(struct elltree_map *map, struct place *place, struct section *section, uint64_t key,
                                                    unsigned *tries) {
+    const enum reason reason = why_fresh(map, section, *tries);
     struct wait wait = {0, 0};
-    const bool waits_often = note_spent(section);
-    if (waits_often || *tries > TRIES_FOR_CARDS || atomic_load(&section->renewing) || has_few_cards(section, recount(map, section)))
-        return get_fresh(map, place, section, key);
+    *tries += *tries == 0;
+    if (reason != NO_REASON)
+        return get_fresh(map, place, section, reason, key);
     give_back(place);
     (void)take_up(map, NULL);
-    *tries += *tries == 0;
     if (await_calls(&map->barrier, &wait, READS, now() + PATIENCE))
         ++*tries;
     else if (wait.busy % 4 == READS)

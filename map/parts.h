@@ -11,6 +11,7 @@ enum {
     TRIES_FOR_CARDS = 6,  /* of a call that finds none though the calls under way have ended, before the section is renewed */
     WAITS_FOR_CARDS = 8,  /* after so many of its calls' waits a section gets more */
     USES_OF_A_CARD = 32,  /* after so many changes for each card it gets more too, in a map that has few */
+    CARDS_HELD = 1 << 18, /* up to so many in all where more calls are under way than there are processors, so that many are held back */
     CARDS_CARRIED = 4096, /* of an heir to which keys come in order, for those that come while it is made */
     PATIENCE = 1000000,   /* so long such a call waits for those under way, in nanoseconds, before it sees what kind they are */
     PAIRS_AT_ONCE = 4096, /* for which an array of pairs has room at first */
@@ -29,7 +30,8 @@ struct renewal;
 struct elltree_map {
     struct barrier barrier;
     _Atomic(struct directory *) directory;
-    uint32_t forks; /* of the process that made the map */
+    uint32_t forks;      /* of the process that made the map */
+    uint32_t processors; /* of the machine */
     struct elltree_map_settings settings;
     _Alignas(LINE) _Atomic uint32_t ended; /* how many renewals ended, or were left: who waits for one waits for this word */
     _Atomic(struct renewal *) left;        /* the renewals that were left where they are */

@@ -258,8 +258,10 @@ static void end_replaced(struct elltree_map *map, struct renewal *renewal) {
 
 /* Leaves the sections as they are. */
 static void end_refused(struct elltree_map *map, struct renewal *renewal, int32_t code) {
-    for (uint32_t i = 0; i < renewal->count; i++)
+    for (uint32_t i = 0; i < renewal->count; i++) {
+        atomic_store(&renewal->sections[i]->spent_at, 0); /* calls that find no card wait anew */
         atomic_store(&renewal->sections[i]->renewing, false);
+    }
     renewal->code = code;
     renewal->stage = IS_DONE;
     tell_end(map);

@@ -13,7 +13,7 @@ struct seat {
 };
 
 /* Why a section is renewed. */
-enum reason { NO_REASON, NO_CARDS, FEW_CARDS, FEW_KEYS, MANY_KEYS, MANY_CARDS, WANTED };
+enum reason { NO_REASON, NO_CARDS, HELD_CARDS, FEW_CARDS, FEW_KEYS, MANY_KEYS, MANY_CARDS, WANTED };
 
 /* What calls read of a section is written before they see it, but for `heirs`, `replaced` and `due`. `renewing` guards what is written later, but for
    what calls count. */
