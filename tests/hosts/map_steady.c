@@ -1,6 +1,7 @@
 /* A map whose keys stay about as many is renewed hardly ever, however many changes there are, and takes no more memory but for a few megabytes: its
-   trees take their cards back. One thread makes millions of changes at random and knows each answer, and then four do so, each with keys of its own. Then the memory of a
-   map of many keys that came in random order, when each of them has been changed many times. */
+   trees take their cards back. One thread makes millions of changes at random and knows each answer, and then four do so, each with keys of its
+   own, and then 64, for which the map may have more cards until it is renewed. Then the memory of a map of many keys that came in random order,
+   when each of them has been changed many times. */
 #include "elltree_map.h"
 #include <malloc.h>
 #include <pthread.h>
@@ -11,7 +12,7 @@
 #define CHANGES 3000000
 #endif
 enum { KEYS = 10000, THREADS = 4, ALONE = 12, TOGETHER = 100, BUSY = 5000000, CARDS_A_KEY = 3, CARDS_LEAST = 512 };
-enum { MANY = 200000, BYTES_FILLED = 300, BYTES_CHANGED = 350 };
+enum { CROWD = 64, CARDS_CROWDED = 262144, MANY = 200000, BYTES_FILLED = 300, BYTES_CHANGED = 350 };
 
 static struct elltree_map *map;
 static uint64_t value_of[2 * KEYS]; /* of each key, of which half are present, and 0 where it is absent */
@@ -77,8 +78,8 @@ static long lacks(void) {
 }
 
 static long change_in_threads(uint64_t count, long changes) {
-    struct changer changers[THREADS];
-    pthread_t threads[THREADS];
+    struct changer changers[CROWD];
+    pthread_t threads[CROWD];
     long wrong = 0;
     for (uint64_t t = 0; t < count; t++) {
         changers[t] = (struct changer){t, count, 88172645463325252u + t * 7919, changes / (long)count, 0};
@@ -96,6 +97,17 @@ static uint64_t present(void) {
     for (uint64_t key = 0; key < 2 * KEYS; key++)
         keys += value_of[key] != 0;
     return keys;
+}
+
+/* How many cards the keys that are present need at most, if no call holds any back. */
+static uint64_t needed(void) { return CARDS_A_KEY * present() + CARDS_LEAST * counts().sections; }
+
+/* More threads than a machine is likely to have processors, of which some stand still in calls. */
+static long crowd(void) {
+    const uint64_t renewals = counts().renewals;
+    const long wrong = change_in_threads(CROWD, CHANGES);
+    printf("%d threads: %llu renewals, %llu cards\n", CROWD, (unsigned long long)(counts().renewals - renewals), (unsigned long long)counts().cards);
+    return wrong + (counts().renewals - renewals > TOGETHER) + (counts().cards > CARDS_CROWDED + needed());
 }
 
 /* Sections of a small map get more cards while they are busy, and others where threads were stopped in a call. A renewal takes them back. */
@@ -116,7 +128,8 @@ static long steady(void) {
     printf("%d threads: %llu renewals, %ld kB, %llu cards\n", THREADS, (unsigned long long)(counts().renewals - grown), (memory() - before) / 1000,
            (unsigned long long)counts().cards);
     wrong += counts().renewals - grown > TOGETHER;
-    wrong += elltree_map_renew(map) != ELLTREE_YES || counts().cards > CARDS_A_KEY * present() + CARDS_LEAST * counts().sections;
+    wrong += crowd();
+    wrong += elltree_map_renew(map) != ELLTREE_YES || counts().cards > needed();
     printf("renewed: %ld kB, %llu cards\n", (memory() - before) / 1000, (unsigned long long)counts().cards);
     return wrong + (elltree_map_free(map) != ELLTREE_YES);
 }
