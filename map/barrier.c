@@ -11,7 +11,7 @@
 #include <time.h>
 #include <unistd.h>
 
-enum { SEEN_AT_ONCE = 64, SPINS = 100, YIELDS = 200, REST_NANOSECONDS = 50000 };
+enum { SEEN_AT_ONCE = 64, SPINS = 100, YIELDS = 200, REST_NANOSECONDS = 50000, SLEEP_NANOSECONDS = 500000000 };
 
 /* Waits for a thread that is about to be done: briefly at first, and longer if it seems to be stopped. */
 static void rest(unsigned tries) {
@@ -24,14 +24,25 @@ static void rest(unsigned tries) {
         syscall(SYS_nanosleep, &while_, NULL);
 }
 
-/* Waits until a word is no longer what it was: spins briefly, and then sleeps, after the system has looked at the word again. */
-static void wait_while(_Atomic uint32_t *word, uint32_t value) {
+/* Sleeps until a word is no longer what it was, after the system has looked at it again, but not for long, and not beyond a time: whether that is
+   still to come. */
+static bool sleep_while(_Atomic uint32_t *word, uint32_t value, uint64_t until) {
+    const uint64_t at = now();
+    const struct timespec while_ = {0, (long)at_most(until - at, SLEEP_NANOSECONDS)};
+    if (at >= until)
+        return false;
+    syscall(SYS_futex, word, FUTEX_WAIT_PRIVATE, value, &while_, NULL, 0);
+    return true;
+}
+
+/* Waits until a word is no longer what it was, but not beyond a time: spins briefly, and then sleeps. */
+static void wait_while(_Atomic uint32_t *word, uint32_t value, uint64_t until) {
     unsigned tries = 0;
     while (atomic_load(word) == value)
         if (++tries < SPINS)
             __builtin_ia32_pause();
-        else
-            syscall(SYS_futex, word, FUTEX_WAIT_PRIVATE, value, NULL, NULL, 0);
+        else if (!sleep_while(word, value, until))
+            return;
 }
 
 /* Changes a word that threads wait for, and wakes them. */
@@ -97,7 +108,7 @@ static inline __attribute__((always_inline)) struct place *enter(struct barrier 
             return place;
         }
         give_back(place);
-        wait_while(&barrier->word, word);
+        wait_while(&barrier->word, word, UINT64_MAX);
     }
 }
 
@@ -153,7 +164,7 @@ static void open_barrier(struct barrier *barrier) {
 static bool close_barrier(struct barrier *barrier, struct wait *wait, uint64_t pause) {
     uint32_t word = atomic_load(&barrier->word);
     while (is_closed(word) || !atomic_compare_exchange_strong(&barrier->word, &word, word + 1)) {
-        wait_while(&barrier->word, word | 1);
+        wait_while(&barrier->word, word | 1, UINT64_MAX);
         word = atomic_load(&barrier->word);
     }
     seen(&barrier->word);

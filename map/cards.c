@@ -56,7 +56,7 @@ static uint64_t cards_of_each(const struct elltree_map *map, const struct renewa
         return at_least(at_most(8 * section->cards, most_held(map)), usual);
     if (renewal->reason == FEW_CARDS)
         return at_least(at_most(4 * section->cards, CARDS_USUAL), usual);
-    if (renewal->reason == NO_CARDS && section->cards >= keys / 4 * 9)
+    if (renewal->reason == SLOW_CARDS && section->cards >= keys / 4 * 9)
         return at_least(doubled(section), usual);
     return usual;
 }

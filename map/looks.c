@@ -69,7 +69,7 @@ static void look_at_another(struct elltree_map *map) {
         reason = NO_REASON;
     give_back(place);
     if (reason != NO_REASON)
-        (void)!renew_section(map, section, reason, NO_KEY, false);
+        (void)!renew_section(map, section, reason, NO_KEY, 0);
 }
 
 /* Whether what was replaced and is still read takes too much memory for another renewal. */
@@ -78,17 +78,17 @@ static bool has_too_many_waiting(const struct elltree_map *map) {
 }
 
 /* Renews a section that this thread has taken for that, and looks at two others. */
-static int32_t renew(struct elltree_map *map, struct section *section, enum reason reason, uint64_t key, bool waits) {
+static int32_t renew(struct elltree_map *map, struct section *section, enum reason reason, uint64_t key, uint64_t until) {
     int32_t code;
     while (has_too_many_waiting(map)) {
-        (void)take_up(map, NULL);
-        if (!waits && has_too_many_waiting(map)) {
+        (void)take_up(map, NULL, 0);
+        if (has_too_many_waiting(map) && now() >= until) {
             leave_section(map, section);
             return ELLTREE_YES;
         }
         rest(UINT32_MAX);
     }
-    code = renew_section(map, section, reason, key, waits);
+    code = renew_section(map, section, reason, key, until);
     look_at_another(map);
     look_at_another(map);
     return code;
@@ -119,7 +119,7 @@ static void join_passed(struct elltree_map *map) {
     taken = may_be_joined(map, directory, section) && take_renewal(section);
     give_back(place);
     if (taken)
-        (void)!renew_section(map, section, FEW_KEYS, NO_KEY, false);
+        (void)!renew_section(map, section, FEW_KEYS, NO_KEY, 0);
 }
 
 /* What a call does that changes a key. */
@@ -135,11 +135,11 @@ static __attribute__((noinline)) void give_back_and_renew(struct elltree_map *ma
         reason = weigh_change(map, section, more);
     taken = reason != NO_REASON && take_renewal(section);
     give_back(place);
-    (void)take_up(map, NULL);
+    (void)take_up(map, NULL, 0);
     if (atomic_load(&map->passed))
         join_passed(map);
     if (taken)
-        (void)!renew(map, section, reason, key, false);
+        (void)!renew(map, section, reason, key, 0);
 }
 
 /* What a call does that finds no card. */
@@ -170,24 +170,26 @@ static enum reason why_fresh(struct elltree_map *map, struct section *section, u
         return NO_CARDS;
     if (has_few_for_held(map, section) && exceed_processors(map))
         return HELD_CARDS;
-    return waits_often || tries > TRIES_FOR_CARDS || atomic_load(&section->renewing) ? NO_CARDS : NO_REASON;
+    return waits_often || tries > TRIES_FOR_CARDS || atomic_load(&section->renewing) ? SLOW_CARDS : NO_REASON;
 }
 
-/* Gives the place back, and waits until the section is renewed: by this thread, if no other one renews it, or if its renewal was left. */
+/* Gives the place back, and waits until the section is renewed: by this thread, if no other one renews it, or if its renewal was left. If cards may
+   come back, it does not wait for long, as the renewal may have to wait for a call on another section. */
 static int32_t get_fresh(struct elltree_map *map, struct place *place, struct section *section, enum reason reason, uint64_t key) {
+    const uint64_t until = reason == NO_CARDS ? UINT64_MAX : now() + ENDURANCE;
     const uint32_t ended = atomic_load(&map->ended);
     const bool taken = take_renewal(section);
     give_back(place);
     if (taken)
-        return renew(map, section, reason, key, true);
-    if (!take_up(map, section))
-        wait_while(&map->ended, ended);
+        return renew(map, section, reason, key, until);
+    if (!take_up(map, section, until))
+        wait_while(&map->ended, ended, until);
     return ELLTREE_YES;
 }
 
 /* Where a section has cards enough, calls hold some of them back whose threads don't run just now. They are likely to go on soon, as others wait. If
-   one that only reads does not, this happens often, or more calls are under way than there are processors, the section is renewed: a fresh tree is not
-   held back by that one, and has more cards, but for a call that changes keys a renewal would have to wait too. */
+   one that only reads does not, this happens often, or more calls are under way than there are processors, the section is renewed: a fresh tree is
+   not held back by that one, and has more cards, but for a call that changes keys a renewal would have to wait too. */
 static __attribute__((noinline)) int32_t get_cards(struct elltree_map *map, struct place *place, struct section *section, uint64_t key,
                                                    unsigned *tries) {
     const enum reason reason = why_fresh(map, section, *tries);
@@ -196,7 +198,7 @@ static __attribute__((noinline)) int32_t get_cards(struct elltree_map *map, stru
     if (reason != NO_REASON)
         return get_fresh(map, place, section, reason, key);
     give_back(place);
-    (void)take_up(map, NULL);
+    (void)take_up(map, NULL, 0);
     if (await_calls(&map->barrier, &wait, READS, now() + PATIENCE))
         ++*tries;
     else if (wait.busy % 4 == READS)

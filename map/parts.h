@@ -4,19 +4,20 @@
 #include "sections.h"
 
 enum {
-    CARDS_FIRST = 128,    /* of an empty map, if nobody asks for another number: it is made the sooner */
-    CARDS_LEAST = 512,    /* of another section */
-    CARDS_USUAL = 16384,  /* up to so many are doubled where calls had to wait for some */
-    TRIES = 64,           /* of one call of the library, so that none holds its place for long */
-    TRIES_FOR_CARDS = 6,  /* of a call that finds none though the calls under way have ended, before the section is renewed */
-    WAITS_FOR_CARDS = 8,  /* after so many of its calls' waits a section gets more */
-    USES_OF_A_CARD = 32,  /* after so many changes for each card it gets more too, in a map that has few */
-    CARDS_HELD = 1 << 18, /* up to so many in all where more calls are under way than there are processors, so that many are held back */
-    CARDS_CARRIED = 4096, /* of an heir to which keys come in order, for those that come while it is made */
-    PATIENCE = 1000000,   /* so long such a call waits for those under way, in nanoseconds, before it sees what kind they are */
-    PAIRS_AT_ONCE = 4096, /* for which an array of pairs has room at first */
-    SAMPLE = 64,          /* of so many changes on a place one is weighed */
-    ORDERS = 64           /* words by which the thread sanitizer tells keys apart */
+    CARDS_FIRST = 128,     /* of an empty map, if nobody asks for another number: it is made the sooner */
+    CARDS_LEAST = 512,     /* of another section */
+    CARDS_USUAL = 16384,   /* up to so many are doubled where calls had to wait for some */
+    TRIES = 64,            /* of one call of the library, so that none holds its place for long */
+    TRIES_FOR_CARDS = 6,   /* of a call that finds none though the calls under way have ended, before the section is renewed */
+    WAITS_FOR_CARDS = 8,   /* after so many of its calls' waits a section gets more */
+    USES_OF_A_CARD = 32,   /* after so many changes for each card it gets more too, in a map that has few */
+    CARDS_HELD = 1 << 18,  /* up to so many in all where more calls are under way than there are processors, so that many are held back */
+    CARDS_CARRIED = 4096,  /* of an heir to which keys come in order, for those that come while it is made */
+    PATIENCE = 1000000,    /* so long such a call waits for those under way, in nanoseconds, before it sees what kind they are */
+    ENDURANCE = 500000000, /* so long it waits for a renewal where cards may come back meanwhile */
+    PAIRS_AT_ONCE = 4096,  /* for which an array of pairs has room at first */
+    SAMPLE = 64,           /* of so many changes on a place one is weighed */
+    ORDERS = 64            /* words by which the thread sanitizer tells keys apart */
 };
 
 /* No key is that. */

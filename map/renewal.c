@@ -341,23 +341,13 @@ static void leave_renewal(struct elltree_map *map, struct renewal *renewal) {
         tell_end(map);
 }
 
-/* Goes on with a renewal until the sections are replaced, or it is refused, however long that takes, and leaves what is to be freed then. */
-static int32_t go_on_to_the_end(struct elltree_map *map, struct renewal *renewal) {
-    int32_t code;
-    while (!go_on(map, renewal) && renewal->stage != AWAITS_READS)
-        rest(UINT32_MAX);
-    code = renewal->code;
-    if (renewal->stage == IS_DONE)
-        free_renewal(renewal);
-    else
-        leave_renewal(map, renewal);
-    return code;
-}
-
-/* Goes on with a renewal, or leaves it. */
-static int32_t go_on_or_leave(struct elltree_map *map, struct renewal *renewal) {
+/* Goes on with a renewal until the sections are replaced, or it is refused, but leaves it where it would have to wait beyond this time. What is to be
+   freed then is left too. */
+static int32_t go_on_until(struct elltree_map *map, struct renewal *renewal, uint64_t until) {
     int32_t code = ELLTREE_YES;
-    if (go_on(map, renewal)) {
+    while (!go_on(map, renewal) && renewal->stage != AWAITS_READS && now() < until)
+        rest(UINT32_MAX);
+    if (renewal->stage == IS_DONE) {
         code = renewal->code;
         free_renewal(renewal);
     } else {
@@ -370,9 +360,9 @@ static bool is_of(const struct renewal *renewal, const struct section *section) 
     return renewal->stage != AWAITS_READS && (renewal->sections[0] == section || (renewal->count > 1 && renewal->sections[1] == section));
 }
 
-/* Goes on with all renewals that were left, as far as each does not have to wait, but with that of a section to its end, if it is among them: whether
-   it is. */
-static bool take_up(struct elltree_map *map, const struct section *section) {
+/* Goes on with all renewals that were left, as far as each does not have to wait, but with that of a section until this time, if it is among them:
+   whether it is. */
+static bool take_up(struct elltree_map *map, const struct section *section, uint64_t until) {
     struct renewal *it = atomic_load(&map->left) ? atomic_exchange(&map->left, NULL) : NULL, *next, *wanted = NULL;
     seen(&map->left);
     for (; it; it = next) {
@@ -380,20 +370,20 @@ static bool take_up(struct elltree_map *map, const struct section *section) {
         if (section && is_of(it, section))
             wanted = it;
         else
-            (void)!go_on_or_leave(map, it);
+            (void)!go_on_until(map, it, 0);
     }
     if (wanted)
-        (void)!go_on_to_the_end(map, wanted);
+        (void)!go_on_until(map, wanted, until);
     return wanted != NULL;
 }
 
-/* Begins a renewal of a section that this thread has taken for that, and leaves it where it would have to wait, unless the caller has to wait. */
-static int32_t renew_section(struct elltree_map *map, struct section *section, enum reason reason, uint64_t key, bool waits) {
+/* Begins a renewal of a section that this thread has taken for that, and leaves it where it would have to wait beyond this time. */
+static int32_t renew_section(struct elltree_map *map, struct section *section, enum reason reason, uint64_t key, uint64_t until) {
     struct renewal *renewal = malloc(sizeof *renewal);
     if (!renewal) {
         leave_section(map, section);
         return ELLTREE_NO_MEMORY;
     }
     *renewal = (struct renewal){.sections = {section}, .count = 1, .reason = reason, .key = key, .stage = BEGINS, .code = ELLTREE_YES};
-    return waits ? go_on_to_the_end(map, renewal) : go_on_or_leave(map, renewal);
+    return go_on_until(map, renewal, until);
 }

@@ -12,8 +12,9 @@ struct seat {
     _Atomic int64_t added; /* keys added to the section less keys taken */
 };
 
-/* Why a section is renewed. */
-enum reason { NO_REASON, NO_CARDS, HELD_CARDS, FEW_CARDS, FEW_KEYS, MANY_KEYS, MANY_CARDS, WANTED };
+/* Why a section is renewed. Of the first three, it has few cards for its keys, calls hold many back, or a call has waited for one: a call has found
+   none. */
+enum reason { NO_REASON, NO_CARDS, HELD_CARDS, SLOW_CARDS, FEW_CARDS, FEW_KEYS, MANY_KEYS, MANY_CARDS, WANTED };
 
 /* What calls read of a section is written before they see it, but for `heirs`, `replaced` and `due`. `renewing` guards what is written later, but for
    what calls count. */
