@@ -3,7 +3,8 @@
    stands still inside a call, it holds back the cards of its tree, so that the map is renewed, which is enough once: it reads the old tree.
    If it changes a key, the others' calls go on too, also while a renewal waits for it. A renewal waits only if the thread is inside a call, and ends
    once it goes on. Other changes go on until they have used up the cards of the section, which it holds back, and then wait for it, while calls that
-   read go on. The stopped thread never renews by itself: calls that change keys would wait for a thread that is stopped while it has closed the
+   read go on. Changes of keys of other sections go on all along, also those of more threads than there are processors. The stopped thread never
+   renews by itself: calls that change keys would wait for a thread that is stopped while it has closed the
    barrier. */
 #define _GNU_SOURCE
 #include "elltree_map.h"
@@ -14,6 +15,7 @@
 #include <unistd.h>
 
 enum { ROUNDS = 60, CALLS = 1000, PUTS = 100000, FEW = 300, ENOUGH = 3, MANY = 100000, BUDGET = 50000, STILL = 3000, LIMIT = 280 };
+enum { WIDE = 20000, CROWD = 48 }; /* keys of a map of several sections, and threads */
 
 static struct elltree_map *map;
 static int is_stopped, may_go_on, is_over, reads;
@@ -57,16 +59,18 @@ static uint64_t renewals(void) {
     return elltree_map_counts(map, &counts, sizeof counts) == ELLTREE_YES ? counts.renewals : 0;
 }
 
-/* A map, and a thread that is stopped at work on it. */
-static long begin(uint64_t cards, pthread_t *worker, long *worker_wrong) {
+/* A map of so many keys from 1 on, and a thread that is stopped at work on the first. */
+static long begin(size_t keys, uint64_t cards, pthread_t *worker, long *worker_wrong) {
+    static struct elltree_pair start[WIDE];
     struct elltree_map_settings settings = ELLTREE_MAP_SETTINGS;
-    const struct elltree_pair start = {1, 0};
     long wrong;
+    for (size_t i = 0; i < keys; i++)
+        start[i] = (struct elltree_pair){i + 1, 0};
     settings.cards = cards;
     is_over = may_go_on = 0;
     added = 0;
     budget = BUDGET;
-    wrong = elltree_map_from_sorted(&map, &start, 1, &settings, sizeof settings) != ELLTREE_YES;
+    wrong = elltree_map_from_sorted(&map, start, keys, &settings, sizeof settings) != ELLTREE_YES;
     pthread_create(worker, NULL, work, worker_wrong);
     wait_a_while();
     pthread_kill(*worker, SIGUSR1);
@@ -106,7 +110,7 @@ static long stop_reader(long *renewed) {
     size_t count;
     long worker_wrong = 0, wrong;
     reads = 1;
-    wrong = begin(FEW, &worker, &worker_wrong);
+    wrong = begin(1, FEW, &worker, &worker_wrong);
     before = renewals();
     wrong += call(PUTS, &own) + (renewals() > before + ENOUGH);
     *renewed += renewals() > before;
@@ -127,7 +131,7 @@ static long stop_writer(long *waited) {
     uint64_t own = 0, before;
     long worker_wrong = 0, late = 0, wrong;
     reads = 0;
-    wrong = begin(MANY, &worker, &worker_wrong);
+    wrong = begin(1, MANY, &worker, &worker_wrong);
     before = renewals();
     wrong += call(CALLS, &own) + (renewals() != before);
     pthread_create(&renewing, NULL, renew, &late);
@@ -159,7 +163,7 @@ static long stop_writer_at_the_end(long *waited) {
     long worker_wrong = 0, user_wrong = 0, wrong;
     reads = 0;
     __atomic_store_n(&ended, 0, __ATOMIC_SEQ_CST);
-    wrong = begin(MANY, &worker, &worker_wrong);
+    wrong = begin(1, MANY, &worker, &worker_wrong);
     pthread_create(&user, NULL, use_up, &user_wrong);
     do {
         before = __atomic_load_n(&ended, __ATOMIC_SEQ_CST);
@@ -177,6 +181,37 @@ static long stop_writer_at_the_end(long *waited) {
     return wrong + end(worker, 0) + user_wrong + worker_wrong;
 }
 
+struct member {
+    uint64_t key;
+    long wrong;
+};
+
+static void *come_and_go(void *given) {
+    struct member *it = given;
+    for (int i = 0; i < 10 * CALLS; i++)
+        it->wrong += (i % 2 ? elltree_map_insert(map, it->key, 1) : elltree_map_delete(map, it->key)) != ELLTREE_YES;
+    return NULL;
+}
+
+/* The thread changes a key, and meanwhile many threads make all their changes of keys of another section, which have cards enough. */
+static long stop_writer_elsewhere(void) {
+    struct member members[CROWD];
+    pthread_t worker, threads[CROWD];
+    long worker_wrong = 0, wrong;
+    reads = 0;
+    wrong = begin(WIDE, 0, &worker, &worker_wrong);
+    for (uint64_t t = 0; t < CROWD; t++) {
+        members[t] = (struct member){WIDE - t, 0};
+        pthread_create(&threads[t], NULL, come_and_go, &members[t]);
+    }
+    for (int t = 0; t < CROWD; t++) {
+        pthread_join(threads[t], NULL);
+        wrong += members[t].wrong;
+    }
+    let_go_on();
+    return wrong + end(worker, 0) + worker_wrong;
+}
+
 int main(void) {
     struct sigaction action = {0};
     long wrong = 0, waited = 0, for_cards = 0, renewed = 0;
@@ -188,10 +223,12 @@ int main(void) {
         wrong += stop_reader(&renewed);
     for (int i = 0; i < ROUNDS; i++)
         wrong += stop_writer(&waited);
+    for (int i = 0; i < ROUNDS / 20; i++)
+        wrong += stop_writer_elsewhere();
     for (; at_the_end < ROUNDS / 10 || (!for_cards && at_the_end < ROUNDS); at_the_end++) /* on a busy machine it may take more */
         wrong += stop_writer_at_the_end(&for_cards);
     wrong += (renewed == 0) + (waited == 0) + (for_cards == 0);
     printf("%d stops, %ld of a reader that held back cards, in %ld a renewal waited, and in %ld a call without a card, %ld wrong\n",
-           readers + ROUNDS + at_the_end, renewed, waited, for_cards, wrong);
+           readers + ROUNDS + ROUNDS / 20 + at_the_end, renewed, waited, for_cards, wrong);
     return wrong != 0;
 }
