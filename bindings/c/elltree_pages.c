@@ -34,14 +34,14 @@ static int is_kept(size_t size) { return size >= KEPT_LEAST && size < KEPT_MOST;
 /* The block of memory that the library has got. */
 static struct block *block_of(void *at) { return (struct block *)((unsigned char *)at - sizeof(struct block)); }
 
-/* The smallest block that was kept and is large enough, but not more than twice as large, or null. */
+/* The smallest block that was kept and is large enough, but not more than a quarter larger, or null. */
 static struct block *take_kept(size_t size) {
     struct block *block = NULL;
     int best = KEPT;
     if (atomic_flag_test_and_set(&is_busy))
         return NULL;
     for (int i = 0; i < KEPT; i++)
-        if (kept[i] && kept[i]->size >= size && kept[i]->size / 2 <= size && (best == KEPT || kept[i]->size < kept[best]->size))
+        if (kept[i] && kept[i]->size >= size && kept[i]->size / 5 * 4 <= size && (best == KEPT || kept[i]->size < kept[best]->size))
             best = i;
     if (best < KEPT) {
         block = kept[best];
