@@ -9,6 +9,8 @@ static uint64_t cards_for(uint64_t keys) { return at_least(CARDS_LEAST, keys / 2
 
 static bool has_few_cards(const struct section *section, uint64_t keys) { return section->cards < keys + keys / 4 * 3; }
 
+static bool has_few_to_grow(const struct section *section, uint64_t keys) { return section->cards < keys + keys / 5; }
+
 static bool has_many_cards(const struct section *section, uint64_t keys) { return section->cards > 2 * cards_for(keys); }
 
 static bool has_few_for_changes(const struct elltree_map *map, const struct section *section) {
@@ -43,24 +45,6 @@ static uint64_t doubled(const struct section *section) {
     return at_most(at_least(section->cards, at_most(2 * section->cards, CARDS_USUAL)), ELLTREE_CARDS_MAX);
 }
 
-static uint64_t cards_of_each(const struct elltree_map *map, const struct renewal *renewal, uint32_t parts) {
-    const struct section *section = renewal->sections[0];
-    const uint64_t keys = renewal->there.count / parts, usual = cards_for(keys);
-    if (renewal->failed)
-        return more_cards(section, renewal->failed, parts);
-    if (parts > 1 || renewal->count > 1)
-        return usual;
-    if (renewal->reason == MANY_KEYS && has_few_cards(section, keys))
-        return cards_for(keys_to_come(map, keys));
-    if (renewal->reason == HELD_CARDS)
-        return at_least(at_most(8 * section->cards, most_held(map)), usual);
-    if (renewal->reason == FEW_CARDS)
-        return at_least(at_most(4 * section->cards, CARDS_USUAL), usual);
-    if (renewal->reason == SLOW_CARDS && section->cards >= keys / 4 * 9)
-        return at_least(doubled(section), usual);
-    return usual;
-}
-
 /* Whether a key lies near the least or the greatest one of these pairs. */
 static bool is_near_an_end(const struct pairs *pairs, uint64_t key) {
     size_t low = 0, high = pairs->count;
@@ -74,8 +58,34 @@ static bool is_near_an_end(const struct pairs *pairs, uint64_t key) {
     return low < pairs->count / 8 || low > pairs->count / 8 * 7;
 }
 
-/* Keys may come in order. Then the heir in which they come gets enough for those that come while the heirs are made. */
+/* Whether keys seem to come in order. */
+static bool is_in_order(const struct renewal *renewal, uint32_t parts) {
+    return parts > 1 && renewal->key != NO_KEY && is_near_an_end(&renewal->there, renewal->key);
+}
+
+static uint64_t cards_of_each(const struct elltree_map *map, const struct renewal *renewal, uint32_t parts) {
+    const struct section *section = renewal->sections[0];
+    const uint64_t keys = renewal->there.count / parts, usual = cards_for(keys);
+    if (renewal->failed)
+        return more_cards(section, renewal->failed, parts);
+    if (parts > 1 || renewal->count > 1)
+        return usual;
+    if (renewal->reason == MANY_KEYS && has_few_to_grow(section, keys))
+        return cards_for(keys_to_come(map, keys));
+    if (renewal->reason == HELD_CARDS)
+        return at_least(at_most(8 * section->cards, most_held(map)), usual);
+    if (renewal->reason == FEW_CARDS)
+        return at_least(at_most(4 * section->cards, CARDS_USUAL), usual);
+    if (renewal->reason == SLOW_CARDS && section->cards >= keys / 4 * 9)
+        return at_least(doubled(section), usual);
+    return usual;
+}
+
+/* Keys may come in order. Then the heir in which they come gets enough for those that come while the heirs are made, and the others, which may get no
+   more keys, get few. */
 static struct cards cards_of_heirs(const struct elltree_map *map, const struct renewal *renewal, uint32_t parts) {
-    const bool is_in_order = parts > 1 && renewal->key != NO_KEY && is_near_an_end(&renewal->there, renewal->key);
-    return (struct cards){cards_of_each(map, renewal, parts), is_in_order ? renewal->key : NO_KEY, CARDS_CARRIED};
+    const uint64_t each = cards_of_each(map, renewal, parts), keys = renewal->there.count / parts;
+    if (renewal->failed || !is_in_order(renewal, parts))
+        return (struct cards){each, NO_KEY, 0};
+    return (struct cards){at_least(CARDS_LEAST, keys / 4 * 5), renewal->key, each - at_least(CARDS_LEAST, keys / 4 * 5) + CARDS_CARRIED};
 }

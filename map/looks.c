@@ -19,7 +19,7 @@ static inline bool is_weighed(struct place *place) {
 
 /* Whether so many keys are many for a section: it is to be parted, or has few cards for them. */
 static bool are_many(const struct elltree_map *map, const struct section *section, uint64_t keys) {
-    return keys > section_keys(&map->barrier) / 4 * 5 || has_few_cards(section, keys);
+    return keys > section_keys(&map->barrier) / 4 * 5 || has_few_to_grow(section, keys);
 }
 
 static bool has_many_keys(const struct elltree_map *map, struct section *section) {
