@@ -27,7 +27,7 @@ impl CardNodes {
         }
     }
 
-    /// Returns this node alone.
+    /// Returns this node alone, by its place on its card: none if the number is no node's.
     #[inline(always)]
     pub fn only(node: u64) -> CardNodes
         ensures { result ≡ node_alone (node % 4) }

@@ -26,8 +26,8 @@ use std::alloc::Allocator;
 
 impl<A: Allocator + Copy> CardTable<A> {
     /// Reads a word of a card that the pass knows flagged or marked: parent or leaf; of a delete's card also the
-    /// grandparent, or the word that was read; and of another one a key. Nodes are of the table, ever deeper. The leaf's
-    /// word has the tag that the card expects with it.
+    /// grandparent, or the word that was read; and of another one a key. Nodes are of the table, ever deeper. The
+    /// leaf's word has the tag that the card expects with it.
     #[inline(always)]
     pub fn info(&self, pass: &mut Pass<A>, card: u64, field: Field) -> u64
         requires own { pass.old.table ≡ self.now.id }

@@ -70,8 +70,8 @@ impl<A: Allocator + Copy> CardTable<A> {
 
     /// Flags the parent for the insert whose card is in hand, filled: exchanges the update that was read there for the
     /// card's flag. If that fails, the error is the update that was found, and the card is laid aside. If the table has
-    /// places, each word that the card says was stored; and if the flag fails, the card's slot is set free, by steps that are not
-    /// counted.
+    /// places, each word that the card says was stored; and if the flag fails, the card's slot is set free, by steps
+    /// that are not counted.
     #[inline(always)]
     pub fn iflag(
         &self,
@@ -102,8 +102,8 @@ impl<A: Allocator + Copy> CardTable<A> {
 
     /// Flags the grandparent for the delete whose card is in hand, filled: exchanges the update that was read there for
     /// the card's flag. If that fails, the error is the update that was found, and the card is laid aside. If the table
-    /// has places, each word that the card says was stored; and if the flag fails, the card's slot is set free, by steps that are
-    /// not counted.
+    /// has places, each word that the card says was stored; and if the flag fails, the card's slot is set free, by
+    /// steps that are not counted.
     #[inline(always)]
     pub fn dflag(
         &self,

@@ -193,7 +193,7 @@ impl<A: Allocator + Copy> CardTable<A> {
         self.period_exchange::<Brand>(seat, self.slot_address(slots, slot), word, free) == word
     }
 
-    // Notes nodes of a card that the pass knows to be dead in the word of the card's slot, by one step for all of them,
+    // Notes nodes of a card that the pass knows to be dead in the word of the card's slot, by one exchange for all,
     // unless that does so already, or another card lies there by now. Returns whether it set the slot free by that, or
     // `None` if the word changed meanwhile.
     fn note_dead(
@@ -230,8 +230,8 @@ impl<A: Allocator + Copy> CardTable<A> {
         }
     }
 
-    // Notes such nodes, even if the word changes meanwhile: it does so at most twice until they are noted, as each time
-    // another node of the card is. Returns whether it set the slot free.
+    // Notes such nodes even if the word changes meanwhile: it does so at most twice, as each change notes another node of
+    // the card. Returns whether it set the slot free.
     fn note_surely(
         &self,
         seat: &mut Seat<(), Known>,
@@ -299,8 +299,8 @@ impl<A: Allocator + Copy> CardTable<A> {
         self.retire_nodes(pass, card_of(node), CardNodes::only(node))
     }
 
-    /// Notes nodes of one card that the pass knows to be dead, all of them by one step: those that a card which is over
-    /// has taken out of the tree, or those of that card which never come into it. Once all three nodes of a card are
+    /// Notes nodes of one card that the pass knows to be dead, all by one exchange: those that a card which is over has
+    /// taken out of the tree, or those of that card which never come into it. Once all three nodes of a card are
     /// noted, its slot is free. Returns `true` if it became free by this call. It does nothing if the table has no
     /// places. Its steps are not counted.
     pub fn retire_nodes(&self, pass: &mut Pass<A>, card: u64, nodes: CardNodes) -> bool

@@ -18,7 +18,6 @@ ghost use Rattle.ell_tree.specs.Keeping.{Keeps, IsInnerMet, KeepsAllButMet};
 ghost use Rattle.ell_tree.specs.Searches.{AtRoot, HasSearched, node_with};
 ghost use Rattle.ell_tree.specs.Tries.{HasSlotOf, Fills, Flags, HasCard, TryEnds, TryTook, TryTookThis};
 ghost use Rattle.ell_cards.specs.Depths.{deepest};
-ghost use Rattle.ell_cards.specs.Guards.{MayFill};
 ghost use Rattle.ell_cards.specs.Sayings.{delete_says};
 ghost use Rattle.ell_cards.specs.Stepping.{IsWholeIn};
 
@@ -132,7 +131,7 @@ fn flag_delete<A: Allocator + Copy, G: StepGate>(
     requires card { (key : ℕ) × HasCard (Delete key) place above.tag
         (delete_filling above.node place.parent.node place.node (packed place.parent.update)) pass.old.view card }
     requires node { IsInnerMet table.now.plan.last_card pass.old.view above.node }
-    ensures keeps { Keeps pass.old pass.new (5) }
+    ensures keeps { Keeps pass.old pass.new 5 }
     ensures taken { TakesNoCard pass.old pass.new }
     ensures flags { Flags table.now.plan.last_card DFlagged card above.node pass.old pass.new result }
 {

@@ -11,7 +11,6 @@ ghost use Rattle.ell_tree.specs.Searches.{AtRoot, node_with};
 ghost use Rattle.ell_tree.specs.Tries.{HasSlotOf, told_of_put, put_reply, Fills, Flags, HasCardToPut, TryEnds};
 ghost use Rattle.ell_core.specs.tree.Flat.{IsNodeKey};
 ghost use Rattle.ell_cards.specs.Models.{flat_from};
-ghost use Rattle.ell_cards.specs.Guards.{MayFill};
 ghost use Rattle.ell_cards.specs.Sayings.{put_says};
 ghost use Rattle.ell_cards.specs.Stepping.{IsWholeIn};
 
@@ -130,7 +129,7 @@ fn flag_insert<A: Allocator + Copy, G: StepGate>(
     requires link { IsLink (node_with place place.parent.tag) }
     requires card { HasCardToPut what place node_key pass.old.view card }
     requires node { IsInnerMet table.now.plan.last_card pass.old.view place.parent.node }
-    ensures keeps { Keeps pass.old pass.new (11) }
+    ensures keeps { Keeps pass.old pass.new 11 }
     ensures taken { TakesNoCard pass.old pass.new }
     ensures flags { Flags table.now.plan.last_card IFlagged card place.parent.node pass.old pass.new result }
 {
