@@ -1,5 +1,5 @@
 //! How a table begins, and how its passes part and come together.
-ghost use Rattle.std.specs.Prelude.{is_some, ℕ, slice_index, ◌≡◌, ◌≢◌, ◌⊎◌, ◌≤◌, ◌<◌, ◌+◌, ◌*◌, ◌↔◌, if◌then◌else◌, IsTrue, [], filter, not, max, true, length, None, IfOk, IfErr, OnOk, IfSome, replicate, vec_len};
+ghost use Rattle.std.specs.Prelude.{is_some, ℕ, slice_index, ◌≡◌, ◌≢◌, ◌⊎◌, ◌≤◌, ◌<◌, ◌+◌, ◌*◌, ◌↔◌, if◌then◌else◌, IsTrue, [], filter, not, max, true, length, None, IfOk, IfErr, OnOk, IfSome};
 ghost use Rattle.std.specs.List.{All};
 ghost use Rattle.std.specs.List.Sorted.{IsStrictlyIncreasing};
 ghost use Rattle.std.specs.Map.{keys_of};
@@ -431,7 +431,11 @@ fn first_words<A: Allocator + Copy>(alloc: A, plan: &Plan<A>) -> Result<Vec<u64,
     ensures size { IfOk result (λ words. length words.items ≡ whole_size plan.now) }
 {
     let last = last_slot(plan.slots, plan.last_card);
-    let cards = card_words(alloc, plan, last)?;
+    let room = match plan.slots {
+        None => table_size(last),
+        Some(slots) => slots.size(),
+    };
+    let cards = card_words(alloc, plan, last, room)?;
     are_words(cards.as_slice());
     let words = with_places(cards, plan.slots)?;
     Ok(words)
@@ -446,11 +450,12 @@ fn are_words(words: &[u64])
     }
 }
 
-// The words of the cards of an opening table, up to this card.
+// The words of the cards of an opening table, up to this card, with room for so many words in all.
 fn card_words<A: Allocator + Copy>(
     alloc: A,
     plan: &Plan<A>,
     last: u64,
+    room: usize,
 ) -> Result<Vec<u64, A>, AllocError>
     requires room { length plan.now.start ≤ last }
     requires most { last ≤ greatest_card }
@@ -458,7 +463,8 @@ fn card_words<A: Allocator + Copy>(
     ensures size { IfOk result (λ words. length words.items ≡ table_size last) }
     ensures are { IfOk result (λ words. words_of words.items ≡ words_at_start plan.now.flat plan.now.start) }
 {
-    let mut words = zero_words(alloc, table_size(last))?;
+    let mut words = Vec::with_capacity(alloc, room)?;
+    words.resize(table_size(last), 0)?;
     write_opening(words.as_mut_slice(), plan.start.as_slice(), last, plan.flat);
     Ok(words)
 }
@@ -477,16 +483,6 @@ fn with_places<A: Allocator + Copy>(
     let mut words = words;
     words.resize(slots.size(), 0)?;
     words[slots.place_word(0)] = 1;
-    Ok(words)
-}
-
-// This many words, all of them zero.
-fn zero_words<A: Allocator>(alloc: A, count: usize) -> Result<Vec<u64, A>, AllocError>
-    ensures zeros { IfOk result (λ words. words.items ≡ replicate count 0) }
-    ensures len { IfOk result (λ words. vec_len words ≡ count) }
-{
-    let mut words = Vec::new(alloc);
-    words.resize(count, 0)?;
     Ok(words)
 }
 

@@ -28,8 +28,7 @@ const NUMBERS_PER_TURN: u64 = 2_097_152;
 /// How many turns there are.
 const TURNS: u64 = 1_048_576;
 
-/// How many slots are left to deletes: a pass takes one for another change only if so many more could be taken behind
-/// it.
+/// How many slots are left to deletes: the last ones of the table, which a pass takes for no other change.
 const LEFT_TO_DELETES: u64 = 2;
 
 /// Returns the slot in which a card lies.
@@ -422,8 +421,8 @@ impl<A: Allocator + Copy> CardTable<A> {
         }
     }
 
-    // Returns the least number of a card, from this card on, whose slot the pass could take, if it could take so many
-    // others too. It reads the word of each slot once.
+    // Returns the least number of a card, from this card on, whose slot the pass could take, except for so many of the
+    // last slots, which are left. It reads the word of each slot once at most.
     fn seek_takeable(&self, pass: &mut Pass<A>, slots: Slots, card: u64, others: u64) -> Option<u64>
         requires own { pass.old.table ≡ self.now.id }
         requires slots { self.now.plan.slots ≡ Some slots }
@@ -435,17 +434,16 @@ impl<A: Allocator + Copy> CardTable<A> {
         ensures missed { pass.new.sought.missed ≡ pass.old.sought.missed }
     {
         let _ = &self.table;
+        let ordinary = slots.last.saturating_sub(others);
         let mut next = slots.next_with_slot(card);
-        let mut first = None;
         let mut left = others;
         for read in 0..slots.last + 1 {
             if self.last_card < next {
                 return None;
             }
             if self.is_takeable(pass, slots, next, read == 0) {
-                first = first.or(Some(next));
-                if left == 0 {
-                    return first;
+                if left == 0 || slot_of(next) <= ordinary {
+                    return Some(next);
                 }
                 left -= 1;
             }
@@ -456,10 +454,9 @@ impl<A: Allocator + Copy> CardTable<A> {
 
     /// Returns the least number of a card, from this card on, whose slot the pass could take by `take_slot` as it
     /// read the slots' words: at most one round of them, and one more if there was none, and the places then tell of
-    /// a greater safe number. Returns `None` if there is none, or none that the table has; and, unless it is for a
-    /// delete, if fewer than two more could be taken behind it. A slot that could be taken can be until a claim
-    /// passes its number, so some are left to deletes even if keys fill all others. Without places, each card has
-    /// words of its own, and this is the card itself. Its steps are not counted.
+    /// a greater safe number. Returns `None` if there is none, or none that the table has. The last two slots of the
+    /// table are for deletes alone, so some are left to them even if keys fill all others. Without places, each card
+    /// has words of its own, and this is the card itself. Its steps are not counted.
     pub fn next_takeable(&self, pass: &mut Pass<A>, card: u64, for_delete: bool) -> Option<u64>
         requires own { pass.old.table ≡ self.now.id }
         requires room { card ≤ self.now.plan.last_card }

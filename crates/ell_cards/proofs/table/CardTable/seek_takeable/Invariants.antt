@@ -1,16 +1,14 @@
-use Rattle.std.specs.Prelude.{◌≡◌, ◌≤◌, IfSome}
+use Rattle.std.specs.Prelude.{◌≡◌, ◌≤◌}
 use Rattle.ell_cards.specs.SlotWords.{slot_of}
 use Rattle.ell_cards.proofs.lemmas.whole.Seeking.{RowSoFar}
 use Rattle.ell_cards.proofs.table.CardTable.seek_takeable.Given as goal
 
--- the first slot that could be taken, if there was one so far, is of a card that is in the table; and so many slots were read in
--- a row
+-- so many slots were read in a row
 abbrev pub invariant-loop-read : goal.invariant-loop-read
 invariant-loop-read g l = record {
   pass : l.pass ≡ record l.fn.pass { sought = l.pass.sought };
   missed : l.pass.sought.missed ≡ l.fn.pass.sought.missed;
   from : l.fn.card ≤ l.next;
   slot : slot_of l.next ≤ l.slots.last;
-  first : IfSome l.first (λ c. (l.fn.card ≤ c) × (c ≤ l.fn.self.plan.last_card) × (slot_of c ≤ l.slots.last));
   row : RowSoFar l.slots l.fn.card l.fn.others l.fn.pass.view.made l.next l.read l.left l.pass.sought;
 }
