@@ -14,10 +14,11 @@
    answer as if they were made one after the other, each at one moment between its begin and its end. What a thread did before it stored a
    value happened before what another thread does after it has read that value. In a program with the thread sanitizer, the library tells it so.
 
-   A map consists of sections, and each of them has a tree for a range of keys. Each change takes one of the cards of a tree. When few cards are
-   left, a call that changes a key makes a new tree with the same pairs and fresh cards, while other calls go on. This is a renewal. In the same
-   way a section is parted when it has many keys, and joined with a neighbor when it has few. The call that does so takes about a millisecond
-   longer. Whatever the order in which keys come, no tree grows deep.
+   A map consists of sections, and each of them has a tree for a range of keys. Each change takes one of the cards of a tree, and a card comes
+   back when no call reads any more what the change took out. A section is renewed when it has many keys or few: a call that changes a key makes
+   new trees with the same pairs, while other calls go on, and so parts the section, joins it with a neighbor, or gives it more cards or fewer.
+   That call takes about a millisecond longer. A map whose keys stay about as many needs hardly any renewal. Whatever the order in which keys
+   come, no tree grows deep.
 
    The calls on the trees are proved, and none of them waits for another thread. The map around the trees is tested and not proved, and some of
    its calls wait:
@@ -25,7 +26,8 @@
    - At the end of a renewal all calls that change keys pause, until those of them that are under way have ended. If one of these takes long,
      since its thread is stopped, the pause is broken off, and a later call goes on with the renewal. A thread that is stopped while it ends a
      renewal holds up all calls that change keys.
-   - A call that finds no card waits until its section is renewed, and that waits for the calls under way, however long they take.
+   - A thread that is stopped in a call holds back the cards of one section. Other calls use up those that are left, and then a call that needs
+     one waits: if the thread is stopped in a change, until it goes on; if it only reads, until the section is renewed.
    - elltree_map_renew and elltree_map_pairs wait for the calls under way that change keys.
    - Any other call that only reads renews nothing, does not pause, asks for no memory, and waits for no other thread, except when more
      threads are inside calls than the settings allow.
@@ -129,9 +131,9 @@ struct elltree_map;
 /* How a map is set up. A member that is 0 leaves the choice to the map, so that all zeros are the usual settings. Later versions may have more
    members at the end. */
 struct elltree_map_settings {
-    uint64_t cards;                /* how many cards the new map has, up to ELLTREE_CARDS_MAX; a card takes 96 bytes; if 0, 128 or more */
-    uint32_t renewal_percent;      /* sections get more cards while renewals take more than this part of the time; if 0, 5 */
-    uint32_t renewal_microseconds; /* but no more than a renewal of this length allows; if 0, 5,000 */
+    uint64_t cards;                /* besides those of its pairs, up to ELLTREE_CARDS_MAX; a card takes 104 bytes; if 0, the map's choice */
+    uint32_t renewal_percent;      /* has no effect any more */
+    uint32_t renewal_microseconds; /* has no effect any more */
     uint32_t calls;                /* how many calls may be under way at once, up to 4,096; if 0, 8 for each processor, and at least 64 */
     uint32_t unused;               /* 0 */
 };
@@ -145,11 +147,11 @@ struct elltree_map_counters {
     uint64_t renewals;            /* how many there were, of all sections */
     uint64_t early_renewals;      /* always 0, since no tree grows deep */
     uint64_t renewal_nanoseconds; /* how long a processor was at work on them */
-    uint64_t pause_nanoseconds;   /* the sum of the pauses in which calls on a section waited for its renewal */
+    uint64_t pause_nanoseconds;   /* the sum of the pauses in which calls waited for a renewal */
     uint64_t longest_nanoseconds; /* the longest of these pauses */
 };
 
-/* Makes an empty map and writes it to *map. The map begins with a few cards, and later makes as many as it finds useful.
+/* Makes an empty map and writes it to *map. The map begins with 128 cards, and gets more as its keys become more.
    Refusals: ELLTREE_NULL, ELLTREE_NO_MEMORY. */
 ELLTREE_MUST_USE int32_t elltree_map_new(struct elltree_map **map);
 
@@ -277,8 +279,8 @@ ELLTREE_MUST_USE int32_t elltree_map_extend(struct elltree_map *map, const struc
    Refusals: ELLTREE_NULL, ELLTREE_NO_ROOM, ELLTREE_FORKED. */
 ELLTREE_MUST_USE int32_t elltree_map_pairs(struct elltree_map *map, struct elltree_pair *out, size_t room, size_t *count);
 
-/* Renews all sections now, one after the other, and returns ELLTREE_YES. So a program has renewals at a moment of its choice. A section that was
-   busy once, and is so no more, gives cards back. If the call is refused, the sections of the least keys may have been renewed.
+/* Renews all sections now, one after the other, and returns ELLTREE_YES. A section that has more cards than its keys need, as it had more keys once
+   or threads stood still in calls on it, gives cards back. If the call is refused, the sections of the least keys may have been renewed.
    Refusals: ELLTREE_NULL, ELLTREE_NO_MEMORY, ELLTREE_FORKED. */
 ELLTREE_MUST_USE int32_t elltree_map_renew(struct elltree_map *map);
 

@@ -74,9 +74,9 @@ static int32_t renew_at(struct elltree_map *map, uint64_t key, uint64_t *upto) {
     *upto = section->upto;
     give_back(place);
     if (taken)
-        return renew_section(map, section, WANTED, true);
-    if (!take_up(map, section))
-        wait_while(&map->ended, ended);
+        return renew_section(map, section, WANTED, UINT64_MAX);
+    if (!take_up(map, section, UINT64_MAX))
+        wait_while(&map->ended, ended, UINT64_MAX);
     *upto = key; /* it is to be seen whether it was this section's renewal that ended */
     return ELLTREE_YES;
 }

@@ -3,6 +3,7 @@
    nanosleep. */
 #include "barrier.h"
 #include "clock.h"
+#include "numbers.h"
 #include "order.h"
 #include <linux/futex.h>
 #include <sched.h>
@@ -10,7 +11,7 @@
 #include <time.h>
 #include <unistd.h>
 
-enum { SPINS = 100, YIELDS = 200, REST_NANOSECONDS = 50000 };
+enum { SEEN_AT_ONCE = 64, SPINS = 100, YIELDS = 200, REST_NANOSECONDS = 50000, SLEEP_NANOSECONDS = 500000000 };
 
 /* Waits for a thread that is about to be done: briefly at first, and longer if it seems to be stopped. */
 static void rest(unsigned tries) {
@@ -23,14 +24,25 @@ static void rest(unsigned tries) {
         syscall(SYS_nanosleep, &while_, NULL);
 }
 
-/* Waits until a word is no longer what it was: spins briefly, and then sleeps, after the system has looked at the word again. */
-static void wait_while(_Atomic uint32_t *word, uint32_t value) {
+/* Sleeps until a word is no longer what it was, after the system has looked at it again, but not for long, and not beyond a time: whether that is
+   still to come. */
+static bool sleep_while(_Atomic uint32_t *word, uint32_t value, uint64_t until) {
+    const uint64_t at = now();
+    const struct timespec while_ = {0, (long)at_most(until - at, SLEEP_NANOSECONDS)};
+    if (at >= until)
+        return false;
+    syscall(SYS_futex, word, FUTEX_WAIT_PRIVATE, value, &while_, NULL, 0);
+    return true;
+}
+
+/* Waits until a word is no longer what it was, but not beyond a time: spins briefly, and then sleeps. */
+static void wait_while(_Atomic uint32_t *word, uint32_t value, uint64_t until) {
     unsigned tries = 0;
     while (atomic_load(word) == value)
         if (++tries < SPINS)
             __builtin_ia32_pause();
-        else
-            syscall(SYS_futex, word, FUTEX_WAIT_PRIVATE, value, NULL, NULL, 0);
+        else if (!sleep_while(word, value, until))
+            return;
 }
 
 /* Changes a word that threads wait for, and wakes them. */
@@ -96,7 +108,7 @@ static inline __attribute__((always_inline)) struct place *enter(struct barrier 
             return place;
         }
         give_back(place);
-        wait_while(&barrier->word, word);
+        wait_while(&barrier->word, word, UINT64_MAX);
     }
 }
 
@@ -116,13 +128,30 @@ static bool has_ended(struct place *place, uint64_t *busy, enum kind kind, uint6
     return true;
 }
 
+/* Waits for the calls of this kind, or a later one, on so many places from that of a wait on: whether they have ended. It looks at all these places
+   before it waits for one, so that it waits for fewer calls that began later. */
+static bool await_some(struct barrier *barrier, struct wait *wait, uint32_t count, enum kind kind, uint64_t until) {
+    uint64_t busy[SEEN_AT_ONCE];
+    for (uint32_t i = 0; i < count; i++)
+        busy[i] = atomic_load(&barrier->places[wait->number + i].busy);
+    if (wait->busy) /* it was looked at before */
+        busy[0] = wait->busy;
+    for (uint32_t i = 0; i < count; i++, wait->number++) {
+        wait->busy = busy[i];
+        if (!has_ended(&barrier->places[wait->number], &wait->busy, kind, until))
+            return false;
+    }
+    wait->busy = 0;
+    return true;
+}
+
 /* Waits for every call of this kind, or a later one, that was under way when the wait began, but not beyond a time: whether they have ended. Calls
    that begin later see what the thread has stored before the wait, in a sequentially consistent way. */
 static bool await_calls(struct barrier *barrier, struct wait *wait, enum kind kind, uint64_t until) {
-    for (; wait->number <= barrier->mask; wait->number++, wait->busy = 0)
-        if (!has_ended(&barrier->places[wait->number], &wait->busy, kind, until))
-            return false;
-    return true;
+    bool have_ended = true;
+    while (have_ended && wait->number <= barrier->mask)
+        have_ended = await_some(barrier, wait, at_most(SEEN_AT_ONCE, barrier->mask + 1 - wait->number), kind, until);
+    return have_ended;
 }
 
 static void open_barrier(struct barrier *barrier) {
@@ -135,7 +164,7 @@ static void open_barrier(struct barrier *barrier) {
 static bool close_barrier(struct barrier *barrier, struct wait *wait, uint64_t pause) {
     uint32_t word = atomic_load(&barrier->word);
     while (is_closed(word) || !atomic_compare_exchange_strong(&barrier->word, &word, word + 1)) {
-        wait_while(&barrier->word, word | 1);
+        wait_while(&barrier->word, word | 1, UINT64_MAX);
         word = atomic_load(&barrier->word);
     }
     seen(&barrier->word);

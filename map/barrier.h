@@ -40,8 +40,8 @@ struct wait {
 
 /* Waits for a thread that is about to be done: briefly at first, and longer after many tries, if it seems to be stopped. */
 static void rest(unsigned tries);
-/* Waits until a word is no longer what it was. */
-static void wait_while(_Atomic uint32_t *word, uint32_t value);
+/* Waits until a word is no longer what it was, but not beyond a time. */
+static void wait_while(_Atomic uint32_t *word, uint32_t value, uint64_t until);
 /* Changes a word that threads wait for, and wakes them. */
 static void advance(_Atomic uint32_t *word);
 

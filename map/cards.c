@@ -1,80 +1,104 @@
-/* How many cards the sections get that a renewal makes. */
+/* How many cards the sections get. A key that is present has a leaf and an inner node, and each of them may keep a card from coming back. Some
+   cards have both: where keys are only added, about one card is kept for each key, where they come and go at random, 1.7, and where each key gets
+   other values, 2. The more others there are, the sooner a change finds one. */
 #include "cards.h"
-#include "clock.h"
 #include "numbers.h"
 
-/* How many cards each of some sections gets, if they get so many together. */
-static uint64_t part_of_cards(uint64_t cards, uint32_t parts) { return parts > 1 ? at_least(cards / parts, CARDS_LEAST) : cards; }
+/* How many cards a section gets for so many keys. */
+static uint64_t cards_for(uint64_t keys) { return at_least(CARDS_LEAST, keys / 2 * 5); }
 
-/* What a renewal has to do besides cards, in cards. */
-static uint64_t weight(uint64_t keys) { return KEY_IN_CARDS * keys + REST_IN_CARDS; }
+static bool has_few_cards(const struct section *section, uint64_t keys) { return section->cards < keys + keys / 4 * 3; }
 
-/* How few cards so many keys have at least. */
-static uint64_t cards_least(uint64_t keys) { return at_least(CARDS_LEAST, keys / 8); }
+static bool has_few_to_grow(const struct section *section, uint64_t keys) { return section->cards < keys + keys / 8; }
 
-/* How many renewals the map has when each section has been renewed twice, if all change alike. */
-static uint64_t two_rounds(const struct elltree_map *map) { return 2 * atomic_load(&map->sections); }
+static bool has_many_cards(const struct section *section, uint64_t keys) { return section->cards > cards_for(keys) / 5 * 8; }
 
-/* How many renewals there were since a section was made. */
-static uint64_t renewals_since(const struct elltree_map *map, const struct section *section) {
-    return atomic_load(&map->renewals) - section->renewals;
+static bool has_few_for_changes(const struct elltree_map *map, const struct section *section) {
+    return section->cards < CARDS_USUAL && map->cards < 2 * CARDS_USUAL && SAMPLE * atomic_load(&section->weighed) > USES_OF_A_CARD * section->cards;
 }
 
-/* As many cards as a section has now, or fewer, if that is more than twice what calls use up in two rounds of renewals, as they have done since the
-   section was made. */
-static uint64_t cards_by_use(const struct elltree_map *map, const struct section *section, uint64_t left, uint64_t keys) {
-    const uint64_t used = section->cards - at_most(left, section->cards), rounds = two_rounds(map);
-    const uint64_t soon = used * rounds / at_least(renewals_since(map, section), rounds);
-    return at_most(at_least(2 * soon, cards_least(keys)), section->cards);
+/* How many a section gets at most where more calls are under way than there are processors. */
+static uint64_t most_held(const struct elltree_map *map) { return CARDS_HELD / at_least(map->sections, 1); }
+
+static bool has_few_for_held(const struct elltree_map *map, const struct section *section) { return section->cards <= most_held(map) / 2; }
+
+/* For how many keys a section gets cards whose keys become more: half as many again, or so many that there are cards enough until it is parted. */
+static uint64_t keys_to_come(const struct elltree_map *map, uint64_t keys) {
+    const uint64_t most = section_keys(&map->barrier) / 8 * 7;
+    return at_least(keys, at_most(keys + keys / 2, most));
 }
 
-/* How long a renewal with so many cards and keys is likely to take, by what the section took to make, in nanoseconds of a processor. */
-static uint64_t likely_effort(const struct section *section, uint64_t cards, uint64_t keys) {
-    return section->effort * (cards + weight(keys)) / (section->cards + weight(section->keys));
+/* An empty map begins with few, unless the caller asks for another number. */
+static uint64_t first_cards(const struct elltree_map *map, uint64_t keys, uint32_t parts) {
+    if (map->settings.cards)
+        return at_least((keys + map->settings.cards) / parts, 1);
+    return keys ? cards_for(keys / parts) : CARDS_FIRST;
 }
 
-/* How many cards the heirs get together, if cards were left when the renewal of the section began. If renewals of all sections took too much of the
-   time since this one was made, the cards are doubled, unless that would save little, as each card takes its time too, or a renewal would take too
-   long by its cards. If renewals took little, the cards are halved, which saves memory. */
-static uint64_t cards_of_all(struct elltree_map *map, const struct renewal *renewal, bool may_double) {
+/* How many they get if those before had so many, which were too few: enough if all keys that the section still has cards for belong to one of them. */
+static uint64_t more_cards(const struct section *section, uint64_t failed) {
+    return at_most(at_least(2 * failed, section->cards), ELLTREE_CARDS_MAX);
+}
+
+/* How many it gets if its keys keep fewer, so that calls hold the others back: twice as many up to a number, and no fewer than it has. */
+static uint64_t doubled(const struct section *section) {
+    return at_most(at_least(section->cards, at_most(2 * section->cards, CARDS_USUAL)), ELLTREE_CARDS_MAX);
+}
+
+/* How many are enough for a section until it is parted, if keys are only added. */
+static uint64_t cards_until_parted(const struct elltree_map *map) { return section_keys(&map->barrier) / 2 * 3; }
+
+/* How many each heir of a parted section gets: enough if all keys belong to it for which the section still has cards, since they may come while the
+   heirs are made, and until it is parted too, if keys are added. */
+static uint64_t cards_of_part(const struct elltree_map *map, const struct renewal *renewal, uint64_t keys) {
+    const uint64_t there = renewal->there.count, to_come = at_least(renewal->sections[0]->cards, there) - there;
+    const uint64_t least = at_least(cards_for(keys), renewal->reason == MANY_KEYS ? cards_until_parted(map) : 0);
+    return at_most(at_least(least, keys + to_come), ELLTREE_CARDS_MAX);
+}
+
+static uint64_t cards_of_each(const struct elltree_map *map, const struct renewal *renewal, uint32_t parts) {
     const struct section *section = renewal->sections[0];
-    const uint64_t keys = renewal->there.count, cards = section->cards;
-    const uint64_t part = (now() - section->opened_at) / 100 * map->settings.renewal_percent;
-    const uint64_t all_effort = atomic_load(&map->all_effort) - section->all_effort + section->effort;
-    if (renewal->reason != FEW_CARDS) /* they were not used up */
-        return cards_by_use(map, section, renewal->left, keys);
-    if (all_effort > part && cards < weight(keys) && may_double)
-        return 2 * cards;
-    if (all_effort < part / 8)
-        return at_least(cards / 2, at_most(cards_least(keys), cards));
-    return cards;
+    const uint64_t keys = renewal->there.count / parts, usual = cards_for(keys);
+    if (renewal->failed)
+        return more_cards(section, renewal->failed);
+    if (renewal->count > 1)
+        return usual;
+    if (parts > 1)
+        return cards_of_part(map, renewal, keys);
+    if (renewal->reason == MANY_KEYS && has_few_to_grow(section, keys))
+        return cards_for(keys_to_come(map, keys));
+    if (renewal->reason == HELD_CARDS)
+        return at_least(at_most(8 * section->cards, most_held(map)), usual);
+    if (renewal->reason == FEW_CARDS)
+        return at_least(at_most(4 * section->cards, CARDS_USUAL), usual);
+    if (renewal->reason == SLOW_CARDS && section->cards >= keys / 4 * 9)
+        return at_least(doubled(section), usual);
+    return usual;
 }
 
-/* How many cards a new map has in all. */
-static uint64_t first_cards(const struct elltree_map *map, uint64_t keys) {
-    return map->settings.cards ? map->settings.cards : at_least(at_most(keys, CARDS_LEAST), CARDS_FIRST);
+/* How many of these pairs have a key below this one. */
+static size_t count_below(const struct pairs *pairs, uint64_t key) {
+    size_t low = 0, high = pairs->count;
+    while (low < high) {
+        const size_t middle = low + (high - low) / 2;
+        if (pairs->items[middle].key < key)
+            low = middle + 1;
+        else
+            high = middle;
+    }
+    return low;
 }
 
-/* How many each of them gets. If calls had to wait for cards, the heirs get twice as many together as the section had. */
-static uint64_t cards_of_each(struct elltree_map *map, const struct renewal *renewal, uint32_t parts) {
+/* Keys may come in order: then many lie below or above all keys that the section began with. The heir at that end gets enough for those that come
+   while the heirs are made, and the others, which may get no more keys, get few. */
+static struct cards cards_of_heirs(const struct elltree_map *map, const struct renewal *renewal, uint32_t parts) {
     const struct section *section = renewal->sections[0];
-    const uint64_t cards = section->cards, most = UINT64_C(1000) * map->settings.renewal_microseconds;
-    const bool may_double = likely_effort(section, 2 * cards, renewal->there.count) <= most;
-    uint64_t all = cards, each;
-    if (!atomic_load(&section->spent_at))
-        all = cards_of_all(map, renewal, may_double);
-    else if (may_double && cards < at_least(weight(renewal->there.count), CARDS_USUAL))
-        all = 2 * cards;
-    each = part_of_cards(all, parts);
-    return map->settings.cards ? each : at_least(each, CARDS_LEAST); /* a new map has fewer */
-}
-
-/* How few cards may be left of a section when its renewal begins: twice as many as calls have taken during the last one, if it is clear how many
-   these were. */
-static uint64_t next_reserve(const struct elltree_map *map, const struct renewal *renewal, uint64_t cards) {
-    uint64_t left = 0;
-    struct section *section = renewal->sections[0];
-    if (atomic_load(&section->spent_at) || elltree_slot_cards_left(slot_to_renew(&map->barrier, section), &left) != ELLTREE_YES)
-        return cards / 2;
-    return at_most(at_least(2 * (renewal->left - at_most(left, renewal->left)), cards / 16), cards / 2);
+    const uint64_t count = renewal->there.count, each = cards_of_each(map, renewal, parts), few = at_least(CARDS_LEAST, count / parts / 2 * 3);
+    const uint64_t many = at_least(each, cards_until_parted(map) + CARDS_CARRIED) - few;
+    const bool may_be_in_order = parts > 1 && renewal->count == 1 && !renewal->failed;
+    if (may_be_in_order && count_below(&renewal->there, section->least) > count / 4)
+        return (struct cards){few, many, 0};
+    if (may_be_in_order && count - count_below(&renewal->there, section->greatest) > count / 4)
+        return (struct cards){few, 0, many};
+    return (struct cards){each, 0, 0};
 }

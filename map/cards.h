@@ -1,22 +1,21 @@
-/* How many cards the sections get that a renewal makes. */
+/* How many cards the sections get. */
 #ifndef ELLTREE_MAP_CARDS_H
 #define ELLTREE_MAP_CARDS_H
 #include "parts.h"
 
-/* How many cards a new map has in all. */
-static uint64_t first_cards(const struct elltree_map *map, uint64_t keys);
-/* How many cards each of some sections gets, if they get so many together. */
-static uint64_t part_of_cards(uint64_t cards, uint32_t parts);
-/* How many cards each heir of a renewal gets. */
-static uint64_t cards_of_each(struct elltree_map *map, const struct renewal *renewal, uint32_t parts);
-/* As many cards as a section has now, or fewer, if calls use up less than half of them. */
-static uint64_t cards_by_use(const struct elltree_map *map, const struct section *section, uint64_t left, uint64_t keys);
-/* How few cards may be left of a section when its next renewal begins. */
-static uint64_t next_reserve(const struct elltree_map *map, const struct renewal *renewal, uint64_t cards);
-
-/* How many renewals the map has when each section has been renewed twice, if all change alike. */
-static uint64_t two_rounds(const struct elltree_map *map);
-/* How many renewals there were since a section was made. */
-static uint64_t renewals_since(const struct elltree_map *map, const struct section *section);
+/* How many cards each section of a new map has, if so many keys are in so many sections. */
+static uint64_t first_cards(const struct elltree_map *map, uint64_t keys, uint32_t parts);
+/* How many cards the heirs of a renewal get. */
+static struct cards cards_of_heirs(const struct elltree_map *map, const struct renewal *renewal, uint32_t parts);
+/* Whether a section has few cards for so many keys. */
+static bool has_few_cards(const struct section *section, uint64_t keys);
+/* Whether it has few for keys that are only added. */
+static bool has_few_to_grow(const struct section *section, uint64_t keys);
+/* Whether it has few for as many changes as calls make, in a map that has few. */
+static bool has_few_for_changes(const struct elltree_map *map, const struct section *section);
+/* Whether it has few where more calls are under way than there are processors. */
+static bool has_few_for_held(const struct elltree_map *map, const struct section *section);
+/* Whether it has more than twice as many as such a section gets. */
+static bool has_many_cards(const struct section *section, uint64_t keys);
 
 #endif

@@ -22,8 +22,8 @@ static int32_t append_pairs(const struct barrier *barrier, struct pairs *pairs, 
     do {
         code = pairs->count < pairs->room ? ELLTREE_YES : grow(pairs);
         if (code == ELLTREE_YES)
-            code = elltree_slot_range(slot_to_renew(barrier, section), next, UINT64_MAX, pairs->items + pairs->count, pairs->room - pairs->count,
-                                      &part, &next);
+            code = elltree_slot_range(&seat_to_renew(barrier, section)->slot, next, UINT64_MAX, pairs->items + pairs->count,
+                                      pairs->room - pairs->count, &part, &next);
         if (code == ELLTREE_YES)
             pairs->count += part;
     } while (code == ELLTREE_YES && next < UINT64_MAX);
@@ -39,13 +39,17 @@ static int32_t read_pairs(const struct barrier *barrier, struct pairs *pairs, st
     return code;
 }
 
-/* Gives a key of a tree the value that it has in another, or takes it away if it is absent there: ELLTREE_SPENT if the cards are spent. */
-static int32_t store(struct elltree_slot *slot, uint64_t key, int32_t there, uint64_t value) {
+/* Gives a key of a tree the value that it has in another, or takes it away if it is absent there: ELLTREE_SPENT if no card is free. */
+static int32_t store(struct seat *seat, uint64_t key, int32_t there, uint64_t value) {
     uint64_t was;
     int32_t code;
     do
-        code = there == ELLTREE_YES ? elltree_slot_put(slot, key, value, TRIES, &was) : elltree_slot_delete(slot, key, TRIES);
+        code = there == ELLTREE_YES ? elltree_slot_put(&seat->slot, key, value, TRIES, &was) : elltree_slot_delete(&seat->slot, key, TRIES);
     while (code == ELLTREE_BUSY);
+    if (there == ELLTREE_YES && code == ELLTREE_NO)
+        note_added(seat, 1);
+    if (there != ELLTREE_YES && code == ELLTREE_YES)
+        note_added(seat, -1);
     return code;
 }
 
@@ -54,8 +58,8 @@ static bool are_alike(struct state one, struct state other) {
 }
 
 /* Carries a key over to the heirs: stores there what the section is taken to have of it, until the section has that after it was stored. So whoever
-   stores last has stored what the section has since then. If the cards of the heir are spent, the heirs have failed. */
-static void carry_over(struct heirs *heirs, struct elltree_slot *from, struct elltree_slot *into, uint64_t key, struct state state) {
+   stores last has stored what the section has since then. If the heir has no card free, the heirs have failed. */
+static void carry_over(struct heirs *heirs, struct seat *from, struct seat *into, uint64_t key, struct state state) {
     struct state stored;
     seen(&heirs->failed);
     do {
@@ -64,17 +68,17 @@ static void carry_over(struct heirs *heirs, struct elltree_slot *from, struct el
             atomic_store(&heirs->failed, true);
             return;
         }
-        state.there = elltree_slot_find(from, key, &state.value);
+        state.there = elltree_slot_find(&from->slot, key, &state.value);
     } while (!are_alike(stored, state));
 }
 
-/* The slots of a key's section and heir that the thread has that renews. */
-static struct elltree_slot *slot_from(const struct barrier *barrier, struct renewal *renewal, uint64_t key) {
-    return slot_to_renew(barrier, renewal->sections[renewal->count > 1 && key >= renewal->sections[1]->first]);
+/* The seats in a key's section and heir that the thread has that renews. */
+static struct seat *seat_from(const struct barrier *barrier, struct renewal *renewal, uint64_t key) {
+    return seat_to_renew(barrier, renewal->sections[renewal->count > 1 && key >= renewal->sections[1]->first]);
 }
 
-static struct elltree_slot *slot_into(const struct barrier *barrier, struct renewal *renewal, uint64_t key) {
-    return slot_to_renew(barrier, heir_of(renewal->heirs, key));
+static struct seat *seat_into(const struct barrier *barrier, struct renewal *renewal, uint64_t key) {
+    return seat_to_renew(barrier, heir_of(renewal->heirs, key));
 }
 
 /* Notes the keys of which the sections and their heirs were read to differ, ascending, with what the sections have. */
@@ -106,7 +110,7 @@ static void store_differences(const struct barrier *barrier, struct renewal *ren
     for (; step; step /= 2)
         for (size_t i = step; i <= count; i += 2 * step) {
             const struct difference *it = &renewal->differences[i - 1];
-            if (store(slot_into(barrier, renewal, it->key), it->key, it->state.there, it->state.value) < 0)
+            if (store(seat_into(barrier, renewal, it->key), it->key, it->state.there, it->state.value) < 0)
                 atomic_store(&renewal->heirs->failed, true);
         }
 }
@@ -122,6 +126,6 @@ static void carry_changed(const struct barrier *barrier, struct renewal *renewal
         if (there < end && there->key == it->key)
             state = (struct state){ELLTREE_YES, there->value};
         if (!are_alike(state, it->state))
-            carry_over(renewal->heirs, slot_from(barrier, renewal, it->key), slot_into(barrier, renewal, it->key), it->key, state);
+            carry_over(renewal->heirs, seat_from(barrier, renewal, it->key), seat_into(barrier, renewal, it->key), it->key, state);
     }
 }

@@ -3,8 +3,8 @@
 #define ELLTREE_MAP_CARRYING_H
 #include "parts.h"
 
-/* Carries a key over to the heirs: stores there what the section has of it. */
-static void carry_over(struct heirs *heirs, struct elltree_slot *from, struct elltree_slot *into, uint64_t key, struct state state);
+/* Carries a key over to the heirs, by these seats: stores there what the section has of it. */
+static void carry_over(struct heirs *heirs, struct seat *from, struct seat *into, uint64_t key, struct state state);
 
 /* Reads the pairs of these sections, in place of what the array has. */
 static int32_t read_pairs(const struct barrier *barrier, struct pairs *pairs, struct section *const *sections, uint32_t count);

@@ -48,8 +48,6 @@ static struct elltree_map_settings settings_of(const struct elltree_map_settings
     if (asked)
         memcpy(&settings, asked, at_most(size, sizeof settings));
     settings.cards = at_most(settings.cards, ELLTREE_CARDS_MAX);
-    settings.renewal_percent = settings.renewal_percent ? settings.renewal_percent : RENEWAL_PERCENT;
-    settings.renewal_microseconds = settings.renewal_microseconds ? settings.renewal_microseconds : RENEWAL_MICROSECONDS;
     return settings;
 }
 
@@ -67,6 +65,7 @@ static struct elltree_map *new_map(const struct elltree_map_settings *settings) 
         all[i] = (struct place){.number = i, .until = 1 + i % SAMPLE, .chance = chance + i * UINT32_C(2654435769)};
     map->settings = *settings;
     map->forks = atomic_load(&forks);
+    map->processors = processors;
     map->barrier.mask = places - 1;
     map->barrier.places = all;
     return map;
@@ -108,7 +107,7 @@ static bool ascend(const struct elltree_pair *pairs, size_t count) {
 
 /* Gives a new map its first sections, with these pairs. */
 static int32_t fill(struct elltree_map *map, const struct elltree_pair *pairs, size_t count) {
-    const uint64_t began = time_at_work(), cards = part_of_cards(first_cards(map, count), number_of_parts(&map->barrier, count));
+    const struct cards cards = {first_cards(map, count, number_of_parts(&map->barrier, count)), 0, 0};
     struct heirs *heirs;
     struct directory *directory;
     int32_t code = make_heirs(&map->barrier, &heirs, 0, UINT64_MAX, pairs, count, cards);
@@ -121,12 +120,9 @@ static int32_t fill(struct elltree_map *map, const struct elltree_pair *pairs, s
     }
     append_heirs(directory, heirs);
     atomic_store(&map->directory, directory);
-    for (uint32_t i = 0; i < heirs->count; i++) {
-        heirs->sections[i]->effort = (time_at_work() - began) / heirs->count;
-        heirs->sections[i]->opened_at = now();
-    }
     map->sections = heirs->count;
-    map->cards = cards * heirs->count;
+    for (uint32_t i = 0; i < heirs->count; i++)
+        map->cards += heirs->sections[i]->cards;
     map->barrier.places[0].added = (int64_t)count;
     free(heirs);
     return code;

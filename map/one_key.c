@@ -13,23 +13,26 @@ struct request {
     struct state state; /* what the key had then */
 };
 
-typedef int32_t work(struct place *place, struct elltree_slot *slot, struct request *request);
+typedef int32_t work(struct place *place, struct seat *seat, struct request *request);
 
 /* Makes a call on a place until it has an answer, and renews the section of its key if there is a reason. */
 static inline __attribute__((always_inline)) int32_t call(struct elltree_map *map, work *work_on, struct request *request) {
+    unsigned tries = 0;
     int32_t code;
     shown(order_of(map, request->key));
     do {
         struct place *place = enter(&map->barrier);
         struct section *section = section_of(directory_of(map), request->key);
-        struct elltree_slot *slot = slot_of(section, place);
+        struct seat *seat = seat_of(section, place);
         struct heirs *heirs = atomic_load(&section->heirs);
         const bool is_due = atomic_load_explicit(&section->due, memory_order_relaxed);
-        code = work_on(place, slot, request);
+        code = work_on(place, seat, request);
         if (__builtin_expect(heirs && request->changed, 0))
-            carry_over(heirs, slot, slot_of(heir_of(heirs, request->key), place), request->key, request->state);
+            carry_over(heirs, seat, seat_of(heir_of(heirs, request->key), place), request->key, request->state);
+        if (__builtin_expect(tries != 0, 0) && code >= 0)
+            note_found(section);
         if (__builtin_expect(code == ELLTREE_SPENT, 0))
-            code = get_fresh(map, place, section, FEW_CARDS) == ELLTREE_YES ? ELLTREE_BUSY : ELLTREE_NO_MEMORY;
+            code = get_cards(map, place, section, &tries) == ELLTREE_YES ? ELLTREE_BUSY : ELLTREE_NO_MEMORY;
         else if (__builtin_expect(is_weighed(place), 0))
             give_back_and_renew(map, place, section, request->more, true);
         else if (__builtin_expect(is_due, 0))
@@ -42,60 +45,61 @@ static inline __attribute__((always_inline)) int32_t call(struct elltree_map *ma
 }
 
 /* Notes that a call has given its key this value, or has taken it away, and how many keys more there are. Only the place's thread adds them up. */
-static void note_change(struct place *place, struct request *request, int32_t there, uint64_t value, int32_t more) {
+static inline void note_change(struct place *place, struct seat *seat, struct request *request, int32_t there, uint64_t value, int32_t more) {
     const int64_t added = atomic_load_explicit(&place->added, memory_order_relaxed);
     atomic_store_explicit(&place->added, added + more, memory_order_relaxed);
+    note_added(seat, more);
     request->changed = true;
     request->more = more;
     request->state = (struct state){there, value};
 }
 
-static int32_t insert_at(struct place *place, struct elltree_slot *slot, struct request *request) {
-    const int32_t code = elltree_slot_insert(slot, request->key, request->value, TRIES);
+static int32_t insert_at(struct place *place, struct seat *seat, struct request *request) {
+    const int32_t code = elltree_slot_insert(&seat->slot, request->key, request->value, TRIES);
     if (code == ELLTREE_YES)
-        note_change(place, request, ELLTREE_YES, request->value, 1);
+        note_change(place, seat, request, ELLTREE_YES, request->value, 1);
     return code;
 }
 
-static int32_t put_at(struct place *place, struct elltree_slot *slot, struct request *request) {
-    const int32_t code = elltree_slot_put(slot, request->key, request->value, TRIES, &request->other);
+static int32_t put_at(struct place *place, struct seat *seat, struct request *request) {
+    const int32_t code = elltree_slot_put(&seat->slot, request->key, request->value, TRIES, &request->other);
     if (code == ELLTREE_YES || code == ELLTREE_NO)
-        note_change(place, request, ELLTREE_YES, request->value, code == ELLTREE_NO);
+        note_change(place, seat, request, ELLTREE_YES, request->value, code == ELLTREE_NO);
     return code;
 }
 
-static int32_t delete_at(struct place *place, struct elltree_slot *slot, struct request *request) {
-    const int32_t code = elltree_slot_delete(slot, request->key, TRIES);
+static int32_t delete_at(struct place *place, struct seat *seat, struct request *request) {
+    const int32_t code = elltree_slot_delete(&seat->slot, request->key, TRIES);
     if (code == ELLTREE_YES)
-        note_change(place, request, ELLTREE_NO, 0, -1);
+        note_change(place, seat, request, ELLTREE_NO, 0, -1);
     return code;
 }
 
-static int32_t take_at(struct place *place, struct elltree_slot *slot, struct request *request) {
-    const int32_t code = elltree_slot_take(slot, request->key, TRIES, &request->other);
+static int32_t take_at(struct place *place, struct seat *seat, struct request *request) {
+    const int32_t code = elltree_slot_take(&seat->slot, request->key, TRIES, &request->other);
     if (code == ELLTREE_YES)
-        note_change(place, request, ELLTREE_NO, 0, -1);
+        note_change(place, seat, request, ELLTREE_NO, 0, -1);
     return code;
 }
 
-static int32_t compare_exchange_at(struct place *place, struct elltree_slot *slot, struct request *request) {
-    const int32_t code = elltree_slot_compare_exchange(slot, request->key, request->other, request->value, TRIES, &request->other);
+static int32_t compare_exchange_at(struct place *place, struct seat *seat, struct request *request) {
+    const int32_t code = elltree_slot_compare_exchange(&seat->slot, request->key, request->other, request->value, TRIES, &request->other);
     if (code == ELLTREE_YES)
-        note_change(place, request, ELLTREE_YES, request->value, 0);
+        note_change(place, seat, request, ELLTREE_YES, request->value, 0);
     return code;
 }
 
-static int32_t remove_if_at(struct place *place, struct elltree_slot *slot, struct request *request) {
-    const int32_t code = elltree_slot_remove_if(slot, request->key, request->value, TRIES, &request->other);
+static int32_t remove_if_at(struct place *place, struct seat *seat, struct request *request) {
+    const int32_t code = elltree_slot_remove_if(&seat->slot, request->key, request->value, TRIES, &request->other);
     if (code == ELLTREE_YES)
-        note_change(place, request, ELLTREE_NO, 0, -1);
+        note_change(place, seat, request, ELLTREE_NO, 0, -1);
     return code;
 }
 
-static int32_t fetch_add_at(struct place *place, struct elltree_slot *slot, struct request *request) {
-    const int32_t code = elltree_slot_fetch_add(slot, request->key, request->value, TRIES, &request->other);
+static int32_t fetch_add_at(struct place *place, struct seat *seat, struct request *request) {
+    const int32_t code = elltree_slot_fetch_add(&seat->slot, request->key, request->value, TRIES, &request->other);
     if (code == ELLTREE_YES)
-        note_change(place, request, ELLTREE_YES, request->other + request->value, 0);
+        note_change(place, seat, request, ELLTREE_YES, request->other + request->value, 0);
     return code;
 }
 

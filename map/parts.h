@@ -4,17 +4,20 @@
 #include "sections.h"
 
 enum {
-    CARDS_FIRST = 128,   /* of an empty map, if nobody asks for another number: it is made the sooner */
-    CARDS_LEAST = 512,   /* of another section */
-    CARDS_USUAL = 16384, /* up to so many are doubled at once where calls had to wait for some */
-    RENEWAL_PERCENT = 5,
-    RENEWAL_MICROSECONDS = 5000,
-    TRIES = 64,           /* of one call of the library, so that none holds its place for long */
-    PAIRS_AT_ONCE = 4096, /* for which an array of pairs has room at first */
-    SAMPLE = 64,          /* of so many changes on a place one is weighed */
-    KEY_IN_CARDS = 3,     /* a key takes a renewal about as long as so many cards */
-    REST_IN_CARDS = 1000, /* and so does what it has to do without keys and cards */
-    ORDERS = 64           /* words by which the thread sanitizer tells keys apart */
+    CARDS_FIRST = 128,     /* of an empty map, if nobody asks for another number: it is made the sooner */
+    CARDS_LEAST = 512,     /* of another section */
+    CARDS_USUAL = 16384,   /* up to so many are doubled where calls had to wait for some */
+    TRIES = 64,            /* of one call of the library, so that none holds its place for long */
+    TRIES_FOR_CARDS = 6,   /* of a call that finds none though the calls under way have ended, before the section is renewed */
+    WAITS_FOR_CARDS = 8,   /* after so many of its calls' waits a section gets more */
+    USES_OF_A_CARD = 32,   /* after so many changes for each card it gets more too, in a map that has few */
+    CARDS_HELD = 1 << 18,  /* up to so many in all where more calls are under way than there are processors, so that many are held back */
+    CARDS_CARRIED = 4096,  /* so many more get heirs to which keys come in order, for those that come while they are made */
+    PATIENCE = 1000000,    /* so long such a call waits for those under way, in nanoseconds, before it sees what kind they are */
+    ENDURANCE = 500000000, /* so long it waits for a renewal where cards may come back meanwhile */
+    PAIRS_AT_ONCE = 4096,  /* for which an array of pairs has room at first */
+    SAMPLE = 64,           /* of so many changes on a place one is weighed */
+    ORDERS = 64            /* words by which the thread sanitizer tells keys apart */
 };
 
 /* So many cards of replaced sections may wait for calls that still read them, or as many as the map has. */
@@ -25,7 +28,8 @@ struct renewal;
 struct elltree_map {
     struct barrier barrier;
     _Atomic(struct directory *) directory;
-    uint32_t forks; /* of the process that made the map */
+    uint32_t forks;      /* of the process that made the map */
+    uint32_t processors; /* of the machine */
     struct elltree_map_settings settings;
     _Alignas(LINE) _Atomic uint32_t ended; /* how many renewals ended, or were left: who waits for one waits for this word */
     _Atomic(struct renewal *) left;        /* the renewals that were left where they are */
@@ -81,8 +85,7 @@ struct renewal {
     size_t difference_count;
     uint64_t effort; /* what it has taken so far, in nanoseconds of a processor */
     uint64_t pause;  /* for how long it closes the barrier next */
-    uint64_t left;   /* cards of the first section, when it began */
-    uint64_t times;  /* so many times the cards that seem right, as heirs have failed */
+    uint64_t failed; /* how many cards each heir had when they failed, or 0 */
 };
 
 #endif

@@ -40,20 +40,20 @@ static uint64_t keys_about(const struct section *section) {
     return about > 0 ? (uint64_t)about : 0;
 }
 
+static uint64_t recount(const struct elltree_map *map, struct section *section) {
+    const uint64_t keys = count_section(&map->barrier, section);
+    atomic_store(&section->about, (int64_t)keys);
+    return keys;
+}
+
 static struct section *section_after(const struct directory *directory, uint32_t at) {
     return at + 1 < directory->count ? directory->sections[at + 1] : NULL;
 }
 
 static struct section *section_before(const struct directory *directory, uint32_t at) { return at > 0 ? directory->sections[at - 1] : NULL; }
 
-/* Whether a neighbor may be joined with a section of so many keys, as far as is known. */
-static bool may_fit(const struct elltree_map *map, const struct section *neighbor, uint64_t keys) {
-    return neighbor && keys_about(neighbor) + keys <= most_joined(map);
-}
-
-/* Notes how many cards are left of the section that tells how many the heirs get. */
-static void note_left(const struct elltree_map *map, struct renewal *renewal) {
-    (void)!elltree_slot_cards_left(slot_to_renew(&map->barrier, renewal->sections[0]), &renewal->left);
+static bool may_fit(const struct elltree_map *map, struct section *neighbor, uint64_t keys) {
+    return neighbor && keys_about(neighbor) + keys <= most_joined(map) && recount(map, neighbor) + keys <= most_joined(map);
 }
 
 /* Takes a neighbor of the section along, the next one if that may be, and else the one before. Sections that are not replaced stand side by side as
@@ -77,16 +77,12 @@ static void take_neighbor(struct elltree_map *map, struct renewal *renewal) {
 /* Reads the pairs of the neighbor that was taken along too, and leaves it if both have too many. */
 static int32_t read_both(struct elltree_map *map, struct renewal *renewal, struct section *section) {
     struct section *neighbor = renewal->sections[renewal->sections[0] == section];
-    const uint64_t own = renewal->there.count;
     int32_t code = read_pairs(&map->barrier, &renewal->there, renewal->sections, renewal->count);
-    note_left(map, renewal);
     if (code != ELLTREE_YES || renewal->there.count <= most_joined(map))
         return code;
-    atomic_store(&neighbor->about, (int64_t)(renewal->there.count - own));
     renewal->sections[0] = section;
     renewal->count = 1;
     code = read_pairs(&map->barrier, &renewal->there, renewal->sections, renewal->count);
-    note_left(map, renewal);
     leave_section(map, neighbor);
     return code;
 }
@@ -95,10 +91,8 @@ static int32_t read_both(struct elltree_map *map, struct renewal *renewal, struc
 static int32_t read_first(struct elltree_map *map, struct renewal *renewal) {
     struct section *section = renewal->sections[0];
     int32_t code = read_pairs(&map->barrier, &renewal->there, renewal->sections, renewal->count);
-    note_left(map, renewal);
     if (code != ELLTREE_YES || renewal->count > 1)
         return code;
-    atomic_store(&section->about, (int64_t)renewal->there.count);
     if (is_small(map, renewal->there.count)) {
         take_neighbor(map, renewal);
         if (renewal->count > 1)
@@ -109,11 +103,12 @@ static int32_t read_first(struct elltree_map *map, struct renewal *renewal) {
 
 /* Steps 1 and 2: from here on calls carry over what they change. */
 static int32_t begin(struct elltree_map *map, struct renewal *renewal) {
-    uint64_t cards;
+    struct cards cards;
     int32_t code = read_first(map, renewal);
     if (code != ELLTREE_YES)
         return code;
-    cards = at_most(renewal->times * cards_of_each(map, renewal, number_of_parts(&map->barrier, renewal->there.count)), ELLTREE_CARDS_MAX);
+    cards = cards_of_heirs(map, renewal, number_of_parts(&map->barrier, renewal->there.count));
+    renewal->failed = cards.each; /* if they do */
     code = make_heirs(&map->barrier, &renewal->heirs, renewal->sections[0]->first, renewal->sections[renewal->count - 1]->upto, renewal->there.items,
                       renewal->there.count, cards);
     if (code != ELLTREE_YES)
@@ -147,17 +142,12 @@ static int32_t compare(struct elltree_map *map, struct renewal *renewal) {
     return code;
 }
 
-/* What a renewal was, for the settings of the next ones, while the barrier is closed and no call sees the heirs. */
+/* Counts a renewal, while the barrier is closed and no call sees the heirs. */
 static void note_renewal(struct elltree_map *map, struct renewal *renewal, uint64_t effort) {
-    const uint64_t at = now(), all_effort = effort + atomic_fetch_add(&map->all_effort, effort);
+    map->all_effort += effort;
     for (uint32_t i = 0; i < renewal->heirs->count; i++) {
-        struct section *heir = renewal->heirs->sections[i];
-        heir->reserve = next_reserve(map, renewal, heir->cards);
-        heir->effort = effort / renewal->heirs->count;
-        heir->opened_at = at;
-        heir->all_effort = all_effort;
-        heir->renewals = atomic_load(&map->renewals);
-        map->cards += heir->cards;
+        renewal->heirs->sections[i]->renewals = atomic_load(&map->renewals);
+        map->cards += renewal->heirs->sections[i]->cards;
     }
     for (uint32_t i = 0; i < renewal->count; i++)
         map->cards -= renewal->sections[i]->cards;
@@ -166,7 +156,7 @@ static void note_renewal(struct elltree_map *map, struct renewal *renewal, uint6
     map->renewals++;
 }
 
-/* How long calls have waited, since the barrier was closed, or since the cards were spent. */
+/* How long calls have waited, since the barrier was closed, or since one waited for cards. */
 static void note_pause(struct elltree_map *map, const struct renewal *renewal, uint64_t closed_at) {
     uint64_t from = closed_at, pause;
     for (uint32_t i = 0; i < renewal->count; i++) {
@@ -253,7 +243,6 @@ static void begin_to_take_back(struct renewal *renewal, int32_t code) {
 /* There were too few cards for what calls have changed meanwhile, and the next heirs get more. */
 static void begin_anew(struct renewal *renewal) {
     renewal->code = ELLTREE_YES;
-    renewal->times *= 2;
     renewal->stage = BEGINS;
 }
 
@@ -269,8 +258,10 @@ static void end_replaced(struct elltree_map *map, struct renewal *renewal) {
 
 /* Leaves the sections as they are. */
 static void end_refused(struct elltree_map *map, struct renewal *renewal, int32_t code) {
-    for (uint32_t i = 0; i < renewal->count; i++)
+    for (uint32_t i = 0; i < renewal->count; i++) {
+        atomic_store(&renewal->sections[i]->spent_at, 0); /* calls that find no card wait anew */
         atomic_store(&renewal->sections[i]->renewing, false);
+    }
     renewal->code = code;
     renewal->stage = IS_DONE;
     tell_end(map);
@@ -350,23 +341,13 @@ static void leave_renewal(struct elltree_map *map, struct renewal *renewal) {
         tell_end(map);
 }
 
-/* Goes on with a renewal until the sections are replaced, or it is refused, however long that takes, and leaves what is to be freed then. */
-static int32_t go_on_to_the_end(struct elltree_map *map, struct renewal *renewal) {
-    int32_t code;
-    while (!go_on(map, renewal) && renewal->stage != AWAITS_READS)
-        rest(UINT32_MAX);
-    code = renewal->code;
-    if (renewal->stage == IS_DONE)
-        free_renewal(renewal);
-    else
-        leave_renewal(map, renewal);
-    return code;
-}
-
-/* Goes on with a renewal, or leaves it. */
-static int32_t go_on_or_leave(struct elltree_map *map, struct renewal *renewal) {
+/* Goes on with a renewal until the sections are replaced, or it is refused, but leaves it where it would have to wait beyond this time. What is to be
+   freed then is left too. */
+static int32_t go_on_until(struct elltree_map *map, struct renewal *renewal, uint64_t until) {
     int32_t code = ELLTREE_YES;
-    if (go_on(map, renewal)) {
+    while (!go_on(map, renewal) && renewal->stage != AWAITS_READS && now() < until)
+        rest(UINT32_MAX);
+    if (renewal->stage == IS_DONE) {
         code = renewal->code;
         free_renewal(renewal);
     } else {
@@ -379,9 +360,9 @@ static bool is_of(const struct renewal *renewal, const struct section *section) 
     return renewal->stage != AWAITS_READS && (renewal->sections[0] == section || (renewal->count > 1 && renewal->sections[1] == section));
 }
 
-/* Goes on with all renewals that were left, as far as each does not have to wait, but with that of a section to its end, if it is among them: whether
-   it is. */
-static bool take_up(struct elltree_map *map, const struct section *section) {
+/* Goes on with all renewals that were left, as far as each does not have to wait, but with that of a section until this time, if it is among them:
+   whether it is. */
+static bool take_up(struct elltree_map *map, const struct section *section, uint64_t until) {
     struct renewal *it = atomic_load(&map->left) ? atomic_exchange(&map->left, NULL) : NULL, *next, *wanted = NULL;
     seen(&map->left);
     for (; it; it = next) {
@@ -389,20 +370,20 @@ static bool take_up(struct elltree_map *map, const struct section *section) {
         if (section && is_of(it, section))
             wanted = it;
         else
-            (void)!go_on_or_leave(map, it);
+            (void)!go_on_until(map, it, 0);
     }
     if (wanted)
-        (void)!go_on_to_the_end(map, wanted);
+        (void)!go_on_until(map, wanted, until);
     return wanted != NULL;
 }
 
-/* Begins a renewal of a section that this thread has taken for that, and leaves it where it would have to wait, unless the caller has to wait. */
-static int32_t renew_section(struct elltree_map *map, struct section *section, enum reason reason, bool waits) {
+/* Begins a renewal of a section that this thread has taken for that, and leaves it where it would have to wait beyond this time. */
+static int32_t renew_section(struct elltree_map *map, struct section *section, enum reason reason, uint64_t until) {
     struct renewal *renewal = malloc(sizeof *renewal);
     if (!renewal) {
         leave_section(map, section);
         return ELLTREE_NO_MEMORY;
     }
-    *renewal = (struct renewal){.sections = {section}, .count = 1, .reason = reason, .stage = BEGINS, .code = ELLTREE_YES, .times = 1};
-    return waits ? go_on_to_the_end(map, renewal) : go_on_or_leave(map, renewal);
+    *renewal = (struct renewal){.sections = {section}, .count = 1, .reason = reason, .stage = BEGINS, .code = ELLTREE_YES};
+    return go_on_until(map, renewal, until);
 }

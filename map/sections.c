@@ -27,17 +27,29 @@ static uint64_t section_keys(const struct barrier *barrier) { return at_least(SE
 /* How many seats a section has. */
 static uint64_t number_of_seats(const struct barrier *barrier) { return barrier->mask + UINT64_C(2); }
 
-static inline struct elltree_slot *slot_of(struct section *section, const struct place *place) { return &section->seats[place->number].slot; }
+static inline struct seat *seat_of(struct section *section, const struct place *place) { return &section->seats[place->number]; }
 
-/* The slot that only the thread has that renews the section. */
-static struct elltree_slot *slot_to_renew(const struct barrier *barrier, struct section *section) {
-    return &section->seats[barrier->mask + UINT64_C(1)].slot;
+static inline struct elltree_slot *slot_of(struct section *section, const struct place *place) { return &seat_of(section, place)->slot; }
+
+/* The seat that only the thread has that renews the section. */
+static struct seat *seat_to_renew(const struct barrier *barrier, struct section *section) { return &section->seats[barrier->mask + UINT64_C(1)]; }
+
+/* Notes how many keys more a section has by a call on this seat. Only the seat's thread adds them up. */
+static inline void note_added(struct seat *seat, int64_t more) {
+    atomic_store_explicit(&seat->added, atomic_load_explicit(&seat->added, memory_order_relaxed) + more, memory_order_relaxed);
 }
 
-/* Opens a tree with these pairs, with a slot for each seat. If it is refused, no slot holds anything. */
+static uint64_t count_section(const struct barrier *barrier, const struct section *section) {
+    int64_t keys = (int64_t)section->keys;
+    for (uint64_t i = 0; i < number_of_seats(barrier); i++)
+        keys += atomic_load_explicit(&section->seats[i].added, memory_order_relaxed);
+    return keys > 0 ? (uint64_t)keys : 0; /* a key may be seen taken and not added */
+}
+
+/* Opens a tree with these pairs, whose cards come back, with a slot for each seat. If it is refused, no slot holds anything. */
 static int32_t open_seats(struct seat *seats, uint64_t seat_count, const struct elltree_pair *pairs, size_t count, uint64_t cards) {
     static const struct elltree_pair no_pair[1] = {{0, 0}};
-    int32_t code = elltree_slot_open(&seats[0].slot, count ? pairs : no_pair, count, cards);
+    int32_t code = elltree_slot_open_reusing(&seats[0].slot, count ? pairs : no_pair, count, cards, (uint32_t)seat_count);
     for (uint64_t i = 1; i < seat_count && code == ELLTREE_YES; i++)
         code = elltree_slot_another(&seats[0].slot, &seats[i].slot);
     for (uint64_t i = 0; i < seat_count && code != ELLTREE_YES; i++)
@@ -45,20 +57,22 @@ static int32_t open_seats(struct seat *seats, uint64_t seat_count, const struct 
     return code;
 }
 
-/* A section of these keys, which begins with these pairs. If it is refused, nothing is made. */
+/* A section of these keys, which begins with these pairs and has so many cards. If it is refused, nothing is made. */
 static int32_t make_section(const struct barrier *barrier, struct section **made, uint64_t first, uint64_t upto, const struct elltree_pair *pairs,
                             size_t count, uint64_t cards) {
     struct section *section = new_lines(sizeof *section + number_of_seats(barrier) * sizeof *section->seats);
-    const int32_t code = section ? open_seats(section->seats, number_of_seats(barrier), pairs, count, cards) : ELLTREE_NO_MEMORY;
+    const uint64_t more = at_least(cards, count + 1) - count; /* besides those of the pairs */
+    const int32_t code = section ? open_seats(section->seats, number_of_seats(barrier), pairs, count, more) : ELLTREE_NO_MEMORY;
     if (code != ELLTREE_YES) {
         free_lines(section);
         return code;
     }
     section->first = first;
     section->upto = upto;
-    section->reserve = cards / 4;
-    section->cards = cards;
+    section->cards = count + more;
     section->keys = count;
+    section->least = count ? pairs[0].key : first;
+    section->greatest = count ? pairs[count - 1].key : upto;
     atomic_store(&section->about, (int64_t)count);
     *made = section;
     return code;
@@ -79,13 +93,13 @@ static void free_heirs(const struct barrier *barrier, struct heirs *heirs) {
 /* Into how many sections so many keys are parted. */
 static uint32_t number_of_parts(const struct barrier *barrier, uint64_t keys) {
     const uint64_t most = section_keys(barrier), half = most / 2;
-    return keys > most ? (uint32_t)((keys + half - 1) / half) : 1;
+    return keys > most ? (uint32_t)((keys + half / 2) / half) : 1;
 }
 
-/* Makes sections of about the same number of pairs each, for all keys from one on and below another. Each has these cards. If it is refused,
-   nothing is made. */
+/* Makes sections of about the same number of pairs each, for all keys from one on and below another, with these cards. If it is refused, nothing is
+   made. */
 static int32_t make_heirs(const struct barrier *barrier, struct heirs **made, uint64_t first, uint64_t upto, const struct elltree_pair *pairs,
-                          size_t count, uint64_t cards) {
+                          size_t count, struct cards cards) {
     const uint32_t parts = number_of_parts(barrier, count);
     struct heirs *heirs = malloc(sizeof *heirs + parts * sizeof(struct section *));
     int32_t code = heirs ? ELLTREE_YES : ELLTREE_NO_MEMORY;
@@ -94,8 +108,9 @@ static int32_t make_heirs(const struct barrier *barrier, struct heirs **made, ui
     atomic_init(&heirs->failed, false);
     for (heirs->count = 0; code == ELLTREE_YES && heirs->count < parts; heirs->count += code == ELLTREE_YES) {
         const size_t from = count * heirs->count / parts, end = count * (heirs->count + UINT64_C(1)) / parts;
-        code = make_section(barrier, &heirs->sections[heirs->count], heirs->count ? pairs[from].key : first, end < count ? pairs[end].key : upto,
-                            count ? pairs + from : NULL, end - from, cards);
+        const uint64_t least = heirs->count ? pairs[from].key : first, behind = end < count ? pairs[end].key : upto;
+        const uint64_t more = (from ? 0 : cards.first) + (end < count ? 0 : cards.last);
+        code = make_section(barrier, &heirs->sections[heirs->count], least, behind, count ? pairs + from : NULL, end - from, cards.each + more);
     }
     if (code != ELLTREE_YES)
         free_heirs(barrier, heirs);

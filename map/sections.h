@@ -6,13 +6,15 @@
 
 struct heirs;
 
-/* A slot of a section's tree, in lines of its own. */
+/* A slot of a section's tree, in lines of its own. The thread that has it notes what it adds and takes there, and others read that. */
 struct seat {
     _Alignas(LINE) struct elltree_slot slot;
+    _Atomic int64_t added; /* keys added to the section less keys taken */
 };
 
-/* Why a section is renewed. */
-enum reason { NO_REASON, FEW_CARDS, FEW_KEYS, MANY_KEYS, MANY_CARDS, WANTED };
+/* Why a section is renewed. Of the first three, it has few cards for its keys, calls hold many back, or a call has waited for one: a call has found
+   none. */
+enum reason { NO_REASON, NO_CARDS, HELD_CARDS, SLOW_CARDS, FEW_CARDS, FEW_KEYS, MANY_KEYS, MANY_CARDS, WANTED };
 
 /* What calls read of a section is written before they see it, but for `heirs`, `replaced` and `due`. `renewing` guards what is written later, but for
    what calls count. */
@@ -22,13 +24,14 @@ struct section {
     _Atomic(struct heirs *) heirs;        /* the sections that are to replace it, if it is being renewed */
     _Atomic bool replaced;                /* whether they have */
     _Atomic bool due;                     /* whether a search passed over a section without keys before it ended in this one */
-    uint64_t reserve;                     /* how few cards are left when a renewal is due */
-    uint64_t cards, keys, effort;         /* its cards, the keys that it began with, and the nanoseconds of a processor that it took to make it */
-    uint64_t opened_at, all_effort;       /* when it was made, and what all renewals of the map had taken by then */
-    uint64_t renewals;                    /* how many the map had by then */
+    uint64_t cards, keys;                 /* its cards, and how many keys it began with */
+    uint64_t least, greatest;             /* of these, or of all keys that it may have, if it began with none */
+    uint64_t renewals;                    /* how many the map had when it was made */
     _Alignas(LINE) _Atomic bool renewing; /* whether a thread renews it, or has renewed it */
-    _Atomic uint64_t spent_at;            /* when a call found its cards spent, or 0 */
-    _Atomic int64_t about;                /* how many keys it has, as far as the calls tell that were weighed */
+    _Atomic uint64_t spent_at;            /* since when calls wait for cards, or 0 */
+    _Atomic uint32_t waits;               /* how often calls have begun to wait for them */
+    _Atomic uint64_t weighed;             /* how many of its changes were weighed */
+    _Atomic int64_t about;                /* how many keys it has, as far as the calls tell that were weighed since it was counted */
     struct seat seats[];                  /* one for each place, and the last for the thread that renews the section */
 };
 
@@ -55,16 +58,26 @@ static uint64_t section_keys(const struct barrier *barrier);
 /* Into how many sections so many keys are parted. */
 static uint32_t number_of_parts(const struct barrier *barrier, uint64_t keys);
 
-/* The slot of a section that the thread has that has this place. */
+/* The seat in a section that the thread has that has this place, and its slot. */
+static struct seat *seat_of(struct section *section, const struct place *place);
 static struct elltree_slot *slot_of(struct section *section, const struct place *place);
-/* The slot that only the thread has that renews the section. */
-static struct elltree_slot *slot_to_renew(const struct barrier *barrier, struct section *section);
+/* The seat that only the thread has that renews the section. */
+static struct seat *seat_to_renew(const struct barrier *barrier, struct section *section);
+/* Notes how many keys more a section has by a call on this seat. */
+static void note_added(struct seat *seat, int64_t more);
+/* How many keys a section has, but for those of calls under way. */
+static uint64_t count_section(const struct barrier *barrier, const struct section *section);
 /* Frees a section and its tree. */
 static void free_section(const struct barrier *barrier, struct section *section);
 
-/* Makes sections of these pairs, for all keys from one on and below another, with so many cards each. */
+/* How many cards heirs get, those of their pairs among them: each so many, and the first and the last one some more. */
+struct cards {
+    uint64_t each, first, last;
+};
+
+/* Makes sections of these pairs, for all keys from one on and below another, with these cards. */
 static int32_t make_heirs(const struct barrier *barrier, struct heirs **made, uint64_t first, uint64_t upto, const struct elltree_pair *pairs,
-                          size_t count, uint64_t cards);
+                          size_t count, struct cards cards);
 /* Frees heirs, with their sections. */
 static void free_heirs(const struct barrier *barrier, struct heirs *heirs);
 /* The heir that a key belongs to. */

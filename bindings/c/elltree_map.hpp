@@ -283,7 +283,7 @@ public:
         return out;
     }
 
-    /* Renews all sections now, one after the other, so that a program has renewals at a moment of its choice. */
+    /* Renews all sections now, one after the other: those that have more cards than their keys need give cards back. */
     void renew() { check(elltree_map_renew(map_)); }
 
     /* Returns what has happened to the map so far. */

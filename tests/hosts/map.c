@@ -1,7 +1,7 @@
-/* Threads over one map object, which renews itself every few thousand changes. Each thread has keys of its own, by which it knows each answer, and
-   all add to shared counters, which lose nothing; ranges go on meanwhile, and a thread sleeps between two calls. Four threads at work and then 64;
-   at the end no memory is left over. Then values that are put and taken and are told once each; snapshots of two keys that change one after the
-   other; many sections, which are parted and joined; keys in order, which make no list; and each answer and refusal of one thread. */
+/* Threads over one map object, which another thread renews all the time. Each thread has keys of its own, by which it knows each answer, and all add
+   to shared counters, which lose nothing; ranges go on meanwhile, and a thread sleeps between two calls. Four threads at work and then 64; at the end
+   no memory is left over. Then values that are put and taken and are told once each; snapshots of two keys that change one after the other; many
+   sections, which are parted and joined; keys in order, which make no list; and each answer and refusal of one thread. */
 #define _GNU_SOURCE
 #include "elltree_map.h"
 #include <malloc.h>
@@ -9,32 +9,37 @@
 #include <stdio.h>
 #include <string.h>
 #include <time.h>
-#include <unistd.h>
 
 #ifndef OPS
 #define OPS 200000
 #endif
 enum { MOST = 64, KEYS = 32, COUNTERS = 4, CARDS = 3000, STEADY = 40, TOKENS = 8, MANY = 20000, CROWD = 4, KEPT = 4000000 };
+enum { RENEWALS = 25, RENEWALS_OF_MANY = 4, RESTED = 2, PATIENCE = 2000 };
 
 static struct elltree_map *map;
-static int working; /* how many threads share the map, and part the keys among them */
+static int working;       /* how many threads share the map, and part the keys among them */
+static uint64_t renewals; /* that are to be beside them; where threads are many, each takes long on a busy machine */
 
 static uint64_t next(uint64_t *seed) { return *seed ^= *seed << 13, *seed ^= *seed >> 7, *seed ^= *seed << 17; }
 
-/* A map with few cards, which keeps so few: renewals may take all of the time, and none may take long. */
 static long make_map(uint64_t cards, uint32_t calls, const struct elltree_pair *pairs, size_t count) {
     struct elltree_map_settings settings = ELLTREE_MAP_SETTINGS;
     settings.cards = cards;
-    settings.renewal_percent = 100;
-    settings.renewal_microseconds = 1;
     settings.calls = calls;
     return elltree_map_from_sorted(&map, pairs, count, &settings, sizeof settings) != ELLTREE_YES;
 }
 
+static struct elltree_map_counters counts_of_map(void) {
+    struct elltree_map_counters counts = {0, 0, 0, 0, 0, 0, 0};
+    if (elltree_map_counts(map, &counts, sizeof counts) != ELLTREE_YES)
+        counts.sections = 0;
+    return counts;
+}
+
 /* Ends the map, and tells how often it was renewed, which is to be this often at least. */
 static long end_map(const char *what, long wrong, uint64_t renewals) {
-    struct elltree_map_counters counts = {0, 0, 0, 0, 0, 0, 0};
-    wrong += elltree_map_counts(map, &counts, sizeof counts) != ELLTREE_YES || counts.renewals < renewals;
+    const struct elltree_map_counters counts = counts_of_map();
+    wrong += counts.sections == 0 || counts.renewals < renewals;
     printf("%s: %llu sections, %llu renewals, the longest pause %.2f ms, %ld wrong\n", what, (unsigned long long)counts.sections,
            (unsigned long long)counts.renewals, (double)counts.longest_nanoseconds / 1e6, wrong);
     elltree_map_free(map);
@@ -48,6 +53,28 @@ static void run_threads(void *(*work)(void *), void *workers, size_t size, int c
         pthread_create(&running[t], NULL, work, (char *)workers + (size_t)t * size);
     for (int t = 0; t < count; t++)
         pthread_join(running[t], NULL);
+}
+
+static int is_over;
+
+/* A thread that renews all sections, again and again, until the others are at their end, and once at least. */
+static void *renew(void *given) {
+    do
+        *(long *)given += elltree_map_renew(map) != ELLTREE_YES;
+    while (!__atomic_load_n(&is_over, __ATOMIC_SEQ_CST));
+    return NULL;
+}
+
+/* Runs threads beside one that renews the map. */
+static long run_beside_renewals(void *(*work)(void *), void *workers, size_t size, int count) {
+    pthread_t renewing;
+    long wrong = 0;
+    __atomic_store_n(&is_over, 0, __ATOMIC_SEQ_CST);
+    pthread_create(&renewing, NULL, renew, &wrong);
+    run_threads(work, workers, size, count);
+    __atomic_store_n(&is_over, 1, __ATOMIC_SEQ_CST);
+    pthread_join(renewing, NULL);
+    return wrong;
 }
 
 /* Keys of their own, counters and ranges. */
@@ -119,10 +146,11 @@ static void range(struct worker *w) {
     w->wrong += steady != STEADY || own != w->keys;
 }
 
+/* Works on beyond its share, until there were some renewals meanwhile. */
 static void *work(void *given) {
     struct worker *w = given;
     uint64_t was;
-    for (int i = 0; i < OPS / working; i++) {
+    for (int i = 0; i < OPS / working || counts_of_map().renewals < renewals; i++) {
         const uint64_t random = next(&w->seed) >> 10;
         const int place = (int)(random % KEYS);
         if (random >> 20 & 1)
@@ -139,15 +167,17 @@ static void *work(void *given) {
     return NULL;
 }
 
-/* A thread that sleeps between two calls holds up nobody: the others renew meanwhile. */
+/* A thread that sleeps between two calls on keys holds up nobody: some renewals begin and end meanwhile. */
 static void *sleep_between(void *given) {
     struct worker *w = given;
-    struct elltree_map_counters before = {0, 0, 0, 0, 0, 0, 0}, after = before;
-    const struct timespec while_ = {1, 0};
+    const struct timespec while_ = {0, 50000000};
+    uint64_t before;
+    int times = 0;
     change(w, 0, 1);
-    w->wrong += elltree_map_counts(map, &before, sizeof before) != ELLTREE_YES;
-    nanosleep(&while_, NULL);
-    w->wrong += elltree_map_counts(map, &after, sizeof after) != ELLTREE_YES || after.renewals == before.renewals;
+    before = counts_of_map().renewals;
+    while (counts_of_map().renewals < before + RESTED && times++ < PATIENCE)
+        nanosleep(&while_, NULL);
+    w->wrong += times > PATIENCE;
     look(w, 0);
     return NULL;
 }
@@ -190,9 +220,10 @@ static long share(int count, uint32_t calls) {
         w[t].seed = 88172645463325252u + (uint64_t)t * 7919;
     }
     working = count - 1;
-    run_threads(work_or_sleep, w, sizeof *w, count);
+    renewals = count < MOST ? RENEWALS : RENEWALS_OF_MANY;
+    wrong += run_beside_renewals(work_or_sleep, w, sizeof *w, count);
     snprintf(name, sizeof name, "%d threads", count);
-    return end_map(name, wrong + compare(w, count), OPS / 8000);
+    return end_map(name, wrong + compare(w, count), renewals);
 }
 
 /* The bytes that the process has taken from the allocator and not given back. What the allocator keeps for later depends on how the threads met. */
@@ -244,7 +275,7 @@ static long tokens(void) {
     long wrong = make_map(CARDS, 0, NULL, 0);
     for (uint64_t i = 0; i < TOKENS; i++)
         t[i] = (struct teller){i, 0, 0, 9973 + i, 0};
-    run_threads(put_and_remove, t, sizeof *t, TOKENS);
+    wrong += run_beside_renewals(put_and_remove, t, sizeof *t, TOKENS);
     wrong += elltree_map_pairs(map, left, 3, &count) != ELLTREE_YES;
     for (size_t i = 0; i < count; i++)
         told += left[i].value;
@@ -280,8 +311,8 @@ static void *write_or_list(void *given) {
 static long snapshots(void) {
     const struct elltree_pair start[2] = {{1, 0}, {2, 0}};
     struct taker t[3] = {{0, 0}, {1, 0}, {2, 0}};
-    const long wrong = make_map(CARDS, 0, start, 2);
-    run_threads(write_or_list, t, sizeof *t, 3);
+    long wrong = make_map(CARDS, 0, start, 2);
+    wrong += run_beside_renewals(write_or_list, t, sizeof *t, 3);
     return end_map("snapshots", wrong + t[0].wrong + t[1].wrong + t[2].wrong, 1);
 }
 
@@ -353,7 +384,6 @@ static void *fill_and_empty(void *given) {
 static long sections(void) {
     static uint64_t values[CROWD][MANY];
     struct filler f[CROWD];
-    struct elltree_map_counters counts = {0, 0, 0, 0, 0, 0, 0};
     size_t length = 0, keys = 0;
     uint64_t was;
     long wrong = make_map(CARDS, 0, NULL, 0);
@@ -369,15 +399,13 @@ static long sections(void) {
     for (uint64_t i = 0; i < 10 * MANY; i++) { /* a queue: its sections come and go */
         wrong += elltree_map_insert(map, MANY * CROWD + i, i) != ELLTREE_YES;
         wrong += i >= MANY && (elltree_map_remove(map, MANY * (CROWD - 1) + i, &was) != ELLTREE_YES || was != i - MANY);
-        if (i == MANY)
-            wrong += elltree_map_counts(map, &counts, sizeof counts) != ELLTREE_YES || counts.sections < 3;
+        wrong += i == MANY && counts_of_map().sections < 3;
     }
-    wrong += elltree_map_counts(map, &counts, sizeof counts) != ELLTREE_YES || counts.sections < 3 || counts.sections > 40;
+    wrong += counts_of_map().sections < 3 || counts_of_map().sections > 40;
     return end_map("sections", wrong, 20);
 }
 
-/* Keys in order make no tree deep: a map with cards enough parts its sections, whatever the order of the keys, and renews them for hardly any other
-   reason. */
+/* Keys in order make no tree deep: a map parts its sections, whatever the order of the keys, and renews them for hardly any other reason. */
 
 static uint64_t ascending(uint64_t i) { return 5 * i; }
 static uint64_t descending(uint64_t i) { return 5 * (MANY - i); }
@@ -388,7 +416,7 @@ static uint64_t shuffled(uint64_t i) {
 }
 
 static long add_many(const char *what, uint64_t (*key)(uint64_t i)) {
-    struct elltree_map_counters counts = {0, 0, 0, 0, 0, 0, 0};
+    struct elltree_map_counters counts;
     size_t length = 0;
     uint64_t value = 0;
     long wrong = make_map(ELLTREE_CARDS_MAX, 0, NULL, 0);
@@ -397,7 +425,8 @@ static long add_many(const char *what, uint64_t (*key)(uint64_t i)) {
     for (uint64_t i = 0; i < MANY; i++)
         wrong += elltree_map_get(map, key(i), &value) != ELLTREE_YES || value != i;
     wrong += elltree_map_len(map, &length) != ELLTREE_YES || length != MANY;
-    wrong += elltree_map_counts(map, &counts, sizeof counts) != ELLTREE_YES || counts.renewals > MANY / 200 || counts.early_renewals;
+    counts = counts_of_map();
+    wrong += counts.renewals > 2 * counts.sections || counts.early_renewals;
     return end_map(what, wrong, 1);
 }
 

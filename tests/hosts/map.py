@@ -1,5 +1,5 @@
-"""A Map of Python: each call of a dict and of its own beside a dict, also with keys that no map has; then threads that share one map, which renews
-itself, with keys of their own and shared counters, iterations meanwhile, and values that are told once each, as are pairs that threads pop; and a
+"""A Map of Python: each call of a dict and of its own beside a dict, also with keys that no map has; then threads that share one map, which another
+thread renews all the time, with keys of their own and shared counters, iterations meanwhile, and values that are told once each, as are pairs that threads pop; and a
 forked child, which is refused."""
 import decimal
 import fractions
@@ -16,7 +16,7 @@ KEYS = 50
 
 def as_dict(faults):
     """One thread compares a map with a dict, call by call."""
-    shared, plain, rng = elltree.Map({3: 30, 1: 10}, cards=200, renewal_percent=100), {1: 10, 3: 30}, random.Random(7)
+    shared, plain, rng = elltree.Map({3: 30, 1: 10}, cards=200), {1: 10, 3: 30}, random.Random(7)
     calls = {
         "get": lambda m, key, value: m.get(key),
         "in": lambda m, key, value: key in m,
@@ -29,14 +29,16 @@ def as_dict(faults):
         "keys": lambda m, key, value: sorted(m),
         "values": lambda m, key, value: sorted(m.values()),
     }
-    for _ in range(CALLS):
+    for count in range(CALLS):
+        if count % 100 == 0:
+            shared.renew()
         name, key, value = rng.choice(list(calls)), rng.randrange(KEYS), rng.randrange(2**64)
         said, right = (calls[name](m, key, value) for m in (shared, plain))
         if said != right:
             faults.append(f"{name} {key}: {said}, and not {right}")
     faults += [] if shared == plain and list(reversed(shared)) == sorted(plain, reverse=True) else ["the map is not the dict"]
     shared.clear()
-    faults += [] if not shared and list(shared) == [] and shared.counts()["renewals"] > 3 else ["the map is not clear"]
+    faults += [] if not shared and list(shared) == [] and shared.counts()["renewals"] >= CALLS // 100 else ["the map is not clear"]
 
 
 def raises(error, call, *args):
@@ -142,14 +144,34 @@ def work(number, m, faults, told):
                 faults.append(f"thread {number}: range")
 
 
-def threads(faults):
-    m, told = elltree.Map({0: 0, 1: 0, 2: 0}, cards=2000, renewal_percent=100), [0] * THREADS
-    assert 1000 % THREADS == 0
-    working = [threading.Thread(target=work, args=(number, m, faults, told)) for number in range(THREADS)]
-    for thread in working:
+def renew_until(m, is_over, faults):
+    """Renews a map until this is over, and once at least."""
+    while True:
+        try:
+            m.renew()
+        except elltree.Refused as why:
+            faults.append(f"renew: {why}")
+        if is_over.is_set():
+            return
+
+
+def run_beside_renewals(m, working, faults):
+    """Runs threads to their end, beside one that renews the map."""
+    is_over = threading.Event()
+    renewing = threading.Thread(target=renew_until, args=(m, is_over, faults))
+    for thread in [renewing, *working]:
         thread.start()
     for thread in working:
         thread.join()
+    is_over.set()
+    renewing.join()
+
+
+def threads(faults):
+    m, told = elltree.Map({0: 0, 1: 0, 2: 0}, cards=2000), [0] * THREADS
+    assert 1000 % THREADS == 0
+    working = [threading.Thread(target=work, args=(number, m, faults, told)) for number in range(THREADS)]
+    run_beside_renewals(m, working, faults)
     sums = [m[key] for key in range(3)]
     if sum(sums) != THREADS * CALLS or sum(told) + m.get(500, 0) != 0:
         faults.append(f"counters {sums}, tokens {sum(told)}")
@@ -163,12 +185,9 @@ def take(m, from_end, taken):
 
 def pops(faults):
     """Threads that empty a map from both ends get each pair once."""
-    m, taken = elltree.Map({key: key * 3 for key in range(CALLS)}, cards=1000, renewal_percent=100), [[] for _ in range(THREADS)]
+    m, taken = elltree.Map({key: key * 3 for key in range(CALLS)}, cards=1000), [[] for _ in range(THREADS)]
     working = [threading.Thread(target=take, args=(m, number % 2, taken[number])) for number in range(THREADS)]
-    for thread in working:
-        thread.start()
-    for thread in working:
-        thread.join()
+    run_beside_renewals(m, working, faults)
     if sorted(sum(taken, [])) != [(key, key * 3) for key in range(CALLS)] or m:
         faults.append("pairs were popped twice, or not at all")
     faults += ["pops are not in order" for number, pairs in enumerate(taken) if pairs != sorted(pairs, reverse=bool(number % 2))]

@@ -1,4 +1,4 @@
-//! Threads of Rust, 2 to 64, that share one map, which renews itself every thousand changes: they get, insert, put, remove and exchange the same
+//! Threads of Rust, 2 to 64, that share one map, which another thread renews all the time: they get, insert, put, remove and exchange the same
 //! few keys and go over ranges of them. Each call is noted with its begin and its end by one clock, and the calls on each key are to be in order,
 //! by the check of shared.rs. A range is noted as a get of each of its keys, and so is a snapshot. All threads add to counters in each way that
 //! there is, and no addition is lost. A forked child can't use the map, and a closure that panics leaves it as it is. With `--seconds=N` it makes
@@ -7,7 +7,7 @@
 use elltree::{Map, MapError, MapSettings};
 use shared::{Call, Made, are_in_order, next, of_each};
 use std::panic::{catch_unwind, resume_unwind};
-use std::sync::atomic::{AtomicU64, Ordering::SeqCst};
+use std::sync::atomic::{AtomicBool, AtomicU64, Ordering::SeqCst};
 use std::time::{Duration, Instant};
 
 #[allow(dead_code)]
@@ -19,9 +19,9 @@ const ADDITIONS: u64 = 2_000;
 // A counter stands behind the keys that the calls of a round are on.
 const COUNTER: u64 = 1_000;
 
-/// A map with few cards that keeps so few.
+/// A map with few cards.
 fn open(start: &[(u64, u64)]) -> Result<Map, MapError> {
-    Map::from_sorted(start, MapSettings { cards: 1_000, renewal_percent: 100, ..Default::default() })
+    Map::from_sorted(start, MapSettings { cards: 1_000, ..Default::default() })
 }
 
 /// Exchanges the value that the worker has seen last for another: what it found is what it has seen.
@@ -106,12 +106,26 @@ fn work(map: &Map, worker: u32, keys: u64, calls: u64, mut seed: u64, clock: &At
     Ok(all)
 }
 
-/// Some threads call: what each of them makes of its number.
-fn in_threads<T: Send>(threads: u32, of_one: impl Fn(u32) -> Result<T, MapError> + Sync) -> Vec<T> {
-    let of_one = &of_one;
+/// Renews a map until this is over, and once at least.
+fn renew_until(map: &Map, is_over: &AtomicBool) -> Result<(), MapError> {
+    loop {
+        map.renew()?;
+        if is_over.load(SeqCst) {
+            return Ok(());
+        }
+    }
+}
+
+/// Some threads call, beside one that renews the map: what each of them makes of its number.
+fn in_threads<T: Send>(map: &Map, threads: u32, of_one: impl Fn(u32) -> Result<T, MapError> + Sync) -> Vec<T> {
+    let (of_one, is_over) = (&of_one, &AtomicBool::new(false));
     std::thread::scope(|scope| {
+        let renewing = scope.spawn(move || renew_until(map, is_over).unwrap());
         let working: Vec<_> = (0..threads).map(|worker| scope.spawn(move || of_one(worker).unwrap())).collect();
-        working.into_iter().map(|thread| thread.join().unwrap()).collect()
+        let ended = working.into_iter().map(|thread| thread.join()).collect::<Vec<_>>();
+        is_over.store(true, SeqCst);
+        renewing.join().unwrap();
+        ended.into_iter().map(Result::unwrap).collect()
     })
 }
 
@@ -121,7 +135,7 @@ fn round(threads: u32, keys: u64, calls: u64, seed: u64) -> Result<(usize, u64),
     start.push((COUNTER, 0));
     let (map, clock) = (open(&start)?, AtomicU64::new(1));
     let seed_of = |worker: u32| (seed * 64 + u64::from(worker) + 1).wrapping_mul(0x9e37_79b9_7f4a_7c15);
-    let made = in_threads(threads, |worker| work(&map, worker, keys, calls, seed_of(worker), &clock)).concat();
+    let made = in_threads(&map, threads, |worker| work(&map, worker, keys, calls, seed_of(worker), &clock)).concat();
     let mut there = 1;
     for key in 0..keys {
         let left = map.get(key);
@@ -148,7 +162,7 @@ fn exchange_one_more(map: &Map, key: u64) -> Result<(), MapError> {
 fn count(threads: u32) -> Result<u64, MapError> {
     let map = open(&[(1, 0), (2, 0), (3, 0), (4, 0)])?;
     let each = ADDITIONS / u64::from(threads);
-    in_threads(threads, |_| {
+    in_threads(&map, threads, |_| {
         for _ in 0..each {
             map.fetch_add(1, 1)?.unwrap();
             map.update(2, |value| value + map.get(4).map_or(0, |zero| zero + 1))?.unwrap();

@@ -29,8 +29,6 @@ static uint64_t next(uint64_t *seed) { return *seed ^= *seed << 13, *seed ^= *se
 static long make_map(const struct elltree_pair *pairs, size_t count) {
     struct elltree_map_settings settings = ELLTREE_MAP_SETTINGS;
     settings.cards = CARDS;
-    settings.renewal_percent = 100;
-    settings.renewal_microseconds = 1;
     return elltree_map_from_sorted(&map, pairs, count, &settings, sizeof settings) != ELLTREE_YES;
 }
 
@@ -335,7 +333,6 @@ static long sizes(void) {
     uint64_t usual = 0, cards = 0;
     long wrong = made_by(&settings, sizeof settings, 0, &usual) + (usual == CARDS || usual == 0);
     settings.cards = CARDS;
-    settings.renewal_percent = 100;
     settings.calls = 64;
     for (size_t size = 0; size <= sizeof settings + MORE; size += 4) {
         if (size == 4) /* half of a number */

@@ -1,12 +1,12 @@
 /* A map of many keys is emptied in five ways: its sections are joined as they lose their keys, so that few are left, and their memory is the
-   allocator's again. So a search for the first key doesn't walk over more and more sections. Then sections that were busy once give their cards
-   back, as others change, and by elltree_map_renew. And an empty map takes little memory, and is made soon. */
+   allocator's again. So a search for the first key doesn't walk over more and more sections. Then sections with more cards than their keys need give
+   them back, as others are renewed, and by elltree_map_renew. And an empty map takes little memory, and is made soon. */
 #include "elltree_map.h"
 #include <malloc.h>
 #include <stdio.h>
 #include <time.h>
 
-enum { KEYS = 100000, SPREAD = 50, HOT = 2000, CHANGES = 300000, ROUNDS = 40, MAPS = 200 };
+enum { KEYS = 100000, SPREAD = 50, PART = 20000, CARDS = 1000000, ROUNDS = 40, MAPS = 200, CARDS_A_KEY = 3, CARDS_LEAST = 512 };
 enum way { POP_FIRST, POP_LAST, BY_KEY, BACKWARDS, SHUFFLED, WAYS };
 
 static struct elltree_map *map;
@@ -73,25 +73,45 @@ static long empty(enum way way) {
     return wrong + (elltree_map_free(map) != ELLTREE_YES);
 }
 
-/* A few keys of each section change until its tree has many cards, one section after the other, and then those of one section alone. */
+/* How many cards such a map has at most if each section has what it needs. */
+static uint64_t cards_needed(void) { return CARDS_A_KEY * KEYS + CARDS_LEAST * counts().sections; }
+
+static long make_with_many_cards(void) {
+    static struct elltree_pair pairs[KEYS];
+    struct elltree_map_settings settings = ELLTREE_MAP_SETTINGS;
+    settings.cards = CARDS;
+    for (uint64_t i = 0; i < KEYS; i++)
+        pairs[i] = (struct elltree_pair){SPREAD * i, i};
+    return (elltree_map_from_sorted(&map, pairs, KEYS, &settings, sizeof settings) != ELLTREE_YES) + (counts().cards < CARDS);
+}
+
+/* The last keys are taken away and come back, so that their sections are joined and parted again and again: meanwhile the others, whose keys don't
+   change, give cards back. */
 static long cool_down(void) {
-    uint64_t was, busy, cool;
-    long wrong = elltree_map_new(&map) != ELLTREE_YES;
-    wrong += fill();
-    for (uint64_t part = 0; part < KEYS; part += HOT)
-        for (uint64_t i = 0; i < CHANGES / 10; i++)
-            wrong += elltree_map_put(map, SPREAD * (part + i % HOT), i, &was) != ELLTREE_YES;
-    busy = counts().cards;
-    cool = busy;
-    for (int round = 0; round < ROUNDS && cool > busy / 2; round++) {
-        for (uint64_t i = 0; i < CHANGES; i++)
-            wrong += elltree_map_put(map, SPREAD * (i % HOT), i, &was) != ELLTREE_YES;
+    uint64_t was, cool = CARDS;
+    long before = memory(), busy;
+    int round = 0;
+    long wrong = make_with_many_cards();
+    busy = memory() - before;
+    for (; round < ROUNDS && cool > CARDS / 2; round++) {
+        for (uint64_t i = KEYS - PART; i < KEYS; i++)
+            wrong += elltree_map_remove(map, SPREAD * i, &was) != ELLTREE_YES;
+        for (uint64_t i = KEYS - PART; i < KEYS; i++)
+            wrong += elltree_map_insert(map, SPREAD * i, i) != ELLTREE_YES;
         cool = counts().cards;
     }
-    wrong += elltree_map_renew(map) != ELLTREE_YES || elltree_map_renew(map) != ELLTREE_YES;
-    printf("%llu cards of busy sections, %llu when they are no more, %llu after two renewals\n", (unsigned long long)busy, (unsigned long long)cool,
-           (unsigned long long)counts().cards);
-    wrong += cool > busy / 2 || counts().cards > KEYS;
+    printf("%d cards, %llu after %d rounds and %llu renewals, %ld and %ld kB\n", CARDS, (unsigned long long)cool, round,
+           (unsigned long long)counts().renewals, busy / 1000, (memory() - before) / 1000);
+    wrong += cool > CARDS / 2 || memory() - before > busy * 3 / 4;
+    return wrong + (elltree_map_free(map) != ELLTREE_YES);
+}
+
+/* The same by one renewal of each section. */
+static long cool_at_once(void) {
+    long wrong = make_with_many_cards();
+    wrong += elltree_map_renew(map) != ELLTREE_YES;
+    printf("%llu cards after a renewal of each section\n", (unsigned long long)counts().cards);
+    wrong += counts().cards > cards_needed();
     return wrong + (elltree_map_free(map) != ELLTREE_YES);
 }
 
@@ -116,7 +136,7 @@ int main(void) {
     long wrong = 0;
     for (int way = 0; way < WAYS; way++)
         wrong += empty((enum way)way);
-    wrong += cool_down() + make_many();
+    wrong += cool_down() + cool_at_once() + make_many();
     printf("%ld wrong\n", wrong);
     return wrong != 0;
 }

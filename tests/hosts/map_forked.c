@@ -92,8 +92,6 @@ int main(void) {
     struct elltree_map_settings settings = ELLTREE_MAP_SETTINGS;
     long wrong = 0, work_wrong[WORKERS] = {0}, failed = 0;
     settings.cards = CARDS;
-    settings.renewal_percent = 100;
-    settings.renewal_microseconds = 1;
     wrong += elltree_map_from_sorted(&map, NULL, 0, &settings, sizeof settings) != ELLTREE_YES;
     for (int i = 0; i < WORKERS; i++)
         pthread_create(&threads[i], NULL, work, &work_wrong[i]);

@@ -1,11 +1,12 @@
-/* Histories of one map object: in each round three threads make a few calls on the same key, beside renewals, and note when each began and ended.
+/* Histories of one map object: in each round three threads make a few calls on the same key, beside a thread that renews the map all the time, and
+   note when each began and ended.
    For each round there is an order of the calls in which one map answers them so, each call between its begin and its end. The check of that is
    tried first on histories that are right and wrong. */
 #include "elltree_map.h"
 #include <pthread.h>
 #include <stdio.h>
 
-enum { THREADS = 3, CALLS = 4, ALL = THREADS * CALLS, ROUNDS = 20000, KEY = 7, BESIDE = 40, CARDS = 60 };
+enum { THREADS = 3, CALLS = 4, ALL = THREADS * CALLS, ROUNDS = 20000, RENEWALS = 1000, KEY = 7, BESIDE = 40, CARDS = 60 };
 enum kind { GET, INSERT, PUT, REMOVE, EXCHANGE, GET_OR_INSERT, REMOVE_IF, KINDS };
 
 /* A call: `other` is the value that an exchange or a conditional remove expects. `said` and `told` are its answer. */
@@ -18,6 +19,7 @@ struct call {
 static struct elltree_map *map;
 static struct call history[ALL];
 static uint64_t clock_; /* counts begins and ends */
+static int is_over, is_renewed;
 static pthread_barrier_t barrier;
 
 static uint64_t next(uint64_t *seed) { return *seed ^= *seed << 13, *seed ^= *seed >> 7, *seed ^= *seed << 17; }
@@ -111,13 +113,15 @@ static void make(struct call *it) {
     it->ended = __atomic_fetch_add(&clock_, 1, __ATOMIC_SEQ_CST);
 }
 
-/* The calls of one thread in all rounds. Values are few, so that a key often has one that it had before. Between its calls it changes other keys,
-   so that renewals go on. */
+/* The calls of one thread in all rounds. Values are few, so that a key often has one that it had before. Between its calls it changes other keys of
+   the same section. */
 static void *work(void *given) {
     struct call *own = given;
     uint64_t seed = 88172645463325252u + (uint64_t)(own - history), was;
-    for (int round = 0; round < ROUNDS; round++) {
+    for (;;) {
         pthread_barrier_wait(&barrier);
+        if (is_over)
+            return NULL;
         for (int i = 0; i < CALLS; i++) {
             const uint64_t random = next(&seed) >> 20;
             own[i] = (struct call){.kind = (enum kind)(random % KINDS), .value = random >> 8 & 3, .other = random >> 12 & 3};
@@ -127,32 +131,45 @@ static void *work(void *given) {
         }
         pthread_barrier_wait(&barrier);
     }
+}
+
+static void *renew(void *given) {
+    while (!__atomic_load_n(&is_renewed, __ATOMIC_SEQ_CST))
+        *(long *)given += elltree_map_renew(map) != ELLTREE_YES;
     return NULL;
+}
+
+static uint64_t renewals(void) {
+    struct elltree_map_counters counts = {0, 0, 0, 0, 0, 0, 0};
+    return elltree_map_counts(map, &counts, sizeof counts) == ELLTREE_YES ? counts.renewals : 0;
 }
 
 int main(void) {
     struct elltree_map_settings settings = ELLTREE_MAP_SETTINGS;
-    struct elltree_map_counters counts = {0, 0, 0, 0, 0, 0, 0};
-    pthread_t threads[THREADS];
+    pthread_t threads[THREADS], renewing;
     uint64_t value = 0;
-    long wrong = try_check(), out_of_order = 0;
+    long wrong = try_check(), refused = 0, out_of_order = 0;
+    int rounds = 0;
     settings.cards = CARDS;
-    settings.renewal_percent = 100;
-    settings.renewal_microseconds = 1;
     wrong += elltree_map_from_sorted(&map, NULL, 0, &settings, sizeof settings) != ELLTREE_YES;
     pthread_barrier_init(&barrier, NULL, THREADS + 1);
     for (int t = 0; t < THREADS; t++)
         pthread_create(&threads[t], NULL, work, history + t * CALLS);
-    for (int round = 0; round < ROUNDS; round++) {
+    pthread_create(&renewing, NULL, renew, &refused);
+    for (; rounds < ROUNDS || renewals() < RENEWALS; rounds++) {
         const int there = elltree_map_get(map, KEY, &value) == ELLTREE_YES;
         pthread_barrier_wait(&barrier);
         pthread_barrier_wait(&barrier);
         out_of_order += !are_in_order(history, ALL, 0, there, value);
     }
+    is_over = 1;
+    pthread_barrier_wait(&barrier);
     for (int t = 0; t < THREADS; t++)
         pthread_join(threads[t], NULL);
-    wrong += elltree_map_counts(map, &counts, sizeof counts) != ELLTREE_YES || counts.renewals < ROUNDS / 100;
-    printf("%d histories of %d calls, %llu renewals, %ld out of order, %ld wrong\n", ROUNDS, ALL, (unsigned long long)counts.renewals, out_of_order,
+    __atomic_store_n(&is_renewed, 1, __ATOMIC_SEQ_CST);
+    pthread_join(renewing, NULL);
+    wrong += refused;
+    printf("%d histories of %d calls, %llu renewals, %ld out of order, %ld wrong\n", rounds, ALL, (unsigned long long)renewals(), out_of_order,
            wrong);
     elltree_map_free(map);
     return wrong + out_of_order != 0;

@@ -4,17 +4,32 @@
    compiled without it. */
 #include "elltree_map.h"
 #include <pthread.h>
+#include <sched.h>
 #include <stdio.h>
 #include <stdlib.h>
 
-enum { OBJECTS = 3000, WAYS = 6, CARDS = 100, BUSY = 1000000 };
+enum { OBJECTS = 3000, WAYS = 6, CARDS = 100, BUSY = 1000000, RENEWALS = 60 };
 
 struct object {
     uint64_t number, content;
 };
 
 static struct elltree_map *map;
+static int is_over;
 
+/* A third thread, which renews the map all the time. */
+static void *renew(void *given) {
+    while (!__atomic_load_n(&is_over, __ATOMIC_RELAXED))
+        *(long *)given += elltree_map_renew(map) != ELLTREE_YES;
+    return NULL;
+}
+
+static uint64_t renewals(void) {
+    struct elltree_map_counters counts = {0, 0, 0, 0, 0, 0, 0};
+    return elltree_map_counts(map, &counts, sizeof counts) == ELLTREE_YES ? counts.renewals : 0;
+}
+
+/* Stores objects, no faster than the map is renewed. */
 static void *store(void *given) {
     long *wrong = given;
     uint64_t was;
@@ -25,7 +40,9 @@ static void *store(void *given) {
         it->number = i;
         it->content = i * 3;
         *wrong += elltree_map_put(map, i, (uint64_t)(uintptr_t)it, &was) != ELLTREE_NO;
-        *wrong += elltree_map_put(map, BUSY + i % 50, i, &was) < 0; /* so that renewals go on */
+        *wrong += elltree_map_put(map, BUSY + i % 50, i, &was) < 0; /* a key that many changes are on */
+        while (renewals() < i * RENEWALS / OBJECTS)
+            sched_yield();
     }
     return NULL;
 }
@@ -68,19 +85,19 @@ static void *take(void *given) {
 
 int main(void) {
     struct elltree_map_settings settings = ELLTREE_MAP_SETTINGS;
-    struct elltree_map_counters counts = {0, 0, 0, 0, 0, 0, 0};
-    pthread_t threads[2];
-    long wrong[2] = {0, 0}, all = 0;
+    pthread_t threads[2], renewing;
+    long wrong[3] = {0, 0, 0}, all = 0;
     settings.cards = CARDS;
-    settings.renewal_percent = 100;
-    settings.renewal_microseconds = 1;
     all += elltree_map_from_sorted(&map, NULL, 0, &settings, sizeof settings) != ELLTREE_YES;
+    pthread_create(&renewing, NULL, renew, &wrong[2]);
     pthread_create(&threads[0], NULL, store, &wrong[0]);
     pthread_create(&threads[1], NULL, take, &wrong[1]);
     pthread_join(threads[0], NULL);
     pthread_join(threads[1], NULL);
-    all += wrong[0] + wrong[1] + (elltree_map_counts(map, &counts, sizeof counts) != ELLTREE_YES || counts.renewals < 10);
+    __atomic_store_n(&is_over, 1, __ATOMIC_RELAXED);
+    pthread_join(renewing, NULL);
+    all += wrong[0] + wrong[1] + wrong[2];
+    printf("%d objects, %llu renewals, %ld wrong\n", OBJECTS, (unsigned long long)renewals(), all);
     all += elltree_map_free(map) != ELLTREE_YES;
-    printf("%d objects, %llu renewals, %ld wrong\n", OBJECTS, (unsigned long long)counts.renewals, all);
     return all != 0;
 }

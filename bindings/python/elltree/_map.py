@@ -83,9 +83,8 @@ class Map(Ordered, collections.abc.MutableMapping[int, int]):
     ) -> None:
         """Makes a map with the pairs of start, a dict or pairs in any order.
 
-        cards is how many cards the map has when it is made (128). Sections of the map get more cards while renewals take more than renewal_percent of
-        the time (5), but no more than a renewal of renewal_microseconds allows (5,000). calls is how many calls may be under way at once. What is 0
-        is left to the map.
+        cards is how many cards the new map has besides those of its pairs, and calls how many calls may be under way at once. What is 0 is left to
+        the map. renewal_percent and renewal_microseconds have no effect any more.
         """
         self._core = MapCore(
             pair_list(dict(start)),
@@ -288,7 +287,7 @@ class Map(Ordered, collections.abc.MutableMapping[int, int]):
         return self._core.pairs()
 
     def renew(self) -> None:
-        """Renews all sections now, one after the other, so that the renewals come at a moment of the program's choice."""
+        """Renews all sections now, one after the other: those that have more cards than their keys need give cards back."""
         self._core.renew()
 
     def counts(self) -> dict[str, int]:

@@ -40,8 +40,8 @@
 //!
 //! ## Handles
 //!
-//! A map is made of trees, each with a fixed number of cards, of which each change takes one. The map replaces a tree before its cards are used up,
-//! and changes may wait for that. A program that counts its cards itself can have a [`Tree`] alone, and a [`Handle`] of it for each thread. No handle
+//! A map is made of trees, each with a fixed number of cards, of which each change takes one, and gets it back later. The map replaces a tree that
+//! has many keys or few, or no card, and changes may wait for that. A program that counts its cards itself can have a [`Tree`] alone, and a [`Handle`] of it for each thread. No handle
 //! ever waits for another.
 //!
 //! ```

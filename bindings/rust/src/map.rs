@@ -16,16 +16,16 @@ use crate::raw::{self, KEY_MAX, Pair, RawCounts, RawMap, RawSettings};
 /// ```
 /// let settings = elltree::MapSettings { cards: 100_000, ..Default::default() };
 /// let map = elltree::Map::from_sorted(&[(1, 10)], settings)?;
-/// assert_eq!(map.counts().cards, 100_000);
+/// assert_eq!(map.counts().cards, 100_001);
 /// # Ok::<(), elltree::MapError>(())
 /// ```
 #[derive(Clone, Copy, Debug, Default, PartialEq, Eq)]
 pub struct MapSettings {
-    /// The cards of the new map; 128 if this is 0.
+    /// How many cards the new map has besides those of its pairs. If this is 0, an empty map has 128, and any other 2.5 for each pair in all.
     pub cards: u64,
-    /// Sections get more cards while renewals take more than this part of the time, in percent; 5 if this is 0.
+    /// Has no effect any more.
     pub renewal_percent: u32,
-    /// But no more than a renewal of this length allows, in microseconds; 5,000 if this is 0.
+    /// Has no effect any more.
     pub renewal_microseconds: u32,
     /// How many calls may be under way at once, up to 4,096; 8 for each processor, and at least 64, if this is 0.
     pub calls: u32,
@@ -45,7 +45,7 @@ pub struct MapCounts {
     pub early_renewals: u64,
     /// How long a processor was at work on renewals.
     pub renewal_time: Duration,
-    /// The sum of the pauses in which calls on a section waited for its renewal.
+    /// The sum of the pauses in which calls waited for a renewal.
     pub pauses: Duration,
     /// The longest of these pauses.
     pub longest_pause: Duration,
@@ -57,10 +57,10 @@ pub struct MapCounts {
 /// the other, each at one moment between its begin and its end. What a thread did before it stored a value happened before what another thread does
 /// after it has read that value.
 ///
-/// The map consists of sections, each with a tree for its range of keys. Each change takes one of the *cards* of a tree. A change that finds few
-/// cards left *renews* its section: it makes a new tree with fresh cards, while other calls go on, and takes about a millisecond longer. At the end
-/// of a renewal all changes pause, until those of them that are under way have ended, and [`Map::counts`] returns how long. A call that only reads
-/// does not pause, and waits for no other thread, unless more calls are under way than [`MapSettings::calls`] allows. `docs/BARRIER.md` describes how
+/// The map consists of sections, each with a tree for its range of keys. Each change takes one of the *cards* of a tree, and cards come back. Where
+/// a section has many keys or few, or no card is free, a change *renews* it: it makes new trees with the same pairs, while other calls go on, and
+/// takes about a millisecond longer. At the end of a renewal all changes pause, until those of them that are under way have ended, and
+/// [`Map::counts`] returns how long. A call that only reads does not pause, and waits for no other thread, unless more calls are under way than [`MapSettings::calls`] allows. `docs/BARRIER.md` describes how
 /// calls and renewals keep out of each other's way. That part is tested and not proved; the trees below it are proved.
 ///
 /// A key above [`KEY_MAX`] is absent to calls that read, and [`MapError::BadKey`] to calls that change keys. [`TypedMap`](crate::TypedMap) has keys
@@ -650,7 +650,7 @@ impl Map {
         }
     }
 
-    /// Renews all sections now, one after the other, so that a program has renewals at a moment of its choice.
+    /// Renews all sections now, one after the other: those that have more cards than their keys need give cards back.
     ///
     /// # Errors
     ///
@@ -665,10 +665,11 @@ impl Map {
     ///
     /// ```
     /// let map = elltree::Map::new()?;
-    /// for count in 0..10_000 {
-    ///     map.insert(count % 7, count)?; // each takes a card
+    /// for key in 0..10_000 {
+    ///     map.insert(key, 0)?; // a section that has many keys is parted
     /// }
-    /// assert!(map.counts().renewals > 0 && map.counts().longest_pause <= map.counts().pauses);
+    /// assert!(map.counts().sections > 1 && map.counts().renewals > 0);
+    /// assert!(map.counts().longest_pause <= map.counts().pauses);
     /// # Ok::<(), elltree::MapError>(())
     /// ```
     #[must_use]
