@@ -3,6 +3,7 @@
 use crate::pauses::{self, Load};
 use crate::peers::{Peer, Queue, Sizes};
 use crate::record::Figure;
+use crate::work;
 use std::sync::Barrier;
 use std::sync::atomic::{AtomicU64, Ordering};
 use std::thread;
@@ -49,6 +50,7 @@ fn turn(queue: &mut dyn Queue, next: &AtomicU64, end: u64, begin: &Barrier) -> T
 /// Has all writers of a new queue of so many keys turn it: how long a turn took, in nanoseconds of the time of all threads together, and how
 /// often and how long the map paused, if it renews itself. Each key that came is there at the end, or went once.
 pub fn ends(peer: Peer, sizes: Sizes) -> Vec<(Figure, f64)> {
+    work::tidy_memory();
     let mut crew = peer.queue(sizes);
     let end = sizes.keys + TURNS;
     let (next, begin) = (&AtomicU64::new(sizes.keys), &Barrier::new(crew.threads()));

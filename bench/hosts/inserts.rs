@@ -3,7 +3,7 @@
 use crate::pauses::{self, Load};
 use crate::peers::{Peer, Sizes, View};
 use crate::record::Figure;
-use crate::work::Random;
+use crate::work::{self, Random};
 use std::sync::Barrier;
 use std::sync::atomic::{AtomicUsize, Ordering};
 use std::thread;
@@ -71,6 +71,7 @@ pub fn inserts_in(order: Order, peer: Peer, sizes: Sizes) -> Vec<(Figure, f64)> 
     let mut keys = order.keys(sizes.keys);
     keys.truncate(peer.most_inserts());
     let keys = &keys;
+    work::tidy_memory();
     let mut crew = peer.crew(Sizes { keys: 0, ..sizes });
     let (next, begin) = (&AtomicUsize::new(0), &Barrier::new(crew.threads()));
     let took: Vec<Duration> = thread::scope(|scope| {

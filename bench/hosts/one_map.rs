@@ -1,21 +1,9 @@
-//! The library's one map, which all threads share without handles and which renews itself, and when a renewal of it has ended.
+//! The library's one map, which all threads share without handles.
 
 use crate::peers::{Counters, Crew, Queue, Sizes, View};
 use crate::ranges::{Ranges, Told, told};
-use elltree::{Map, MapCounts, MapResult, MapSettings};
+use elltree::{Map, MapResult, MapSettings};
 use std::sync::Arc;
-use std::thread;
-use std::time::{Duration, Instant};
-
-/// How often a thread that waits for a renewal sees whether there was one, and how long it waits at most.
-const BETWEEN_LOOKS: Duration = Duration::from_micros(100);
-const MOST: Duration = Duration::from_secs(10);
-
-/// After how many renewals of each section a map is measured even if it still changes the number of its cards.
-const RENEWALS_TO_SETTLE: u64 = 12;
-
-/// After how many renewals in a row that left the number of cards it is taken to be settled, if there are as many sections.
-const ALIKE: u64 = 4;
 
 impl View for Arc<Map> {
     fn find(&mut self, key: u64) -> Option<u64> {
@@ -87,45 +75,4 @@ pub fn counters(sizes: Sizes) -> MapResult<Crew<dyn Counters>> {
 /// A new map that is a queue.
 pub fn queue(sizes: Sizes) -> MapResult<Crew<dyn Queue>> {
     crew(&sizes.full(), sizes, |map| Box::new(map) as Box<dyn Queue>)
-}
-
-/// Waits until there were so many renewals, and returns what has happened to the map then. If there is none for long, it says so, and goes on.
-fn wait_for_renewals(map: &Map, renewals: u64) -> MapCounts {
-    let (mut begun, mut counts) = (Instant::now(), map.counts());
-    while counts.renewals < renewals {
-        if begun.elapsed() > MOST {
-            eprintln!("hosts: a map was not renewed for {} seconds", MOST.as_secs());
-            break;
-        }
-        thread::sleep(BETWEEN_LOOKS);
-        let before = counts;
-        counts = map.counts();
-        if counts.renewals > before.renewals {
-            begun = Instant::now();
-        }
-    }
-    counts
-}
-
-/// Waits until each section was renewed as often as any other since the map had these counts, if all are changed alike, and once at least.
-pub fn wait_for_turn(map: &Map, begun: MapCounts) {
-    let counts = map.counts();
-    let turns = (counts.renewals - begun.renewals).div_ceil(counts.sections).max(1);
-    wait_for_renewals(map, begun.renewals + turns * counts.sections);
-}
-
-/// Waits until some renewals have left the number of cards as it was, and returns what has happened to the map then. A new map first finds out how
-/// many it needs.
-pub fn settle(map: &Map) -> MapCounts {
-    let mut counts = map.counts();
-    let mut alike = 0;
-    for _ in 0..RENEWALS_TO_SETTLE * counts.sections {
-        let cards = counts.cards;
-        counts = wait_for_renewals(map, counts.renewals + 1);
-        alike = if counts.cards == cards { alike + 1 } else { 0 };
-        if alike == counts.sections.min(ALIKE) {
-            break;
-        }
-    }
-    counts
 }

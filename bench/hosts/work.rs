@@ -1,10 +1,8 @@
 //! What threads do with a map, and how long it takes.
 
-use crate::one_map;
 use crate::peers::{Counters, Crew, Peer, Sizes, Stripe, View};
 use crate::ranges::{Span, Way, write};
 use crate::realtime;
-use elltree::Map;
 use std::hint::{black_box, spin_loop};
 use std::sync::Barrier;
 use std::sync::atomic::{AtomicU8, AtomicUsize, Ordering};
@@ -30,6 +28,13 @@ unsafe extern "C" {
     fn pthread_self() -> usize;
     fn pthread_kill(thread: usize, signal: i32) -> i32;
     fn signal(signal: i32, handler: extern "C" fn(i32)) -> usize;
+    fn malloc_trim(pad: usize) -> i32;
+}
+
+/// Has the C library put in order what other maps have freed, so that no map that asks for memory later pays for that.
+pub fn tidy_memory() {
+    // SAFETY: the function may be called at any time.
+    unsafe { malloc_trim(0) };
 }
 
 /// Pseudo-random numbers.
@@ -149,11 +154,11 @@ impl Stage {
         self.enter(Phase::Over);
     }
 
-    /// Has the threads go through an interval. The map may be one that renews itself.
-    fn conduct(&self, interval: Duration, renewing: Option<&Map>) {
+    /// Has the threads go through an interval.
+    fn conduct(&self, interval: Duration) {
         realtime::rest(interval);
         let _first = realtime::go_first();
-        lead(&[self], interval, renewing);
+        lead(&[self], interval);
         self.end();
     }
 
@@ -236,22 +241,16 @@ impl Stage {
     }
 }
 
-/// Has the threads of these stages begin, lets their acts count after half of such an interval, and waits as long as it is. If the map
-/// renews itself, what counts begins and ends with the end of a renewal, and has one renewal of each section, or as many of each: so each tree
-/// of it has its renewal beside it.
-fn lead(stages: &[&Stage], interval: Duration, renewing: Option<&Map>) {
+/// Has the threads of these stages begin, lets their acts count after half of such an interval, and waits as long as it is.
+fn lead(stages: &[&Stage], interval: Duration) {
     for stage in stages {
         stage.begin.wait();
     }
     thread::sleep(interval / 2);
-    let settled = renewing.map(|map| (map, one_map::settle(map)));
     for stage in stages {
         stage.enter(Phase::Counted);
     }
     thread::sleep(interval);
-    if let Some((map, begun)) = settled {
-        one_map::wait_for_turn(map, begun);
-    }
 }
 
 /// What all these threads did.
@@ -302,18 +301,9 @@ impl Bursts {
         }
     }
 
-    /// Renews a map that renews itself. It chooses the number of its cards by how long the last ones lasted, and that is not to contain the
-    /// time in which other maps were measured.
-    fn forget_turns(&self) {
-        if let Some(map) = &self.crew.renewing {
-            map.renew().expect("memory for a renewal");
-        }
-    }
-
     /// The next burst, of which so long counts.
     pub fn next(&mut self, interval: Duration) -> Speeds {
         self.renew_if_due();
-        self.forget_turns();
         let Bursts { sizes, work, .. } = *self;
         let stage = &Stage::of(self.crew.threads());
         let most = self.left / sizes.writers.max(1);
@@ -329,7 +319,7 @@ impl Bursts {
                 realtime::spawn(scope, place, move || stage.drive(seed + place as u64, u64::MAX, look))
             });
             let readers = readers.collect();
-            stage.conduct(interval, self.crew.renewing.as_deref());
+            stage.conduct(interval);
             (total(writers), total(readers))
         });
         (self.last, self.left, self.count) = (writers.all, self.left.saturating_sub(writers.all), self.count + 1);
@@ -340,14 +330,14 @@ impl Bursts {
 /// Has all writers add to any counters without pause for so long, or until no card is left: nanoseconds an add. The sum of the counters
 /// has to be the number of adds that were answered.
 pub fn adds(peer: Peer, sizes: Sizes, interval: Duration) -> Option<f64> {
-    let Crew { mut writers, renewing, .. } = peer.counters(sizes);
+    let Crew { mut writers, .. } = peer.counters(sizes);
     let stage = &Stage::of(writers.len());
     let keys = sizes.all();
     let (done, added) = thread::scope(|scope| {
         let threads =
             writers.iter_mut().zip(0..).map(|(writer, place)| realtime::spawn(scope, place, move || stage.add(place as u64, &mut **writer, keys)));
         let threads: Vec<_> = threads.collect();
-        stage.conduct(interval, renewing.as_deref());
+        stage.conduct(interval);
         let ended = threads.into_iter().map(|thread| thread.join().unwrap());
         ended.fold((Done::default(), 0), |(done, added), it| (done.and(it.0), added + it.1))
     });
@@ -359,7 +349,7 @@ pub fn adds(peer: Peer, sizes: Sizes, interval: Duration) -> Option<f64> {
 /// Has all writers write at random without pause, and all readers ask for such ranges, for so long. Then the writers go on until each reader
 /// has its last answer. If the writers have made as many writes as they may, all end early. The map is a worn one.
 pub fn scans(way: Way, sizes: Sizes, span: Span, interval: Duration) -> Speeds {
-    let Crew { writers, readers, renewing } = way.worn_crew(sizes);
+    let Crew { writers, readers, .. } = way.worn_crew(sizes);
     let (writing, reading) = (&Stage::of(writers.len()), &Stage::of(readers.len()));
     let most = way.most_writes(sizes) / sizes.writers.max(1);
     let mut places = 0..;
@@ -379,7 +369,7 @@ pub fn scans(way: Way, sizes: Sizes, span: Span, interval: Duration) -> Speeds {
         let readers = readers.collect();
         realtime::rest(interval);
         let _first = realtime::go_first();
-        lead(&[writing, reading], interval, renewing.as_deref());
+        lead(&[writing, reading], interval);
         reading.end();
         let readers = total(readers).mean();
         writing.end();
