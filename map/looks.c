@@ -126,8 +126,8 @@ static void join_passed(struct elltree_map *map) {
 
 /* Gives the place back, and sees to what this call has found, if it was weighed, and to what others have left. If memory is refused, the map goes on
    as it is. */
-static __attribute__((noinline)) void give_back_and_renew(struct elltree_map *map, struct place *place, struct section *section,
-                                                          int32_t more, bool is_weighed) {
+static __attribute__((noinline)) void give_back_and_renew(struct elltree_map *map, struct place *place, struct section *section, int32_t more,
+                                                          bool is_weighed) {
     const bool is_due = atomic_exchange(&section->due, false);
     enum reason reason = is_due && may_be_joined(map, directory_of(map), section) ? FEW_KEYS : NO_REASON;
     bool taken;
