@@ -229,8 +229,8 @@ impl<A: Allocator + Copy> CardTable<A> {
         }
     }
 
-    // Notes such nodes even if the word changes meanwhile: it does so at most twice, as each change notes another node of
-    // the card. Returns whether it set the slot free.
+    // Notes such nodes even if the word changes meanwhile: it does so at most twice, as each change notes another node
+    // of the card. Returns whether it set the slot free.
     fn note_surely(
         &self,
         seat: &mut Seat<(), Known>,
