@@ -15,7 +15,7 @@ use Rattle.ell_cards.specs.declared.view.Told.{Told}
 use Rattle.ell_cards.specs.declared.view.Told.TheVariants.{Met, Key}
 use Rattle.ell_cards.specs.declared.view.View.{View}
 use Rattle.ell_cards.specs.Models.{TablePlan, IsFree, IsTold}
-use Rattle.ell_cards.specs.Seeking.{could_take, missed_none, missed_one, no_seek, sought_on}
+use Rattle.ell_cards.specs.Seeking.{could_have, could_take, missed_none, missed_one, no_seek, sought_on}
 use Rattle.ell_cards.specs.SlotWords.{slot_of, turn_of, turn_in, card_by, freed_by}
 
 -- the state of a table, with all that its passes know
@@ -168,9 +168,10 @@ abbrev pub after_read : ℕ → ℕ → Period → Period
 after_read slot n p = record p { read = Some (record { slot = slot; word = n }) }
 
 -- the word of a card's slot was read by a search for a slot to take, which begins with it or goes on
-abbrev pub after_seek : Slots → Bool → ℕ → ℕ → ℕ → Period → Period
-after_seek s begins c made n p =
-    record (after_read (slot_of c) n p) { sought = sought_on s begins c made (could_take c n p.safe) p.sought }
+abbrev pub after_seek : Slots → Bool → Bool → ℕ → ℕ → ℕ → Period → Period
+after_seek s begins for_delete c made n p = record (after_read (slot_of c) n p) {
+  sought = sought_on s begins for_delete c made (could_have s for_delete c n p.safe) p.sought;
+}
 
 -- the slot of a card was taken
 abbrev pub after_taking : ℕ → Period → Period

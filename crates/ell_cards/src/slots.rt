@@ -7,7 +7,7 @@ ghost use Rattle.ell_cards.specs.Ages.{KnowsDeadNode, MayStamp};
 ghost use Rattle.ell_cards.specs.CardNodes.{KnowsDeadNodes};
 ghost use Rattle.ell_cards.specs.Guards.{MayFill};
 ghost use Rattle.ell_cards.specs.Periods.{StandsAs, after_missing, after_own, after_read, after_seek, after_stamp, after_taking, has_slot, last_reading, slot_word};
-ghost use Rattle.ell_cards.specs.Seeking.{FindsNone, FindsNoneIn, left_to_deletes, missed_none, missed_one, sought_on};
+ghost use Rattle.ell_cards.specs.Seeking.{FindsNone, FindsNoneIn, FindsOneFor, may_have, missed_none, missed_one, sought_on};
 ghost use Rattle.ell_cards.specs.SlotWords.{card_by, is_noted, slot_of, stamp_in, turn_in, turn_of};
 ghost use Rattle.ell_cards.specs.Stepping.{MayGoOn};
 ghost use Rattle.ell_cards.specs.Tied.{HoldsWaiting};
@@ -374,6 +374,7 @@ impl<A: Allocator + Copy> CardTable<A> {
         slots: Slots,
         card: u64,
         begins: bool,
+        for_delete: bool,
     ) -> u64
         requires own { seat.old.table_id ≡ self.now.id }
         requires empty { seat.old.me.1 ≡ [] }
@@ -384,68 +385,88 @@ impl<A: Allocator + Copy> CardTable<A> {
         ensures tree { seat.new.me.0.tree ≡ seat.old.me.0.tree }
         ensures seat { (seat.new.table_id ≡ seat.old.table_id) × (seat.new.me.1 ≡ []) }
     {
-        let _ = begins;
+        let _ = (begins, for_delete);
         self.period_load::<J>(seat, self.slot_address(slots, slot_of(card)))
     }
 
-    // Reads the word of the slot of a card by a search, which begins with it or goes on.
+    // Reads the word of the slot of a card by a search, which begins with it or goes on, for a delete or another change.
     #[inline(always)]
-    fn seek_slot(&self, seat: &mut Seat<(), Known>, slots: Slots, card: u64, begins: bool) -> u64
+    fn seek_slot(
+        &self,
+        seat: &mut Seat<(), Known>,
+        slots: Slots,
+        card: u64,
+        begins: bool,
+        for_delete: bool,
+    ) -> u64
         requires own { seat.old.table_id ≡ self.now.id }
         requires empty { seat.old.me.1 ≡ [] }
         requires slots { self.now.plan.slots ≡ Some slots }
         requires slot { slot_of card ≤ slots.last }
-        ensures read { seat.new.me.0.period ≡ after_seek slots begins card seat.old.me.0.tree.made result
-            seat.old.me.0.period }
+        ensures read { seat.new.me.0.period ≡ after_seek slots begins for_delete card
+            seat.old.me.0.tree.made result seat.old.me.0.period }
         ensures tree { seat.new.me.0.tree ≡ seat.old.me.0.tree }
         ensures seat { (seat.new.table_id ≡ seat.old.table_id) × (seat.new.me.1 ≡ []) }
     {
-        self.load_sought::<Brand>(seat, slots, card, begins)
+        self.load_sought::<Brand>(seat, slots, card, begins, for_delete)
     }
 
-    // Reads the word of the slot of a card by a search, which begins with it or goes on. Returns `true` if the pass
-    // could take the slot for that card: it is a slot of the card's turn already, and not free, or it was set free with
-    // a stamp below the pass's safe number.
-    fn is_takeable(&self, pass: &mut Pass<A>, slots: Slots, card: u64, begins: bool) -> bool
+    // Reads the word of the slot of a card by a search, which begins with it or goes on, for a delete or another change.
+    // Returns `true` if the pass could take the slot for that card and change: it is a slot of the card's turn already,
+    // and not free, or it was set free with a stamp below the pass's safe number; and it is for deletes alone only if
+    // the change is one.
+    fn is_takeable(
+        &self,
+        pass: &mut Pass<A>,
+        slots: Slots,
+        card: u64,
+        begins: bool,
+        for_delete: bool,
+    ) -> bool
         requires own { pass.old.table ≡ self.now.id }
         requires slots { self.now.plan.slots ≡ Some slots }
         requires slot { slot_of card ≤ slots.last }
-        ensures { pass.new ≡
-            record (pass.old) { sought = sought_on slots begins card pass.old.view.made result pass.old.sought } }
+        ensures same { pass.new ≡ record (pass.old) {
+          sought = sought_on slots begins for_delete card pass.old.view.made result pass.old.sought;
+        } }
+        ensures has { result ≡ true → may_have slots for_delete card ≡ true }
     {
-        let word = self.seek_slot(&mut pass.seat, slots, card, begins);
-        if word % 8 == 7 {
+        let word = self.seek_slot(&mut pass.seat, slots, card, begins, for_delete);
+        let could = if word % 8 == 7 {
             stamp_in(word) < pass.standing.safe
         } else {
             turn_in(word) == turn_of(card)
-        }
+        };
+        could && (for_delete || slot_of(card) + LEFT_TO_DELETES <= slots.last)
     }
 
-    // Returns the least number of a card, from this card on, whose slot the pass could take, except for so many of the
-    // last slots, which are left. It reads the word of each slot once at most.
-    fn seek_takeable(&self, pass: &mut Pass<A>, slots: Slots, card: u64, others: u64) -> Option<u64>
+    // Returns the least number of a card, from this card on, whose slot the pass could take for a delete, or for another
+    // change. It reads the word of each slot once at most.
+    fn seek_takeable(
+        &self,
+        pass: &mut Pass<A>,
+        slots: Slots,
+        card: u64,
+        for_delete: bool,
+    ) -> Option<u64>
         requires own { pass.old.table ≡ self.now.id }
         requires slots { self.now.plan.slots ≡ Some slots }
         requires room { card ≤ self.now.plan.last_card }
         ensures same { pass.new ≡ record (pass.old) { sought = pass.new.sought } }
         ensures found { IfSome result (λ c. (card ≤ c) × (c ≤ self.now.plan.last_card) × (slot_of c ≤ slots.last)) }
-        ensures none { result ≡ None → FindsNone slots self.now.plan.last_card card others pass.old.view.made
+        ensures has { IfSome result (λ c. may_have slots for_delete c ≡ true) }
+        ensures none { result ≡ None → FindsNone slots self.now.plan.last_card card for_delete pass.old.view.made
             pass.new.sought }
         ensures missed { pass.new.sought.missed ≡ pass.old.sought.missed }
     {
         let _ = &self.table;
-        let ordinary = slots.last.saturating_sub(others);
         let mut next = slots.next_with_slot(card);
-        let mut left = others;
         for read in 0..slots.last + 1 {
             if self.last_card < next {
                 return None;
             }
-            if self.is_takeable(pass, slots, next, read == 0) {
-                if left == 0 || slot_of(next) <= ordinary {
-                    return Some(next);
-                }
-                left -= 1;
+            if self.is_takeable(pass, slots, next, read == 0, for_delete) {
+                return Some(next);
             }
             next = slots.next_with_slot(next + 1);
         }
@@ -463,12 +484,14 @@ impl<A: Allocator + Copy> CardTable<A> {
         // What the pass knows of the tree is as it was, and it has made no step that is counted.
         ensures same { pass.new ≡ record (pass.old) { safe = pass.new.safe; sought = pass.new.sought } }
         // If there is none, then no number of the table from this card on has a slot; or the pass has read the words of
-        // all slots in a row, or of all that are left to numbers of the table, and could have taken two of them at
-        // most, and none if it is for a delete. It has made no step call since it began that row.
-        ensures none { result ≡ None → FindsNoneIn self.now.plan.slots self.now.plan.last_card card
-            (left_to_deletes for_delete) pass.old.view.made pass.new.sought }
+        // all slots in a row, or of all that are left to numbers of the table, and could have taken none of them for its
+        // change. It has made no step call since it began that row.
+        ensures none { result ≡ None → FindsNoneIn self.now.plan.slots self.now.plan.last_card card for_delete
+            pass.old.view.made pass.new.sought }
         // No slot of a card in hand was missed by that.
         ensures missed { pass.new.sought.missed ≡ pass.old.sought.missed }
+        // Only a delete gets one of the last two slots.
+        ensures has { IfSome result (FindsOneFor self.now.plan.slots for_delete) }
         // It is a card of the table that has a slot, and none before the one from which it was sought.
         ensures found { IfSome result (λ c. (card ≤ c) × (c ≤ self.now.plan.last_card) × (has_slot self.now.plan.slots c ≡ true)) }
         // A table without places has no slots to be read.
@@ -477,13 +500,12 @@ impl<A: Allocator + Copy> CardTable<A> {
         let Some(slots) = self.slots else {
             return Some(card);
         };
-        let others = if for_delete { 0 } else { LEFT_TO_DELETES };
         let safe = pass.standing.safe;
-        if let Some(found) = self.seek_takeable(pass, slots, card, others) {
+        if let Some(found) = self.seek_takeable(pass, slots, card, for_delete) {
             return Some(found);
         }
         if safe < self.safe_number(pass) {
-            self.seek_takeable(pass, slots, card, others)
+            self.seek_takeable(pass, slots, card, for_delete)
         } else {
             None
         }

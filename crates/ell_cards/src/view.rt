@@ -145,11 +145,13 @@ pub struct Period {
 /// What a pass has read in its last search for a slot: a row of numbers that have slots, one after the other.
 #[derive(Clone, Copy)]
 pub struct Seek {
+    /// Whether it sought one for a delete.
+    pub for_delete: bool,
     /// The first number of the row.
     pub from: u64,
     /// Of so many numbers in a row, from that one on, it has read the words of their slots.
     pub read: u64,
-    /// So many of these slots it could have taken for them, by its safe number then.
+    /// So many of these slots it could have taken for its change, by its safe number then.
     pub takeable: u64,
     /// How many step calls it had made when it began the row.
     pub made: u64,

@@ -10,7 +10,7 @@ use Rattle.ell_cards.specs.Taking.{IsTakenInRuns}
 use Rattle.ell_cards.specs.declared.view.Slots.{Slots}
 use Rattle.ell_cards.specs.Depths.{deepest}
 use Rattle.ell_cards.specs.Models.{PassModel, TablePlan}
-use Rattle.ell_cards.specs.Seeking.{FindsNone, left_to_deletes}
+use Rattle.ell_cards.specs.Seeking.{FindsNone}
 use Rattle.ell_cards.specs.Stepping.{SameShare}
 use Rattle.ell_tree.specs.declared.operations.NotDone.{NotDone}
 use Rattle.ell_tree.specs.declared.operations.NotDone.TheVariants.{Busy, Spent}
@@ -57,13 +57,13 @@ is_delete _ = false
 
 -- A pass has sought a slot for an operation from the claim word on, as it read that last, and found none. The numbers
 -- of the table are at an end there; or it has read the words of all slots in a row, and by its safe number then it
--- could have taken two of them at most, and none if the operation is a delete. It has made so many step calls at most
--- since it began that row.
+-- could have taken none of them for the operation: the last two are for deletes alone. It has made so many step calls at
+-- most since it began that row.
 pub record HasSoughtInVain (s : Slots) (last : ℕ) (op : Op) (steps : ℕ) (p : PassModel) : Type 0 where
   pub from : ℕ
   pub made : ℕ
   pub next : p.view.next ≡ Some from
-  pub none : FindsNone s last from (left_to_deletes (is_delete op)) made p.sought
+  pub none : FindsNone s last from (is_delete op) made p.sought
   pub since : p.view.made ≤ made + steps
 
 -- since it took a slot last, it has claimed so many cards whose slots it could not take, one more than there are slots

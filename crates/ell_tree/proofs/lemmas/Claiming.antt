@@ -16,7 +16,7 @@ use Rattle.ell_cards.specs.Models.{TablePlan, PassModel, Steps, flat_from, lates
 use Rattle.ell_cards.specs.Changes.{expected_tag, filling_for, filling_of, tag_of_claim, value_told}
 use Rattle.ell_cards.specs.Guards.{MayClaim, MayFill, Wants}
 use Rattle.ell_cards.specs.Periods.{most_claims}
-use Rattle.ell_cards.specs.Seeking.{FindsNone, left_to_deletes, missed_one}
+use Rattle.ell_cards.specs.Seeking.{FindsNone, missed_one}
 use Rattle.ell_cards.specs.Skipping.{after_claimed_row, after_row, IsAfterRow}
 use Rattle.ell_cards.proofs.lemmas.views.Afters.{after_next}
 use Rattle.ell_cards.proofs.lemmas.views.Rows.{rows_keep, wants_same}
@@ -369,7 +369,7 @@ still_none plan op old new next sought took none = record {
       from = vain.from;
       made = vain.made;
       next = next ∙ vain.next;
-      none = subst (FindsNone s plan.last_card vain.from (left_to_deletes (is_delete op)) vain.made) (sym sought) vain.none;
+      none = subst (FindsNone s plan.last_card vain.from (is_delete op) vain.made) (sym sought) vain.none;
       since = omega (arith, took.made, vain.since);
     }
     | inr many ↦ inr (subst (λ (k : Seek). s.last + 2 ≤ k.missed) (sym sought) many)

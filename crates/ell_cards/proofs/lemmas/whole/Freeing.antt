@@ -21,7 +21,7 @@ use Rattle.ell_cards.specs.Aside.{IsAside}
 use Rattle.ell_cards.specs.CardNodes.{has_node, KnowsDeadNodes}
 use Rattle.ell_cards.specs.Models.{TablePlan}
 use Rattle.ell_cards.specs.Periods.{WholeState, clock_word, slot_word, slots_size, last_reading, card_in, pending_by, after_read, after_seek, after_stamp, PeriodsAreSound}
-use Rattle.ell_cards.specs.Seeking.{could_take, sought_on}
+use Rattle.ell_cards.specs.Seeking.{could_have, sought_on}
 use Rattle.ell_cards.specs.SlotWords.{card_by, slot_of, turn_of, turn_in, free_word, is_noted}
 use Rattle.ell_cards.specs.States.{TableState}
 use Rattle.ell_cards.specs.Stepping.{MayGoOn}
@@ -266,11 +266,11 @@ module _ (plan : TablePlan) (s : Slots) (placed : plan.slots ≡ Some s) (slot :
           omega arith
 
   -- it reads the word of the slot of a card by its search
-  pub seeks : (begins : Bool) (c made : ℕ) → slot_of c ≡ slot → (k : Known) (word : ℕ) → word ≡ slot_word s slot
-      → MayGoOn plan k word (λ n. n) (λ n p. p ≡ after_seek s begins c made n k.period)
-  seeks begins c made lies k word is =
-      subst (λ i. MayGoOn plan k i (λ n. n) (λ n p. p ≡ after_seek s begins c made n k.period)) (sym is)
-      (goes_on_there plan s placed k (slot_word s slot) (λ n. n) (λ n p. p ≡ after_seek s begins c made n k.period) (λ t. after_seek s begins c made (get_or t.words (slot_word s slot) 0) k.period)
+  pub seeks : (begins for_delete : Bool) (c made : ℕ) → slot_of c ≡ slot → (k : Known) (word : ℕ) → word ≡ slot_word s slot
+      → MayGoOn plan k word (λ n. n) (λ n p. p ≡ after_seek s begins for_delete c made n k.period)
+  seeks begins for_delete c made lies k word is =
+      subst (λ i. MayGoOn plan k i (λ n. n) (λ n p. p ≡ after_seek s begins for_delete c made n k.period)) (sym is)
+      (goes_on_there plan s placed k (slot_word s slot) (λ n. n) (λ n p. p ≡ after_seek s begins for_delete c made n k.period) (λ t. after_seek s begins for_delete c made (get_or t.words (slot_word s slot) 0) k.period)
       (λ tree t id here there h size. (
         subst (λ x. HasPeriods plan s tree (turned_to t id k (record (after_read x (get_or t.words (slot_word s slot) 0) k.period) { sought = now t }) (slot_word s slot) (get_or t.words (slot_word s slot) 0))) (sym lies)
             (reads_now plan s tree t id k here there h size slot inside (now t)),
@@ -278,7 +278,7 @@ module _ (plan : TablePlan) (s : Slots) (placed : plan.slots ≡ Some s) (slot :
       )))
     where
       now : WholeState → Seek
-      now t = sought_on s begins c made (could_take c (get_or t.words (slot_word s slot) 0) k.period.safe) k.period.sought
+      now t = sought_on s begins for_delete c made (could_have s for_delete c (get_or t.words (slot_word s slot) 0) k.period.safe) k.period.sought
 
   -- it notes more nodes as dead, if the word is as it was
   pub notes_nodes : (k : Known) (n m : ℕ) → turn_in m ≡ turn_in n → n % 8 ≢ 7 → m % 8 ≢ 7

@@ -36,82 +36,90 @@ next_in_row s c d low in_c in_d less first = elim (cases_eq (slot_of c) s.last) 
     mul_zero n = omega arith
 
 -- a search misses no slot of a card in hand
-pub sought_misses_none : (s : Slots) (begins : Bool) (c made : ℕ) (takes : Bool) (k : Seek) → (sought_on s begins c made takes k).missed ≡ k.missed
-sought_misses_none s begins c made takes k = by (not begins && is_next s c k)
+pub sought_misses_none : (s : Slots) (begins for_delete : Bool) (c made : ℕ) (takes : Bool) (k : Seek)
+    → (sought_on s begins for_delete c made takes k).missed ≡ k.missed
+sought_misses_none s begins for_delete c made takes k = by (not begins && is_next s c k)
   where
-    by : (b : Bool) → (if b then record k { read = k.read + 1; takeable = k.takeable + one_if takes } else record k { from = c; read = 1; takeable = one_if takes; made = made }).missed ≡ k.missed
+    by : (b : Bool) → (if b then record k { read = k.read + 1; takeable = k.takeable + one_if takes }
+        else record k { for_delete = for_delete; from = c; read = 1; takeable = one_if takes; made = made }).missed ≡ k.missed
     by true = refl
     by false = refl
 
--- What a search has read that began at a card and is to read the slot of this number next: so many slots, and it may
--- find so many more that it could take.
-pub record RowSoFar (s : Slots) (card others made next read left : ℕ) (k : Seek) : Type 0 where
-  pub start : read ≡ 0 → ((c : ℕ) → card ≤ c → slot_of c ≤ s.last → next ≤ c) × (left ≡ others)
+-- what a search has read that began at a card and is to read the slot of this number next: so many slots, of which it could
+-- take none for its change
+pub record RowSoFar (s : Slots) (card : ℕ) (for_delete : Bool) (made next read : ℕ) (k : Seek) : Type 0 where
+  pub start : read ≡ 0 → (c : ℕ) → card ≤ c → slot_of c ≤ s.last → next ≤ c
   pub on : 0 < read → (card ≤ k.from) × ((c : ℕ) → card ≤ c → slot_of c ≤ s.last → k.from ≤ c) × (k.read ≡ read)
-      × (slots_before s next ≡ slots_before s k.from + read) × (k.takeable + left ≡ others) × (k.made ≡ made)
+      × (slots_before s next ≡ slots_before s k.from + read) × (k.takeable ≡ 0) × (k.made ≡ made) × (k.for_delete ≡ for_delete)
 
 -- it begins
-pub row_begins : (s : Slots) (card others made next : ℕ) (k : Seek) → ((c : ℕ) → card ≤ c → slot_of c ≤ s.last → next ≤ c)
-    → RowSoFar s card others made next 0 others k
-row_begins s card others made next k first = record { start = λ none. (first, refl); on = λ some. absurd (omega arith) }
+pub row_begins : (s : Slots) (card : ℕ) (for_delete : Bool) (made next : ℕ) (k : Seek)
+    → ((c : ℕ) → card ≤ c → slot_of c ≤ s.last → next ≤ c) → RowSoFar s card for_delete made next 0 k
+row_begins s card for_delete made next k first = record { start = λ none. first; on = λ some. absurd (omega arith) }
 
 -- it reads one more
-pub row_goes_on : (s : Slots) (card others made next read left left' next' : ℕ) (takes : Bool) (k : Seek) → s.last < 2097152 → card ≤ next → slot_of next ≤ s.last
-    → slot_of next' ≤ s.last → next + 1 ≤ next' → ((c : ℕ) → next + 1 ≤ c → slot_of c ≤ s.last → next' ≤ c) → left' + one_if takes ≡ left
-    → RowSoFar s card others made next read left k → RowSoFar s card others made next' (read + 1) left' (sought_on s (read == 0) next made takes k)
-row_goes_on s card others made next zero left left' next' takes k low from inside inside' after first' fewer row = record {
+pub row_goes_on : (s : Slots) (card : ℕ) (for_delete : Bool) (made next read next' : ℕ) (k : Seek) → s.last < 2097152 → card ≤ next
+    → slot_of next ≤ s.last → slot_of next' ≤ s.last → next + 1 ≤ next' → ((c : ℕ) → next + 1 ≤ c → slot_of c ≤ s.last → next' ≤ c)
+    → RowSoFar s card for_delete made next read k
+    → RowSoFar s card for_delete made next' (read + 1) (sought_on s (read == 0) for_delete next made false k)
+row_goes_on s card for_delete made next zero next' k low from inside inside' after first' row = record {
   start = λ none. absurd (omega arith);
   on = λ some. (
     from,
-    λ c at in_c. (row.start refl).0 c at in_c,
+    λ c at in_c. row.start refl c at in_c,
     refl,
     next_in_row s next next' low inside inside' (omega arith) first',
-    (let all = (row.start refl).1 in omega arith),
+    refl,
+    refl,
     refl,
   );
 }
-row_goes_on s card others made next (suc read) left left' next' takes k low from inside inside' after first' fewer row =
-    subst (λ b. RowSoFar s card others made next' (suc read + 1) left' (if b then record k { read = k.read + 1; takeable = k.takeable + one_if takes } else record k { from = next; read = 1; takeable = one_if takes; made = made }))
-    (sym goes) (record {
+row_goes_on s card for_delete made next (suc read) next' k low from inside inside' after first' row =
+    subst (λ b. RowSoFar s card for_delete made next' (suc read + 1) (if b then record k { read = k.read + 1; takeable = k.takeable + 0 }
+    else record k { for_delete = for_delete; from = next; read = 1; takeable = 0; made = made })) (sym goes) (record {
       start = λ none. absurd (omega arith);
       on = λ some. (
         was.0,
         was.1,
         ap (λ n. n + 1) was.2,
         (let one = next_in_row s next next' low inside inside' (omega arith) first' in let so = was.3 in omega arith),
-        (let all = was.4 in omega arith),
+        (let none = was.4 in omega arith),
         was.5,
+        was.6,
       );
     })
   where
     was : (card ≤ k.from) × ((c : ℕ) → card ≤ c → slot_of c ≤ s.last → k.from ≤ c) × (k.read ≡ suc read)
-        × (slots_before s next ≡ slots_before s k.from + suc read) × (k.takeable + left ≡ others) × (k.made ≡ made)
+        × (slots_before s next ≡ slots_before s k.from + suc read) × (k.takeable ≡ 0) × (k.made ≡ made) × (k.for_delete ≡ for_delete)
     was = row.on (omega arith)
 
     goes : (not (suc read == 0) && is_next s next k) ≡ true
     goes = ap (λ b. not b && is_next s next k) (ne_eqb (suc read) 0 (λ z. omega arith)) ∙ eq-eqb (slots_before s next) (slots_before s k.from + k.read) (was.3 ∙ ap (λ n. slots_before s k.from + n) (sym was.2))
 
 -- the numbers of the table are at an end
-pub row_at_end : (s : Slots) (last card others made next read left : ℕ) (k : Seek) → last < next → slot_of next ≤ s.last
-    → RowSoFar s card others made next read left k → FindsNone s last card others made k
-row_at_end s last card others made next zero left k past inside row = inl (λ c from in_c. (let at = (row.start refl).0 c from in_c in omega arith))
-row_at_end s last card others made next (suc read) left k past inside row =
+pub row_at_end : (s : Slots) (last card : ℕ) (for_delete : Bool) (made next read : ℕ) (k : Seek) → last < next → slot_of next ≤ s.last
+    → RowSoFar s card for_delete made next read k → FindsNone s last card for_delete made k
+row_at_end s last card for_delete made next zero k past inside row =
+    inl (λ c from in_c. (let at = row.start refl c from in_c in omega arith))
+row_at_end s last card for_delete made next (suc read) k past inside row =
     let was = row.on (omega arith) in inr record {
       from = was.0;
       first = was.1;
       far = inr (λ c low in_c. (let less = later_in_row s c next in_c (omega arith) in let so = was.3 in let has = was.2 in omega arith));
+      change = was.6;
       began = was.5;
-      small = (let all = was.4 in omega arith);
+      none = was.4;
     }
 
 -- or all slots were read
-pub row_is_whole : (s : Slots) (last card others made next read left : ℕ) (k : Seek) → read ≡ s.last + 1
-    → RowSoFar s card others made next read left k → FindsNone s last card others made k
-row_is_whole s last card others made next read left k whole row =
+pub row_is_whole : (s : Slots) (last card : ℕ) (for_delete : Bool) (made next read : ℕ) (k : Seek) → read ≡ s.last + 1
+    → RowSoFar s card for_delete made next read k → FindsNone s last card for_delete made k
+row_is_whole s last card for_delete made next read k whole row =
     let was = row.on (omega arith) in inr record {
       from = was.0;
       first = was.1;
       far = inl (was.2 ∙ whole);
+      change = was.6;
       began = was.5;
-      small = (let all = was.4 in omega arith);
+      none = was.4;
     }

@@ -1,29 +1,30 @@
-use Rattle.std.proofs.Common.{rules, ◌≡◌, ◌+◌, ◌==◌, ap, sym, ◌∙◌, subst, arith}
+use Rattle.std.proofs.Common.{◌≡◌, ℕ, ◌+◌, ◌==◌, Bool, ap, sym, ◌∙◌, subst, arith}
 use Rattle.ell_cards.specs.Models.{PassModel}
 use Rattle.ell_cards.specs.declared.view.Seek.{Seek}
-use Rattle.ell_cards.specs.Seeking.{one_if, sought_on}
+use Rattle.ell_cards.specs.Seeking.{sought_on}
 use Rattle.ell_cards.proofs.lemmas.whole.Seeking.{RowSoFar, row_goes_on, sought_misses_none}
 use Rattle.ell_cards.proofs.lemmas.whole.Words.{last_fits}
 use Rattle.ell_cards.proofs.table.CardTable.seek_takeable.Goals as goal
-use Rattle.ell_cards.proofs.table.CardTable.seek_takeable.Goals.{then-is_takeable+else-left-eq0+else-slot_of-ordinary, else-is_takeable}
 
+-- a slot was read that the pass could not take for its change
 pub loop-read-preserved : goal.loop-read-preserved
 loop-read-preserved g c =
-    let now = c.is_takeable.ensures in
+    let now = c.is_takeable.ensures.same in
     let was = c.loop-read.invariant in
     let next = c.next_with_slot-next-in-loop-read in
     let low = last_fits _ _ c.self.view_is c.self.invariant.0 c.self.invariant.8 c.args.slots c.requires.slots in
-    let read = sought_on c.args.slots (c.loop-read.read == 0) c.loop-read.next c.loop-read.pass.view.made c.is_takeable.result c.loop-read.pass.sought in
-    let fewer : c.if-is_takeable.left + one_if c.is_takeable.result ≡ c.loop-read.left = elim c.if-is_takeable.branch [
-      | then-is_takeable+else-left-eq0+else-slot_of-ordinary w ↦ (let is = ap one_if w.if-is_takeable.true in let some = w.if-left-eq0.false in let left = w.left-is in omega arith)
-      | else-is_takeable w ↦ (let is = ap one_if w.if-is_takeable.false in let left = w.left-is in omega arith)
-    ] in record {
+    let begins = c.loop-read.read == 0 in
+    let sought = λ (made : ℕ) (takes : Bool). sought_on c.args.slots begins c.args.for_delete c.loop-read.next made takes c.loop-read.pass.sought in
+    let read = sought c.loop-read.pass.view.made c.is_takeable.result in
+    record {
       pass = now ∙ ap (λ (p : PassModel). record p { sought = read }) was.pass ∙ ap (λ (k : Seek). record c.args.pass.now { sought = k }) (sym (ap (λ (p : PassModel). p.sought) now));
-      missed = ap (λ (p : PassModel). p.sought.missed) now ∙ (sought_misses_none c.args.slots (c.loop-read.read == 0) c.loop-read.next c.loop-read.pass.view.made c.is_takeable.result c.loop-read.pass.sought ∙ was.missed);
+      missed = ap (λ (p : PassModel). p.sought.missed) now
+          ∙ (sought_misses_none c.args.slots begins c.args.for_delete c.loop-read.next c.loop-read.pass.view.made c.is_takeable.result c.loop-read.pass.sought ∙ was.missed);
       from = omega arith;
       slot = next.ensures.slot;
-      row = subst (RowSoFar c.args.slots c.args.card c.args.others c.args.pass.now.view.made next.result (c.loop-read.read + 1) c.if-is_takeable.left)
-          (sym (ap (λ (p : PassModel). p.sought) now ∙ ap (λ n. sought_on c.args.slots (c.loop-read.read == 0) c.loop-read.next n c.is_takeable.result c.loop-read.pass.sought) (ap (λ (p : PassModel). p.view.made) was.pass)))
-          (row_goes_on c.args.slots c.args.card c.args.others c.args.pass.now.view.made c.loop-read.next c.loop-read.read c.loop-read.left c.if-is_takeable.left next.result c.is_takeable.result c.loop-read.pass.sought
-          (omega arith) was.from was.slot next.ensures.slot next.ensures.from next.ensures.first fewer was.row);
+      row = subst (RowSoFar c.args.slots c.args.card c.args.for_delete c.args.pass.now.view.made next.result (c.loop-read.read + 1))
+          (sym (ap (λ (p : PassModel). p.sought) now ∙ (ap (λ n. sought n c.is_takeable.result) (ap (λ (p : PassModel). p.view.made) was.pass)
+          ∙ ap (λ b. sought c.args.pass.now.view.made b) c.if-is_takeable.false)))
+          (row_goes_on c.args.slots c.args.card c.args.for_delete c.args.pass.now.view.made c.loop-read.next c.loop-read.read next.result c.loop-read.pass.sought
+          (omega arith) was.from was.slot next.ensures.slot next.ensures.from next.ensures.first was.row);
     }

@@ -10,5 +10,5 @@ invariant-loop-read g l = record {
   missed : l.pass.sought.missed ≡ l.fn.pass.sought.missed;
   from : l.fn.card ≤ l.next;
   slot : slot_of l.next ≤ l.slots.last;
-  row : RowSoFar l.slots l.fn.card l.fn.others l.fn.pass.view.made l.next l.read l.left l.pass.sought;
+  row : RowSoFar l.slots l.fn.card l.fn.for_delete l.fn.pass.view.made l.next l.read l.pass.sought;
 }
