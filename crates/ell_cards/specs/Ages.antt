@@ -1,4 +1,4 @@
-use Rattle.std.specs.Prelude.{◌≡◌, ℕ, ◌+◌, ◌*◌, ◌<◌, ◌≤◌, ◌⊎◌, Bool, true, Some, List, slice_index}
+use Rattle.std.specs.Prelude.{◌≡◌, ◌≢◌, ℕ, ◌+◌, ◌*◌, ◌%◌, ◌<◌, ◌≤◌, ◌⊎◌, Bool, true, Some, List, slice_index}
 use mathlib.Core.Option.{some}
 use lib.ListN.{get_elem?}
 use Rattle.ell_word.specs.Node.{card}
@@ -13,7 +13,7 @@ use Rattle.ell_cards.specs.Dead.{KnowsDead}
 use Rattle.ell_cards.specs.Laws.{machine_of_table}
 use Rattle.ell_cards.specs.Machines.{HasMachine}
 use Rattle.ell_cards.specs.Models.{TablePlan}
-use Rattle.ell_cards.specs.Periods.{WholeState, IsAtRest, PeriodsAreSound, slot_word, card_in}
+use Rattle.ell_cards.specs.Periods.{WholeState, IsAtRest, LieInSlots, PeriodsAreSound, slot_word}
 use Rattle.ell_cards.specs.SlotWords.{card_by, is_noted}
 use Rattle.ell_cards.specs.Starts.{IsReached}
 use Rattle.ell_cards.specs.States.{TableState}
@@ -48,40 +48,43 @@ pub record ForgotWhen (plan : TablePlan) (tree : TableState) (seat : ℕ) (dead 
 -- What the grace periods of a table take for dead is so in its tree, and what was dead when a period began is dead
 -- still: cards of which each node is dead, or which were laid aside. The pass of each period is at rest, or it has
 -- forgotten what it was told since that was dead. The nodes that a slot's word notes as dead are out, and so are those
--- that a word noted which a pass has read. And the card whose flag a pass lost last was laid aside.
-pub record AgesAreSound (plan : TablePlan) (s : Slots) (tree : TableState) (t : WholeState) (dead : ℕ → Bool)
-    (was_dead : ℕ → ℕ → Bool) : Type 0 where
+-- that a word of a slot in use noted which a pass has read. And the card whose flag a pass lost last was laid aside.
+pub record AgesAreSound (plan : TablePlan) (s : Slots) (tree : TableState) (t : WholeState) (lie : ℕ → ℕ)
+    (dead : ℕ → Bool) (was_dead : ℕ → ℕ → Bool) : Type 0 where
   pub now : AreDead plan tree dead
   pub still : (q c : ℕ) → was_dead q c ≡ true → dead c ≡ true
   pub since : (seat q a : ℕ) (k : Known) → get_elem? t.views seat ≡ some k → k.period.place ≡ Some q
       → k.period.announced ≡ Some a → IsAtRest k.tree ⊎ ForgotWhen plan tree seat (was_dead q)
   pub noted : (slot k : ℕ) → slot ≤ s.last → is_noted (slice_index t.words (slot_word s slot)) k ≡ true
-      → IsOut plan tree now.machine now.uses (4 * card_in s t.words slot + k)
+      → IsOut plan tree now.machine now.uses (4 * lie slot + k)
   pub read : (seat : ℕ) (k : Known) (r : SlotRead) → get_elem? t.views seat ≡ some k → k.period.read ≡ Some r
-      → (i : ℕ) → is_noted r.word i ≡ true
+      → r.word % 8 ≢ 7 → (i : ℕ) → is_noted r.word i ≡ true
       → IsOut plan tree now.machine now.uses (4 * card_by r.slot r.word + i)
   pub lost : (seat c : ℕ) (k : Known) → get_elem? t.views seat ≡ some k → k.period.lost ≡ Some c
       → IsAside now.machine.stages tree.views c
 
--- The periods of a table are sound, by which cards are dead in its tree, what the clock was when each period began,
--- and which were dead then; and its memory is tied to its tree.
+-- The periods of a table are sound, by which cards lie in its slots, which are dead in its tree, what the clock was
+-- when each period began, and which were dead then; and its memory is tied to its tree.
 pub record HasPeriods (plan : TablePlan) (s : Slots) (tree : TableState) (t : WholeState) : Type 0 where
+  pub lie : ℕ → ℕ
   pub dead : ℕ → Bool
   pub began : ℕ → ℕ
   pub was_dead : ℕ → ℕ → Bool
-  pub periods : PeriodsAreSound s t dead began was_dead
-  pub ages : AgesAreSound plan s tree t dead was_dead
-  pub tied : IsTied s tree t ages.now.machine.stages dead was_dead
+  pub lies : LieInSlots s t.words lie
+  pub periods : PeriodsAreSound s t lie dead began was_dead
+  pub ages : AgesAreSound plan s tree t lie dead was_dead
+  pub tied : IsTied s tree t ages.now.machine.stages lie dead was_dead
 
 -- by what a pass knows of some card, a node is dead
 abbrev pub KnowsDeadNode : View → ℕ → Type 0
 KnowsDeadNode v x = (c : ℕ) × KnowsDead v c x
 
 -- By what a pass knows, all three nodes of a card are dead: each is noted in the word of the card's slot, which it
--- has read, or it knows it of the node itself.
+-- has read when the slot was in use, or it knows it of the node itself.
 pub record KnowsDeadCard (k : Known) (c : ℕ) : Type 0 where
   pub read : SlotRead
   pub has : k.period.read ≡ Some read
+  pub used : read.word % 8 ≢ 7
   pub lies : card_by read.slot read.word ≡ c
   pub each : (i : ℕ) → i < 3 → (is_noted read.word i ≡ true) ⊎ KnowsDeadNode k.tree (4 * c + i)
 

@@ -8,8 +8,9 @@ use Rattle.ell_layout.specs.Layout.{address}
 use Rattle.ell_cards.specs.declared.call.Call.{Call}
 use Rattle.ell_cards.specs.Calls.{May, word_of}
 use Rattle.ell_cards.specs.Models.{TablePlan}
-use Rattle.ell_cards.specs.Periods.{WholeState, clock_word, slot_word, card_in}
-use Rattle.ell_cards.specs.SlotWords.{stamp_in}
+use Rattle.ell_cards.specs.Periods.{WholeState, clock_word, slot_word}
+use Rattle.ell_cards.specs.SlotWords.{slot_of, stamp_in}
+use Rattle.ell_cards.specs.Tied.{MayInMemory}
 use Rattle.ell_cards.specs.Whole.{IsWhole}
 
 -- a pass in a seat of a table is in a period: it has a place, and announces a reading there
@@ -41,10 +42,10 @@ pub record IsSafelyFree (s : Slots) (t : WholeState) (slot : ℕ) : Type 0 where
   pub sits : get_elem? t.views pass ≡ some knows
   pub safe : stamp_in (slice_index t.words (slot_word s slot)) < knows.period.safe
 
--- So it is wherever the steps of passes have led a table with places: no pass may touch a word of the card that
--- lies there, whatever it knows.
+-- So it is wherever the steps of passes have led a table with places: no pass may touch a word of any card that has
+-- this slot, whatever it knows.
 abbrev pub FreeSlotsAreUntouched : Type 0
 FreeSlotsAreUntouched = (plan : TablePlan) (s : Slots) (t : WholeState) → plan.slots ≡ Some s
     → IsWhole plan t → (slot : ℕ) → IsSafelyFree s t slot
     → (seat : ℕ) (k : Known) → get_elem? t.views seat ≡ some k → (c : Call) → May plan c k.tree
-    → (f : Field) → word_of c ≢ address (card_in s t.words slot) f
+    → MayInMemory k.period.slot k.tree c → (d : ℕ) → slot_of d ≡ slot → (f : Field) → word_of c ≢ address d f

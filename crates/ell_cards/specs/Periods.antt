@@ -1,4 +1,4 @@
-use Rattle.std.specs.Prelude.{◌≡◌, ◌≢◌, ℕ, zero, suc, ◌+◌, ◌-◌, ◌*◌, ◌/◌, ◌<◌, ◌≤◌, ◌==◌, ◌++◌, ◌&&◌, nat_lt, nat_le, if◌then◌else◌, Bool, Option, Some, None, List, [], length, replicate, slice_index, slice_set, true, false}
+use Rattle.std.specs.Prelude.{◌≡◌, ◌≢◌, ℕ, zero, suc, ◌+◌, ◌-◌, ◌*◌, ◌/◌, ◌<◌, ◌≤◌, ◌==◌, ◌++◌, ◌&&◌, nat_lt, nat_le, if◌then◌else◌, ◌%◌, Bool, Option, Some, None, List, [], length, replicate, slice_index, slice_set, true, false}
 use mathlib.Core.Option.{some, none}
 use mathlib.Core.Option.{Option as Maybe}
 use lib.ListN.{get_elem?}
@@ -16,7 +16,7 @@ use Rattle.ell_cards.specs.declared.view.Told.TheVariants.{Met, Key}
 use Rattle.ell_cards.specs.declared.view.View.{View}
 use Rattle.ell_cards.specs.Models.{TablePlan, IsFree, IsTold}
 use Rattle.ell_cards.specs.Seeking.{could_have, could_take, missed_none, missed_one, no_seek, sought_on}
-use Rattle.ell_cards.specs.SlotWords.{slot_of, turn_of, turn_in, card_by, freed_by}
+use Rattle.ell_cards.specs.SlotWords.{slot_of, card_by, freed_by, is_used_for}
 
 -- the state of a table, with all that its passes know
 abbrev pub WholeState : Type 0
@@ -40,14 +40,16 @@ slot_word s slot = clock_word s + 9 + 8 * s.places + slot
 abbrev pub slots_size : Slots → ℕ
 slots_size s = clock_word s + 9 + 8 * s.places + 4 * (s.last / 4 + 1)
 
--- the card that lies in a slot, by the words of a table
-abbrev pub card_in : Slots → List ℕ → ℕ → ℕ
-card_in s words slot = card_by slot (slice_index words (slot_word s slot))
+-- These cards lie in the slots of a table, one each, by the words of those that are in use.
+abbrev pub LieInSlots : Slots → List ℕ → (ℕ → ℕ) → Type 0
+LieInSlots s words lie =
+    (slot : ℕ) → slot ≤ s.last → slice_index words (slot_word s slot) % 8 ≢ 7
+    → lie slot ≡ card_by slot (slice_index words (slot_word s slot))
 
 -- the stamp of a card that was set free, if it lies in its slot
-abbrev pub stamp_at : Slots → List ℕ → ℕ → Option ℕ
-stamp_at s words c =
-    if nat_le (slot_of c) s.last && card_in s words (slot_of c) == c
+abbrev pub stamp_at : Slots → (ℕ → ℕ) → List ℕ → ℕ → Option ℕ
+stamp_at s lie words c =
+    if nat_le (slot_of c) s.last && lie (slot_of c) == c
     then freed_by (slice_index words (slot_word s (slot_of c))) else None
 
 -- the card that a pass is about to set free, and the stamp
@@ -103,7 +105,7 @@ announced_by (suc (suc reading)) = Some reading
 
 -- the clock stops here, so that a place has a word for each reading, and so has a slot that was set free with it
 abbrev pub last_reading : ℕ
-last_reading = 1099511627776
+last_reading = 1152921504606846976
 
 -- what a pass without a place knows of periods: nothing
 abbrev pub no_period : Period
@@ -185,7 +187,7 @@ after_missing c n p = record (after_read (slot_of c) n p) { sought = missed_one 
 -- that could be taken
 abbrev pub after_own : ℕ → ℕ → Period → Period
 after_own c n p =
-    if turn_in n == turn_of c then after_taking c p
+    if is_used_for c n then after_taking c p
     else if could_take c n p.safe then after_read (slot_of c) n p else after_missing c n p
 
 -- the clock was read for a card whose nodes are dead
@@ -265,10 +267,10 @@ abbrev pub word_at_place : Slots → List ℕ → ℕ → Option ℕ
 word_at_place s words q = if nat_lt q s.places then announced_by (slice_index words (place_word s q)) else None
 
 -- The grace periods of a table: the clock and what is announced are its words, and what each pass has seen is what
--- it knows. Nobody reads which cards are dead, what the clock was when a pass began its period, and which were dead
--- then.
-abbrev pub grace_of : Slots → WholeState → (ℕ → Bool) → (ℕ → ℕ) → (ℕ → ℕ → Bool) → Grace
-grace_of s t dead began was_dead = record {
+-- it knows. Nobody reads which cards lie in free slots, which are dead, what the clock was when a pass began its period,
+-- and which were dead then.
+abbrev pub grace_of : Slots → WholeState → (ℕ → ℕ) → (ℕ → Bool) → (ℕ → ℕ) → (ℕ → ℕ → Bool) → Grace
+grace_of s t lie dead began was_dead = record {
   clock = slice_index t.words (clock_word s);
   gone = dead;
   word = word_at_place s t.words;
@@ -278,15 +280,15 @@ grace_of s t dead began was_dead = record {
   least = λ i. (period_in t.views i).least;
   seen = λ i q. nat_lt q (period_in t.views i).looked;
   safe = λ i. (period_in t.views i).safe;
-  free = stamp_at s t.words;
+  free = stamp_at s lie t.words;
 }
 
--- The periods of a table are sound, by what is dead, what the clock was when each began, and what was dead then:
--- they are such grace periods, what each pass knows of them is so, those of passes that are in one began when the
--- passes know it, and no two passes have one place.
-pub record PeriodsAreSound (s : Slots) (t : WholeState) (dead : ℕ → Bool) (began : ℕ → ℕ) (was_dead : ℕ → ℕ → Bool)
-    : Type 0 where
-  pub sound : GraceIsSound s.places (grace_of s t dead began was_dead)
+-- The periods of a table are sound, by which cards lie in its slots, what is dead, what the clock was when each began,
+-- and what was dead then: they are such grace periods, what each pass knows of them is so, those of passes that are in
+-- one began when the passes know it, and no two passes have one place.
+pub record PeriodsAreSound (s : Slots) (t : WholeState) (lie : ℕ → ℕ) (dead : ℕ → Bool) (began : ℕ → ℕ)
+    (was_dead : ℕ → ℕ → Bool) : Type 0 where
+  pub sound : GraceIsSound s.places (grace_of s t lie dead began was_dead)
   pub low : slice_index t.words (clock_word s) ≤ last_reading
   pub each : (i : ℕ) (k : Known) → get_elem? t.views i ≡ some k → PeriodHolds s t.words k
   pub since : (i q a : ℕ) (k : Known) → get_elem? t.views i ≡ some k → k.period.place ≡ Some q

@@ -11,15 +11,15 @@ use Rattle.ell_cards.specs.declared.view.Known.{Known}
 use Rattle.ell_cards.specs.declared.view.Slots.{Slots}
 use Rattle.ell_cards.specs.declared.view.View.{View}
 use Rattle.ell_cards.specs.Models.{Has}
-use Rattle.ell_cards.specs.Periods.{WholeState, card_in}
+use Rattle.ell_cards.specs.Periods.{WholeState}
 use Rattle.ell_cards.specs.Sayings.{says, put_says, delete_says}
 use Rattle.ell_cards.specs.Shown.{cut_word}
 use Rattle.ell_cards.specs.SlotWords.{slot_of}
 use Rattle.ell_cards.specs.States.{TableState}
 
--- a card lies in its slot, by the words of a table
-abbrev pub LiesThere : Slots → List ℕ → ℕ → Type 0
-LiesThere s words c = (slot_of c ≤ s.last) × (card_in s words (slot_of c) ≡ c)
+-- a card lies in its slot, where these lie in the slots of a table
+abbrev pub LiesThere : Slots → (ℕ → ℕ) → ℕ → Type 0
+LiesThere s lie c = (slot_of c ≤ s.last) × (lie (slot_of c) ≡ c)
 
 -- a card was given out, and has won its flag, or it is of the opening tree
 abbrev pub HasWon : Stages → ℕ → Type 0
@@ -50,19 +50,20 @@ pub data IsKept (stage : Stages) (views : List Known) (c : ℕ) (f : Field) : Ty
 -- that was not dead when the period began; and the card in hand whose slot the pass has taken. Whichever card has won
 -- its flag has a slot. The card for which a pass took a slot last was claimed, and what a pass has stored of its card
 -- in hand it stored once it had taken that one's slot.
-pub record IsTied (s : Slots) (tree : TableState) (t : WholeState) (stage : Stages) (dead : ℕ → Bool)
+pub record IsTied (s : Slots) (tree : TableState) (t : WholeState) (stage : Stages) (lie : ℕ → ℕ) (dead : ℕ → Bool)
     (was_dead : ℕ → ℕ → Bool) : Type 0 where
   pub claim : slice_index t.words 0 ≡ slice_index tree.words 0
   pub flat : slice_index t.words 1 ≡ slice_index tree.words 1
-  pub root : card_in s t.words 0 ≡ 0
-  pub at : (slot : ℕ) (f : Field) → slot ≤ s.last → IsKept stage t.views (card_in s t.words slot) f
-      → slice_index t.words (address slot f) ≡ cut_word (slice_index tree.words (address (card_in s t.words slot) f))
-  pub alive : (c : ℕ) → HasWon stage c → dead c ≡ false → LiesThere s t.words c
+  pub root : lie 0 ≡ 0
+  pub own : (slot : ℕ) → slot ≤ s.last → slot_of (lie slot) ≡ slot
+  pub at : (slot : ℕ) (f : Field) → slot ≤ s.last → IsKept stage t.views (lie slot) f
+      → slice_index t.words (address slot f) ≡ cut_word (slice_index tree.words (address (lie slot) f))
+  pub alive : (c : ℕ) → HasWon stage c → dead c ≡ false → LiesThere s lie c
   pub lives : (seat q a c : ℕ) (k : Known) → get_elem? t.views seat ≡ some k → k.period.place ≡ Some q
-      → k.period.announced ≡ Some a → HasWon stage c → was_dead q c ≡ false → LiesThere s t.words c
+      → k.period.announced ≡ Some a → HasWon stage c → was_dead q c ≡ false → LiesThere s lie c
   pub fits : (c : ℕ) → HasWon stage c → slot_of c ≤ s.last
   pub hand : (seat c : ℕ) (k : Known) → get_elem? t.views seat ≡ some k → k.period.slot ≡ Some c → HoldsWaiting k.tree c
-      → LiesThere s t.words c
+      → LiesThere s lie c
   pub past : (seat c : ℕ) (k : Known) → get_elem? t.views seat ≡ some k → k.period.slot ≡ Some c
       → c < slice_index t.words 0
   pub stores : (seat c : ℕ) (f : Field) (k : Known) → get_elem? t.views seat ≡ some k → HoldsWaiting k.tree c

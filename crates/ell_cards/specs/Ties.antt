@@ -5,7 +5,7 @@ use mathlib.Core.Option.{Option as Maybe}
 use lib.ListN.{get_elem?}
 use Rattle.atomic_table.specs.Table.{opening}
 use Rattle.ell_layout.specs.Start.{words_at_start}
-use Rattle.ell_layout.specs.Words.{words_of}
+use Rattle.ell_layout.specs.Words.{put, words_of}
 use Rattle.ell_layout.specs.Layout.{table_size}
 use Rattle.ell_word.specs.Node.{card}
 use Rattle.ell_core.specs.history.Stages.{Stages}
@@ -19,7 +19,7 @@ use Rattle.ell_cards.specs.Changes.{left_view, right_view}
 use Rattle.ell_cards.specs.Calls.{May, place_of, atomic_of, left_by}
 use Rattle.ell_cards.specs.Models.{TablePlan, IsFree, MayPart}
 use Rattle.ell_cards.specs.PeriodLaws.{IsInPeriod}
-use Rattle.ell_cards.specs.Periods.{WholeState, IsAtRest, slot_word, slots_size, opening_words, card_in, after_give, after_taking, given_period}
+use Rattle.ell_cards.specs.Periods.{WholeState, IsAtRest, slot_word, slots_size, opening_words, after_give, after_taking, given_period}
 use Rattle.ell_cards.specs.Shown.{IsWord, cut_word, IsNear}
 use Rattle.ell_cards.specs.SlotWords.{slot_of, turn_of}
 use Rattle.ell_cards.specs.Starts.{MayStart, IsReached}
@@ -41,9 +41,9 @@ FindsTied words tree (call.Fill c f value) = Unit {0}
 FindsTied words tree c = slice_index words (place_of c) ≡ cut_word (found_by tree c)
 
 -- the word that a call touches is one of the slots, and the card to which it belongs lies in its slot
-pub record TouchesTied (s : Slots) (words : List ℕ) (tree : TableState) (c : Call) : Type 0 where
+pub record TouchesTied (s : Slots) (lie : ℕ → ℕ) (words : List ℕ) (tree : TableState) (c : Call) : Type 0 where
   pub inside : place_of c < table_size s.last
-  pub lies : LiesThere s words (card_touched (touched_by c))
+  pub lies : LiesThere s lie (card_touched (touched_by c))
   pub finds : FindsTied words tree c
 
 -- the memory after a step call of the pass in a seat: at the call's place is what is cut of what the call leaves in
@@ -55,23 +55,23 @@ memory_after tree t homes id k c = record {
   views = slice_set t.views id (record { tree = view_after tree k.tree c; period = k.period });
 }
 
--- memory is tied to the tree by the stages of the tree's machine, by what is dead there
-pub record IsTiedByAges (plan : TablePlan) (s : Slots) (tree : TableState) (t : WholeState) (dead : ℕ → Bool)
-    (was_dead : ℕ → ℕ → Bool) : Type 0 where
-  pub ages : AgesAreSound plan s tree t dead was_dead
-  pub tied : IsTied s tree t ages.now.machine.stages dead was_dead
+-- memory is tied to the tree by the stages of the tree's machine, by which cards lie in slots, and what is dead there
+pub record IsTiedByAges (plan : TablePlan) (s : Slots) (tree : TableState) (t : WholeState) (lie : ℕ → ℕ)
+    (dead : ℕ → Bool) (was_dead : ℕ → ℕ → Bool) : Type 0 where
+  pub ages : AgesAreSound plan s tree t lie dead was_dead
+  pub tied : IsTied s tree t ages.now.machine.stages lie dead was_dead
 
 -- A step call that a pass may make by what it knows, and by the slot that it has taken, touches a word that is
 -- tied, and memory is tied after it, whatever is noted of the homes.
 abbrev pub CallsKeepTies : Type 0
-CallsKeepTies = (plan : TablePlan) (s : Slots) (tree : TableState) (t : WholeState) (dead : ℕ → Bool)
-    (was_dead : ℕ → ℕ → Bool) → IsReached plan tree → s.last < 2097152 → table_size s.last ≤ length t.words
-    → IsTiedByAges plan s tree t dead was_dead
+CallsKeepTies = (plan : TablePlan) (s : Slots) (tree : TableState) (t : WholeState) (lie : ℕ → ℕ)
+    (dead : ℕ → Bool) (was_dead : ℕ → ℕ → Bool) → IsReached plan tree → s.last < 2097152 → table_size s.last ≤ length t.words
+    → IsTiedByAges plan s tree t lie dead was_dead
     → (id : ℕ) (k : Known) → get_elem? t.views id ≡ some k → get_elem? tree.views id ≡ some k.tree
     → IsAtRest k.tree ⊎ IsInPeriod t id k → (c : Call) → May plan c k.tree → MayInMemory k.period.slot k.tree c
-    → TouchesTied s t.words tree c
+    → TouchesTied s lie t.words tree c
     × ((homes : List (Maybe (Unit {0})))
-    → IsTiedByAges plan s (state_after tree id k.tree c) (memory_after tree t homes id k c) dead was_dead)
+    → IsTiedByAges plan s (state_after tree id k.tree c) (memory_after tree t homes id k c) lie dead was_dead)
 
 -- the parts of a pass that is split, of which the right one gets the other place
 abbrev pub left_known : List ℕ → Known → Known
@@ -82,8 +82,8 @@ right_known keys k = record { tree = right_view keys k.tree; period = given_peri
 
 -- A split of a pass with nothing in hand keeps memory tied, and so does a join of two.
 abbrev pub SplitsKeepTies : Type 0
-SplitsKeepTies = (plan : TablePlan) (s : Slots) (tree : TableState) (t : WholeState) (dead : ℕ → Bool)
-    (was_dead : ℕ → ℕ → Bool) → s.last < 2097152 → IsTiedByAges plan s tree t dead was_dead
+SplitsKeepTies = (plan : TablePlan) (s : Slots) (tree : TableState) (t : WholeState) (lie : ℕ → ℕ)
+    (dead : ℕ → Bool) (was_dead : ℕ → ℕ → Bool) → s.last < 2097152 → IsTiedByAges plan s tree t lie dead was_dead
     → (id : ℕ) (k : Known) → get_elem? t.views id ≡ some k → get_elem? tree.views id ≡ some k.tree
     → (keys : List ℕ) → IsFree k.tree → MayPart k.tree
     → IsTiedByAges plan s (state_split tree id k.tree keys)
@@ -92,11 +92,11 @@ SplitsKeepTies = (plan : TablePlan) (s : Slots) (tree : TableState) (t : WholeSt
       homes = t.homes;
       views = slice_set t.views id (left_known keys k) ++ right_known keys k ∷ [];
     })
-    dead was_dead
+    lie dead was_dead
 
 abbrev pub JoinsKeepTies : Type 0
-JoinsKeepTies = (plan : TablePlan) (s : Slots) (tree : TableState) (t : WholeState) (dead : ℕ → Bool)
-    (was_dead : ℕ → ℕ → Bool) → s.last < 2097152 → IsTiedByAges plan s tree t dead was_dead
+JoinsKeepTies = (plan : TablePlan) (s : Slots) (tree : TableState) (t : WholeState) (lie : ℕ → ℕ)
+    (dead : ℕ → Bool) (was_dead : ℕ → ℕ → Bool) → s.last < 2097152 → IsTiedByAges plan s tree t lie dead was_dead
     → (id other : ℕ) (k l : Known) → get_elem? t.views id ≡ some k → get_elem? t.views other ≡ some l
     → get_elem? tree.views id ≡ some k.tree → get_elem? tree.views other ≡ some l.tree
     → id ≢ other → IsFree k.tree → IsFree l.tree
@@ -106,7 +106,7 @@ JoinsKeepTies = (plan : TablePlan) (s : Slots) (tree : TableState) (t : WholeSta
       homes = t.homes;
       views = slice_set (slice_set t.views id (joined_known k l)) other spent_known;
     })
-    dead was_dead
+    lie dead was_dead
 
 -- the memory of a table with places, as it opens with these words of cards, is tied to a tree that turns may start
 -- from
@@ -114,23 +114,23 @@ pub record OpensTied (plan : TablePlan) (s : Slots) (cards : List ℕ) : Type 0 
   pub tree : TableState
   pub reached : IsReached plan tree
   pub views : trees_of (first_known plan ∷ []) ≡ tree.views
+  pub lie : ℕ → ℕ
   pub dead : ℕ → Bool
   pub was_dead : ℕ → ℕ → Bool
-  pub tied : IsTiedByAges plan s tree (opening (opening_words s cards) [] (first_known plan)) dead was_dead
+  pub tied : IsTiedByAges plan s tree (opening (opening_words s cards) [] (first_known plan)) lie dead was_dead
 
 abbrev pub OpeningsAreTied : Type 0
 OpeningsAreTied = (plan : TablePlan) (s : Slots) (cards : List ℕ) → plan.slots ≡ Some s → MayStart plan
     → length cards ≡ table_size s.last → words_of cards ≡ words_at_start plan.flat plan.start
     → ((i : ℕ) → IsWord (slice_index cards i)) → OpensTied plan s cards
 
--- A step of a pass on the words of periods leaves the words of cards as they are, and which card lies in each slot.
--- The pass has for its card in hand the slot that it had, and nothing that was dead lives. If it begins a period,
--- what was dead then is what was dead before the step at least.
+-- A step of a pass on the words of periods leaves the words of cards as they are. The pass has for its card in hand the
+-- slot that it had, and nothing that was dead lives. If it begins a period, what was dead then is what was dead before
+-- the step at least.
 pub record GoesBeside (s : Slots) (t : WholeState) (id : ℕ) (k : Known) (p : Period) (words : List ℕ)
     (dead dead' : ℕ → Bool) (was_dead was_dead' : ℕ → ℕ → Bool) : Type 0 where
   pub taken : p.slot ≡ k.period.slot
   pub cards : (i : ℕ) → i < table_size s.last → slice_index words i ≡ slice_index t.words i
-  pub lie : (slot : ℕ) → slot ≤ s.last → card_in s words slot ≡ card_in s t.words slot
   pub less : (c : ℕ) → dead' c ≡ false → dead c ≡ false
   pub mine : (q a : ℕ) → p.place ≡ Some q → p.announced ≡ Some a
       → ((k.period.place ≡ Some q) × (k.period.announced ≡ Some a)
@@ -141,13 +141,13 @@ pub record GoesBeside (s : Slots) (t : WholeState) (id : ℕ) (k : Known) (p : P
 
 -- such a step keeps memory tied
 abbrev pub PeriodsKeepTies : Type 0
-PeriodsKeepTies = (s : Slots) (tree : TableState) (t : WholeState) (stage : Stages) (dead dead' : ℕ → Bool)
-    (was_dead was_dead' : ℕ → ℕ → Bool) → IsTied s tree t stage dead was_dead
+PeriodsKeepTies = (s : Slots) (tree : TableState) (t : WholeState) (stage : Stages) (lie : ℕ → ℕ) (dead dead' : ℕ → Bool)
+    (was_dead was_dead' : ℕ → ℕ → Bool) → IsTied s tree t stage lie dead was_dead
     → (id : ℕ) (k : Known) → get_elem? t.views id ≡ some k
     → (p : Period) (words : List ℕ) → GoesBeside s t id k p words dead dead' was_dead was_dead'
     → IsTied s tree
     (record { words = words; homes = t.homes; views = slice_set t.views id (record { tree = k.tree; period = p }) })
-    stage dead' was_dead'
+    stage lie dead' was_dead'
 
 -- the memory where a pass has taken the slot of its card in hand
 abbrev pub memory_taken : Slots → WholeState → ℕ → Known → ℕ → WholeState
@@ -160,35 +160,35 @@ memory_taken s t id k c = record {
 -- A pass takes the slot of its card in hand, which is not flagged, where a card lies that is dead, and was dead for
 -- each pass that is in a period: that keeps memory tied too.
 abbrev pub TakesKeepTies : Type 0
-TakesKeepTies = (plan : TablePlan) (s : Slots) (tree : TableState) (t : WholeState) (dead : ℕ → Bool)
-    (was_dead : ℕ → ℕ → Bool) → s.last < 2097152 → length t.words ≡ slots_size s
-    → IsTiedByAges plan s tree t dead was_dead → trees_of t.views ≡ tree.views
+TakesKeepTies = (plan : TablePlan) (s : Slots) (tree : TableState) (t : WholeState) (lie : ℕ → ℕ)
+    (dead : ℕ → Bool) (was_dead : ℕ → ℕ → Bool) → s.last < 2097152 → length t.words ≡ slots_size s
+    → IsTiedByAges plan s tree t lie dead was_dead → trees_of t.views ≡ tree.views
     → (id : ℕ) (k : Known) → get_elem? t.views id ≡ some k → (c : ℕ) → HoldsWaiting k.tree c → slot_of c ≤ s.last
-    → dead (card_in s t.words (slot_of c)) ≡ true
+    → dead (lie (slot_of c)) ≡ true
     → ((seat q a : ℕ) (u : Known) → get_elem? t.views seat ≡ some u → u.period.place ≡ Some q
     → u.period.announced ≡ Some a
-    → was_dead q (card_in s t.words (slot_of c)) ≡ true)
-    → IsTiedByAges plan s tree (memory_taken s t id k c) dead was_dead
+    → was_dead q (lie (slot_of c)) ≡ true)
+    → IsTiedByAges plan s tree (memory_taken s t id k c) (put lie (slot_of c) c) dead was_dead
 
 -- Where that card lies in its slot already, as each of the first turn does, its pass takes the slot with its word
 -- as it is.
 abbrev pub OwnSlotsKeepTies : Type 0
-OwnSlotsKeepTies = (plan : TablePlan) (s : Slots) (tree : TableState) (t : WholeState) (dead : ℕ → Bool)
-    (was_dead : ℕ → ℕ → Bool) → length t.words ≡ slots_size s
-    → IsTiedByAges plan s tree t dead was_dead → trees_of t.views ≡ tree.views
-    → (id : ℕ) (k : Known) → get_elem? t.views id ≡ some k → (c : ℕ) → HoldsWaiting k.tree c → LiesThere s t.words c
+OwnSlotsKeepTies = (plan : TablePlan) (s : Slots) (tree : TableState) (t : WholeState) (lie : ℕ → ℕ)
+    (dead : ℕ → Bool) (was_dead : ℕ → ℕ → Bool) → length t.words ≡ slots_size s
+    → IsTiedByAges plan s tree t lie dead was_dead → trees_of t.views ≡ tree.views
+    → (id : ℕ) (k : Known) → get_elem? t.views id ≡ some k → (c : ℕ) → HoldsWaiting k.tree c → LiesThere s lie c
     → IsTiedByAges plan s tree
     (record {
       words = slice_set t.words (slot_word s (slot_of c)) (slice_index t.words (slot_word s (slot_of c)));
       homes = t.homes;
       views = slice_set t.views id (record { tree = k.tree; period = after_taking c k.period });
     })
-    dead was_dead
+    lie dead was_dead
 
 -- Cards that all lie in their slots, none of them twice in a list, are at most as many as there are slots.
 abbrev pub CardsInSlotsAreFew : Type 0
-CardsInSlotsAreFew = (s : Slots) (words cards : List ℕ) → IsDistinct (λ c d. c == d) cards
-    → AllByRecursion (LiesThere s words) cards → length cards ≤ s.last + 1
+CardsInSlotsAreFew = (s : Slots) (lie : ℕ → ℕ) (cards : List ℕ) → IsDistinct (λ c d. c == d) cards
+    → AllByRecursion (LiesThere s lie) cards → length cards ≤ s.last + 1
 
 -- the link that a child exchange expects is near the word that it found
 abbrev pub ExpectsNear : Call → ℕ → Type 0
@@ -199,7 +199,7 @@ ExpectsNear _ n = Unit {0}
 -- So it is of each child exchange that a pass in a period may make: the cards that have changed that word since the
 -- pass forgot what it was told lie in their slots, and so they are few.
 abbrev pub ExchangesAreNear : Type 0
-ExchangesAreNear = (plan : TablePlan) (s : Slots) (tree : TableState) (t : WholeState) (dead : ℕ → Bool)
-    (was_dead : ℕ → ℕ → Bool) → IsTiedByAges plan s tree t dead was_dead → IsReached plan tree → s.last ≤ 2000000
+ExchangesAreNear = (plan : TablePlan) (s : Slots) (tree : TableState) (t : WholeState) (lie : ℕ → ℕ)
+    (dead : ℕ → Bool) (was_dead : ℕ → ℕ → Bool) → IsTiedByAges plan s tree t lie dead was_dead → IsReached plan tree → s.last ≤ 2000000
     → (id : ℕ) (k : Known) → get_elem? t.views id ≡ some k → get_elem? tree.views id ≡ some k.tree → IsInPeriod t id k
     → (c : Call) → May plan c k.tree → ExpectsNear c (found_by tree c)

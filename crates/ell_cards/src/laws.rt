@@ -361,7 +361,7 @@ pub fn calls_touch_nothing_gone()
 pub fn safe_numbers_are_safe()
     // A pass in a period began it when the clock was each safe number at least.
     ensures began { SafeNumbersAreSafe }
-    // No pass may touch a word of the card that lies in a slot which was set free with a stamp below some pass's safe number.
+    // No pass may touch a word of any card whose slot was set free with a stamp below some pass's safe number.
     ensures free { FreeSlotsAreUntouched }
 {}
 

@@ -19,7 +19,7 @@ use std::alloc::Allocator;
 use std::marker::Brand;
 
 /// The clock stops here, so that a place has a word for each reading, and so has a slot that was set free with it.
-const LAST_READING: u64 = 1099511627776;
+const LAST_READING: u64 = 1_152_921_504_606_846_976;
 
 impl Slots {
     /// Returns the address of the clock: behind the group of the last card.

@@ -1,6 +1,7 @@
-//! Slots: a card lies in one, at one of the turns there. The word of a slot notes which of the three nodes of its
-//! card are dead. Once all three are, the slot is set free, with a reading of the clock as its stamp, and a pass
-//! takes it for the card of a later turn once that stamp is safe. The steps are not counted.
+//! Slots: a card lies in one, at one of the turns there. The word of a slot has the turn of its card, and notes which
+//! of the three nodes of the card are dead. Once all three are, the slot is set free: the word then has a reading of
+//! the clock as its stamp, and a pass takes the slot for another card once that stamp is safe. The steps are not
+//! counted.
 ghost use Rattle.std.specs.Prelude.{◌≡◌, ◌≢◌, ◌+◌, ◌*◌, ◌<◌, ◌≤◌, ◌%◌, ◌⊎◌, ℕ, IfSome, None, Some, [], true, false};
 ghost use Rattle.ell_word.specs.Node.{greatest_card, greatest_number};
 ghost use Rattle.ell_cards.specs.Ages.{KnowsDeadNode, MayStamp};
@@ -25,9 +26,6 @@ use std::marker::Brand;
 /// How many numbers of cards a turn has. Each slot has one of them.
 const NUMBERS_PER_TURN: u64 = 2_097_152;
 
-/// How many turns there are.
-const TURNS: u64 = 1_048_576;
-
 /// How many slots are left to deletes: the last ones of the table, which a pass takes for no other change.
 const LEFT_TO_DELETES: u64 = 2;
 
@@ -47,20 +45,20 @@ pub(crate) fn turn_of(card: u64) -> u64
     card / NUMBERS_PER_TURN
 }
 
-// Returns the turn of the card in a slot, by the slot's word.
+// Returns the turn of the card in a slot in use, by the slot's word.
 #[inline(always)]
 fn turn_in(word: u64) -> u64
     ensures { result ≡ turn_in word }
 {
-    word / 8 % TURNS
+    word / 8
 }
 
-// Returns the stamp with which a word sets its slot free, if it does.
+// Returns the stamp with which a slot was set free, by the word of a free slot.
 #[inline(always)]
 fn stamp_in(word: u64) -> u64
     ensures { result ≡ stamp_in word }
 {
-    word / 8_388_608
+    word / 8
 }
 
 impl Slots {
@@ -186,10 +184,9 @@ impl<A: Allocator + Copy> CardTable<A> {
         ensures tree { seat.new.me.0.tree ≡ seat.old.me.0.tree }
         ensures seat { (seat.new.table_id ≡ seat.old.table_id) × (seat.new.me.1 ≡ []) }
     {
-        let turn = turn_in(word);
         let reading = self.stamp(seat, slots, slot, word);
-        let free = 8_388_608 * reading + 8 * turn + 7;
-        self.period_exchange::<Brand>(seat, self.slot_address(slots, slot), word, free) == word
+        let address = self.slot_address(slots, slot);
+        self.period_exchange::<Brand>(seat, address, word, 8 * reading + 7) == word
     }
 
     // Notes nodes of a card that the pass knows to be dead in the word of the card's slot, by one exchange for all,
@@ -541,13 +538,9 @@ impl<A: Allocator + Copy> CardTable<A> {
         }
         self.look_now_and_then(pass, slots);
         let word = self.own_slot(&mut pass.seat, slots, card);
-        if turn_in(word) == turn_of(card) {
-            return true;
+        if word % 8 != 7 {
+            return turn_in(word) == turn_of(card);
         }
-        if word % 8 == 7 && stamp_in(word) < pass.standing.safe {
-            self.take_free(&mut pass.seat, slots, card, word)
-        } else {
-            false
-        }
+        stamp_in(word) < pass.standing.safe && self.take_free(&mut pass.seat, slots, card, word)
     }
 }

@@ -14,7 +14,7 @@ use Rattle.ell_cards.proofs.lemmas.whole.Untouched.{free_slots_are_untouched}
 use Rattle.ell_cards.proofs.laws.safe_numbers_are_safe.Goals as goal
 
 module _ (plan : TablePlan) (s : Slots) (tree : TableState) (t : WholeState) (has : HasPeriods plan s tree t) (seat : ℕ) (k : Known) (is : IsInPeriod t seat k) where
-  h : PeriodsAreSound s t has.dead has.began has.was_dead
+  h : PeriodsAreSound s t has.lie has.dead has.began has.was_dead
   h = has.periods
 
   -- the place of a pass in a period says what it announces

@@ -22,7 +22,7 @@ use Rattle.ell_cards.specs.declared.view.View.{View}
 use Rattle.ell_cards.specs.Calls.{word_of, atomic_of, left_by, after, May, slot_address, place_of}
 use Rattle.ell_cards.specs.Changes.{after_claim, after_flag, after_mark, is_mark_of, with_fact, unmarking}
 use Rattle.ell_cards.specs.Models.{TablePlan, Has, latest, earlier}
-use Rattle.ell_cards.specs.Periods.{WholeState, slot_word, card_in}
+use Rattle.ell_cards.specs.Periods.{WholeState, slot_word}
 use Rattle.ell_cards.specs.Sayings.{says}
 use Rattle.ell_cards.specs.Shown.{cut_word}
 use Rattle.ell_cards.specs.SlotWords.{slot_of, card_by}
@@ -138,9 +138,9 @@ left_rises _ n is = absurd (omega arith)
 read_there : (l : List ℕ) (i j n : ℕ) → j ≡ i → i < length l → get_or (set l i n) j 0 ≡ n
 read_there l i j n same fits = ap (λ x. get_or (set l i n) x 0) same ∙ get_or-set_same l i n 0 fits
 
-module _ (plan : TablePlan) (s : Slots) (low : s.last < 2097152) (tree : TableState) (t : WholeState) (stage next : Stages) (dead : ℕ → Bool) (was_dead : ℕ → ℕ → Bool)
-    (tied : IsTied s tree t stage dead was_dead) (id : ℕ) (k : Known) (here : get_elem? t.views id ≡ some k) (c : Call) (may : May plan c k.tree) (mem : MayInMemory k.period.slot k.tree c)
-    (touch : TouchesTied s t.words tree c) (room : table_size s.last ≤ length t.words) (fits : word_of c < length tree.words)
+module _ (plan : TablePlan) (s : Slots) (low : s.last < 2097152) (tree : TableState) (t : WholeState) (stage next : Stages) (lie : ℕ → ℕ) (dead : ℕ → Bool) (was_dead : ℕ → ℕ → Bool)
+    (tied : IsTied s tree t stage lie dead was_dead) (id : ℕ) (k : Known) (here : get_elem? t.views id ≡ some k) (c : Call) (may : May plan c k.tree) (mem : MayInMemory k.period.slot k.tree c)
+    (touch : TouchesTied s lie t.words tree c) (room : table_size s.last ≤ length t.words) (fits : word_of c < length tree.words)
     (small : get_or (set tree.words (word_of c) (left_by (atomic_of c) (found_by tree c))) 0 0 < 2 ^ 64)
     (wins : (d : ℕ) → HasWon next d → HasWon stage d ⊎ FlagsCard c d)
     (kinds : (d : ℕ) (f : Field) → HasWon stage d → says (next d) f ≡ true → says (stage d) f ≡ true)
@@ -162,18 +162,6 @@ module _ (plan : TablePlan) (s : Slots) (low : s.last < 2097152) (tree : TableSt
 
   abbrev views : List Known
   views = set t.views id knows
-
-  -- the words of slots are as they were
-  slots_stay : (slot : ℕ) → slot ≤ s.last → get_or words (slot_word s slot) 0 ≡ get_or t.words (slot_word s slot) 0
-  slots_stay slot inside =
-      get_or-set_other t.words (place_of c) (slot_word s slot) n 0
-      (let before = before_clock s (place_of c) touch.inside in let behind = clock_before_slots s slot in omega arith)
-
-  cards_stay : (slot : ℕ) → slot ≤ s.last → card_in s words slot ≡ card_in s t.words slot
-  cards_stay slot inside = ap (card_by slot) (slots_stay slot inside)
-
-  lies_on : (e : ℕ) → LiesThere s t.words e → LiesThere s words e
-  lies_on e lies = (lies.0, cards_stay (slot_of e) lies.0 ∙ lies.1)
 
   place_fits : place_of c < length t.words
   place_fits = let inside = touch.inside in omega arith
@@ -217,8 +205,8 @@ module _ (plan : TablePlan) (s : Slots) (low : s.last < 2097152) (tree : TableSt
   ]
 
   -- the card whose flag the call wins lies in its slot
-  hand_lies : (e : ℕ) → FlagsCard c e → LiesThere s words e
-  hand_lies e flags = let hand = flag_in_hand plan c k may mem e flags in lies_on e (tied.hand id e k here hand.1 hand.0)
+  hand_lies : (e : ℕ) → FlagsCard c e → LiesThere s lie e
+  hand_lies e flags = let hand = flag_in_hand plan c k may mem e flags in tied.hand id e k here hand.1 hand.0
 
   -- what is kept after the call was kept before it, but for what the call stores
   kept_before : (e : ℕ) (f : Field) → IsKept next views e f → IsKept stage t.views e f ⊎ (place_of c ≡ slot_address e f)
@@ -241,25 +229,25 @@ module _ (plan : TablePlan) (s : Slots) (low : s.last < 2097152) (tree : TableSt
       ]
 
   -- the words of a card that lies in a slot
-  at_card : (slot : ℕ) (f : Field) → slot ≤ s.last → IsKept next views (card_in s t.words slot) f
-      → get_or words (address slot f) 0 ≡ cut_word (get_or leaves (address (card_in s t.words slot) f) 0)
+  at_card : (slot : ℕ) (f : Field) → slot ≤ s.last → IsKept next views (lie slot) f
+      → get_or words (address slot f) 0 ≡ cut_word (get_or leaves (address (lie slot) f) 0)
   at_card slot f inside kept = elim (cases_eq (address slot f) (place_of c)) [
     | inl same ↦ touched same
     | inr other ↦ elsewhere other
   ]
     where
       e : ℕ
-      e = card_in s t.words slot
+      e = lie slot
 
       there : slot_of e ≡ slot
-      there = card_lies slot (get_or t.words (slot_word s slot) 0) (omega arith)
+      there = tied.own slot inside
 
       touched : address slot f ≡ place_of c → get_or words (address slot f) 0 ≡ cut_word (get_or leaves (address e f) 0)
       touched same = elim (spots c) [
         | inl at ↦ absurd (no_claim slot f (same ∙ at.2))
         | inr at ↦
             let apart = addresses_apart slot (slot_of d) f at.0 (same ∙ at.2) in
-            let lies : e ≡ d = ap (card_in s t.words) apart.0 ∙ touch.lies.1 in
+            let lies : e ≡ d = ap lie apart.0 ∙ touch.lies.1 in
             let word : address e f ≡ word_of c = (λ i. address (lies i) (apart.1 i)) ∙ sym at.1 in
             read_there t.words (place_of c) (address slot f) n same place_fits
             ∙ (is ∙ ap cut_word (sym (read_there tree.words (word_of c) (address e f) left word fits)))
@@ -282,27 +270,26 @@ module _ (plan : TablePlan) (s : Slots) (low : s.last < 2097152) (tree : TableSt
           ]
 
   pub tie_after_call : (homes : List (Maybe (Unit {0})))
-      → IsTied s (state_after tree id k.tree c) (record { words = words; homes = homes; views = views }) next dead was_dead
+      → IsTied s (state_after tree id k.tree c) (record { words = words; homes = homes; views = views }) next lie dead was_dead
   tie_after_call homes = record {
     claim = claim_on;
     flat = flat_on;
-    root = cards_stay 0 (omega arith) ∙ tied.root;
-    at = λ slot f inside kept.
-        subst (λ x. IsKept next views x f → get_or words (address slot f) 0 ≡ cut_word (get_or leaves (address x f) 0)) (sym (cards_stay slot inside))
-        (at_card slot f inside) kept;
-    alive = λ e has lives. elim (wins e has) [ inl had ↦ lies_on e (tied.alive e had lives) | inr flags ↦ hand_lies e flags ];
+    root = tied.root;
+    own = tied.own;
+    at = at_card;
+    alive = λ e has lives. elim (wins e has) [ inl had ↦ tied.alive e had lives | inr flags ↦ hand_lies e flags ];
     lives = λ seat q a e u at placed an has alive. elim (wins e has) [
-      | inl had ↦ lies_on e (⊎_elim
+      | inl had ↦ ⊎_elim
           (λ (w : (seat ≡ id) × (knows ≡ u)). tied.lives id q a e k here (ap (λ (x : Known). x.period.place) w.1 ∙ placed) (ap (λ (x : Known). x.period.announced) w.1 ∙ an) had alive)
           (λ (w : (seat ≢ id) × (get_elem? t.views seat ≡ some u)). tied.lives seat q a e u w.1 placed an had alive)
-          (at_set t.views id seat knows u at))
+          (at_set t.views id seat knows u at)
       | inr flags ↦ hand_lies e flags
     ];
     fits = λ e has. elim (wins e has) [ inl had ↦ tied.fits e had | inr flags ↦ (hand_lies e flags).0 ];
-    hand = λ seat e u at slot waits. lies_on e (⊎_elim
+    hand = λ seat e u at slot waits. ⊎_elim
         (λ (w : (seat ≡ id) × (knows ≡ u)). mine e (ap (λ (x : Known). x.period.slot) w.1 ∙ slot) (subst (λ (x : Known). HoldsWaiting x.tree e) (sym w.1) waits))
         (λ (w : (seat ≢ id) × (get_elem? t.views seat ≡ some u)). tied.hand seat e u w.1 slot waits)
-        (at_set t.views id seat knows u at));
+        (at_set t.views id seat knows u at);
     past = λ seat e u at slot.
         let was : e < get_or t.words 0 0 = ⊎_elim
         (λ (w : (seat ≡ id) × (knows ≡ u)). tied.past id e k here (ap (λ (x : Known). x.period.slot) w.1 ∙ slot))
@@ -328,7 +315,7 @@ module _ (plan : TablePlan) (s : Slots) (low : s.last < 2097152) (tree : TableSt
         | claimed q claims found none ↦ absurd (has_none (f, has.0) (subst (λ es. Has es (f, has.0)) none has.1))
       ]
 
-      mine : (e : ℕ) → k.period.slot ≡ Some e → HoldsWaiting knows.tree e → LiesThere s t.words e
+      mine : (e : ℕ) → k.period.slot ≡ Some e → HoldsWaiting knows.tree e → LiesThere s lie e
       mine e slot waits = elim (waited_before plan c (found_by tree c) k.tree e waits) [
         | before had more ↦ tied.hand id e k here slot had
         | claimed q claims found none ↦

@@ -5,7 +5,6 @@ use Rattle.std.proofs.lemmas.List.{length-map}
 use Rattle.std.proofs.lemmas.Map.Keys.{IsDistinct-head, IsDistinct-tail, IsDistinct-cons}
 use Rattle.std.proofs.lemmas.Map.Steps.{length-le_from_distinct_below}
 use Rattle.ell_cards.specs.declared.view.Slots.{Slots}
-use Rattle.ell_cards.specs.Periods.{card_in}
 use Rattle.ell_cards.specs.SlotWords.{slot_of}
 use Rattle.ell_cards.specs.Tied.{LiesThere}
 
@@ -37,7 +36,7 @@ module _ (f : ℕ → ℕ) (P : ℕ → Type 0) (tells : (c d : ℕ) → P c →
       omega arith
 
 -- different cards that all lie in their slots are at most as many as there are slots
-pub few_in_slots : (s : Slots) (words : List ℕ) (cards : List ℕ) → IsDistinct (λ c d. c == d) cards → AllByRecursion (LiesThere s words) cards
+pub few_in_slots : (s : Slots) (lie : ℕ → ℕ) (cards : List ℕ) → IsDistinct (λ c d. c == d) cards → AllByRecursion (LiesThere s lie) cards
     → length cards ≤ s.last + 1
-few_in_slots s words cards apart lie =
-    few_mapped slot_of (LiesThere s words) (λ c d p q e. sym p.1 ∙ (ap (card_in s words) e ∙ q.1)) (s.last + 1) cards lie (λ c p. let low = p.0 in omega arith) apart
+few_in_slots s lie cards apart there =
+    few_mapped slot_of (LiesThere s lie) (λ c d p q e. sym p.1 ∙ (ap lie e ∙ q.1)) (s.last + 1) cards there (λ c p. let low = p.0 in omega arith) apart

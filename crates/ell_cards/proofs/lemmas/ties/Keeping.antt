@@ -25,17 +25,17 @@ use Rattle.ell_cards.specs.declared.call.Call.{Call}
 use lib.ListN.{get_elem?}
 
 -- a pass that is in a period, or at rest, is ready
-ready_by : (plan : TablePlan) (s : Slots) (tree : TableState) (t : WholeState) (dead : ℕ → Bool) (was_dead : ℕ → ℕ → Bool) → AgesAreSound plan s tree t dead was_dead
+ready_by : (plan : TablePlan) (s : Slots) (tree : TableState) (t : WholeState) (lie : ℕ → ℕ) (dead : ℕ → Bool) (was_dead : ℕ → ℕ → Bool) → AgesAreSound plan s tree t lie dead was_dead
     → (id : ℕ) (k : Known) → IsAtRest k.tree ⊎ IsInPeriod t id k → IsReady plan tree id k was_dead
-ready_by plan s tree t dead was_dead h id k (inl rest) = inl rest
-ready_by plan s tree t dead was_dead h id k (inr p) = elim (h.since id p.place p.reading k p.there p.has p.announces) [
+ready_by plan s tree t lie dead was_dead h id k (inl rest) = inl rest
+ready_by plan s tree t lie dead was_dead h id k (inr p) = elim (h.since id p.place p.reading k p.there p.has p.announces) [
   | inl rest ↦ inl rest
   | inr forgot ↦ inr (p.place, p.reading, p.has, p.announces, forgot)
 ]
 
 -- what a call does to memory: it touches a word that is tied, and memory is tied after it, by the ages after the call
-module _ (plan : TablePlan) (s : Slots) (tree : TableState) (t : WholeState) (dead : ℕ → Bool) (was_dead : ℕ → ℕ → Bool) (reached : IsReached plan tree) (low : s.last < 2097152)
-    (room : table_size s.last ≤ length t.words) (h : IsTiedByAges plan s tree t dead was_dead) (id : ℕ) (k : Known) (here : get_elem? t.views id ≡ some k)
+module _ (plan : TablePlan) (s : Slots) (tree : TableState) (t : WholeState) (lie : ℕ → ℕ) (dead : ℕ → Bool) (was_dead : ℕ → ℕ → Bool) (reached : IsReached plan tree) (low : s.last < 2097152)
+    (room : table_size s.last ≤ length t.words) (h : IsTiedByAges plan s tree t lie dead was_dead) (id : ℕ) (k : Known) (here : get_elem? t.views id ≡ some k)
     (there : get_elem? tree.views id ≡ some k.tree) (ready : IsAtRest k.tree ⊎ IsInPeriod t id k) (c : Call) (may : May plan c k.tree) (mem : MayInMemory k.period.slot k.tree c) where
   abbrev after : TableState
   after = state_after tree id k.tree c
@@ -43,29 +43,29 @@ module _ (plan : TablePlan) (s : Slots) (tree : TableState) (t : WholeState) (de
   turn : TableTurns plan tree (Makes id c) after
   turn = record { view = k.tree; there = there; may = may; gives = refl }
 
-  pub touch : TouchesTied s t.words tree c
-  touch = touched_tied plan s tree t h.ages.now.machine dead was_dead h.tied id k here there (ready_by plan s tree t dead was_dead h.ages id k ready) c may mem
+  pub touch : TouchesTied s lie t.words tree c
+  touch = touched_tied plan s tree t h.ages.now.machine lie dead was_dead h.tied id k here there (ready_by plan s tree t lie dead was_dead h.ages id k ready) c may mem
 
   abbrev n : ℕ
   n = cut_word (left_by (atomic_of c) (found_by tree c))
 
-  pub goes : (homes : List (Maybe (Unit {0}))) → AgesOn plan s tree t dead was_dead h.ages (Makes id c) after (memory_after tree t homes id k c)
-  goes homes = ages_after_call plan s tree reached t id k here there dead was_dead c may (set t.words (place_of c) n) homes
+  pub goes : (homes : List (Maybe (Unit {0}))) → AgesOn plan s tree t lie dead was_dead h.ages (Makes id c) after (memory_after tree t homes id k c)
+  goes homes = ages_after_call plan s tree reached t id k here there lie dead was_dead c may (set t.words (place_of c) n) homes
       (slots_stay t id k here k.tree s (place_of c) n touch.inside) h.ages
 
-  pub tied : (homes : List (Maybe (Unit {0}))) → IsTied s after (memory_after tree t homes id k c) (goes homes).ages.now.machine.stages dead was_dead
+  pub tied : (homes : List (Maybe (Unit {0}))) → IsTied s after (memory_after tree t homes id k c) (goes homes).ages.now.machine.stages lie dead was_dead
   tied homes = let now = (goes homes).ages.now.machine in
-      tie_after_call plan s low tree t h.ages.now.machine.stages now.stages dead was_dead h.tied id k here c may mem touch room
+      tie_after_call plan s low tree t h.ages.now.machine.stages now.stages lie dead was_dead h.tied id k here c may mem touch room
       (steps_stay_inside plan tree h.ages.now.machine id k.tree c there may) (claim_is_word plan after now)
       (won_by_call plan tree h.ages.now.machine id k.tree there now.stages (goes homes).later c may (goes homes).wins)
       (says_before h.ages.now.machine.stages now.stages (goes homes).later)
       (flag_kind plan tree h.ages.now.machine id k.tree there now.stages (goes homes).later c may) n refl homes
 
 pub calls_keep_ties : CallsKeepTies
-calls_keep_ties plan s tree t dead was_dead reached low room h id k here there ready c may mem = (
-  touch plan s tree t dead was_dead reached low room h id k here there ready c may mem,
+calls_keep_ties plan s tree t lie dead was_dead reached low room h id k here there ready c may mem = (
+  touch plan s tree t lie dead was_dead reached low room h id k here there ready c may mem,
   λ homes. record {
-    ages = (goes plan s tree t dead was_dead reached low room h id k here there ready c may mem homes).ages;
-    tied = tied plan s tree t dead was_dead reached low room h id k here there ready c may mem homes;
+    ages = (goes plan s tree t lie dead was_dead reached low room h id k here there ready c may mem homes).ages;
+    tied = tied plan s tree t lie dead was_dead reached low room h id k here there ready c may mem homes;
   },
 )

@@ -123,8 +123,8 @@ module _ (plan : TablePlan) (tree : TableState) (seat : ℕ) (dead : ℕ → Boo
       ]
 
 -- in a period
-module _ (plan : TablePlan) (s : Slots) (tree : TableState) (t : WholeState) (dead : ℕ → Bool) (was_dead : ℕ → ℕ → Bool)
-    (tied : IsTiedByAges plan s tree t dead was_dead) (low : s.last ≤ 2000000) (id : ℕ) (k : Known) (here : get_elem? t.views id ≡ some k)
+module _ (plan : TablePlan) (s : Slots) (tree : TableState) (t : WholeState) (lie : ℕ → ℕ) (dead : ℕ → Bool) (was_dead : ℕ → ℕ → Bool)
+    (tied : IsTiedByAges plan s tree t lie dead was_dead) (low : s.last ≤ 2000000) (id : ℕ) (k : Known) (here : get_elem? t.views id ≡ some k)
     (there : get_elem? tree.views id ≡ some k.tree) (period : IsInPeriod t id k) (h : ForgotWhen plan tree id (was_dead period.place)) where
   -- the state where the pass forgot, and what has come since
   abbrev start : (r : HasMachine plan h.from) × HasTags (machine_of_table plan h.from r)
@@ -143,13 +143,13 @@ module _ (plan : TablePlan) (s : Slots) (tree : TableState) (t : WholeState) (de
   now = tied.ages.now.machine
 
   -- a card that has won its flag, and a child exchange since, lies in its slot
-  lies_won : (c : ℕ) → HasWon now.stages c → 0 < changes (since c) → LiesThere s t.words c
+  lies_won : (c : ℕ) → HasWon now.stages c → 0 < changes (since c) → LiesThere s lie c
   lies_won c has more = tied.tied.lives id period.place period.reading c k here period.has period.announces has
       (was_alive plan tree id (was_dead period.place) h c more)
 
   -- so does one that has made its child exchange by now, and had not made it then
   lies : (x : ℕ) (right : Bool) (c : ℕ) → (is_changed (before c) ≡ false) × (is_cut (before c) ≡ false) → HasChanged near.machine.words near.from.stages x right c
-      → LiesThere s t.words c
+      → LiesThere s lie c
   lies x right c unmade (inl made) =
       let wins = ap (count exchange.IChild) (near.wins c) ∙ count_append exchange.IChild (wins_of (before c)) (since c) in
       let one = changed_won (near.from.stages c) made.0 in
@@ -166,7 +166,7 @@ module _ (plan : TablePlan) (s : Slots) (tree : TableState) (t : WholeState) (de
       lies_won c (cut_is_won (now.stages c) ((mine_sound plan tree now known.seat known.view known.there).facts (fact.Cut c) known.knows)) (omega arith)
 
   all_lie : (x : ℕ) (right : Bool) (cards : List ℕ) → All (λ c. (is_changed (before c) ≡ false) × (is_cut (before c) ≡ false)) cards
-      → All (HasChanged near.machine.words near.from.stages x right) cards → AllByRecursion (LiesThere s t.words) cards
+      → All (HasChanged near.machine.words near.from.stages x right) cards → AllByRecursion (LiesThere s lie) cards
   all_lie x right [] unmade made = tt
   all_lie x right (c ∷ cs) unmade made = (
     lies x right c (All-head (λ d. (is_changed (before d) ≡ false) × (is_cut (before d) ≡ false)) c cs unmade)
@@ -188,7 +188,7 @@ module _ (plan : TablePlan) (s : Slots) (tree : TableState) (t : WholeState) (de
       tag = ap (λ (j : Link). j.tag) by.is
 
       few : length by.near.cards ≤ s.last + 1
-      few = few_in_slots s t.words by.near.cards by.near.changed.apart (all_lie x right by.near.cards by.near.changed.unmade by.near.changed.made)
+      few = few_in_slots s lie by.near.cards by.near.changed.apart (all_lie x right by.near.cards by.near.changed.unmade by.near.changed.made)
 
       most : near.machine.words.tag x right ≤ l.tag + greatest_tag
       most = let high = by.near.high in let fits = few in omega arith
@@ -212,12 +212,12 @@ module _ (plan : TablePlan) (s : Slots) (tree : TableState) (t : WholeState) (de
       (has_room (near.machine.words.p c) (known_delete plan tree near.machine id k.tree there c (inr may.knows)).parent.born))
 
 pub expected_links_are_near : ExchangesAreNear
-expected_links_are_near plan s tree t dead was_dead tied reached low id k here there period made may =
+expected_links_are_near plan s tree t lie dead was_dead tied reached low id k here there period made may =
     by (tied.ages.since id period.place period.reading k period.there period.has period.announces) made may
   where
     by : IsAtRest k.tree ⊎ ForgotWhen plan tree id (was_dead period.place) → (c : Call) → May plan c k.tree → ExpectsNear c (found_by tree c)
     by (inl rest) (call.IChild c p l q right) may = absurd (rest.forgot (Info c field.P p) may.parent)
     by (inl rest) (call.DChild c gp p y right) may = absurd (rest.forgot (Info c field.Gp gp) may.grandparent)
-    by (inr forgot) (call.IChild c p l q right) may = insert_near plan s tree t dead was_dead tied low id k here there period forgot c p l q right may
-    by (inr forgot) (call.DChild c gp p y right) may = delete_near plan s tree t dead was_dead tied low id k here there period forgot c gp p y right may
+    by (inr forgot) (call.IChild c p l q right) may = insert_near plan s tree t lie dead was_dead tied low id k here there period forgot c p l q right may
+    by (inr forgot) (call.DChild c gp p y right) may = delete_near plan s tree t lie dead was_dead tied low id k here there period forgot c gp p y right may
     by _ _ may = tt

@@ -15,7 +15,7 @@ use Rattle.ell_cards.specs.Ages.{AgesAreSound, HasPeriods}
 use Rattle.ell_cards.specs.Changes.{first_of}
 use Rattle.ell_cards.specs.Machines.{HasMachine}
 use Rattle.ell_cards.specs.Models.{TablePlan}
-use Rattle.ell_cards.specs.Periods.{WholeState, IsAtRest, slot_word, opening_words, card_in, period_by}
+use Rattle.ell_cards.specs.Periods.{WholeState, IsAtRest, slot_word, opening_words, period_by}
 use Rattle.ell_cards.specs.Shown.{IsWord, cut_word}
 use Rattle.ell_cards.specs.SlotWords.{slot_of}
 use Rattle.ell_cards.specs.Starts.{MayStart, SlotsFit, IsReached}
@@ -31,32 +31,30 @@ use Rattle.ell_cards.proofs.lemmas.whole.Rests.{is_at_rest}
 -- memory that has the tree's words in slots, whose words are 0, where each card that was claimed has a slot
 module _ (plan : TablePlan) (s : Slots) (low : s.last < 2097152) (tree : TableState) (r : HasMachine plan tree) (words : List ℕ)
     (same : (i : ℕ) → i < table_size s.last → get_or words i 0 ≡ get_or tree.words i 0) (small : (i : ℕ) → i < table_size s.last → get_or words i 0 < 2 ^ 64)
-    (empty : (slot : ℕ) → slot ≤ s.last → get_or words (slot_word s slot) 0 ≡ 0) (few : get_or tree.words 0 0 ≤ s.last + 1)
+    (few : get_or tree.words 0 0 ≤ s.last + 1)
     (first : Known) (none : first.tree.worker.card ≡ None) (unslotted : first.period.slot ≡ None) (dead : ℕ → Bool) (was_dead : ℕ → ℕ → Bool) where
-  lies_empty : (slot : ℕ) → slot ≤ s.last → card_in s words slot ≡ slot
-  lies_empty slot inside = let is = empty slot inside in omega arith
-
-  lies : (c : ℕ) → HasWon r.stages c → LiesThere s words c
+  lies : (c : ℕ) → HasWon r.stages c → LiesThere s (λ slot. slot) c
   lies c has =
       let below = (r.invariant.words.cards c).claimed.0 has.0 in
       let next = r.next in
       let inside : c ≤ s.last = omega arith in
       let slot : slot_of c ≡ c = omega arith in
-      (subst (λ x. x ≤ s.last) (sym slot) inside, ap (card_in s words) slot ∙ lies_empty c inside)
+      (subst (λ x. x ≤ s.last) (sym slot) inside, slot)
 
   alone : (P : ℕ → Known → Type 0) → P 0 first → (j : ℕ) (u : Known) → get_elem? (first ∷ []) j ≡ some u → P j u
   alone P h zero u at = subst (P 0) (some-injective first u at) h
   alone P h (suc j) u at = absurd (some-ne-none u (sym at))
 
-  pub tied_as_it_opens : IsTied s tree (opening words [] first) r.stages dead was_dead
+  pub tied_as_it_opens : IsTied s tree (opening words [] first) r.stages (λ slot. slot) dead was_dead
   tied_as_it_opens = record {
     claim = same 0 (omega arith);
     flat = same 1 (omega arith);
-    root = lies_empty 0 (omega arith);
+    root = refl;
+    own = λ slot inside. omega arith;
     at = λ slot f inside kept.
         let there = (address_in_table s.last slot f inside).1 in
         sym (cut_same (get_or words (address slot f) 0) (small (address slot f) there))
-        ∙ (ap cut_word (same (address slot f) there) ∙ ap (λ c. cut_word (get_or tree.words (address c f) 0)) (sym (lies_empty slot inside)));
+        ∙ ap cut_word (same (address slot f) there);
     alive = λ c has lives. lies c has;
     lives = λ seat q a c u at placed an has alive. lies c has;
     fits = λ c has. (lies c has).0;
@@ -87,7 +85,7 @@ module _ (plan : TablePlan) (s : Slots) (cards : List ℕ) (may : MayStart plan)
   rest : IsAtRest (first_of plan)
   rest = is_at_rest (first_of plan) refl refl refl refl refl
 
-  ages : AgesAreSound plan s tree_opened opened (λ x. false) (λ q x. false)
+  ages : AgesAreSound plan s tree_opened opened (λ slot. slot) (λ x. false) (λ q x. false)
   ages = first_ages plan s tree_opened reached_opened cards size rest fit.0
 
   there : (i : ℕ) → i < table_size s.last → get_or (opening_words s cards) i 0 ≡ get_or cards i 0
@@ -101,6 +99,8 @@ module _ (plan : TablePlan) (s : Slots) (cards : List ℕ) (may : MayStart plan)
 
   pub periods_opened : HasPeriods plan s tree_opened opened
   periods_opened = record {
+    lie = λ slot. slot;
+    lies = λ slot inside used. (let is = slots_empty s cards size slot in omega arith);
     dead = λ x. false;
     began = λ q. 0;
     was_dead = λ q x. false;
@@ -109,7 +109,6 @@ module _ (plan : TablePlan) (s : Slots) (cards : List ℕ) (may : MayStart plan)
     tied = tied_as_it_opens plan s (let most = fit.4 in omega arith) tree_opened ages.now.machine (opening_words s cards)
         (λ i inside. there i inside ∙ sym (with_zeros cards long i))
         (λ i inside. subst (λ n. n < 2 ^ 64) (sym (there i inside)) (small i))
-        (λ slot inside. slots_empty s cards size slot)
         (let room = fit.3 in let word = next in omega arith)
         (record { tree = first_of plan; period = period_by (Some s) }) refl refl (λ x. false) (λ q x. false);
   }
@@ -121,8 +120,9 @@ openings_are_tied plan s cards placed may size are small =
       tree = tree_opened plan s cards may fit size are small;
       reached = reached_opened plan s cards may fit size are small;
       views = refl;
+      lie = has.lie;
       dead = has.dead;
       was_dead = has.was_dead;
-      tied = subst (λ o. IsTiedByAges plan s (tree_opened plan s cards may fit size are small) (opening (opening_words s cards) [] (record { tree = first_of plan; period = period_by o })) has.dead has.was_dead)
+      tied = subst (λ o. IsTiedByAges plan s (tree_opened plan s cards may fit size are small) (opening (opening_words s cards) [] (record { tree = first_of plan; period = period_by o })) has.lie has.dead has.was_dead)
           (sym placed) (record { ages = has.ages; tied = has.tied });
     }

@@ -13,7 +13,7 @@ use Rattle.ell_cards.specs.declared.view.Period.{Period}
 use Rattle.ell_cards.specs.declared.view.Slots.{Slots}
 use Rattle.ell_cards.specs.Ages.{IsOut}
 use Rattle.ell_cards.specs.Machines.{HasMachine}
-use Rattle.ell_cards.specs.Periods.{WholeState, slot_word, card_in, after_taking}
+use Rattle.ell_cards.specs.Periods.{WholeState, slot_word, after_taking}
 use Rattle.ell_cards.specs.Shown.{cut_word}
 use Rattle.ell_cards.specs.SlotWords.{slot_of, card_by, is_noted}
 use Rattle.ell_cards.specs.States.{TableState}
@@ -26,40 +26,33 @@ use Rattle.ell_cards.proofs.lemmas.whole.Trees.{tree_at}
 use Rattle.ell_cards.proofs.lemmas.ties.Periods.{kept_of_period}
 use Rattle.ell_cards.proofs.lemmas.ties.TakingSlots.{hand_is_waiting}
 
-module _ (s : Slots) (tree : TableState) (t : WholeState) (stage : Stages) (dead : ℕ → Bool) (was_dead : ℕ → ℕ → Bool)
-    (tied : IsTied s tree t stage dead was_dead) (id : ℕ) (k : Known) (here : get_elem? t.views id ≡ some k)
-    (c : ℕ) (hand : HoldsWaiting k.tree c) (there : LiesThere s t.words c) (claimed : c < get_or t.words 0 0)
+module _ (s : Slots) (tree : TableState) (t : WholeState) (stage : Stages) (lie : ℕ → ℕ) (dead : ℕ → Bool) (was_dead : ℕ → ℕ → Bool)
+    (tied : IsTied s tree t stage lie dead was_dead) (id : ℕ) (k : Known) (here : get_elem? t.views id ≡ some k)
+    (c : ℕ) (hand : HoldsWaiting k.tree c) (there : LiesThere s lie c) (claimed : c < get_or t.words 0 0)
     (p : Period) (place : p.place ≡ k.period.place) (announced : p.announced ≡ k.period.announced) (taken : p.slot ≡ Some c)
     (words : List ℕ) (same : (i : ℕ) → get_or words i 0 ≡ get_or t.words i 0) where
   abbrev now : Known
   now = record { tree = k.tree; period = p }
 
-  lie : (slot : ℕ) → card_in s words slot ≡ card_in s t.words slot
-  lie slot = ap (card_by slot) (same (slot_word s slot))
-
-  lies_on : (d : ℕ) → LiesThere s t.words d → LiesThere s words d
-  lies_on d lies = (lies.0, lie (slot_of d) ∙ lies.1)
-
-  pub tie_of_own : (homes : List (Maybe (Unit {0}))) → IsTied s tree (record { words = words; homes = homes; views = set t.views id now }) stage dead was_dead
+  pub tie_of_own : (homes : List (Maybe (Unit {0}))) → IsTied s tree (record { words = words; homes = homes; views = set t.views id now }) stage lie dead was_dead
   tie_of_own homes = record {
     claim = same 0 ∙ tied.claim;
     flat = same 1 ∙ tied.flat;
-    root = lie 0 ∙ tied.root;
+    root = tied.root;
+    own = tied.own;
     at = λ slot f inside kept.
-        same (address slot f)
-        ∙ (tied.at slot f inside (subst (λ e. IsKept stage t.views e f) (lie slot) (kept_of_period stage t.views id k here p (card_in s words slot) f kept))
-        ∙ ap (λ e. cut_word (get_or tree.words (address e f) 0)) (sym (lie slot)));
-    alive = λ d has lives. lies_on d (tied.alive d has lives);
-    lives = λ seat q a d u at placed an has lives. lies_on d (⊎_elim
+        same (address slot f) ∙ tied.at slot f inside (kept_of_period stage t.views id k here p (lie slot) f kept);
+    alive = tied.alive;
+    lives = λ seat q a d u at placed an has lives. ⊎_elim
         (λ (e : (seat ≡ id) × (now ≡ u)).
         tied.lives id q a d k here (sym place ∙ (ap (λ (x : Known). x.period.place) e.1 ∙ placed)) (sym announced ∙ (ap (λ (x : Known). x.period.announced) e.1 ∙ an)) has lives)
         (λ (e : (seat ≢ id) × (get_elem? t.views seat ≡ some u)). tied.lives seat q a d u e.1 placed an has lives)
-        (at_set t.views id seat now u at));
+        (at_set t.views id seat now u at);
     fits = tied.fits;
-    hand = λ seat d u at slot waits. lies_on d (⊎_elim
-        (λ (e : (seat ≡ id) × (now ≡ u)). subst (LiesThere s t.words) (some_same (sym taken ∙ (ap (λ (x : Known). x.period.slot) e.1 ∙ slot))) there)
+    hand = λ seat d u at slot waits. ⊎_elim
+        (λ (e : (seat ≡ id) × (now ≡ u)). subst (LiesThere s lie) (some_same (sym taken ∙ (ap (λ (x : Known). x.period.slot) e.1 ∙ slot))) there)
         (λ (e : (seat ≢ id) × (get_elem? t.views seat ≡ some u)). tied.hand seat d u e.1 slot waits)
-        (at_set t.views id seat now u at));
+        (at_set t.views id seat now u at);
     past = λ seat d u at slot. subst (λ n. d < n) (sym (same 0)) (⊎_elim
         (λ (e : (seat ≡ id) × (now ≡ u)). subst (λ x. x < get_or t.words 0 0) (some_same (sym taken ∙ (ap (λ (x : Known). x.period.slot) e.1 ∙ slot))) claimed)
         (λ (e : (seat ≢ id) × (get_elem? t.views seat ≡ some u)). tied.past seat d u e.1 slot)
@@ -72,11 +65,11 @@ module _ (s : Slots) (tree : TableState) (t : WholeState) (stage : Stages) (dead
   }
 
 pub own_slots_keep_ties : OwnSlotsKeepTies
-own_slots_keep_ties plan s tree t dead was_dead size h trees id k here c hand there = record {
-  ages = ages_of_period plan s tree t id k here (record { tree = k.tree; period = p }) refl words dead dead was_dead was_dead h.ages
+own_slots_keep_ties plan s tree t lie dead was_dead size h trees id k here c hand there = record {
+  ages = ages_of_period plan s tree t id k here (record { tree = k.tree; period = p }) refl words lie lie dead dead was_dead was_dead h.ages
       h.ages.now.each h.ages.still (λ q a at an. h.ages.since id q a k here at an) (λ j q a u other at placed an. refl)
       noted (λ r has. absurd (some_not_none has refl)) (λ d has. h.ages.lost id d k here has);
-  tied = tie_of_own s tree t h.ages.now.machine.stages dead was_dead h.tied id k here c hand there claimed p refl refl refl words same t.homes;
+  tied = tie_of_own s tree t h.ages.now.machine.stages lie dead was_dead h.tied id k here c hand there claimed p refl refl refl words same t.homes;
 }
   where
     r : HasMachine plan tree
@@ -103,7 +96,6 @@ own_slots_keep_ties plan s tree t dead was_dead size h trees id k here c hand th
         omega arith
 
     noted : (slot i : ℕ) → slot ≤ s.last → is_noted (get_or words (slot_word s slot) 0) i ≡ true
-        → IsOut plan tree r h.ages.now.uses (4 * card_in s words slot + i)
+        → IsOut plan tree r h.ages.now.uses (4 * lie slot + i)
     noted slot i low is =
-        subst (λ n. IsOut plan tree r h.ages.now.uses (4 * card_by slot n + i)) (sym (same (slot_word s slot)))
-        (h.ages.noted slot i low (subst (λ n. is_noted n i ≡ true) (same (slot_word s slot)) is))
+        h.ages.noted slot i low (subst (λ n. is_noted n i ≡ true) (same (slot_word s slot)) is)

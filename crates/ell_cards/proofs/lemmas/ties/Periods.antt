@@ -12,7 +12,7 @@ use Rattle.ell_core.specs.history.Stages.{Stages}
 use Rattle.ell_cards.specs.declared.view.Known.{Known}
 use Rattle.ell_cards.specs.declared.view.Period.{Period}
 use Rattle.ell_cards.specs.declared.view.Slots.{Slots}
-use Rattle.ell_cards.specs.Periods.{WholeState, card_in}
+use Rattle.ell_cards.specs.Periods.{WholeState}
 use Rattle.ell_cards.specs.Shown.{cut_word}
 use Rattle.ell_cards.specs.SlotWords.{slot_of}
 use Rattle.ell_cards.specs.States.{TableState}
@@ -31,10 +31,9 @@ kept_of_period stage views id k here p c f (stored seat u at waits has) =
     (λ (e : (seat ≢ id) × (get_elem? views seat ≡ some u)). stored seat u e.1 waits has)
     (at_set views id seat now u at)
 
-module _ (s : Slots) (tree : TableState) (t : WholeState) (stage : Stages) (dead dead' : ℕ → Bool) (was_dead was_dead' : ℕ → ℕ → Bool)
-    (tied : IsTied s tree t stage dead was_dead) (id : ℕ) (k : Known) (here : get_elem? t.views id ≡ some k) (p : Period) (taken : p.slot ≡ k.period.slot) (words : List ℕ)
+module _ (s : Slots) (tree : TableState) (t : WholeState) (stage : Stages) (lie : ℕ → ℕ) (dead dead' : ℕ → Bool) (was_dead was_dead' : ℕ → ℕ → Bool)
+    (tied : IsTied s tree t stage lie dead was_dead) (id : ℕ) (k : Known) (here : get_elem? t.views id ≡ some k) (p : Period) (taken : p.slot ≡ k.period.slot) (words : List ℕ)
     (slots : (i : ℕ) → i < table_size s.last → get_or words i 0 ≡ get_or t.words i 0)
-    (lie : (slot : ℕ) → slot ≤ s.last → card_in s words slot ≡ card_in s t.words slot)
     (less : (c : ℕ) → dead' c ≡ false → dead c ≡ false)
     (mine : (q a : ℕ) → p.place ≡ Some q → p.announced ≡ Some a
     → ((k.period.place ≡ Some q) × (k.period.announced ≡ Some a) × ((c : ℕ) → was_dead' q c ≡ false → was_dead q c ≡ false))
@@ -44,34 +43,30 @@ module _ (s : Slots) (tree : TableState) (t : WholeState) (stage : Stages) (dead
   abbrev now : Known
   now = record { tree = k.tree; period = p }
 
-  lies_on : (c : ℕ) → LiesThere s t.words c → LiesThere s words c
-  lies_on c lies = (lies.0, lie (slot_of c) lies.0 ∙ lies.1)
-
-  lives_on : (q a c : ℕ) → p.place ≡ Some q → p.announced ≡ Some a → HasWon stage c → was_dead' q c ≡ false → LiesThere s t.words c
+  lives_on : (q a c : ℕ) → p.place ≡ Some q → p.announced ≡ Some a → HasWon stage c → was_dead' q c ≡ false → LiesThere s lie c
   lives_on q a c placed an has alive = elim (mine q a placed an) [
     | inl old ↦ tied.lives id q a c k here old.0 old.1 has (old.2 c alive)
     | inr begins ↦ tied.alive c has (begins c alive)
   ]
 
-  pub tie_of_period : (homes : List (Maybe (Unit {0}))) → IsTied s tree (record { words = words; homes = homes; views = set t.views id now }) stage dead' was_dead'
+  pub tie_of_period : (homes : List (Maybe (Unit {0}))) → IsTied s tree (record { words = words; homes = homes; views = set t.views id now }) stage lie dead' was_dead'
   tie_of_period homes = record {
     claim = slots 0 (omega arith) ∙ tied.claim;
     flat = slots 1 (omega arith) ∙ tied.flat;
-    root = lie 0 (omega arith) ∙ tied.root;
+    root = tied.root;
+    own = tied.own;
     at = λ slot f inside kept.
-        slots (address slot f) (address_in_table s.last slot f inside).1
-        ∙ (tied.at slot f inside (subst (λ c. IsKept stage t.views c f) (lie slot inside) (kept_of_period stage t.views id k here p (card_in s words slot) f kept))
-        ∙ ap (λ c. cut_word (get_or tree.words (address c f) 0)) (sym (lie slot inside)));
-    alive = λ c has lives. lies_on c (tied.alive c has (less c lives));
-    lives = λ seat q a c u at placed an has alive. lies_on c (⊎_elim
+        slots (address slot f) (address_in_table s.last slot f inside).1 ∙ tied.at slot f inside (kept_of_period stage t.views id k here p (lie slot) f kept);
+    alive = λ c has lives. tied.alive c has (less c lives);
+    lives = λ seat q a c u at placed an has alive. ⊎_elim
         (λ (e : (seat ≡ id) × (now ≡ u)). lives_on q a c (ap (λ (x : Known). x.period.place) e.1 ∙ placed) (ap (λ (x : Known). x.period.announced) e.1 ∙ an) has alive)
         (λ (e : (seat ≢ id) × (get_elem? t.views seat ≡ some u)). tied.lives seat q a c u e.1 placed an has (others seat q a u e.0 e.1 placed an c alive))
-        (at_set t.views id seat now u at));
+        (at_set t.views id seat now u at);
     fits = tied.fits;
-    hand = λ seat c u at slot waits. lies_on c (⊎_elim
+    hand = λ seat c u at slot waits. ⊎_elim
         (λ (e : (seat ≡ id) × (now ≡ u)). tied.hand id c k here (sym taken ∙ (ap (λ (x : Known). x.period.slot) e.1 ∙ slot)) (subst (λ (x : Known). HoldsWaiting x.tree c) (sym e.1) waits))
         (λ (e : (seat ≢ id) × (get_elem? t.views seat ≡ some u)). tied.hand seat c u e.1 slot waits)
-        (at_set t.views id seat now u at));
+        (at_set t.views id seat now u at);
     past = λ seat c u at slot. subst (λ n. c < n) (sym (slots 0 (omega arith))) (⊎_elim
         (λ (e : (seat ≡ id) × (now ≡ u)). tied.past id c k here (sym taken ∙ (ap (λ (x : Known). x.period.slot) e.1 ∙ slot)))
         (λ (e : (seat ≢ id) × (get_elem? t.views seat ≡ some u)). tied.past seat c u e.1 slot)
@@ -84,5 +79,5 @@ module _ (s : Slots) (tree : TableState) (t : WholeState) (stage : Stages) (dead
   }
 
 pub periods_keep_ties : PeriodsKeepTies
-periods_keep_ties s tree t stage dead dead' was_dead was_dead' tied id k here p words goes =
-    tie_of_period s tree t stage dead dead' was_dead was_dead' tied id k here p goes.taken words goes.cards goes.lie goes.less goes.mine goes.others t.homes
+periods_keep_ties s tree t stage lie dead dead' was_dead was_dead' tied id k here p words goes =
+    tie_of_period s tree t stage lie dead dead' was_dead was_dead' tied id k here p goes.taken words goes.cards goes.less goes.mine goes.others t.homes

@@ -1,6 +1,6 @@
 -- Memory stays tied to its tree where a pass takes a slot for its card in hand, in which a card lies that is dead, and was dead for each
 -- pass that is in a period.
-use Rattle.std.proofs.Common.{◌≡◌, ◌≢◌, ◌*◌, ◌<◌, ◌≤◌, ℕ, inl, inr, Bool, true, false, Some, List, length, get_or, set, sym, ap, ◌∙◌, subst, ⊎_elim, arith, true≢false, get_or-set_same, get_or-set_other}
+use Rattle.std.proofs.Common.{◌≡◌, ◌≢◌, ◌*◌, ◌<◌, ◌≤◌, ℕ, inl, inr, Bool, true, false, Some, List, length, get_or, set, sym, ap, ◌∙◌, subst, ⊎_elim, arith, true≢false, get_or-set_other}
 use Rattle.std.proofs.lemmas.Bool.{cases_eq}
 use mathlib.Core.Option.{some, some-injective}
 use mathlib.Core.Option.{Option as Maybe}
@@ -8,36 +8,40 @@ use lib.ListN.{get_elem?}
 use Rattle.atomic_table.proofs.Lists.{at_set}
 use Rattle.ell_layout.specs.declared.field.Field.{Field}
 use Rattle.ell_layout.specs.Layout.{address, table_size}
+use Rattle.ell_layout.specs.Words.{put}
+use Rattle.ell_layout.proofs.lemmas.Writes.{put_same, put_other}
 use Rattle.ell_layout.proofs.lemmas.Listed.{address_in_table}
 use Rattle.ell_core.specs.history.Stages.{Stages}
 use Rattle.ell_cards.specs.declared.view.Known.{Known}
 use Rattle.ell_cards.specs.declared.view.Period.{Period}
 use Rattle.ell_cards.specs.declared.view.Slots.{Slots}
-use Rattle.ell_cards.specs.Periods.{WholeState, slot_word, card_in}
+use Rattle.ell_cards.specs.Periods.{WholeState, slot_word}
 use Rattle.ell_cards.specs.Shown.{cut_word}
-use Rattle.ell_cards.specs.SlotWords.{slot_of, turn_of, card_by}
+use Rattle.ell_cards.specs.SlotWords.{slot_of, turn_of}
 use Rattle.ell_cards.specs.States.{TableState}
 use Rattle.ell_cards.specs.Tied.{LiesThere, HasWon, HoldsWaiting, HasStored, IsKept, IsTied}
 use Rattle.ell_cards.specs.Tied.IsKept.{won, stored}
 use Rattle.ell_cards.proofs.lemmas.runs.Met.{some_same}
 use Rattle.ell_cards.proofs.lemmas.whole.Seats.{before_clock, clock_before_slots}
-use Rattle.ell_cards.proofs.lemmas.whole.Slots.{taken_turn}
 use Rattle.ell_cards.proofs.lemmas.ties.Periods.{kept_of_period}
 
-module _ (s : Slots) (low : s.last < 2097152) (tree : TableState) (t : WholeState) (stage : Stages) (dead : ℕ → Bool) (was_dead : ℕ → ℕ → Bool)
-    (tied : IsTied s tree t stage dead was_dead) (id : ℕ) (k : Known) (here : get_elem? t.views id ≡ some k)
-    (c : ℕ) (inside : slot_of c ≤ s.last) (small : turn_of c < 1048576) (waits : HoldsWaiting k.tree c) (unwon : ¬ HasWon stage c) (claimed : c < get_or t.words 0 0)
+module _ (s : Slots) (low : s.last < 2097152) (tree : TableState) (t : WholeState) (stage : Stages) (lie : ℕ → ℕ) (dead : ℕ → Bool) (was_dead : ℕ → ℕ → Bool)
+    (tied : IsTied s tree t stage lie dead was_dead) (id : ℕ) (k : Known) (here : get_elem? t.views id ≡ some k)
+    (c : ℕ) (inside : slot_of c ≤ s.last) (waits : HoldsWaiting k.tree c) (unwon : ¬ HasWon stage c) (claimed : c < get_or t.words 0 0)
     (p : Period) (place : p.place ≡ k.period.place) (announced : p.announced ≡ k.period.announced) (taken : p.slot ≡ Some c)
-    (room : slot_word s (slot_of c) < length t.words) (gone : dead (card_in s t.words (slot_of c)) ≡ true)
+    (room : slot_word s (slot_of c) < length t.words) (gone : dead (lie (slot_of c)) ≡ true)
     (was_gone : (seat q a : ℕ) (u : Known) → get_elem? t.views seat ≡ some u → u.period.place ≡ Some q → u.period.announced ≡ Some a
-    → was_dead q (card_in s t.words (slot_of c)) ≡ true)
+    → was_dead q (lie (slot_of c)) ≡ true)
     (root : dead 0 ≡ false) (hands : (seat d : ℕ) (u : Known) → get_elem? t.views seat ≡ some u → HoldsWaiting u.tree d → dead d ≡ false)
     (one : (seat : ℕ) (u : Known) → get_elem? t.views seat ≡ some u → u.tree.worker.card ≡ Some c → seat ≡ id) where
   abbrev slot : ℕ
   slot = slot_of c
 
   abbrev old : ℕ
-  old = card_in s t.words slot
+  old = lie slot
+
+  abbrev lie' : ℕ → ℕ
+  lie' = put lie slot c
 
   abbrev words : List ℕ
   words = set t.words (slot_word s slot) (8 * turn_of c)
@@ -50,16 +54,15 @@ module _ (s : Slots) (low : s.last < 2097152) (tree : TableState) (t : WholeStat
   slots_stay i below = get_or-set_other t.words (slot_word s slot) i (8 * turn_of c) 0
       (λ e. (let before = before_clock s i below in let behind = clock_before_slots s slot in omega arith))
 
-  card_now : card_in s words slot ≡ c
-  card_now =
-      ap (card_by slot) (get_or-set_same t.words (slot_word s slot) (8 * turn_of c) 0 room) ∙ (let turn = taken_turn (turn_of c) small in omega arith)
+  card_now : lie' slot ≡ c
+  card_now = put_same lie slot c
 
-  card_else : (other : ℕ) → other ≢ slot → card_in s words other ≡ card_in s t.words other
-  card_else other apart = ap (card_by other) (get_or-set_other t.words (slot_word s slot) (slot_word s other) (8 * turn_of c) 0 (λ e. apart (omega arith)))
+  card_else : (other : ℕ) → other ≢ slot → lie' other ≡ lie other
+  card_else other apart = put_other lie slot c other apart
 
   -- so each card lies where it lay, but for that which is dead
-  lies_on : (d : ℕ) → d ≢ old → LiesThere s t.words d → LiesThere s words d
-  lies_on d other lies = (lies.0, card_else (slot_of d) (λ e. other (sym lies.1 ∙ ap (card_in s t.words) e)) ∙ lies.1)
+  lies_on : (d : ℕ) → d ≢ old → LiesThere s lie d → LiesThere s lie' d
+  lies_on d other lies = (lies.0, card_else (slot_of d) (λ e. other (sym lies.1 ∙ ap lie e)) ∙ lies.1)
 
   alive_not : (d : ℕ) → dead d ≡ false → d ≢ old
   alive_not d lives e = true≢false (sym gone ∙ (ap dead (sym e) ∙ lives))
@@ -81,14 +84,14 @@ module _ (s : Slots) (low : s.last < 2097152) (tree : TableState) (t : WholeStat
           own : (u : Known) → get_elem? t.views id ≡ some u → HoldsWaiting u.tree c → HasStored u.tree f → k.period.slot ≡ Some c
           own u at waits' has = tied.stores id c f k here waits (subst (λ (x : Known). HasStored x.tree f) (some-injective u k (sym at ∙ here)) has)
 
-  at_slot : (other : ℕ) (f : Field) → other ≤ s.last → IsKept stage (set t.views id now) (card_in s words other) f
-      → get_or words (address other f) 0 ≡ cut_word (get_or tree.words (address (card_in s words other) f) 0)
+  at_slot : (other : ℕ) (f : Field) → other ≤ s.last → IsKept stage (set t.views id now) (lie' other) f
+      → get_or words (address other f) 0 ≡ cut_word (get_or tree.words (address (lie' other) f) 0)
   at_slot other f below kept = elim (cases_eq other slot) [
-    | inl same ↦ absurd (none_kept f (subst (λ e. IsKept stage (set t.views id now) e f) (ap (card_in s words) same ∙ card_now) kept))
+    | inl same ↦ absurd (none_kept f (subst (λ e. IsKept stage (set t.views id now) e f) (ap lie' same ∙ card_now) kept))
     | inr apart ↦
         let is = card_else other apart in
         slots_stay (address other f) (address_in_table s.last other f below).1
-        ∙ (tied.at other f below (subst (λ e. IsKept stage t.views e f) is (kept_of_period stage t.views id k here p (card_in s words other) f kept))
+        ∙ (tied.at other f below (subst (λ e. IsKept stage t.views e f) is (kept_of_period stage t.views id k here p (lie' other) f kept))
         ∙ ap (λ e. cut_word (get_or tree.words (address e f) 0)) (sym is))
   ]
 
@@ -96,14 +99,18 @@ module _ (s : Slots) (low : s.last < 2097152) (tree : TableState) (t : WholeStat
   lives_not seat q a d u at placed an lives e = true≢false (sym (was_gone seat q a u at placed an) ∙ (ap (was_dead q) (sym e) ∙ lives))
 
   -- the card in hand lies in the slot
-  lies_now : LiesThere s words c
+  lies_now : LiesThere s lie' c
   lies_now = (inside, card_now)
 
-  pub tie_of_taken : (homes : List (Maybe (Unit {0}))) → IsTied s tree (record { words = words; homes = homes; views = set t.views id now }) stage dead was_dead
+  pub tie_of_taken : (homes : List (Maybe (Unit {0}))) → IsTied s tree (record { words = words; homes = homes; views = set t.views id now }) stage lie' dead was_dead
   tie_of_taken homes = record {
     claim = slots_stay 0 (omega arith) ∙ tied.claim;
     flat = slots_stay 1 (omega arith) ∙ tied.flat;
-    root = card_else 0 (λ e. alive_not 0 root (sym tied.root ∙ ap (card_in s t.words) e)) ∙ tied.root;
+    root = card_else 0 (λ e. alive_not 0 root (sym tied.root ∙ ap lie e)) ∙ tied.root;
+    own = λ other below. elim (cases_eq other slot) [
+      | inl same ↦ ap slot_of (ap lie' same ∙ card_now) ∙ sym same
+      | inr apart ↦ ap slot_of (card_else other apart) ∙ tied.own other below
+    ];
     at = at_slot;
     alive = λ d has lives. lies_on d (alive_not d lives) (tied.alive d has lives);
     lives = λ seat q a d u at placed an has lives. ⊎_elim
@@ -115,7 +122,7 @@ module _ (s : Slots) (low : s.last < 2097152) (tree : TableState) (t : WholeStat
         (at_set t.views id seat now u at);
     fits = tied.fits;
     hand = λ seat d u at slot waits. ⊎_elim
-        (λ (e : (seat ≡ id) × (now ≡ u)). subst (LiesThere s words) (some_same (sym taken ∙ (ap (λ (x : Known). x.period.slot) e.1 ∙ slot))) lies_now)
+        (λ (e : (seat ≡ id) × (now ≡ u)). subst (LiesThere s lie') (some_same (sym taken ∙ (ap (λ (x : Known). x.period.slot) e.1 ∙ slot))) lies_now)
         (λ (e : (seat ≢ id) × (get_elem? t.views seat ≡ some u)). lies_on d (alive_not d (hands seat d u e.1 waits)) (tied.hand seat d u e.1 slot waits))
         (at_set t.views id seat now u at);
     past = λ seat d u at slot. subst (λ n. d < n) (sym (slots_stay 0 (omega arith))) (⊎_elim

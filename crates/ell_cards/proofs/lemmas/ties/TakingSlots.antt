@@ -14,14 +14,16 @@ use Rattle.ell_grace.specs.Dead.{IsDead}
 use Rattle.ell_grace.specs.Gone.{HasOuts}
 use Rattle.ell_cards.specs.Laws.{machine_of_table}
 use Rattle.ell_grace.proofs.lemmas.dead.Out.{dead_ended}
+use Rattle.ell_layout.specs.Words.{put}
+use Rattle.ell_layout.proofs.lemmas.Writes.{put_other}
 use Rattle.ell_cards.specs.declared.view.Known.{Known}
 use Rattle.ell_cards.specs.declared.view.Period.{Period}
 use Rattle.ell_cards.specs.declared.view.View.{View}
 use Rattle.ell_cards.specs.Ages.{IsOut, AreDead}
 use Rattle.ell_cards.specs.Machines.{HasMachine}
 use Rattle.ell_cards.specs.Models.{TablePlan}
-use Rattle.ell_cards.specs.Periods.{slot_word, card_in, after_taking}
-use Rattle.ell_cards.specs.SlotWords.{slot_of, turn_of, card_by, is_noted}
+use Rattle.ell_cards.specs.Periods.{slot_word, after_taking}
+use Rattle.ell_cards.specs.SlotWords.{slot_of, turn_of, is_noted}
 use Rattle.ell_cards.specs.States.{TableState, seat_worker}
 use Rattle.ell_cards.specs.Tied.{HoldsWaiting}
 use Rattle.ell_cards.specs.Ties.{TakesKeepTies}
@@ -77,11 +79,11 @@ module _ (plan : TablePlan) (tree : TableState) (dead : ℕ → Bool) (now : Are
       ]
 
 pub takes_keep_ties : TakesKeepTies
-takes_keep_ties plan s tree t dead was_dead low size h same id k here c hand inside gone was_gone = record {
-  ages = ages_of_period plan s tree t id k here (record { tree = k.tree; period = p }) refl words dead dead was_dead was_dead h.ages
+takes_keep_ties plan s tree t lie dead was_dead low size h same id k here c hand inside gone was_gone = record {
+  ages = ages_of_period plan s tree t id k here (record { tree = k.tree; period = p }) refl words lie (put lie (slot_of c) c) dead dead was_dead was_dead h.ages
       h.ages.now.each h.ages.still (λ q a at an. h.ages.since id q a k here at an) (λ j q a u other at placed an. refl)
       noted (λ r has. absurd (some_not_none has refl)) (λ d has. h.ages.lost id d k here has);
-  tied = tie_of_taken s low tree t r.stages dead was_dead h.tied id k here c inside small hand
+  tied = tie_of_taken s low tree t r.stages lie dead was_dead h.tied id k here c inside hand
       (λ won. true≢false (sym (hand_is_waiting plan tree dead h.ages.now id k.tree (sits id k here) c hand) ∙ won.1)) claimed p refl refl refl
       (omega arith) gone was_gone (false_where_not (dead 0) (root_lives plan tree dead h.ages.now))
       (λ seat d u at holds. hand_is_alive plan tree dead h.ages.now seat u.tree (sits seat u at) d holds) one t.homes;
@@ -109,9 +111,6 @@ takes_keep_ties plan s tree t dead was_dead low size h same id k here c hand ins
         let low = below in
         omega arith
 
-    small : turn_of c < 1048576
-    small = let few = r.invariant.limit in let limit = r.limit in let low = below in omega arith
-
     one : (seat : ℕ) (u : Known) → get_elem? t.views seat ≡ some u → u.tree.worker.card ≡ Some c → seat ≡ id
     one seat u at has =
         let me = mine_is plan tree r id k.tree (sits id k here) in
@@ -123,12 +122,12 @@ takes_keep_ties plan s tree t dead was_dead low size h same id k here c hand ins
         (ap (λ (z : Worker). z.card) (ap seat_worker (sits seat u at)) ∙ has))
 
     noted : (slot i : ℕ) → slot ≤ s.last → is_noted (get_or words (slot_word s slot) 0) i ≡ true
-        → IsOut plan tree r h.ages.now.uses (4 * card_in s words slot + i)
+        → IsOut plan tree r h.ages.now.uses (4 * put lie (slot_of c) c slot + i)
     noted slot i low is = elim (cases_eq slot (slot_of c)) [
       | inl e ↦ absurd (none_noted (turn_of c) i (subst (λ n. is_noted n i ≡ true)
           (ap (λ x. get_or words (slot_word s x) 0) e ∙ get_or-set_same t.words (slot_word s (slot_of c)) (8 * turn_of c) 0 (omega arith)) is))
       | inr apart ↦
           let stays = get_or-set_other t.words (slot_word s (slot_of c)) (slot_word s slot) (8 * turn_of c) 0 (λ e. apart (omega arith)) in
-          subst (λ n. IsOut plan tree r h.ages.now.uses (4 * card_by slot n + i)) (sym stays)
+          subst (λ d. IsOut plan tree r h.ages.now.uses (4 * d + i)) (sym (put_other lie (slot_of c) c slot apart))
           (h.ages.noted slot i low (subst (λ n. is_noted n i ≡ true) stays is))
     ]

@@ -245,14 +245,14 @@ at_root (AtNode x) is = omega arith
 at_root (OfCard c) is = absurd is
 at_root AtRoot is = refl
 
-module _ (plan : TablePlan) (s : Slots) (tree : TableState) (t : WholeState) (r : HasMachine plan tree) (dead : ℕ → Bool) (was_dead : ℕ → ℕ → Bool)
-    (tied : IsTied s tree t r.stages dead was_dead) (id : ℕ) (k : Known) (here : get_elem? t.views id ≡ some k) (there : get_elem? tree.views id ≡ some k.tree)
+module _ (plan : TablePlan) (s : Slots) (tree : TableState) (t : WholeState) (r : HasMachine plan tree) (lie : ℕ → ℕ) (dead : ℕ → Bool) (was_dead : ℕ → ℕ → Bool)
+    (tied : IsTied s tree t r.stages lie dead was_dead) (id : ℕ) (k : Known) (here : get_elem? t.views id ≡ some k) (there : get_elem? tree.views id ≡ some k.tree)
     (ready : IsReady plan tree id k was_dead) (c : Call) (may : May plan c k.tree) where
   abbrev d : ℕ
   d = card_touched (touched_by c)
 
-  root_lies : d ≡ 0 → LiesThere s t.words d
-  root_lies e = subst (LiesThere s t.words) (sym e) (omega arith, tied.root)
+  root_lies : d ≡ 0 → LiesThere s lie d
+  root_lies e = subst (LiesThere s lie) (sym e) (omega arith, tied.root)
 
   -- it was not dead when the pass's period began
   was_alive : (q : ℕ) → ForgotWhen plan tree id (was_dead q) → (f : Field) → word_of c ≡ address d f → was_dead q d ≡ false
@@ -264,7 +264,7 @@ module _ (plan : TablePlan) (s : Slots) (tree : TableState) (t : WholeState) (r 
           forgot.turns tree forgot.run k.tree there c may d f is (λ i few. forgot.were.each d i few e))
 
   -- so a card that has won its flag lies there
-  lies_won : HasWon r.stages d → LiesThere s t.words d
+  lies_won : HasWon r.stages d → LiesThere s lie d
   lies_won has = elim (spots c) [
     | inl claim ↦ root_lies claim.0
     | inr spot ↦ elim ready [
@@ -285,34 +285,34 @@ module _ (plan : TablePlan) (s : Slots) (tree : TableState) (t : WholeState) (r 
         ∙ (ap (λ e. cut_word (get_or tree.words (address e spot.0) 0)) lies.1 ∙ ap (λ i. cut_word (get_or tree.words i 0)) (sym spot.1)))
   ]
 
-  inside : LiesThere s t.words d → place_of c < table_size s.last
+  inside : LiesThere s lie d → place_of c < table_size s.last
   inside lies = elim (spots c) [
     | inl claim ↦ (let at = claim.2 in omega arith)
     | inr spot ↦ subst (λ i. i < table_size s.last) (sym spot.2) (address_in_table s.last (slot_of d) spot.0 lies.0).1
   ]
 
-pub touched_lies : (plan : TablePlan) (s : Slots) (tree : TableState) (t : WholeState) (r : HasMachine plan tree) (dead : ℕ → Bool) (was_dead : ℕ → ℕ → Bool)
-    → IsTied s tree t r.stages dead was_dead → (id : ℕ) (k : Known) → get_elem? t.views id ≡ some k → get_elem? tree.views id ≡ some k.tree
-    → IsReady plan tree id k was_dead → (c : Call) → May plan c k.tree → MayInMemory k.period.slot k.tree c → LiesThere s t.words (card_touched (touched_by c))
-touched_lies plan s tree t r dead was_dead tied id k here there ready (call.Fill c f value) may mem = tied.hand id c k here mem (may.holds, may.unflagged)
-touched_lies plan s tree t r dead was_dead tied id k here there ready c may mem =
-    lies_won plan s tree t r dead was_dead tied id k here there ready c may (touched_won plan tree r id k.tree there c may).0
+pub touched_lies : (plan : TablePlan) (s : Slots) (tree : TableState) (t : WholeState) (r : HasMachine plan tree) (lie : ℕ → ℕ) (dead : ℕ → Bool) (was_dead : ℕ → ℕ → Bool)
+    → IsTied s tree t r.stages lie dead was_dead → (id : ℕ) (k : Known) → get_elem? t.views id ≡ some k → get_elem? tree.views id ≡ some k.tree
+    → IsReady plan tree id k was_dead → (c : Call) → May plan c k.tree → MayInMemory k.period.slot k.tree c → LiesThere s lie (card_touched (touched_by c))
+touched_lies plan s tree t r lie dead was_dead tied id k here there ready (call.Fill c f value) may mem = tied.hand id c k here mem (may.holds, may.unflagged)
+touched_lies plan s tree t r lie dead was_dead tied id k here there ready c may mem =
+    lies_won plan s tree t r lie dead was_dead tied id k here there ready c may (touched_won plan tree r id k.tree there c may).0
 
-touched_finds : (plan : TablePlan) (s : Slots) (tree : TableState) (t : WholeState) (r : HasMachine plan tree) (dead : ℕ → Bool) (was_dead : ℕ → ℕ → Bool)
-    → IsTied s tree t r.stages dead was_dead → (id : ℕ) (k : Known) → get_elem? t.views id ≡ some k → get_elem? tree.views id ≡ some k.tree
+touched_finds : (plan : TablePlan) (s : Slots) (tree : TableState) (t : WholeState) (r : HasMachine plan tree) (lie : ℕ → ℕ) (dead : ℕ → Bool) (was_dead : ℕ → ℕ → Bool)
+    → IsTied s tree t r.stages lie dead was_dead → (id : ℕ) (k : Known) → get_elem? t.views id ≡ some k → get_elem? tree.views id ≡ some k.tree
     → IsReady plan tree id k was_dead → (c : Call) → May plan c k.tree → FindsTied t.words tree c
-touched_finds plan s tree t r dead was_dead tied id k here there ready (call.Fill c f value) may = tt
-touched_finds plan s tree t r dead was_dead tied id k here there ready c may =
+touched_finds plan s tree t r lie dead was_dead tied id k here there ready (call.Fill c f value) may = tt
+touched_finds plan s tree t r lie dead was_dead tied id k here there ready c may =
     let has = touched_won plan tree r id k.tree there c may in
-    finds_won plan s tree t r dead was_dead tied id k here there ready c may has.0 (says_field r.stages c has)
+    finds_won plan s tree t r lie dead was_dead tied id k here there ready c may has.0 (says_field r.stages c has)
 
 -- the word that a call touches is tied
-pub touched_tied : (plan : TablePlan) (s : Slots) (tree : TableState) (t : WholeState) (r : HasMachine plan tree) (dead : ℕ → Bool) (was_dead : ℕ → ℕ → Bool)
-    → IsTied s tree t r.stages dead was_dead → (id : ℕ) (k : Known) → get_elem? t.views id ≡ some k → get_elem? tree.views id ≡ some k.tree
-    → IsReady plan tree id k was_dead → (c : Call) → May plan c k.tree → MayInMemory k.period.slot k.tree c → TouchesTied s t.words tree c
-touched_tied plan s tree t r dead was_dead tied id k here there ready c may mem =
-    let lies = touched_lies plan s tree t r dead was_dead tied id k here there ready c may mem in record {
-      inside = inside plan s tree t r dead was_dead tied id k here there ready c may lies;
+pub touched_tied : (plan : TablePlan) (s : Slots) (tree : TableState) (t : WholeState) (r : HasMachine plan tree) (lie : ℕ → ℕ) (dead : ℕ → Bool) (was_dead : ℕ → ℕ → Bool)
+    → IsTied s tree t r.stages lie dead was_dead → (id : ℕ) (k : Known) → get_elem? t.views id ≡ some k → get_elem? tree.views id ≡ some k.tree
+    → IsReady plan tree id k was_dead → (c : Call) → May plan c k.tree → MayInMemory k.period.slot k.tree c → TouchesTied s lie t.words tree c
+touched_tied plan s tree t r lie dead was_dead tied id k here there ready c may mem =
+    let lies = touched_lies plan s tree t r lie dead was_dead tied id k here there ready c may mem in record {
+      inside = inside plan s tree t r lie dead was_dead tied id k here there ready c may lies;
       lies = lies;
-      finds = touched_finds plan s tree t r dead was_dead tied id k here there ready c may;
+      finds = touched_finds plan s tree t r lie dead was_dead tied id k here there ready c may;
     }

@@ -10,7 +10,7 @@ use Rattle.ell_core.specs.history.Stages.{Stages}
 use Rattle.ell_core.proofs.lemmas.outcomes.Decide.{some_not_none}
 use Rattle.ell_cards.specs.declared.view.Known.{Known}
 use Rattle.ell_cards.specs.declared.view.Slots.{Slots}
-use Rattle.ell_cards.specs.Periods.{WholeState, slot_word, card_in}
+use Rattle.ell_cards.specs.Periods.{WholeState, slot_word}
 use Rattle.ell_cards.specs.Sayings.{says}
 use Rattle.ell_cards.specs.Shown.{cut_word}
 use Rattle.ell_cards.specs.SlotWords.{slot_of, card_by}
@@ -28,18 +28,11 @@ pub data StaysSo (views : List Known) (seat : ℕ) (u : Known) : Type 0 where
       → u.period.announced ≡ k.period.announced → u.period.slot ≡ k.period.slot → StaysSo views seat u
   blank : u.tree.worker.card ≡ None → u.period.announced ≡ None → u.period.slot ≡ None → StaysSo views seat u
 
-module _ (s : Slots) (low : s.last < 2097152) (tree tree' : TableState) (t : WholeState) (stage next : Stages) (dead : ℕ → Bool) (was_dead : ℕ → ℕ → Bool)
-    (tied : IsTied s tree t stage dead was_dead) (cards : tree'.words ≡ tree.words) (words : List ℕ)
+module _ (s : Slots) (low : s.last < 2097152) (tree tree' : TableState) (t : WholeState) (stage next : Stages) (lie : ℕ → ℕ) (dead : ℕ → Bool) (was_dead : ℕ → ℕ → Bool)
+    (tied : IsTied s tree t stage lie dead was_dead) (cards : tree'.words ≡ tree.words) (words : List ℕ)
     (slots : (i : ℕ) → i < table_size s.last → get_or words i 0 ≡ get_or t.words i 0)
-    (lie : (slot : ℕ) → slot ≤ s.last → get_or words (slot_word s slot) 0 ≡ get_or t.words (slot_word s slot) 0)
     (wins : (c : ℕ) → HasWon next c → HasWon stage c)
     (kinds : (c : ℕ) (f : Field) → HasWon stage c → says (next c) f ≡ true → says (stage c) f ≡ true) (views : List Known) (stays : (seat : ℕ) (u : Known) → get_elem? views seat ≡ some u → StaysSo t.views seat u) where
-  cards_stay : (slot : ℕ) → slot ≤ s.last → card_in s words slot ≡ card_in s t.words slot
-  cards_stay slot inside = ap (card_by slot) (lie slot inside)
-
-  lies_on : (c : ℕ) → LiesThere s t.words c → LiesThere s words c
-  lies_on c lies = (lies.0, cards_stay (slot_of c) lies.0 ∙ lies.1)
-
   kept_before : (c : ℕ) (f : Field) → IsKept next views c f → IsKept stage t.views c f
   kept_before c f (won has said) = won (wins c has) (kinds c f (wins c has) said)
   kept_before c f (stored seat u at waits has) = elim (stays seat u at) [
@@ -49,18 +42,17 @@ module _ (s : Slots) (low : s.last < 2097152) (tree tree' : TableState) (t : Who
     | blank none an slot ↦ absurd (some_not_none waits.0 none)
   ]
 
-  at_slot : (slot : ℕ) (f : Field) → slot ≤ s.last → (c : ℕ) → c ≡ card_in s t.words slot → IsKept next views c f
-      → get_or words (address slot f) 0 ≡ cut_word (get_or tree'.words (address c f) 0)
-  at_slot slot f inside c is kept =
+  at_slot : (slot : ℕ) (f : Field) → slot ≤ s.last → IsKept next views (lie slot) f
+      → get_or words (address slot f) 0 ≡ cut_word (get_or tree'.words (address (lie slot) f) 0)
+  at_slot slot f inside kept =
       slots (address slot f) (address_in_table s.last slot f inside).1
-      ∙ (tied.at slot f inside (subst (λ e. IsKept stage t.views e f) is (kept_before c f kept))
-      ∙ λ i. cut_word (get_or (sym cards i) (address (sym is i) f) 0))
+      ∙ (tied.at slot f inside (kept_before (lie slot) f kept) ∙ ap (λ l. cut_word (get_or l (address (lie slot) f) 0)) (sym cards))
 
   first_words : (i : ℕ) → i < 2 → get_or t.words i 0 ≡ get_or tree.words i 0 → get_or words i 0 ≡ get_or tree'.words i 0
   first_words i few is = slots i (omega arith) ∙ (is ∙ ap (λ l. get_or l i 0) (sym cards))
 
   lives_on : (seat q a c : ℕ) (u : Known) → get_elem? views seat ≡ some u → u.period.place ≡ Some q → u.period.announced ≡ Some a → HasWon next c → was_dead q c ≡ false
-      → LiesThere s t.words c
+      → LiesThere s lie c
   lives_on seat q a c u at placed an has alive = elim (stays seat u at) [
     | same there ↦ tied.lives seat q a c u there placed an (wins c has) alive
     | goes_on k there is place says slot ↦ tied.lives seat q a c k there (sym place ∙ placed) (sym says ∙ an) (wins c has) alive
@@ -68,7 +60,7 @@ module _ (s : Slots) (low : s.last < 2097152) (tree tree' : TableState) (t : Who
     | blank none says slot ↦ absurd (some_not_none an says)
   ]
 
-  hand_on : (seat c : ℕ) (u : Known) → get_elem? views seat ≡ some u → u.period.slot ≡ Some c → HoldsWaiting u.tree c → LiesThere s t.words c
+  hand_on : (seat c : ℕ) (u : Known) → get_elem? views seat ≡ some u → u.period.slot ≡ Some c → HoldsWaiting u.tree c → LiesThere s lie c
   hand_on seat c u at slot waits = elim (stays seat u at) [
     | same there ↦ tied.hand seat c u there slot waits
     | goes_on k there is place says taken ↦ tied.hand seat c k there (sym taken ∙ slot) (subst (λ v. HoldsWaiting v c) is waits)
@@ -92,16 +84,17 @@ module _ (s : Slots) (low : s.last < 2097152) (tree tree' : TableState) (t : Who
     | blank none says taken ↦ absurd (some_not_none waits.0 none)
   ]
 
-  pub tie_stays : (homes : List (Maybe (Unit {0}))) → IsTied s tree' (record { words = words; homes = homes; views = views }) next dead was_dead
+  pub tie_stays : (homes : List (Maybe (Unit {0}))) → IsTied s tree' (record { words = words; homes = homes; views = views }) next lie dead was_dead
   tie_stays homes = record {
     claim = first_words 0 (omega arith) tied.claim;
     flat = first_words 1 (omega arith) tied.flat;
-    root = cards_stay 0 (omega arith) ∙ tied.root;
-    at = λ slot f inside kept. at_slot slot f inside (card_in s words slot) (cards_stay slot inside) kept;
-    alive = λ c has lives. lies_on c (tied.alive c (wins c has) lives);
-    lives = λ seat q a c u at placed an has alive. lies_on c (lives_on seat q a c u at placed an has alive);
+    root = tied.root;
+    own = tied.own;
+    at = at_slot;
+    alive = λ c has lives. tied.alive c (wins c has) lives;
+    lives = lives_on;
     fits = λ c has. tied.fits c (wins c has);
-    hand = λ seat c u at slot waits. lies_on c (hand_on seat c u at slot waits);
+    hand = hand_on;
     past = λ seat c u at slot. subst (λ n. c < n) (sym (slots 0 (omega arith))) (past_on seat c u at slot);
     stores = stores_on;
   }

@@ -1,4 +1,4 @@
-use Rattle.std.proofs.Common.{◌≡◌, ◌≢◌, ℕ, ◌+◌, ◌*◌, ◌<◌, ◌≤◌, Bool, true, false, Some, List, [], ◌∷◌, ◌++◌, get_or, set, inl, inr, ◌⊎◌, refl, sym, ap, ◌∙◌, subst, ⊎_elim}
+use Rattle.std.proofs.Common.{◌≡◌, ◌≢◌, ℕ, ◌+◌, ◌*◌, ◌%◌, ◌<◌, ◌≤◌, Bool, true, false, Some, List, [], ◌∷◌, ◌++◌, get_or, set, inl, inr, ◌⊎◌, refl, sym, ap, ◌∙◌, subst, ⊎_elim}
 use mathlib.Core.Option.{some}
 use mathlib.Core.Option.{Option as Maybe}
 use lib.ListN.{get_elem?}
@@ -18,7 +18,7 @@ use Rattle.ell_cards.specs.Calls.{May}
 use Rattle.ell_cards.specs.Laws.{machine_of_table}
 use Rattle.ell_cards.specs.Machines.{HasMachine}
 use Rattle.ell_cards.specs.Models.{TablePlan}
-use Rattle.ell_cards.specs.Periods.{WholeState, IsAtRest, slot_word, card_in}
+use Rattle.ell_cards.specs.Periods.{WholeState, IsAtRest, slot_word}
 use Rattle.ell_cards.specs.SlotWords.{card_by, is_noted}
 use Rattle.ell_cards.specs.Starts.{IsReached}
 use Rattle.ell_cards.specs.States.{TableState}
@@ -109,32 +109,31 @@ module _ (plan : TablePlan) where
   }
 
   -- what the words of slots note as dead, and what passes have read of them, is out after a turn, if those words are as they were
-  module _ (s : Slots) (tree tree' : TableState) (t : WholeState) (dead : ℕ → Bool) (was_dead : ℕ → ℕ → Bool) (h : AgesAreSound plan s tree t dead was_dead)
+  module _ (s : Slots) (tree tree' : TableState) (t : WholeState) (lie : ℕ → ℕ) (dead : ℕ → Bool) (was_dead : ℕ → ℕ → Bool) (h : AgesAreSound plan s tree t lie dead was_dead)
       (by : Turn) (on : Onward tree h.now.machine h.now.uses by tree') where
     pub noted_on : (words : List ℕ) → ((slot : ℕ) → slot ≤ s.last → get_or words (slot_word s slot) 0 ≡ get_or t.words (slot_word s slot) 0)
-        → (slot k : ℕ) → slot ≤ s.last → is_noted (get_or words (slot_word s slot) 0) k ≡ true → IsOut plan tree' on.next on.used (4 * card_in s words slot + k)
+        → (slot k : ℕ) → slot ≤ s.last → is_noted (get_or words (slot_word s slot) 0) k ≡ true → IsOut plan tree' on.next on.used (4 * lie slot + k)
     noted_on words same slot k low is =
-        subst (λ n. IsOut plan tree' on.next on.used (4 * card_by slot n + k)) (sym (same slot low))
-        (out_on tree h.now.machine h.now.uses by tree' on (4 * card_in s t.words slot + k) (h.noted slot k low (subst (λ n. is_noted n k ≡ true) (same slot low) is)))
+        out_on tree h.now.machine h.now.uses by tree' on (4 * lie slot + k) (h.noted slot k low (subst (λ n. is_noted n k ≡ true) (same slot low) is))
 
-    pub read_on : (seat : ℕ) (k : Known) (r : SlotRead) → get_elem? t.views seat ≡ some k → k.period.read ≡ Some r → (i : ℕ) → is_noted r.word i ≡ true
+    pub read_on : (seat : ℕ) (k : Known) (r : SlotRead) → get_elem? t.views seat ≡ some k → k.period.read ≡ Some r → r.word % 8 ≢ 7 → (i : ℕ) → is_noted r.word i ≡ true
         → IsOut plan tree' on.next on.used (4 * card_by r.slot r.word + i)
-    read_on seat k r at has i is = out_on tree h.now.machine h.now.uses by tree' on (4 * card_by r.slot r.word + i) (h.read seat k r at has i is)
+    read_on seat k r at has used i is = out_on tree h.now.machine h.now.uses by tree' on (4 * card_by r.slot r.word + i) (h.read seat k r at has used i is)
 
     -- so is the card whose flag a pass lost last laid aside
     pub lost_on : (seat c : ℕ) (k : Known) → get_elem? t.views seat ≡ some k → k.period.lost ≡ Some c → IsAside on.next.stages tree'.views c
     lost_on seat c k at has = on.aside c (h.lost seat c k at has)
 
   -- the ages after a turn, with what each card has won
-  pub record AgesOn (s : Slots) (tree : TableState) (t : WholeState) (dead : ℕ → Bool) (was_dead : ℕ → ℕ → Bool) (h : AgesAreSound plan s tree t dead was_dead) (turn : Turn)
+  pub record AgesOn (s : Slots) (tree : TableState) (t : WholeState) (lie : ℕ → ℕ) (dead : ℕ → Bool) (was_dead : ℕ → ℕ → Bool) (h : AgesAreSound plan s tree t lie dead was_dead) (turn : Turn)
       (tree' : TableState) (t' : WholeState) : Type 0 where
-    pub ages : AgesAreSound plan s tree' t' dead was_dead
+    pub ages : AgesAreSound plan s tree' t' lie dead was_dead
     pub later : StagesLater h.now.machine.stages ages.now.machine.stages
     pub wins : (d : ℕ) → wins_of (ages.now.machine.stages d) ≡ wins_of (h.now.machine.stages d) ++ turn_wins tree turn d
 
   -- the ages after a step call
   module _ (s : Slots) (tree : TableState) (reached : IsReached plan tree) (t : WholeState) (id : ℕ) (k : Known) (here : get_elem? t.views id ≡ some k)
-      (there : get_elem? tree.views id ≡ some k.tree) (dead : ℕ → Bool) (was_dead : ℕ → ℕ → Bool) (c : Call) (may : May plan c k.tree)
+      (there : get_elem? tree.views id ≡ some k.tree) (lie : ℕ → ℕ) (dead : ℕ → Bool) (was_dead : ℕ → ℕ → Bool) (c : Call) (may : May plan c k.tree)
       (words : List ℕ) (homes : List (Maybe (Unit {0}))) (same : (slot : ℕ) → slot ≤ s.last → get_or words (slot_word s slot) 0 ≡ get_or t.words (slot_word s slot) 0) where
     abbrev after : TableState
     after = state_after tree id k.tree c
@@ -145,8 +144,8 @@ module _ (plan : TablePlan) where
     turn : TableTurns plan tree (Makes id c) after
     turn = record { view = k.tree; there = there; may = may; gives = refl }
 
-    pub ages_after_call : (h : AgesAreSound plan s tree t dead was_dead)
-        → AgesOn s tree t dead was_dead h (Makes id c) after (record { words = words; homes = homes; views = set t.views id knows })
+    pub ages_after_call : (h : AgesAreSound plan s tree t lie dead was_dead)
+        → AgesOn s tree t lie dead was_dead h (Makes id c) after (record { words = words; homes = homes; views = set t.views id knows })
     ages_after_call h = record {
       ages = record {
         now = dead_on tree dead h.now (Makes id c) after on;
@@ -156,14 +155,14 @@ module _ (plan : TablePlan) where
             (λ (e : (seat ≢ id) × (get_elem? t.views seat ≡ some u)).
             still_since tree seat (was_dead q) u.tree (Makes id c) after turn (h.since seat q a u e.1 placed an))
             (at_set t.views id seat knows u at);
-        noted = noted_on s tree after t dead was_dead h (Makes id c) on words same;
+        noted = noted_on s tree after t lie dead was_dead h (Makes id c) on words same;
         read = λ seat u r at has. ⊎_elim
-            (λ (e : (seat ≡ id) × (knows ≡ u)). read_on s tree after t dead was_dead h (Makes id c) on id k r here (subst (λ (x : Known). x.period.read ≡ Some r) (sym e.1) has))
-            (λ (e : (seat ≢ id) × (get_elem? t.views seat ≡ some u)). read_on s tree after t dead was_dead h (Makes id c) on seat u r e.1 has)
+            (λ (e : (seat ≡ id) × (knows ≡ u)). read_on s tree after t lie dead was_dead h (Makes id c) on id k r here (subst (λ (x : Known). x.period.read ≡ Some r) (sym e.1) has))
+            (λ (e : (seat ≢ id) × (get_elem? t.views seat ≡ some u)). read_on s tree after t lie dead was_dead h (Makes id c) on seat u r e.1 has)
             (at_set t.views id seat knows u at);
         lost = λ seat d u at has. ⊎_elim
-            (λ (e : (seat ≡ id) × (knows ≡ u)). lost_on s tree after t dead was_dead h (Makes id c) on id d k here (ap (λ (x : Known). x.period.lost) e.1 ∙ has))
-            (λ (e : (seat ≢ id) × (get_elem? t.views seat ≡ some u)). lost_on s tree after t dead was_dead h (Makes id c) on seat d u e.1 has)
+            (λ (e : (seat ≡ id) × (knows ≡ u)). lost_on s tree after t lie dead was_dead h (Makes id c) on id d k here (ap (λ (x : Known). x.period.lost) e.1 ∙ has))
+            (λ (e : (seat ≢ id) × (get_elem? t.views seat ≡ some u)). lost_on s tree after t lie dead was_dead h (Makes id c) on seat d u e.1 has)
             (at_set t.views id seat knows u at);
       };
       later = on.later;
@@ -189,17 +188,17 @@ module _ (plan : TablePlan) where
   -- The ages where a pass knows something else of periods, and words became other ones: by what is dead now, what was dead when
   -- the pass's period began, what slots and the pass note, and what the pass laid aside.
   module _ (s : Slots) (tree : TableState) (t : WholeState) (id : ℕ) (k : Known) (here : get_elem? t.views id ≡ some k) (now : Known) (same : now.tree ≡ k.tree)
-      (words : List ℕ) (dead dead' : ℕ → Bool) (was_dead was_dead' : ℕ → ℕ → Bool) (h : AgesAreSound plan s tree t dead was_dead) where
+      (words : List ℕ) (lie lie' : ℕ → ℕ) (dead dead' : ℕ → Bool) (was_dead was_dead' : ℕ → ℕ → Bool) (h : AgesAreSound plan s tree t lie dead was_dead) where
     abbrev OutNow : ℕ → Type 0
     OutNow x = IsOut plan tree h.now.machine h.now.uses x
 
     abbrev pub ages_of_period : ((c i : ℕ) → i < 3 → dead' c ≡ true → OutNow (4 * c + i)) → ((q c : ℕ) → was_dead' q c ≡ true → dead' c ≡ true)
         → ((q a : ℕ) → now.period.place ≡ Some q → now.period.announced ≡ Some a → IsAtRest k.tree ⊎ ForgotWhen plan tree id (was_dead' q))
         → ((j q a : ℕ) (u : Known) → j ≢ id → get_elem? t.views j ≡ some u → u.period.place ≡ Some q → u.period.announced ≡ Some a → was_dead' q ≡ was_dead q)
-        → ((slot i : ℕ) → slot ≤ s.last → is_noted (get_or words (slot_word s slot) 0) i ≡ true → OutNow (4 * card_in s words slot + i))
-        → ((r : SlotRead) → now.period.read ≡ Some r → (i : ℕ) → is_noted r.word i ≡ true → OutNow (4 * card_by r.slot r.word + i))
+        → ((slot i : ℕ) → slot ≤ s.last → is_noted (get_or words (slot_word s slot) 0) i ≡ true → OutNow (4 * lie' slot + i))
+        → ((r : SlotRead) → now.period.read ≡ Some r → r.word % 8 ≢ 7 → (i : ℕ) → is_noted r.word i ≡ true → OutNow (4 * card_by r.slot r.word + i))
         → ((c : ℕ) → now.period.lost ≡ Some c → IsAside h.now.machine.stages tree.views c)
-        → AgesAreSound plan s tree (record { words = words; homes = t.homes; views = set t.views id now }) dead' was_dead'
+        → AgesAreSound plan s tree (record { words = words; homes = t.homes; views = set t.views id now }) lie' dead' was_dead'
     ages_of_period each still mine others noted read lost = record {
       now = record { machine = h.now.machine; uses = h.now.uses; each = each };
       still = still;

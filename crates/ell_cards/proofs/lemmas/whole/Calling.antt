@@ -55,7 +55,8 @@ use Rattle.ell_cards.proofs.lemmas.whole.Fields.{FillsWhole, fields_after, field
 use Rattle.ell_cards.proofs.lemmas.whole.Losing.{aside_in_ages, lost_now}
 use Rattle.ell_cards.proofs.lemmas.whole.Lifts.{is_its_own, stands_inside, can_be_shown}
 use Rattle.ell_cards.proofs.lemmas.whole.Rests.{stays_at_rest}
-use Rattle.ell_cards.proofs.lemmas.whole.Trees.{tree_at, tree_periods}
+use Rattle.ell_cards.proofs.lemmas.whole.Seats.{lie_same}
+use Rattle.ell_cards.proofs.lemmas.whole.Trees.{tree_at, slots_stay, tree_periods}
 
 -- a card that is no later than the last one that may have a slot of its own has that
 own_slot : (c : ℕ) → c ≤ greatest_card → slot_of c ≡ c
@@ -184,7 +185,7 @@ module _ (plan : TablePlan) (s : WholeState) (h : IsWhole plan s) (id : ℕ) (k 
       fit : SlotsFit plan (Some sl)
       fit = subst (SlotsFit plan) placed h.reached.starts.may.slots
 
-      abbrev by_ages : IsTiedByAges plan sl h.tree s has.dead has.was_dead
+      abbrev by_ages : IsTiedByAges plan sl h.tree s has.lie has.dead has.was_dead
       by_ages = record { ages = has.ages; tied = has.tied }
 
       -- the pass is at rest, or in a period
@@ -206,13 +207,13 @@ module _ (plan : TablePlan) (s : WholeState) (h : IsWhole plan s) (id : ℕ) (k 
       room = let all = has_words.0 in omega arith
 
       -- it finds what is cut of what is in the tree
-      pub tied_touch : TouchesTied sl s.words h.tree c
-      tied_touch = touch plan sl h.tree s has.dead has.was_dead h.reached low_last room by_ages id k here tree_here ready c may mem
+      pub tied_touch : TouchesTied sl has.lie s.words h.tree c
+      tied_touch = touch plan sl h.tree s has.lie has.dead has.was_dead h.reached low_last room by_ages id k here tree_here ready c may mem
 
       near : ExpectsNear c (found_by h.tree c)
       near = elim ready [
         | inl rest ↦ rest_near c rest may
-        | inr period ↦ expected_links_are_near plan sl h.tree s has.dead has.was_dead by_ages h.reached fit.4 id k here tree_here period c may
+        | inr period ↦ expected_links_are_near plan sl h.tree s has.lie has.dead has.was_dead by_ages h.reached fit.4 id k here tree_here period c may
       ]
         where
           rest_near : (d : Call) → IsAtRest k.tree → May plan d k.tree → ExpectsNear d (found_by h.tree d)
@@ -232,18 +233,20 @@ module _ (plan : TablePlan) (s : WholeState) (h : IsWhole plan s) (id : ℕ) (k 
       pub rests : k.period.announced ≡ None → IsAtRest (view_after h.tree k.tree c)
       rests none = stays_at_rest k.tree ((has.periods.each id k here).rests none) plan c (found_by h.tree c) (quiet none) may
 
-      abbrev pub tied_ages : AgesOn plan sl h.tree s has.dead has.was_dead has.ages (Makes id c) after (memory_after h.tree s homes id k c)
-      tied_ages = goes plan sl h.tree s has.dead has.was_dead h.reached low_last room by_ages id k here tree_here ready c may mem homes
+      abbrev pub tied_ages : AgesOn plan sl h.tree s has.lie has.dead has.was_dead has.ages (Makes id c) after (memory_after h.tree s homes id k c)
+      tied_ages = goes plan sl h.tree s has.lie has.dead has.was_dead h.reached low_last room by_ages id k here tree_here ready c may mem homes
 
-      pub still_tied : IsTied sl after (memory_after h.tree s homes id k c) tied_ages.ages.now.machine.stages has.dead has.was_dead
-      still_tied = tied plan sl h.tree s has.dead has.was_dead h.reached low_last room by_ages id k here tree_here ready c may mem homes
+      pub still_tied : IsTied sl after (memory_after h.tree s homes id k c) tied_ages.ages.now.machine.stages has.lie has.dead has.was_dead
+      still_tied = tied plan sl h.tree s has.lie has.dead has.was_dead h.reached low_last room by_ages id k here tree_here ready c may mem homes
 
       abbrev pub tied_periods : HasPeriods plan sl after (record { words = set s.words (place_of c) cut; homes = homes; views = set s.views id knows })
       tied_periods = record {
+        lie = has.lie;
+        lies = lie_same sl has.lie s.words (set s.words (place_of c) cut) (slots_stay s id k here (view_after h.tree k.tree c) sl (place_of c) cut tied_touch.inside) has.lies;
         dead = has.dead;
         began = has.began;
         was_dead = has.was_dead;
-        periods = tree_periods s id k here (view_after h.tree k.tree c) sl (place_of c) cut homes has.dead has.began has.was_dead tied_touch.inside rests has.periods;
+        periods = tree_periods s id k here (view_after h.tree k.tree c) sl (place_of c) cut homes has.lie has.dead has.began has.was_dead tied_touch.inside rests has.periods;
         ages = tied_ages.ages;
         tied = still_tied;
       }
@@ -258,7 +261,7 @@ module _ (plan : TablePlan) (s : WholeState) (h : IsWhole plan s) (id : ℕ) (k 
           subst (λ q. HasPeriods plan sl after (record { words = set s.words (place_of c) cut; homes = homes; views = set s.views id (noting q) })) (sym is)
           (subst (λ l. HasPeriods plan sl after (record { words = set s.words (place_of c) cut; homes = homes; views = l })) (set_twice s.views id knows (noting (record k.period { lost = Some d })))
           (lost_now plan sl after (memory_after h.tree s homes id k c) id knows at tied_periods d
-          (aside_in_ages plan sl h.tree s has.dead has.was_dead has.ages id k.tree tree_here c may (memory_after h.tree s homes id k c) tied_ages d flags unwon)))
+          (aside_in_ages plan sl h.tree s has.lie has.dead has.was_dead has.ages id k.tree tree_here c may (memory_after h.tree s homes id k c) tied_ages d flags unwon)))
 
       pub tied_whole : (p : Period) → Notes c (found_by h.tree c) k.period p → IsWhole plan (stepped s (place_of c) cut id [] (noting p) keeps)
       tied_whole p notes = whole_after p (place_of c) cut

@@ -20,7 +20,7 @@ use Rattle.ell_cards.specs.Ages.{IsOut, HasPeriods, KnowsDeadNode, KnowsDeadCard
 use Rattle.ell_cards.specs.Aside.{IsAside}
 use Rattle.ell_cards.specs.CardNodes.{has_node, KnowsDeadNodes}
 use Rattle.ell_cards.specs.Models.{TablePlan}
-use Rattle.ell_cards.specs.Periods.{WholeState, clock_word, slot_word, slots_size, last_reading, card_in, pending_by, after_read, after_seek, after_stamp, PeriodsAreSound}
+use Rattle.ell_cards.specs.Periods.{WholeState, clock_word, slot_word, slots_size, last_reading, LieInSlots, pending_by, after_read, after_seek, after_stamp, PeriodsAreSound}
 use Rattle.ell_cards.specs.Seeking.{could_have, sought_on}
 use Rattle.ell_cards.specs.SlotWords.{card_by, slot_of, turn_of, turn_in, free_word, is_noted}
 use Rattle.ell_cards.specs.States.{TableState}
@@ -30,14 +30,14 @@ use Rattle.ell_cards.proofs.lemmas.whole.Ages.{ages_of_period}
 use Rattle.ell_cards.proofs.lemmas.ties.Periods.{tie_of_period}
 use Rattle.ell_cards.proofs.lemmas.whole.Going.{turned_to, behind, same_noted, same_again, stays, goes_on_there}
 use Rattle.ell_cards.proofs.lemmas.whole.Steps.{word_again}
-use Rattle.ell_cards.proofs.lemmas.whole.Seats.{period_was}
-use Rattle.ell_cards.proofs.lemmas.whole.Slots.{slot_read, card_stamped, slot_noted, slot_freed, freed_card}
+use Rattle.ell_cards.proofs.lemmas.whole.Seats.{period_was, lie_same}
+use Rattle.ell_cards.proofs.lemmas.whole.Slots.{slot_read, card_stamped, slot_noted, slot_freed, lie_noted, lie_freed}
 
 -- more nodes are noted, and the turn is as it was
 pub noted_turn : (n m : ℕ) → m < 8 → turn_in (bit_or n m) ≡ turn_in n
 noted_turn n m low =
     let none : m / 8 ≡ 0 = omega arith in
-    ap (λ x. x % 1048576) (or_shr n m 3 ∙ (ap (bit_or (n / 8)) none ∙ or_zero_r (n / 8)))
+    or_shr n m 3 ∙ (ap (bit_or (n / 8)) none ∙ or_zero_r (n / 8))
 
 -- what is noted then was noted, or is one of these
 or_odd : (n m : ℕ) → bit_or n m % 2 ≡ 1 → (n % 2 ≡ 1) ⊎ (m % 2 ≡ 1)
@@ -91,10 +91,6 @@ full_stays n m low all =
     let least = le_or_l (n % 8) (m % 8) in
     omega arith
 
--- nor does the turn change where a slot is set free
-freed_turn : (n reading : ℕ) → turn_in (free_word (turn_in n) reading) ≡ turn_in n
-freed_turn n reading = omega arith
-
 -- the steps of a pass on the words of slots, as those of a whole table
 module _ (plan : TablePlan) (s : Slots) (tree : TableState) (t : WholeState) (id : ℕ) (k : Known) (here : get_elem? t.views id ≡ some k)
     (there : get_elem? tree.views id ≡ some k.tree) (h : HasPeriods plan s tree t) (size : length t.words ≡ slots_size s) where
@@ -110,36 +106,44 @@ module _ (plan : TablePlan) (s : Slots) (tree : TableState) (t : WholeState) (id
       → HasPeriods plan s tree (turned_to t id k (record (after_read slot (get_or t.words (slot_word s slot) 0) k.period) { sought = sought }) (slot_word s slot) (get_or t.words (slot_word s slot) 0))
   reads_now slot inside sought =
       let n = get_or t.words (slot_word s slot) 0 in record {
+        lie = h.lie;
+        lies = lie_same s h.lie t.words (set t.words (slot_word s slot) n) (λ other low. same_again plan s tree t id k here h size (slot_word s slot) (omega arith) other) h.lies;
         dead = h.dead;
         began = h.began;
         was_dead = h.was_dead;
-        periods = slot_read s t id k here h.dead h.began h.was_dead h.periods size slot inside sought;
-        ages = ages_of_period plan s tree t id k here (record { tree = k.tree; period = record (after_read slot n k.period) { sought = sought } }) refl (set t.words (slot_word s slot) n) h.dead h.dead h.was_dead h.was_dead h.ages
+        periods = slot_read s t id k here h.lie h.dead h.began h.was_dead h.periods size slot inside sought;
+        ages = ages_of_period plan s tree t id k here (record { tree = k.tree; period = record (after_read slot n k.period) { sought = sought } }) refl (set t.words (slot_word s slot) n) h.lie h.lie h.dead h.dead h.was_dead h.was_dead h.ages
             h.ages.now.each h.ages.still (λ q a at an. h.ages.since id q a k here at an) (λ j q a u other at placed an. refl)
             (same_noted plan s tree t id k here h (set t.words (slot_word s slot) n) (same_again plan s tree t id k here h size (slot_word s slot) (omega arith)))
-            (λ r has i is. subst (λ (x : SlotRead). is_noted x.word i ≡ true → OutNow (4 * card_by x.slot x.word + i)) (same_Some _ r has) (h.ages.noted slot i inside) is)
+            (λ r has used i is. subst (λ (x : SlotRead). x.word % 8 ≢ 7 → is_noted x.word i ≡ true → OutNow (4 * card_by x.slot x.word + i)) (same_Some _ r has) (reads i) used is)
             (λ c has. h.ages.lost id c k here has);
-        tied = tie_of_period s tree t h.ages.now.machine.stages h.dead h.dead h.was_dead h.was_dead h.tied id k here (record (after_read slot n k.period) { sought = sought }) refl (set t.words (slot_word s slot) n)
-            (λ j low. word_again t.words (slot_word s slot) (omega arith) j) (λ other low. ap (card_by other) (same_again plan s tree t id k here h size (slot_word s slot) (omega arith) other))
+        tied = tie_of_period s tree t h.ages.now.machine.stages h.lie h.dead h.dead h.was_dead h.was_dead h.tied id k here (record (after_read slot n k.period) { sought = sought }) refl (set t.words (slot_word s slot) n)
+            (λ j low. word_again t.words (slot_word s slot) (omega arith) j)
             (λ c lives. lives) (λ q a at an. inl (at, an, λ c lives. lives)) (λ seat q a u other at placed an c lives. lives) t.homes;
       }
+    where
+      reads : (i : ℕ) → get_or t.words (slot_word s slot) 0 % 8 ≢ 7 → is_noted (get_or t.words (slot_word s slot) 0) i ≡ true
+          → OutNow (4 * card_by slot (get_or t.words (slot_word s slot) 0) + i)
+      reads i used is = subst (λ c. OutNow (4 * c + i)) (h.lies slot inside used) (h.ages.noted slot i inside is)
 
   -- it reads the clock for a card whose nodes it knows dead, or which it laid aside
   pub stamps_now : (c : ℕ) → MayStamp k c
       → HasPeriods plan s tree (turned_to t id k (after_stamp c (get_or t.words (clock_word s) 0) k.period) (clock_word s) (get_or t.words (clock_word s) 0))
   stamps_now c may =
       let n = get_or t.words (clock_word s) 0 in record {
+        lie = h.lie;
+        lies = lie_same s h.lie t.words (set t.words (clock_word s) n) (λ other low. same_again plan s tree t id k here h size (clock_word s) (omega arith) other) h.lies;
         dead = put h.dead c true;
         began = h.began;
         was_dead = h.was_dead;
-        periods = card_stamped s t id k here h.dead h.began h.was_dead h.periods size c;
-        ages = ages_of_period plan s tree t id k here (record { tree = k.tree; period = after_stamp c n k.period }) refl (set t.words (clock_word s) n) h.dead (put h.dead c true) h.was_dead h.was_dead h.ages
+        periods = card_stamped s t id k here h.lie h.dead h.began h.was_dead h.periods size c;
+        ages = ages_of_period plan s tree t id k here (record { tree = k.tree; period = after_stamp c n k.period }) refl (set t.words (clock_word s) n) h.lie h.lie h.dead (put h.dead c true) h.was_dead h.was_dead h.ages
             each (λ q d was. still d (h.ages.still q d was)) (λ q a at an. h.ages.since id q a k here at an) (λ j q a u other at placed an. refl)
             (same_noted plan s tree t id k here h (set t.words (clock_word s) n) (same_again plan s tree t id k here h size (clock_word s) (omega arith)))
             (λ r has. h.ages.read id k r here has)
             (λ d has. h.ages.lost id d k here has);
-        tied = tie_of_period s tree t h.ages.now.machine.stages h.dead (put h.dead c true) h.was_dead h.was_dead h.tied id k here (after_stamp c n k.period) refl (set t.words (clock_word s) n)
-            (λ j low. word_again t.words (clock_word s) (omega arith) j) (λ slot low. ap (card_by slot) (same_again plan s tree t id k here h size (clock_word s) (omega arith) slot))
+        tied = tie_of_period s tree t h.ages.now.machine.stages h.lie h.dead (put h.dead c true) h.was_dead h.was_dead h.tied id k here (after_stamp c n k.period) refl (set t.words (clock_word s) n)
+            (λ j low. word_again t.words (clock_word s) (omega arith) j)
             less (λ q a at an. inl (at, an, λ d lives. lives)) (λ seat q a u other at placed an d lives. lives) t.homes;
       }
     where
@@ -151,7 +155,7 @@ module _ (plan : TablePlan) (s : Slots) (tree : TableState) (t : WholeState) (id
 
       known : KnowsDeadCard k c → (i : ℕ) → i < 3 → OutNow (4 * c + i)
       known knows i low = elim (knows.each i low) [
-        | inl noted ↦ subst (λ d. OutNow (4 * d + i)) knows.lies (h.ages.read id k knows.read here knows.has i noted)
+        | inl noted ↦ subst (λ d. OutNow (4 * d + i)) knows.lies (h.ages.read id k knows.read here knows.has knows.used i noted)
         | inr node ↦ dead_by (4 * c + i) node
       ]
 
@@ -173,42 +177,37 @@ module _ (plan : TablePlan) (s : Slots) (tree : TableState) (t : WholeState) (id
         | inr n ↦ put_other h.dead c true d n ∙ is
       ]
 
-  -- a slot's word becomes another one, by which what it notes is dead
-  turns_now : (slot n : ℕ) → slot ≤ s.last → turn_in n ≡ turn_in (get_or t.words (slot_word s slot) 0) → PeriodsAreSound s (turned_to t id k k.period (slot_word s slot) n) h.dead h.began h.was_dead
-      → ((i : ℕ) → is_noted n i ≡ true → OutNow (4 * card_by slot n + i))
+  -- a slot's word becomes another one, by which the same cards lie in slots, and what it notes is dead
+  turns_now : (slot n : ℕ) → slot ≤ s.last → LieInSlots s (set t.words (slot_word s slot) n) h.lie
+      → PeriodsAreSound s (turned_to t id k k.period (slot_word s slot) n) h.lie h.dead h.began h.was_dead
+      → ((i : ℕ) → is_noted n i ≡ true → OutNow (4 * h.lie slot + i))
       → HasPeriods plan s tree (turned_to t id k k.period (slot_word s slot) n)
-  turns_now slot n inside turn sound notes = record {
+  turns_now slot n inside lies sound notes = record {
+    lie = h.lie;
+    lies = lies;
     dead = h.dead;
     began = h.began;
     was_dead = h.was_dead;
     periods = sound;
-    ages = ages_of_period plan s tree t id k here k refl (set t.words (slot_word s slot) n) h.dead h.dead h.was_dead h.was_dead h.ages
+    ages = ages_of_period plan s tree t id k here k refl (set t.words (slot_word s slot) n) h.lie h.lie h.dead h.dead h.was_dead h.was_dead h.ages
         h.ages.now.each h.ages.still (λ q a at an. h.ages.since id q a k here at an) (λ j q a u other at placed an. refl)
         noted
         (λ r has. h.ages.read id k r here has)
         (λ c has. h.ages.lost id c k here has);
-    tied = tie_of_period s tree t h.ages.now.machine.stages h.dead h.dead h.was_dead h.was_dead h.tied id k here k.period refl (set t.words (slot_word s slot) n)
-        (behind plan s tree t id k here h (slot_word s slot) n (omega arith)) (λ other low. lie other (cases_eq other slot)) (λ c lives. lives)
+    tied = tie_of_period s tree t h.ages.now.machine.stages h.lie h.dead h.dead h.was_dead h.was_dead h.tied id k here k.period refl (set t.words (slot_word s slot) n)
+        (behind plan s tree t id k here h (slot_word s slot) n (omega arith)) (λ c lives. lives)
         (λ q a at an. inl (at, an, λ c lives. lives)) (λ seat q a u other at placed an c lives. lives) t.homes;
   }
     where
-      lie : (other : ℕ) → (other ≡ slot) ⊎ (other ≢ slot) → card_in s (set t.words (slot_word s slot) n) other ≡ card_in s t.words other
-      lie other (inl e) =
-          ap (card_in s (set t.words (slot_word s slot) n)) e
-          ∙ (ap (card_by slot) (get_or-set_same t.words (slot_word s slot) n 0 (omega arith)) ∙ (ap (λ x. 2097152 * x + slot) turn ∙ sym (ap (card_in s t.words) e)))
-      lie other (inr apart) = ap (card_by other) (get_or-set_other t.words (slot_word s slot) (slot_word s other) n 0 (λ e. apart (omega arith)))
-
-      at : (other i m : ℕ) → get_or (set t.words (slot_word s slot) n) (slot_word s other) 0 ≡ m → ((is_noted m i ≡ true) → OutNow (4 * card_by other m + i))
-          → is_noted (get_or (set t.words (slot_word s slot) n) (slot_word s other) 0) i ≡ true → OutNow (4 * card_in s (set t.words (slot_word s slot) n) other + i)
-      at other i m same dead is = subst (λ x. OutNow (4 * card_by other x + i)) (sym same) (dead (subst (λ x. is_noted x i ≡ true) same is))
-
-      noted : (other i : ℕ) → other ≤ s.last → is_noted (get_or (set t.words (slot_word s slot) n) (slot_word s other) 0) i ≡ true
-          → OutNow (4 * card_in s (set t.words (slot_word s slot) n) other + i)
+      noted : (other i : ℕ) → other ≤ s.last → is_noted (get_or (set t.words (slot_word s slot) n) (slot_word s other) 0) i ≡ true → OutNow (4 * h.lie other + i)
       noted other i low is = elim (cases_eq other slot) [
-        | inl e ↦ at other i n (ap (λ x. get_or (set t.words (slot_word s slot) n) (slot_word s x) 0) e ∙ get_or-set_same t.words (slot_word s slot) n 0 (omega arith))
-            (λ is. subst (λ x. OutNow (4 * card_by x n + i)) (sym e) (notes i is)) is
-        | inr apart ↦ at other i (get_or t.words (slot_word s other) 0) (get_or-set_other t.words (slot_word s slot) (slot_word s other) n 0 (λ e. apart (omega arith)))
-            (h.ages.noted other i low) is
+        | inl e ↦
+            let here : get_or (set t.words (slot_word s slot) n) (slot_word s other) 0 ≡ n =
+            ap (λ x. get_or (set t.words (slot_word s slot) n) (slot_word s x) 0) e ∙ get_or-set_same t.words (slot_word s slot) n 0 (omega arith) in
+            subst (λ x. OutNow (4 * h.lie x + i)) (sym e) (notes i (subst (λ m. is_noted m i ≡ true) here is))
+        | inr apart ↦
+            let stays = get_or-set_other t.words (slot_word s slot) (slot_word s other) n 0 (λ e. apart (omega arith)) in
+            h.ages.noted other i low (subst (λ m. is_noted m i ≡ true) stays is)
       ]
 
   -- more nodes of the card that lies in a slot are noted as dead
@@ -216,32 +215,42 @@ module _ (plan : TablePlan) (s : Slots) (tree : TableState) (t : WholeState) (id
       → ((i : ℕ) → is_noted m i ≡ true → (is_noted n i ≡ true) ⊎ KnowsDeadNode k.tree (4 * card_by slot n + i))
       → HasPeriods plan s tree (turned_to t id k k.period (slot_word s slot) m)
   notes_now slot n m inside is turn some_bit some_bit' knows =
-      turns_now slot m inside (turn ∙ ap turn_in (sym is))
-      (slot_noted s t id k here h.dead h.began h.was_dead h.periods size slot inside m (λ e. some_bit (ap (λ x. x % 8) (sym is) ∙ e)) some_bit')
-      (λ i noted. subst (λ x. OutNow (4 * (2097152 * x + slot) + i)) (sym turn) (elim (knows i noted) [
-        | inl was ↦ subst (λ x. is_noted x i ≡ true → OutNow (4 * card_by slot x + i)) is (h.ages.noted slot i inside) was
-        | inr dead ↦ dead_by (4 * card_by slot n + i) dead
-      ]))
+      turns_now slot m inside (lie_noted s h.lie t.words h.lies slot (omega arith) m used (turn ∙ ap turn_in (sym is)))
+      (slot_noted s t id k here h.lie h.dead h.began h.was_dead h.periods size slot inside m used some_bit')
+      (λ i noted. elim (knows i noted) [
+        | inl was ↦ h.ages.noted slot i inside (subst (λ x. is_noted x i ≡ true) (sym is) was)
+        | inr dead ↦ subst (λ c. OutNow (4 * c + i)) (sym lies_there) (dead_by (4 * card_by slot n + i) dead)
+      ])
+    where
+      used : get_or t.words (slot_word s slot) 0 % 8 ≢ 7
+      used e = some_bit (ap (λ x. x % 8) (sym is) ∙ e)
+
+      lies_there : h.lie slot ≡ card_by slot n
+      lies_there = h.lies slot inside used ∙ ap (card_by slot) is
 
   -- or the slot is set free, if all nodes of the card are dead
-  pub frees_now : (slot reading : ℕ) → slot ≤ s.last → slot < 2097152 → (n : ℕ) → get_or t.words (slot_word s slot) 0 ≡ n → n % 8 ≢ 7
+  pub frees_now : (slot reading : ℕ) → slot ≤ s.last → (n : ℕ) → get_or t.words (slot_word s slot) 0 ≡ n → n % 8 ≢ 7
       → k.period.stamp ≡ Some (record { card = card_by slot n; reading = reading })
-      → HasPeriods plan s tree (turned_to t id k k.period (slot_word s slot) (free_word (turn_in n) reading))
-  frees_now slot reading inside low n is some_bit has =
-      turns_now slot (free_word (turn_in n) reading) inside (freed_turn n reading ∙ ap turn_in (sym is))
-      (subst (λ m. PeriodsAreSound s (turned_to t id k k.period (slot_word s slot) (free_word (turn_in m) reading)) h.dead h.began h.was_dead) is
-      (slot_freed s t id k here h.dead h.began h.was_dead h.periods size slot inside reading low (λ e. some_bit (ap (λ x. x % 8) (sym is) ∙ e))
-      (has ∙ ap (λ m. Some (record { card = card_by slot m; reading = reading })) (sym is))))
-      (λ i noted. subst (λ c. OutNow (4 * c + i)) (sym (freed_card slot n reading)) (h.ages.now.each (card_by slot n) i (few (free_word (turn_in n) reading) i noted) dead))
+      → HasPeriods plan s tree (turned_to t id k k.period (slot_word s slot) (free_word reading))
+  frees_now slot reading inside n is some_bit has =
+      turns_now slot (free_word reading) inside (lie_freed s h.lie t.words h.lies slot (omega arith) reading)
+      (slot_freed s t id k here h.lie h.dead h.began h.was_dead h.periods size slot inside reading (h.tied.own slot inside) stamp)
+      (λ i noted. h.ages.now.each (h.lie slot) i (few (free_word reading) i noted) dead)
     where
+      lies_there : h.lie slot ≡ card_by slot n
+      lies_there = h.lies slot inside (λ e. some_bit (ap (λ x. x % 8) (sym is) ∙ e)) ∙ ap (card_by slot) is
+
+      stamp : k.period.stamp ≡ Some (record { card = h.lie slot; reading = reading })
+      stamp = has ∙ ap (λ c. Some (record { card = c; reading = reading })) (sym lies_there)
+
       few : (m i : ℕ) → is_noted m i ≡ true → i < 3
       few m zero is = omega arith
       few m (suc zero) is = omega arith
       few m (suc (suc zero)) is = omega arith
       few m (suc (suc (suc i))) is = absurd (false≢true is)
 
-      dead : h.dead (card_by slot n) ≡ true
-      dead = (h.periods.sound.pending id (card_by slot n) reading (ap (λ (p : Period). pending_by p.stamp) (period_was t.views id k here k) ∙ ap pending_by has)).gone
+      dead : h.dead (h.lie slot) ≡ true
+      dead = (h.periods.sound.pending id (h.lie slot) reading (ap (λ (p : Period). pending_by p.stamp) (period_was t.views id k here k) ∙ ap pending_by stamp)).gone
 
 -- these steps are steps of the table
 module _ (plan : TablePlan) (s : Slots) (placed : plan.slots ≡ Some s) (slot : ℕ) (inside : slot ≤ s.last) where
@@ -301,22 +310,22 @@ module _ (plan : TablePlan) (s : Slots) (placed : plan.slots ≡ Some s) (slot :
           (stays plan s tree t id k here h size (slot_word s slot) (omega arith))
 
   -- or it sets the slot free, if all nodes of its card are dead
-  pub frees_slot : (k : Known) (reading n : ℕ) → slot < 2097152 → n % 8 ≢ 7 → k.period.stamp ≡ Some (record { card = card_by slot n; reading = reading })
-      → MayGoOn plan k (slot_word s slot) (λ m. either (m == n) (free_word (turn_in n) reading) m) (λ m p. p ≡ k.period)
-  frees_slot k reading n low some_bit has =
-      goes_on_there plan s placed k (slot_word s slot) (λ m. either (m == n) (free_word (turn_in n) reading) m) (λ m p. p ≡ k.period) (λ t. k.period)
+  pub frees_slot : (k : Known) (reading n : ℕ) → n % 8 ≢ 7 → k.period.stamp ≡ Some (record { card = card_by slot n; reading = reading })
+      → MayGoOn plan k (slot_word s slot) (λ m. either (m == n) (free_word reading) m) (λ m p. p ≡ k.period)
+  frees_slot k reading n some_bit has =
+      goes_on_there plan s placed k (slot_word s slot) (λ m. either (m == n) (free_word reading) m) (λ m p. p ≡ k.period) (λ t. k.period)
       (λ tree t id here there h size. (by tree t id here there h size (cases_eq (get_or t.words (slot_word s slot) 0) n), refl))
     where
       by : (tree : TableState) (t : WholeState) (id : ℕ) → get_elem? t.views id ≡ some k → get_elem? tree.views id ≡ some k.tree → HasPeriods plan s tree t → length t.words ≡ slots_size s
           → (get_or t.words (slot_word s slot) 0 ≡ n) ⊎ (get_or t.words (slot_word s slot) 0 ≢ n)
-          → HasPeriods plan s tree (turned_to t id k k.period (slot_word s slot) (either (get_or t.words (slot_word s slot) 0 == n) (free_word (turn_in n) reading) (get_or t.words (slot_word s slot) 0)))
+          → HasPeriods plan s tree (turned_to t id k k.period (slot_word s slot) (either (get_or t.words (slot_word s slot) 0 == n) (free_word reading) (get_or t.words (slot_word s slot) 0)))
       by tree t id here there h size (inl is) =
           subst (λ m. HasPeriods plan s tree (turned_to t id k k.period (slot_word s slot) m))
-          (sym (ap (λ b. either b (free_word (turn_in n) reading) (get_or t.words (slot_word s slot) 0)) (eq-eqb (get_or t.words (slot_word s slot) 0) n is)))
-          (frees_now plan s tree t id k here there h size slot reading inside low n is some_bit has)
+          (sym (ap (λ b. either b (free_word reading) (get_or t.words (slot_word s slot) 0)) (eq-eqb (get_or t.words (slot_word s slot) 0) n is)))
+          (frees_now plan s tree t id k here there h size slot reading inside n is some_bit has)
       by tree t id here there h size (inr other) =
           subst (λ m. HasPeriods plan s tree (turned_to t id k k.period (slot_word s slot) m))
-          (sym (ap (λ b. either b (free_word (turn_in n) reading) (get_or t.words (slot_word s slot) 0)) (ne_eqb (get_or t.words (slot_word s slot) 0) n other)))
+          (sym (ap (λ b. either b (free_word reading) (get_or t.words (slot_word s slot) 0)) (ne_eqb (get_or t.words (slot_word s slot) 0) n other)))
           (stays plan s tree t id k here h size (slot_word s slot) (omega arith))
 
 -- a pass reads the clock for a card whose nodes it knows dead, or which it laid aside

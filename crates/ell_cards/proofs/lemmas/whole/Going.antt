@@ -16,14 +16,14 @@ use Rattle.ell_cards.specs.declared.view.Period.{Period}
 use Rattle.ell_cards.specs.declared.view.Slots.{Slots}
 use Rattle.ell_cards.specs.Ages.{IsOut, HasPeriods}
 use Rattle.ell_cards.specs.Models.{TablePlan}
-use Rattle.ell_cards.specs.Periods.{WholeState, clock_word, place_word, slot_word, slots_size, card_in, last_reading, after_clock, after_announce, after_retract, after_look_at, after_take, after_give, after_release, own, IsAtRest, PeriodsAreSound}
-use Rattle.ell_cards.specs.SlotWords.{card_by, is_noted}
+use Rattle.ell_cards.specs.Periods.{WholeState, clock_word, place_word, slot_word, slots_size, last_reading, after_clock, after_announce, after_retract, after_look_at, after_take, after_give, after_release, own, IsAtRest, PeriodsAreSound}
+use Rattle.ell_cards.specs.SlotWords.{is_noted}
 use Rattle.ell_cards.specs.States.{TableState}
 use Rattle.ell_cards.specs.Stepping.{MayGoOn}
 use Rattle.ell_cards.specs.Whole.{trees_of, WordsAre, PeriodsAre}
 use Rattle.ell_cards.proofs.lemmas.ties.Periods.{tie_of_period}
 use Rattle.ell_cards.proofs.lemmas.whole.Ages.{ages_of_period}
-use Rattle.ell_cards.proofs.lemmas.whole.Seats.{before_clock}
+use Rattle.ell_cards.proofs.lemmas.whole.Seats.{before_clock, lie_same}
 use Rattle.ell_cards.proofs.lemmas.whole.Steps.{word_again, periods_stay, periods_read, periods_ticked, periods_seen, periods_announced, periods_retracted, periods_taken, periods_given, periods_released}
 use Rattle.ell_cards.proofs.lemmas.whole.Trees.{tree_at}
 
@@ -39,10 +39,9 @@ module _ (plan : TablePlan) (s : Slots) (tree : TableState) (t : WholeState) (id
   -- what the words of slots note where they are as they were
   pub same_noted : (words : List ℕ) → ((slot : ℕ) → get_or words (slot_word s slot) 0 ≡ get_or t.words (slot_word s slot) 0)
       → (slot i : ℕ) → slot ≤ s.last → is_noted (get_or words (slot_word s slot) 0) i ≡ true
-      → IsOut plan tree h.ages.now.machine h.ages.now.uses (4 * card_in s words slot + i)
+      → IsOut plan tree h.ages.now.machine h.ages.now.uses (4 * h.lie slot + i)
   same_noted words same slot i low is =
-      subst (λ n. IsOut plan tree h.ages.now.machine h.ages.now.uses (4 * card_by slot n + i)) (sym (same slot))
-      (h.ages.noted slot i low (subst (λ n. is_noted n i ≡ true) (same slot) is))
+      h.ages.noted slot i low (subst (λ n. is_noted n i ≡ true) (same slot) is)
 
   -- the words of cards where one behind them becomes another one
   pub behind : (i n : ℕ) → clock_word s ≤ i → (j : ℕ) → j < table_size s.last → get_or (set t.words i n) j 0 ≡ get_or t.words j 0
@@ -52,21 +51,23 @@ module _ (plan : TablePlan) (s : Slots) (tree : TableState) (t : WholeState) (id
   pub going : (p : Period) (i n : ℕ) → AnnouncesNoMore k.period p → p.read ≡ k.period.read → p.lost ≡ k.period.lost → p.slot ≡ k.period.slot
       → ((j : ℕ) → j < table_size s.last → get_or (set t.words i n) j 0 ≡ get_or t.words j 0)
       → ((slot : ℕ) → get_or (set t.words i n) (slot_word s slot) 0 ≡ get_or t.words (slot_word s slot) 0)
-      → PeriodsAreSound s (turned_to t id k p i n) h.dead h.began h.was_dead → HasPeriods plan s tree (turned_to t id k p i n)
+      → PeriodsAreSound s (turned_to t id k p i n) h.lie h.dead h.began h.was_dead → HasPeriods plan s tree (turned_to t id k p i n)
   going p i n was read lost taken cards same sound = record {
+    lie = h.lie;
+    lies = lie_same s h.lie t.words (set t.words i n) (λ slot low. same slot) h.lies;
     dead = h.dead;
     began = h.began;
     was_dead = h.was_dead;
     periods = sound;
-    ages = ages_of_period plan s tree t id k here (record { tree = k.tree; period = p }) refl (set t.words i n) h.dead h.dead h.was_dead h.was_dead h.ages
+    ages = ages_of_period plan s tree t id k here (record { tree = k.tree; period = p }) refl (set t.words i n) h.lie h.lie h.dead h.dead h.was_dead h.was_dead h.ages
         h.ages.now.each h.ages.still
         (λ q a at an. let old = was q a at an in h.ages.since id q a k here old.0 old.1)
         (λ j q a u other there at an. refl)
         (same_noted (set t.words i n) same)
         (λ r has. h.ages.read id k r here (sym read ∙ has))
         (λ c has. h.ages.lost id c k here (sym lost ∙ has));
-    tied = tie_of_period s tree t h.ages.now.machine.stages h.dead h.dead h.was_dead h.was_dead h.tied id k here p taken (set t.words i n) cards
-        (λ slot low. ap (card_by slot) (same slot)) (λ c lives. lives) (λ q a at an. (let old = was q a at an in inl (old.0, old.1, λ c lives. lives)))
+    tied = tie_of_period s tree t h.ages.now.machine.stages h.lie h.dead h.dead h.was_dead h.was_dead h.tied id k here p taken (set t.words i n) cards
+        (λ c lives. lives) (λ q a at an. (let old = was q a at an in inl (old.0, old.1, λ c lives. lives)))
         (λ seat q a u other there at an c lives. lives) t.homes;
   }
 
@@ -78,27 +79,29 @@ module _ (plan : TablePlan) (s : Slots) (tree : TableState) (t : WholeState) (id
   pub stays : length t.words ≡ slots_size s → (i : ℕ) → i < slots_size s → HasPeriods plan s tree (turned_to t id k k.period i (get_or t.words i 0))
   stays size i inside =
       going k.period i (get_or t.words i 0) (λ q a at an. (at, an)) refl refl refl (λ j low. word_again t.words i (omega arith) j) (same_again size i inside)
-      (periods_stay s t id k here h.dead h.began h.was_dead h.periods size i inside)
+      (periods_stay s t id k here h.lie h.dead h.began h.was_dead h.periods size i inside)
 
   -- and after one begins
   pub begins_now : (q reading : ℕ) → k.period.place ≡ Some q → k.period.announced ≡ None → k.period.reading ≡ Some reading → length t.words ≡ slots_size s
       → HasPeriods plan s tree (turned_to t id k (after_announce reading (get_or t.words (clock_word s) 0) k.period) (place_word s q) (reading + 2))
   begins_now q reading placed quiet was size = record {
+    lie = h.lie;
+    lies = lie_same s h.lie t.words (set t.words (place_word s q) (reading + 2)) (λ slot low. get_or-set_other t.words (place_word s q) (slot_word s slot) (reading + 2) 0 (λ e. omega arith)) h.lies;
     dead = h.dead;
     began = put h.began q (get_or t.words (clock_word s) 0);
     was_dead = put h.was_dead q h.dead;
-    periods = periods_announced s t id k here h.dead h.began h.was_dead h.periods size q reading placed was;
+    periods = periods_announced s t id k here h.lie h.dead h.began h.was_dead h.periods size q reading placed was;
     ages = ages_of_period plan s tree t id k here (record { tree = k.tree; period = after_announce reading (get_or t.words (clock_word s) 0) k.period }) refl
-        (set t.words (place_word s q) (reading + 2)) h.dead h.dead h.was_dead (put h.was_dead q h.dead) h.ages h.ages.now.each still
+        (set t.words (place_word s q) (reading + 2)) h.lie h.lie h.dead h.dead h.was_dead (put h.was_dead q h.dead) h.ages h.ages.now.each still
         (λ r a at an. inl ((h.periods.each id k here).rests quiet))
         (λ j r a u other there at an. put_other h.was_dead q h.dead r
         (λ e. other (h.periods.apart j id q u k there here (own (at ∙ ap (λ x. Some x) e)) (own placed))))
         (same_noted (set t.words (place_word s q) (reading + 2)) (λ slot. get_or-set_other t.words (place_word s q) (slot_word s slot) (reading + 2) 0 (λ e. omega arith)))
         (λ r has. h.ages.read id k r here has)
         (λ c has. h.ages.lost id c k here has);
-    tied = tie_of_period s tree t h.ages.now.machine.stages h.dead h.dead h.was_dead (put h.was_dead q h.dead) h.tied id k here (after_announce reading (get_or t.words (clock_word s) 0) k.period) refl
+    tied = tie_of_period s tree t h.ages.now.machine.stages h.lie h.dead h.dead h.was_dead (put h.was_dead q h.dead) h.tied id k here (after_announce reading (get_or t.words (clock_word s) 0) k.period) refl
         (set t.words (place_word s q) (reading + 2)) (behind (place_word s q) (reading + 2) (omega arith))
-        (λ slot low. ap (card_by slot) (get_or-set_other t.words (place_word s q) (slot_word s slot) (reading + 2) 0 (λ e. omega arith))) (λ c lives. lives)
+        (λ c lives. lives)
         (λ r a at an. inr (λ c lives. sym (ap (λ f. f c) (ap (put h.was_dead q h.dead) (same_Some r q (sym at ∙ placed)) ∙ put_same h.was_dead q h.dead)) ∙ lives))
         (λ seat r a u other there at an c lives. sym (ap (λ f. f c) (put_other h.was_dead q h.dead r
         (λ e. other (h.periods.apart seat id q u k there here (own (at ∙ ap (λ x. Some x) e)) (own placed))))) ∙ lives)
@@ -155,7 +158,7 @@ module _ (plan : TablePlan) (s : Slots) (placed : plan.slots ≡ Some s) where
   pub read_clock_goes_on : (k : Known) → MayGoOn plan k (clock_word s) (λ n. n) (λ n p. (p ≡ after_clock n k.period) × (n ≤ last_reading))
   read_clock_goes_on k =
       goes_on k (clock_word s) (λ n. n) (λ n p. (p ≡ after_clock n k.period) × (n ≤ last_reading)) (λ t. after_clock (get_or t.words (clock_word s) 0) k.period)
-      (λ tree t id here h size. (going plan s tree t id k here h (after_clock (get_or t.words (clock_word s) 0) k.period) (clock_word s) (get_or t.words (clock_word s) 0) (λ q a at an. (at, an)) refl refl refl (behind plan s tree t id k here h (clock_word s) (get_or t.words (clock_word s) 0) (omega arith)) (λ slot. get_or-set_other t.words (clock_word s) (slot_word s slot) (get_or t.words (clock_word s) 0) 0 (λ e. omega arith)) (periods_read s t id k here h.dead h.began h.was_dead h.periods size), (refl, h.periods.low)))
+      (λ tree t id here h size. (going plan s tree t id k here h (after_clock (get_or t.words (clock_word s) 0) k.period) (clock_word s) (get_or t.words (clock_word s) 0) (λ q a at an. (at, an)) refl refl refl (behind plan s tree t id k here h (clock_word s) (get_or t.words (clock_word s) 0) (omega arith)) (λ slot. get_or-set_other t.words (clock_word s) (slot_word s slot) (get_or t.words (clock_word s) 0) 0 (λ e. omega arith)) (periods_read s t id k here h.lie h.dead h.began h.was_dead h.periods size), (refl, h.periods.low)))
 
   -- it announces a reading of the clock, if it announces nothing
   pub announces : (k : Known) (q reading : ℕ) → k.period.place ≡ Some q → k.period.announced ≡ None → k.period.reading ≡ Some reading
@@ -173,7 +176,7 @@ module _ (plan : TablePlan) (s : Slots) (placed : plan.slots ≡ Some s) where
       → MayGoOn plan k (place_word s q) (λ n. 1) (λ n p. p ≡ after_retract k.period)
   retracts k q has rest =
       goes_on k (place_word s q) (λ n. 1) (λ n p. p ≡ after_retract k.period) (λ t. after_retract k.period)
-      (λ tree t id here h size. (going plan s tree t id k here h (after_retract k.period) (place_word s q) 1 (λ r a at an. absurd (some_not_none an refl)) refl refl refl (behind plan s tree t id k here h (place_word s q) 1 (omega arith)) (λ slot. get_or-set_other t.words (place_word s q) (slot_word s slot) 1 0 (λ e. omega arith)) (periods_retracted s t id k here h.dead h.began h.was_dead h.periods size q has rest), refl))
+      (λ tree t id here h size. (going plan s tree t id k here h (after_retract k.period) (place_word s q) 1 (λ r a at an. absurd (some_not_none an refl)) refl refl refl (behind plan s tree t id k here h (place_word s q) 1 (omega arith)) (λ slot. get_or-set_other t.words (place_word s q) (slot_word s slot) 1 0 (λ e. omega arith)) (periods_retracted s t id k here h.lie h.dead h.began h.was_dead h.periods size q has rest), refl))
 
   -- it takes a place, if no pass has it
   pub takes : (k : Known) (q : ℕ) → q < s.places → MayGoOn plan k (place_word s q) (λ n. either (n == 0) 1 n) (λ n p. p ≡ after_take q n k.period)
@@ -187,7 +190,7 @@ module _ (plan : TablePlan) (s : Slots) (placed : plan.slots ≡ Some s) where
       by : (tree : TableState) (t : WholeState) (id : ℕ) → get_elem? t.views id ≡ some k → HasPeriods plan s tree t → length t.words ≡ slots_size s → (n : ℕ) → get_or t.words (place_word s q) 0 ≡ n
           → HasPeriods plan s tree (turned_to t id k (after_take q n k.period) (place_word s q) (either (n == 0) 1 n))
       by tree t id here h size zero e = going plan s tree t id k here h (after_take q 0 k.period) (place_word s q) 1 (λ r a at an. (at, an)) refl refl refl (behind plan s tree t id k here h (place_word s q) 1 (omega arith)) (λ slot. get_or-set_other t.words (place_word s q) (slot_word s slot) 1 0 (λ e. omega arith))
-          (periods_taken s t id k here h.dead h.began h.was_dead h.periods size q below e)
+          (periods_taken s t id k here h.lie h.dead h.began h.was_dead h.periods size q below e)
       by tree t id here h size (suc n) e =
           subst (λ m. HasPeriods plan s tree (turned_to t id k k.period (place_word s q) m)) (e ∙ sym (taken n))
           (stays plan s tree t id k here h size (place_word s q) (omega arith))
@@ -213,14 +216,14 @@ module _ (plan : TablePlan) (s : Slots) (placed : plan.slots ≡ Some s) where
   pub gives_back : (k : Known) (q : ℕ) → k.period.other ≡ Some q → MayGoOn plan k (place_word s q) (λ n. 0) (λ n p. p ≡ after_give k.period)
   gives_back k q has =
       goes_on k (place_word s q) (λ n. 0) (λ n p. p ≡ after_give k.period) (λ t. after_give k.period)
-      (λ tree t id here h size. (going plan s tree t id k here h (after_give k.period) (place_word s q) 0 (λ r a at an. (at, an)) refl refl refl (behind plan s tree t id k here h (place_word s q) 0 (omega arith)) (λ slot. get_or-set_other t.words (place_word s q) (slot_word s slot) 0 0 (λ e. omega arith)) (periods_given s t id k here h.dead h.began h.was_dead h.periods size q has), refl))
+      (λ tree t id here h size. (going plan s tree t id k here h (after_give k.period) (place_word s q) 0 (λ r a at an. (at, an)) refl refl refl (behind plan s tree t id k here h (place_word s q) 0 (omega arith)) (λ slot. get_or-set_other t.words (place_word s q) (slot_word s slot) 0 0 (λ e. omega arith)) (periods_given s t id k here h.lie h.dead h.began h.was_dead h.periods size q has), refl))
 
   -- it is given up, and so is its place, if it announces nothing
   pub releases : (k : Known) (q : ℕ) → k.period.place ≡ Some q → k.period.announced ≡ None
       → MayGoOn plan k (place_word s q) (λ n. 0) (λ n p. p ≡ after_release k.period)
   releases k q has quiet =
       goes_on k (place_word s q) (λ n. 0) (λ n p. p ≡ after_release k.period) (λ t. after_release k.period)
-      (λ tree t id here h size. (going plan s tree t id k here h (after_release k.period) (place_word s q) 0 (λ r a at an. absurd (some_not_none at refl)) refl refl refl (behind plan s tree t id k here h (place_word s q) 0 (omega arith)) (λ slot. get_or-set_other t.words (place_word s q) (slot_word s slot) 0 0 (λ e. omega arith)) (periods_released s t id k here h.dead h.began h.was_dead h.periods size q has quiet), refl))
+      (λ tree t id here h size. (going plan s tree t id k here h (after_release k.period) (place_word s q) 0 (λ r a at an. absurd (some_not_none at refl)) refl refl refl (behind plan s tree t id k here h (place_word s q) 0 (omega arith)) (λ slot. get_or-set_other t.words (place_word s q) (slot_word s slot) 0 0 (λ e. omega arith)) (periods_released s t id k here h.lie h.dead h.began h.was_dead h.periods size q has quiet), refl))
 
   -- it lets the clock go on, if that is as it was read
   pub tick_goes_on : (k : Known) (reading : ℕ) → reading < last_reading
@@ -239,7 +242,7 @@ module _ (plan : TablePlan) (s : Slots) (placed : plan.slots ≡ Some s) where
           subst (on tree t id)
           (ap (λ n. n + 1) is ∙ sym (ap (λ n. either (n == reading) (reading + 1) n) is ∙ ap (λ b. either b (reading + 1) reading) (eq-eqb reading reading refl)))
           (going plan s tree t id k here h k.period (clock_word s) (get_or t.words (clock_word s) 0 + 1) (λ q a at an. (at, an)) refl refl refl (behind plan s tree t id k here h (clock_word s) (get_or t.words (clock_word s) 0 + 1) (omega arith)) (λ slot. get_or-set_other t.words (clock_word s) (slot_word s slot) (get_or t.words (clock_word s) 0 + 1) 0 (λ e. omega arith))
-          (periods_ticked s t id k here h.dead h.began h.was_dead h.periods size (omega arith)))
+          (periods_ticked s t id k here h.lie h.dead h.began h.was_dead h.periods size (omega arith)))
       by tree t id here h size (inr other) =
           subst (on tree t id)
           (sym (ap (λ b. either b (reading + 1) (get_or t.words (clock_word s) 0)) (ne_eqb (get_or t.words (clock_word s) 0) reading other)))
@@ -252,6 +255,6 @@ module _ (plan : TablePlan) (s : Slots) (placed : plan.slots ≡ Some s) where
       goes_on k (place_word s q) (λ n. n) (λ n p. (o : Slots) → plan.slots ≡ Some o → p ≡ after_look_at o.places n k.period) (λ t. after_look_at s.places (get_or t.words (place_word s q) 0) k.period)
       (λ tree t id here h size. (
         going plan s tree t id k here h (after_look_at s.places (get_or t.words (place_word s q) 0) k.period) (place_word s q) (get_or t.words (place_word s q) 0)
-            (λ r a at an. (at, an)) refl refl refl (behind plan s tree t id k here h (place_word s q) (get_or t.words (place_word s q) 0) (omega arith)) (λ slot. get_or-set_other t.words (place_word s q) (slot_word s slot) (get_or t.words (place_word s q) 0) 0 (λ e. omega arith)) (periods_seen s t id k here h.dead h.began h.was_dead h.periods size q next below),
+            (λ r a at an. (at, an)) refl refl refl (behind plan s tree t id k here h (place_word s q) (get_or t.words (place_word s q) 0) (omega arith)) (λ slot. get_or-set_other t.words (place_word s q) (slot_word s slot) (get_or t.words (place_word s q) 0) 0 (λ e. omega arith)) (periods_seen s t id k here h.lie h.dead h.began h.was_dead h.periods size q next below),
         λ o is. ap (λ (x : Slots). after_look_at x.places (get_or t.words (place_word s q) 0) k.period) (same_Some s o (sym placed ∙ is)),
       ))

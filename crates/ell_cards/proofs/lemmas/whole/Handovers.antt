@@ -43,8 +43,8 @@ part_more part (x ∷ xs) k same zero = refl
 part_more part (x ∷ xs) k same (suc i) = part_more part xs k same i
 
 -- a split
-module _ (sl : Slots) (t : WholeState) (id : ℕ) (k : Known) (here : get_elem? t.views id ≡ some k) (dead : ℕ → Bool) (began : ℕ → ℕ) (was_dead : ℕ → ℕ → Bool)
-    (h : PeriodsAreSound sl t dead began was_dead) (left right : View)
+module _ (sl : Slots) (t : WholeState) (id : ℕ) (k : Known) (here : get_elem? t.views id ≡ some k) (lie : ℕ → ℕ) (dead : ℕ → Bool) (began : ℕ → ℕ) (was_dead : ℕ → ℕ → Bool)
+    (h : PeriodsAreSound sl t lie dead began was_dead) (left right : View)
     (left_rests : IsAtRest left) (right_rests : IsAtRest right) (quiet : (q : ℕ) → k.period.other ≡ Some q → k.period.other_says ≡ None) where
   abbrev left_known : Known
   left_known = record { tree = left; period = after_give k.period }
@@ -135,9 +135,9 @@ module _ (sl : Slots) (t : WholeState) (id : ℕ) (k : Known) (here : get_elem? 
       → part (period_in parted.views i) ≡ part (period_in t.views i)
   part_parted part same new i = part_more part (set t.views id left_known) right_known new i ∙ part_same t.views id k here left_known part same i
 
-  pub split_periods : PeriodsAreSound sl parted dead began was_dead
+  pub split_periods : PeriodsAreSound sl parted lie dead began was_dead
   split_periods = record {
-    sound = grace_same sl.places (grace_of sl t dead began was_dead) (grace_of sl parted dead began was_dead)
+    sound = grace_same sl.places (grace_of sl t lie dead began was_dead) (grace_of sl parted lie dead began was_dead)
         refl (λ c. refl) (λ q. refl) (λ q. refl) (λ q c. refl)
         (part_parted (λ p. pending_by p.stamp) refl refl)
         (part_parted (λ p. p.least) refl refl)
@@ -154,9 +154,9 @@ module _ (sl : Slots) (t : WholeState) (id : ℕ) (k : Known) (here : get_elem? 
 module _ (plan : TablePlan) (s : Slots) (tree tree' : TableState) (t : WholeState) (id : ℕ) (k : Known) (here : get_elem? t.views id ≡ some k) (keys : List ℕ) (turn : TableTurns plan tree (SplitsInto id keys) tree')
     (left right : Known) (left_rests : IsAtRest left.tree) (right_rests : IsAtRest right.tree) (left_read : left.period.read ≡ k.period.read) (right_read : right.period.read ≡ None)
     (left_lost : left.period.lost ≡ k.period.lost) (right_lost : right.period.lost ≡ None)
-    (dead : ℕ → Bool) (was_dead : ℕ → ℕ → Bool) where
-  pub ages_after_split : (h : AgesAreSound plan s tree t dead was_dead)
-      → AgesOn plan s tree t dead was_dead h (SplitsInto id keys) tree' (record { words = t.words; homes = t.homes; views = set t.views id left ++ right ∷ [] })
+    (lie : ℕ → ℕ) (dead : ℕ → Bool) (was_dead : ℕ → ℕ → Bool) where
+  pub ages_after_split : (h : AgesAreSound plan s tree t lie dead was_dead)
+      → AgesOn plan s tree t lie dead was_dead h (SplitsInto id keys) tree' (record { words = t.words; homes = t.homes; views = set t.views id left ++ right ∷ [] })
   ages_after_split h = record {
     ages = record {
       now = dead_on plan tree dead h.now (SplitsInto id keys) tree' on;
@@ -169,18 +169,18 @@ module _ (plan : TablePlan) (s : Slots) (tree tree' : TableState) (t : WholeStat
             (at_set t.views id seat left u was)
         | inr new ↦ inl (subst (λ (x : Known). IsAtRest x.tree) new.1 right_rests)
       ];
-      noted = noted_on plan s tree tree' t dead was_dead h (SplitsInto id keys) on t.words (λ slot low. refl);
+      noted = noted_on plan s tree tree' t lie dead was_dead h (SplitsInto id keys) on t.words (λ slot low. refl);
       read = λ seat u r at has. elim (at_end (set t.views id left) right u seat at) [
         | inl was ↦ ⊎_elim
-            (λ (e : (seat ≡ id) × (left ≡ u)). read_on plan s tree tree' t dead was_dead h (SplitsInto id keys) on id k r here (sym left_read ∙ (ap (λ (x : Known). x.period.read) e.1 ∙ has)))
-            (λ (e : (seat ≢ id) × (get_elem? t.views seat ≡ some u)). read_on plan s tree tree' t dead was_dead h (SplitsInto id keys) on seat u r e.1 has)
+            (λ (e : (seat ≡ id) × (left ≡ u)). read_on plan s tree tree' t lie dead was_dead h (SplitsInto id keys) on id k r here (sym left_read ∙ (ap (λ (x : Known). x.period.read) e.1 ∙ has)))
+            (λ (e : (seat ≢ id) × (get_elem? t.views seat ≡ some u)). read_on plan s tree tree' t lie dead was_dead h (SplitsInto id keys) on seat u r e.1 has)
             (at_set t.views id seat left u was)
         | inr new ↦ λ i is. absurd (some_not_none (ap (λ (x : Known). x.period.read) new.1 ∙ has) right_read)
       ];
       lost = λ seat c u at has. elim (at_end (set t.views id left) right u seat at) [
         | inl was ↦ ⊎_elim
-            (λ (e : (seat ≡ id) × (left ≡ u)). lost_on plan s tree tree' t dead was_dead h (SplitsInto id keys) on id c k here (sym left_lost ∙ (ap (λ (x : Known). x.period.lost) e.1 ∙ has)))
-            (λ (e : (seat ≢ id) × (get_elem? t.views seat ≡ some u)). lost_on plan s tree tree' t dead was_dead h (SplitsInto id keys) on seat c u e.1 has)
+            (λ (e : (seat ≡ id) × (left ≡ u)). lost_on plan s tree tree' t lie dead was_dead h (SplitsInto id keys) on id c k here (sym left_lost ∙ (ap (λ (x : Known). x.period.lost) e.1 ∙ has)))
+            (λ (e : (seat ≢ id) × (get_elem? t.views seat ≡ some u)). lost_on plan s tree tree' t lie dead was_dead h (SplitsInto id keys) on seat c u e.1 has)
             (at_set t.views id seat left u was)
         | inr new ↦ absurd (some_not_none (ap (λ (x : Known). x.period.lost) new.1 ∙ has) right_lost)
       ];
@@ -215,7 +215,7 @@ reset places w i h = record {
 
 -- a join
 module _ (sl : Slots) (t : WholeState) (id other : ℕ) (k l : Known) (here : get_elem? t.views id ≡ some k) (there : get_elem? t.views other ≡ some l) (aside : other ≢ id)
-    (dead : ℕ → Bool) (began : ℕ → ℕ) (was_dead : ℕ → ℕ → Bool) (h : PeriodsAreSound sl t dead began was_dead) where
+    (lie : ℕ → ℕ) (dead : ℕ → Bool) (began : ℕ → ℕ) (was_dead : ℕ → ℕ → Bool) (h : PeriodsAreSound sl t lie dead began was_dead) where
   abbrev both : Known
   both = joined_known k l
 
@@ -301,22 +301,22 @@ module _ (sl : Slots) (t : WholeState) (id other : ℕ) (k l : Known) (here : ge
       part_put (set t.views id both) other l still_there spent_known part i
       ∙ ap (λ (f : ℕ → A). put f other (part no_period) i) (λ p j. part_same t.views id k here both part same j p)
 
-  pub join_periods : PeriodsAreSound sl joined dead began was_dead
+  pub join_periods : PeriodsAreSound sl joined lie dead began was_dead
   join_periods = record {
     sound = grace_same sl.places
-        (record (grace_of sl t dead began was_dead) {
+        (record (grace_of sl t lie dead began was_dead) {
           pending = put (λ i. pending_by (period_in t.views i).stamp) other None;
           least = put (λ i. (period_in t.views i).least) other 0;
           seen = put (λ i q. nat_lt q (period_in t.views i).looked) other (λ q. false);
           safe = put (λ i. (period_in t.views i).safe) other 0;
         })
-        (grace_of sl joined dead began was_dead)
+        (grace_of sl joined lie dead began was_dead)
         refl (λ c. refl) (λ q. refl) (λ q. refl) (λ q c. refl)
         (part_joined (λ p. pending_by p.stamp) refl)
         (part_joined (λ p. p.least) refl)
         (λ i q. ap (λ (f : ℕ → Bool). f q) (part_joined (λ p r. nat_lt r p.looked) refl i ∙ ap (λ (f : ℕ → Bool). put (λ j r. nat_lt r (period_in t.views j).looked) other f i) (λ p r. none_looked r p)))
         (part_joined (λ p. p.safe) refl)
-        (λ c. refl) (reset sl.places (grace_of sl t dead began was_dead) other h.sound);
+        (λ c. refl) (reset sl.places (grace_of sl t lie dead began was_dead) other h.sound);
     low = h.low;
     each = λ j u at. each_joined j u (before j u at);
     since = λ j q a u at. since_before j q a u (before j u at);
@@ -330,9 +330,9 @@ module _ (sl : Slots) (t : WholeState) (id other : ℕ) (k l : Known) (here : ge
 module _ (plan : TablePlan) (s : Slots) (tree tree' : TableState) (t : WholeState) (id other : ℕ) (k : Known) (here : get_elem? t.views id ≡ some k) (turn : TableTurns plan tree (JoinsWith id other) tree')
     (both spent : Known) (both_rests : IsAtRest both.tree) (spent_rests : IsAtRest spent.tree) (both_read : both.period.read ≡ k.period.read) (spent_read : spent.period.read ≡ None)
     (both_lost : both.period.lost ≡ k.period.lost) (spent_lost : spent.period.lost ≡ None)
-    (dead : ℕ → Bool) (was_dead : ℕ → ℕ → Bool) where
-  pub ages_after_join : (h : AgesAreSound plan s tree t dead was_dead)
-      → AgesOn plan s tree t dead was_dead h (JoinsWith id other) tree' (record { words = t.words; homes = t.homes; views = set (set t.views id both) other spent })
+    (lie : ℕ → ℕ) (dead : ℕ → Bool) (was_dead : ℕ → ℕ → Bool) where
+  pub ages_after_join : (h : AgesAreSound plan s tree t lie dead was_dead)
+      → AgesOn plan s tree t lie dead was_dead h (JoinsWith id other) tree' (record { words = t.words; homes = t.homes; views = set (set t.views id both) other spent })
   ages_after_join h = record {
     ages = record {
       now = dead_on plan tree dead h.now (JoinsWith id other) tree' on;
@@ -345,19 +345,19 @@ module _ (plan : TablePlan) (s : Slots) (tree tree' : TableState) (t : WholeStat
           still_since plan tree seat (was_dead q) u.tree (JoinsWith id other) tree' turn (h.since seat q a u f.1 placed an))
           (at_set t.views id seat both u e.1))
           (at_set (set t.views id both) other seat spent u at);
-      noted = noted_on plan s tree tree' t dead was_dead h (JoinsWith id other) on t.words (λ slot low. refl);
+      noted = noted_on plan s tree tree' t lie dead was_dead h (JoinsWith id other) on t.words (λ slot low. refl);
       read = λ seat u r at has. ⊎_elim
           (λ (e : (seat ≡ other) × (spent ≡ u)). λ i is. absurd (some_not_none (ap (λ (x : Known). x.period.read) e.1 ∙ has) spent_read))
           (λ (e : (seat ≢ other) × (get_elem? (set t.views id both) seat ≡ some u)). ⊎_elim
-          (λ (f : (seat ≡ id) × (both ≡ u)). read_on plan s tree tree' t dead was_dead h (JoinsWith id other) on id k r here (sym both_read ∙ (ap (λ (x : Known). x.period.read) f.1 ∙ has)))
-          (λ (f : (seat ≢ id) × (get_elem? t.views seat ≡ some u)). read_on plan s tree tree' t dead was_dead h (JoinsWith id other) on seat u r f.1 has)
+          (λ (f : (seat ≡ id) × (both ≡ u)). read_on plan s tree tree' t lie dead was_dead h (JoinsWith id other) on id k r here (sym both_read ∙ (ap (λ (x : Known). x.period.read) f.1 ∙ has)))
+          (λ (f : (seat ≢ id) × (get_elem? t.views seat ≡ some u)). read_on plan s tree tree' t lie dead was_dead h (JoinsWith id other) on seat u r f.1 has)
           (at_set t.views id seat both u e.1))
           (at_set (set t.views id both) other seat spent u at);
       lost = λ seat c u at has. ⊎_elim
           (λ (e : (seat ≡ other) × (spent ≡ u)). absurd (some_not_none (ap (λ (x : Known). x.period.lost) e.1 ∙ has) spent_lost))
           (λ (e : (seat ≢ other) × (get_elem? (set t.views id both) seat ≡ some u)). ⊎_elim
-          (λ (f : (seat ≡ id) × (both ≡ u)). lost_on plan s tree tree' t dead was_dead h (JoinsWith id other) on id c k here (sym both_lost ∙ (ap (λ (x : Known). x.period.lost) f.1 ∙ has)))
-          (λ (f : (seat ≢ id) × (get_elem? t.views seat ≡ some u)). lost_on plan s tree tree' t dead was_dead h (JoinsWith id other) on seat c u f.1 has)
+          (λ (f : (seat ≡ id) × (both ≡ u)). lost_on plan s tree tree' t lie dead was_dead h (JoinsWith id other) on id c k here (sym both_lost ∙ (ap (λ (x : Known). x.period.lost) f.1 ∙ has)))
+          (λ (f : (seat ≢ id) × (get_elem? t.views seat ≡ some u)). lost_on plan s tree tree' t lie dead was_dead h (JoinsWith id other) on seat c u f.1 has)
           (at_set t.views id seat both u e.1))
           (at_set (set t.views id both) other seat spent u at);
     };

@@ -33,11 +33,11 @@ pub aside_onward : (plan : TablePlan) (s : TableState) (r : HasMachine plan s) (
 aside_onward plan s r uses seat v there c may on d flags lost = lost_is_aside plan s r seat v there c may d flags lost on.next on.later (on.wins d)
 
 -- so it was by the ages after that call
-pub aside_in_ages : (plan : TablePlan) (s : Slots) (tree : TableState) (t : WholeState) (dead : ℕ → Bool) (was_dead : ℕ → ℕ → Bool)
-    (h : AgesAreSound plan s tree t dead was_dead) (id : ℕ) (v : View) → get_elem? tree.views id ≡ some v → (c : Call) → May plan c v
-    → (t' : WholeState) (on : AgesOn plan s tree t dead was_dead h (Makes id c) (state_after tree id v c) t')
+pub aside_in_ages : (plan : TablePlan) (s : Slots) (tree : TableState) (t : WholeState) (lie : ℕ → ℕ) (dead : ℕ → Bool) (was_dead : ℕ → ℕ → Bool)
+    (h : AgesAreSound plan s tree t lie dead was_dead) (id : ℕ) (v : View) → get_elem? tree.views id ≡ some v → (c : Call) → May plan c v
+    → (t' : WholeState) (on : AgesOn plan s tree t lie dead was_dead h (Makes id c) (state_after tree id v c) t')
     → (d : ℕ) → FlagsCard c d → is_won (atomic_of c) (found_by tree c) ≡ false → IsAside on.ages.now.machine.stages (state_after tree id v c).views d
-aside_in_ages plan s tree t dead was_dead h id v there c may t' on d flags lost =
+aside_in_ages plan s tree t lie dead was_dead h id v there c may t' on d flags lost =
     lost_is_aside plan tree h.now.machine id v there c may d flags lost on.ages.now.machine on.later (on.wins d)
 
 module _ (plan : TablePlan) (s : Slots) (tree : TableState) (t : WholeState) (id : ℕ) (k : Known) (here : get_elem? t.views id ≡ some k)
@@ -65,12 +65,12 @@ module _ (plan : TablePlan) (s : Slots) (tree : TableState) (t : WholeState) (id
     rests = was.rests;
   }
 
-  pub lost_periods : PeriodsAreSound s after h.dead h.began h.was_dead
+  pub lost_periods : PeriodsAreSound s after h.lie h.dead h.began h.was_dead
   lost_periods =
-      periods_after s t id k here h.dead h.began h.was_dead h.periods t.words noting refl (λ j u other at q has. refl) (λ q has. inl (same_place q has))
-      h.dead h.began h.was_dead
+      periods_after s t id k here h.lie h.dead h.began h.was_dead h.periods t.words noting refl (λ j u other at q has. refl) (λ q has. inl (same_place q has))
+      h.lie h.dead h.began h.was_dead
       (λ r a at an. h.periods.since id r a k here at an) (λ j r a u other there at an. h.periods.since j r a u there at an)
-      (grace_same s.places (grace_of s t h.dead h.began h.was_dead) (grace_of s after h.dead h.began h.was_dead)
+      (grace_same s.places (grace_of s t h.lie h.dead h.began h.was_dead) (grace_of s after h.lie h.dead h.began h.was_dead)
       refl (λ d. refl) (λ q. refl) (λ q. refl) (λ q d. refl)
       (part_same t.views id k here now (λ p. pending_by p.stamp) refl)
       (part_same t.views id k here now (λ p. p.least) refl)
@@ -79,8 +79,8 @@ module _ (plan : TablePlan) (s : Slots) (tree : TableState) (t : WholeState) (id
       (λ d. refl) h.periods.sound)
       holds
 
-  abbrev pub lost_ages : AgesAreSound plan s tree after h.dead h.was_dead
-  lost_ages = ages_of_period plan s tree t id k here now refl t.words h.dead h.dead h.was_dead h.was_dead h.ages
+  abbrev pub lost_ages : AgesAreSound plan s tree after h.lie h.dead h.was_dead
+  lost_ages = ages_of_period plan s tree t id k here now refl t.words h.lie h.lie h.dead h.dead h.was_dead h.was_dead h.ages
       h.ages.now.each h.ages.still (λ q a at an. h.ages.since id q a k here at an) (λ j q a u other at placed an. refl)
       h.ages.noted (λ r has. h.ages.read id k r here has)
       (λ d has. subst (IsAside h.ages.now.machine.stages tree.views) (same_Some c d has) aside)
@@ -88,11 +88,13 @@ module _ (plan : TablePlan) (s : Slots) (tree : TableState) (t : WholeState) (id
   -- the pass notes the card that it has laid aside
   pub lost_now : HasPeriods plan s tree after
   lost_now = record {
+    lie = h.lie;
+    lies = h.lies;
     dead = h.dead;
     began = h.began;
     was_dead = h.was_dead;
     periods = lost_periods;
     ages = lost_ages;
-    tied = tie_of_period s tree t h.ages.now.machine.stages h.dead h.dead h.was_dead h.was_dead h.tied id k here noting refl t.words (λ i low. refl) (λ slot low. refl)
+    tied = tie_of_period s tree t h.ages.now.machine.stages h.lie h.dead h.dead h.was_dead h.was_dead h.tied id k here noting refl t.words (λ i low. refl)
         (λ d lives. lives) (λ q a at an. inl (at, an, λ d lives. lives)) (λ seat q a u other at placed an d lives. lives) t.homes;
   }

@@ -1,4 +1,4 @@
-use Rattle.std.proofs.Common.{◌≡◌, ◌≢◌, ℕ, zero, suc, ◌+◌, ◌*◌, ◌-◌, ◌≤◌, ◌==◌, ◌&&◌, nat_lt, nat_le, if◌then◌else◌, Bool, true, false, Option, Some, None, List, [], ◌∷◌, ◌++◌, length, replicate, get_or, inl, inr, ◌⊎◌, refl, sym, ap, ◌∙◌, subst, arith, length-set, get_or-set_same, get_or-set_other, eq-eqb, true≢false}
+use Rattle.std.proofs.Common.{◌≡◌, ◌≢◌, ℕ, ◌%◌, zero, suc, ◌+◌, ◌*◌, ◌-◌, ◌≤◌, ◌==◌, ◌&&◌, nat_lt, nat_le, if◌then◌else◌, Bool, true, false, Option, Some, None, List, [], ◌∷◌, ◌++◌, length, replicate, get_or, inl, inr, ◌⊎◌, refl, sym, ap, ◌∙◌, subst, arith, length-set, get_or-set_same, get_or-set_other, eq-eqb, true≢false}
 use Rattle.std.proofs.lemmas.Bool.{cases_eq, cases_lt, false≢true}
 use Rattle.std.proofs.lemmas.List.{length-append, length-replicate, get_or_past, get_or-replicate, get_or_append_left, get_or-append_right}
 use Rattle.std.proofs.lemmas.Option.{same_Some}
@@ -84,11 +84,11 @@ module _ (s : Slots) (cards : List ℕ) (size : length cards ≡ table_size s.la
   ]
 
   -- no slot is free
-  unfreed : (c : ℕ) → stamp_at s all c ≡ None
+  unfreed : (c : ℕ) → stamp_at s (λ slot. slot) all c ≡ None
   unfreed c =
-      ap (λ n. if nat_le (slot_of c) s.last && card_by (slot_of c) n == c then freed_by n else None)
+      ap (λ n. if nat_le (slot_of c) s.last && slot_of c == c then freed_by n else None)
       (behind_cards (slot_word s (slot_of c)) (omega arith) (λ e. omega arith))
-      ∙ neither (nat_le (slot_of c) s.last && card_by (slot_of c) 0 == c)
+      ∙ neither (nat_le (slot_of c) s.last && slot_of c == c)
     where
       neither : (b : Bool) → (if b then freed_by 0 else None) ≡ None
       neither true = refl
@@ -116,9 +116,9 @@ module _ (s : Slots) (cards : List ℕ) (size : length cards ≡ table_size s.la
     nothing part x here there zero = here
     nothing part x here there (suc i) = there
 
-    pub first_periods : PeriodsAreSound s (opening all [] first) (λ x. false) (λ q. 0) (λ q x. false)
+    pub first_periods : PeriodsAreSound s (opening all [] first) (λ slot. slot) (λ x. false) (λ q. 0) (λ q x. false)
     first_periods = record {
-      sound = grace_starts s.places (grace_of s (opening all [] first) (λ c. false) (λ q. 0) (λ q c. false)) (record {
+      sound = grace_starts s.places (grace_of s (opening all [] first) (λ slot. slot) (λ c. false) (λ q. 0) (λ q c. false)) (record {
         word = λ q. unsaid (nat_lt q s.places) q;
         pending = nothing (λ p. pending_by p.stamp) None refl refl;
         least = nothing (λ p. p.least) 0 refl refl;
@@ -148,7 +148,7 @@ none_noted (suc (suc (suc k))) is = false≢true is
 
 -- nothing is dead in it, and nobody is in a period
 pub first_ages : (plan : TablePlan) (s : Slots) (tree : TableState) → IsReached plan tree → (cards : List ℕ) (size : length cards ≡ table_size s.last) → IsAtRest (first_of plan) → 1 ≤ s.places
-    → AgesAreSound plan s tree (opening (opening_words s cards) [] (record { tree = first_of plan; period = period_by (Some s) })) (λ x. false) (λ q x. false)
+    → AgesAreSound plan s tree (opening (opening_words s cards) [] (record { tree = first_of plan; period = period_by (Some s) })) (λ slot. slot) (λ x. false) (λ q x. false)
 first_ages plan s tree reached cards size rest one =
     let has = tables_have_uses plan tree reached in record {
       now = record { machine = has.0; uses = has.1; each = λ c k low is. absurd (false≢true is) };
@@ -156,7 +156,7 @@ first_ages plan s tree reached cards size rest one =
       since = λ i q a k at. alone s cards size (first_of plan) rest one (λ j u. u.period.place ≡ Some q → u.period.announced ≡ Some a → IsAtRest u.tree ⊎ ForgotWhen plan tree j (λ x. false))
           (λ is an. inl rest) i k at;
       noted = λ slot k low is. absurd (none_noted k (subst (λ n. is_noted n k ≡ true) (slots_empty s cards size slot) is));
-      read = λ i k r at. alone s cards size (first_of plan) rest one (λ j u. u.period.read ≡ Some r → (b : ℕ) → is_noted r.word b ≡ true → IsOut plan tree has.0 has.1 (4 * card_by r.slot r.word + b))
+      read = λ i k r at. alone s cards size (first_of plan) rest one (λ j u. u.period.read ≡ Some r → r.word % 8 ≢ 7 → (b : ℕ) → is_noted r.word b ≡ true → IsOut plan tree has.0 has.1 (4 * card_by r.slot r.word + b))
           (λ is. absurd (some_not_none is refl)) i k at;
       lost = λ i c k at. alone s cards size (first_of plan) rest one (λ j u. u.period.lost ≡ Some c → IsAside has.0.stages tree.views c) (λ is. absurd (some_not_none is refl)) i k at;
     }

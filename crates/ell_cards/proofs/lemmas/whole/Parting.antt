@@ -67,11 +67,13 @@ whole_splits plan k keys quiet may id s h here =
         (record { words = s.words; homes = s.homes; views = set s.views id (record { tree = left_view keys k.tree; period = after_give k.period }) ++ record { tree = right_view keys k.tree; period = given_period k.period } ∷ [] })
     by tree there None fit periods = tt
     by tree there (Some sl) fit h =
-        let tie = splits_keep_ties plan sl tree s h.dead h.was_dead (let low = fit.4 in omega arith) (record { ages = h.ages; tied = h.tied }) id k here there keys may.free may.may in record {
+        let tie = splits_keep_ties plan sl tree s h.lie h.dead h.was_dead (let low = fit.4 in omega arith) (record { ages = h.ages; tied = h.tied }) id k here there keys may.free may.may in record {
+          lie = h.lie;
+          lies = h.lies;
           dead = h.dead;
           began = h.began;
           was_dead = h.was_dead;
-          periods = split_periods sl s id k here h.dead h.began h.was_dead h.periods (left_view keys k.tree) (right_view keys k.tree) left_rests right_rests quiet;
+          periods = split_periods sl s id k here h.lie h.dead h.began h.was_dead h.periods (left_view keys k.tree) (right_view keys k.tree) left_rests right_rests quiet;
           ages = tie.ages;
           tied = tie.tied;
         }
@@ -111,12 +113,14 @@ whole_joins plan k l free other_free id other s h here aside there =
         (record { words = s.words; homes = s.homes; views = set (set s.views id (joined_known k l)) other spent_known })
     by tree ours theirs None fit periods there = tt
     by tree ours theirs (Some sl) fit h there =
-        let tie = joins_keep_ties plan sl tree s h.dead h.was_dead (let low = fit.4 in omega arith) (record { ages = h.ages; tied = h.tied }) id other k l here there ours theirs
+        let tie = joins_keep_ties plan sl tree s h.lie h.dead h.was_dead (let low = fit.4 in omega arith) (record { ages = h.ages; tied = h.tied }) id other k l here there ours theirs
         (λ e. aside (sym e)) free other_free in record {
+          lie = h.lie;
+          lies = h.lies;
           dead = h.dead;
           began = h.began;
           was_dead = h.was_dead;
-          periods = join_periods sl s id other k l here there aside h.dead h.began h.was_dead h.periods;
+          periods = join_periods sl s id other k l here there aside h.lie h.dead h.began h.was_dead h.periods;
           ages = tie.ages;
           tied = tie.tied;
         }

@@ -1,4 +1,4 @@
-use Rattle.std.proofs.Common.{◌≡◌, ◌≢◌, ℕ, ◌<◌, ◌≤◌, ◌==◌, ◌&&◌, nat_le, if◌then◌else◌, Bool, true, false, Option, None, List, get_or, set, inl, inr, refl, sym, ap, ◌∙◌, arith}
+use Rattle.std.proofs.Common.{◌≡◌, ◌≢◌, ℕ, ◌%◌, ◌<◌, ◌≤◌, ◌==◌, ◌&&◌, nat_le, if◌then◌else◌, Bool, true, false, Option, None, List, get_or, set, inl, inr, refl, sym, ap, ◌∙◌, arith}
 use Rattle.std.proofs.lemmas.Bool.{cases_eq}
 use Rattle.std.proofs.lemmas.Bool.Decides.{nat_tests}
 use mathlib.Core.Option.{some}
@@ -10,7 +10,7 @@ use Rattle.ell_layout.proofs.lemmas.Writes.{put_same, put_other}
 use Rattle.ell_cards.specs.declared.view.Known.{Known}
 use Rattle.ell_cards.specs.declared.view.Period.{Period}
 use Rattle.ell_cards.specs.declared.view.Slots.{Slots}
-use Rattle.ell_cards.specs.Periods.{clock_word, place_word, slot_word, stamp_at, period_of, period_in, PeriodHolds, HasPlace, own, spare, IsAtRest, place_says}
+use Rattle.ell_cards.specs.Periods.{clock_word, place_word, slot_word, stamp_at, period_of, period_in, LieInSlots, PeriodHolds, HasPlace, own, spare, IsAtRest, place_says}
 use Rattle.ell_cards.specs.SlotWords.{slot_of, card_by, freed_by}
 use Rattle.ell_cards.proofs.lemmas.seats.Seats.{set_there}
 
@@ -29,20 +29,27 @@ before_slots s q slot = omega arith
 pub clock_before_slots : (s : Slots) (slot : ℕ) → clock_word s < slot_word s slot
 clock_before_slots s slot = omega arith
 
--- the stamp of a card, by whether its slot is one of the table, and by the word of that
-abbrev pub stamp_by : ℕ → Bool → ℕ → Option ℕ
-stamp_by c b n = if b && card_by (slot_of c) n == c then freed_by n else None
+-- the stamp of a card, by whether its slot is one of the table, by which card lies there, and by the word of that
+abbrev pub stamp_by : (ℕ → ℕ) → ℕ → Bool → ℕ → Option ℕ
+stamp_by lie c b n = if b && lie (slot_of c) == c then freed_by n else None
 
 -- where the words of the slots are the same, so are the stamps
-pub stamps_same : (s : Slots) (words words' : List ℕ)
+pub stamps_same : (s : Slots) (lie : ℕ → ℕ) (words words' : List ℕ)
     → ((slot : ℕ) → slot ≤ s.last → get_or words' (slot_word s slot) 0 ≡ get_or words (slot_word s slot) 0)
-    → (c : ℕ) → stamp_at s words' c ≡ stamp_at s words c
-stamps_same s words words' same c = by (nat_le (slot_of c) s.last) refl
+    → (c : ℕ) → stamp_at s lie words' c ≡ stamp_at s lie words c
+stamps_same s lie words words' same c = by (nat_le (slot_of c) s.last) refl
   where
     by : (b : Bool) → nat_le (slot_of c) s.last ≡ b
-        → stamp_by c b (get_or words' (slot_word s (slot_of c)) 0) ≡ stamp_by c b (get_or words (slot_word s (slot_of c)) 0)
-    by true is = ap (stamp_by c true) (same (slot_of c) (grind (arith, nat_tests)))
+        → stamp_by lie c b (get_or words' (slot_word s (slot_of c)) 0) ≡ stamp_by lie c b (get_or words (slot_word s (slot_of c)) 0)
+    by true is = ap (stamp_by lie c true) (same (slot_of c) (grind (arith, nat_tests)))
     by false is = refl
+
+-- and the same cards lie there
+pub lie_same : (s : Slots) (lie : ℕ → ℕ) (words words' : List ℕ)
+    → ((slot : ℕ) → slot ≤ s.last → get_or words' (slot_word s slot) 0 ≡ get_or words (slot_word s slot) 0)
+    → LieInSlots s words lie → LieInSlots s words' lie
+lie_same s lie words words' same lies slot inside taken =
+    let is = same slot inside in lies slot inside (λ full. taken (ap (λ n. n % 8) is ∙ full)) ∙ ap (card_by slot) (sym is)
 
 -- what the passes know of periods, where one knows something else
 module _ (views : List Known) (id : ℕ) (k : Known) (here : get_elem? views id ≡ some k) (after : Known) where

@@ -58,8 +58,8 @@ IsNobodys t q = (j : ℕ) (u : Known) → get_elem? t.views j ≡ some u → Has
 
 -- The periods of a table where a pass knows something else of them and the words became other ones, if the places of other
 -- passes say the same and so does the clock, and each place of the pass was its own or nobody's.
-module _ (s : Slots) (t : WholeState) (id : ℕ) (k : Known) (here : get_elem? t.views id ≡ some k) (dead : ℕ → Bool) (began : ℕ → ℕ) (was_dead : ℕ → ℕ → Bool)
-    (h : PeriodsAreSound s t dead began was_dead) (words : List ℕ) (p : Period) where
+module _ (s : Slots) (t : WholeState) (id : ℕ) (k : Known) (here : get_elem? t.views id ≡ some k) (lie : ℕ → ℕ) (dead : ℕ → Bool) (began : ℕ → ℕ) (was_dead : ℕ → ℕ → Bool)
+    (h : PeriodsAreSound s t lie dead began was_dead) (words : List ℕ) (p : Period) where
   abbrev now : Known
   now = record { tree = k.tree; period = p }
 
@@ -85,12 +85,12 @@ module _ (s : Slots) (t : WholeState) (id : ℕ) (k : Known) (here : get_elem? t
     apart_in i j q x y (inr a) (inr b) has has' = h.apart i j q x y a.1 b.1 has has'
 
     -- the periods are sound again, if the grace periods are and what the pass knows is so
-    pub periods_after : (dead' : ℕ → Bool) (began' : ℕ → ℕ) (was_dead' : ℕ → ℕ → Bool)
+    pub periods_after : (lie' : ℕ → ℕ) (dead' : ℕ → Bool) (began' : ℕ → ℕ) (was_dead' : ℕ → ℕ → Bool)
         → ((q a : ℕ) → p.place ≡ Some q → p.announced ≡ Some a → began' q ≡ p.began)
         → ((j q a : ℕ) (u : Known) → j ≢ id → get_elem? t.views j ≡ some u → u.period.place ≡ Some q → u.period.announced ≡ Some a → began' q ≡ u.period.began)
-        → GraceIsSound s.places (grace_of s after dead' began' was_dead')
-        → PeriodHolds s words now → PeriodsAreSound s after dead' began' was_dead'
-    periods_after dead' began' was_dead' since since' sound holds = record {
+        → GraceIsSound s.places (grace_of s after lie' dead' began' was_dead')
+        → PeriodHolds s words now → PeriodsAreSound s after lie' dead' began' was_dead'
+    periods_after lie' dead' began' was_dead' since since' sound holds = record {
       sound = sound;
       low = let was = h.low in omega arith;
       each = λ j u at. ⊎_elim
@@ -105,8 +105,8 @@ module _ (s : Slots) (t : WholeState) (id : ℕ) (k : Known) (here : get_elem? t
     }
 
 -- the periods of a table after a step of a pass on their words
-module _ (s : Slots) (t : WholeState) (id : ℕ) (k : Known) (here : get_elem? t.views id ≡ some k) (dead : ℕ → Bool) (began : ℕ → ℕ) (was_dead : ℕ → ℕ → Bool)
-    (h : PeriodsAreSound s t dead began was_dead) (size : length t.words ≡ slots_size s) where
+module _ (s : Slots) (t : WholeState) (id : ℕ) (k : Known) (here : get_elem? t.views id ≡ some k) (lie : ℕ → ℕ) (dead : ℕ → Bool) (began : ℕ → ℕ) (was_dead : ℕ → ℕ → Bool)
+    (h : PeriodsAreSound s t lie dead began was_dead) (size : length t.words ≡ slots_size s) where
   -- a word is stored again, so nothing changes
   module _ (i : ℕ) (inside : i < slots_size s) where
     abbrev again : List ℕ
@@ -118,18 +118,18 @@ module _ (s : Slots) (t : WholeState) (id : ℕ) (k : Known) (here : get_elem? t
     same_word : (q : ℕ) → word_at_place s again q ≡ word_at_place s t.words q
     same_word q = ap (λ x. if nat_lt q s.places then announced_by x else None) (same_at (place_word s q))
 
-    same_stamps : (c : ℕ) → stamp_at s again c ≡ stamp_at s t.words c
-    same_stamps = stamps_same s t.words again (λ slot low. same_at (slot_word s slot))
+    same_stamps : (c : ℕ) → stamp_at s lie again c ≡ stamp_at s lie t.words c
+    same_stamps = stamps_same s lie t.words again (λ slot low. same_at (slot_word s slot))
 
     same_holds : PeriodHolds s again k
     same_holds = holds_on s t.words again k (λ q has. same_at (place_word s q)) (let clock = same_at (clock_word s) in omega arith) (h.each id k here)
 
-    pub periods_stay : PeriodsAreSound s (record { words = again; homes = t.homes; views = set t.views id (record { tree = k.tree; period = k.period }) }) dead began was_dead
+    pub periods_stay : PeriodsAreSound s (record { words = again; homes = t.homes; views = set t.views id (record { tree = k.tree; period = k.period }) }) lie dead began was_dead
     periods_stay =
-        periods_after s t id k here dead began was_dead h again k.period (same_at (clock_word s)) (λ j u other at q has. same_at (place_word s q)) (λ q has. inl has) dead began was_dead
+        periods_after s t id k here lie dead began was_dead h again k.period (same_at (clock_word s)) (λ j u other at q has. same_at (place_word s q)) (λ q has. inl has) lie dead began was_dead
         (λ r a at an. h.since id r a k here at an) (λ j r a u other there at an. h.since j r a u there at an)
-        (grace_same s.places (grace_of s t dead began was_dead)
-        (grace_of s (record { words = again; homes = t.homes; views = set t.views id (record { tree = k.tree; period = k.period }) }) dead began was_dead)
+        (grace_same s.places (grace_of s t lie dead began was_dead)
+        (grace_of s (record { words = again; homes = t.homes; views = set t.views id (record { tree = k.tree; period = k.period }) }) lie dead began was_dead)
         (same_at (clock_word s)) (λ c. refl) same_word (λ q. refl) (λ q c. refl)
         (part_same t.views id k here k (λ p. pending_by p.stamp) refl)
         (part_same t.views id k here k (λ p. p.least) refl)
@@ -147,7 +147,7 @@ module _ (s : Slots) (t : WholeState) (id : ℕ) (k : Known) (here : get_elem? t
 
   -- the grace periods as they are, and after a scan has begun
   abbrev was : Grace
-  was = grace_of s t dead began was_dead
+  was = grace_of s t lie dead began was_dead
 
   abbrev scanned : Grace
   scanned = record was { least = put was.least id was.clock; seen = put was.seen id (λ q. false) }
@@ -166,13 +166,13 @@ module _ (s : Slots) (t : WholeState) (id : ℕ) (k : Known) (here : get_elem? t
     rests = now.rests;
   }
 
-  pub periods_read : PeriodsAreSound s (record { words = set t.words (clock_word s) (get_or t.words (clock_word s) 0); homes = t.homes; views = set t.views id reads }) dead began was_dead
+  pub periods_read : PeriodsAreSound s (record { words = set t.words (clock_word s) (get_or t.words (clock_word s) 0); homes = t.homes; views = set t.views id reads }) lie dead began was_dead
   periods_read =
-      periods_after s t id k here dead began was_dead h (again (clock_word s) (omega arith)) reads.period (same_at (clock_word s) (omega arith) (clock_word s))
-      (λ j u other at q has. same_at (clock_word s) (omega arith) (place_word s q)) gains dead began was_dead
+      periods_after s t id k here lie dead began was_dead h (again (clock_word s) (omega arith)) reads.period (same_at (clock_word s) (omega arith) (clock_word s))
+      (λ j u other at q has. same_at (clock_word s) (omega arith) (place_word s q)) gains lie dead began was_dead
       (λ r a at an. h.since id r a k here at an) (λ j r a u other there at an. h.since j r a u there at an)
       (grace_same s.places scanned
-      (grace_of s (record { words = again (clock_word s) (omega arith); homes = t.homes; views = set t.views id reads }) dead began was_dead)
+      (grace_of s (record { words = again (clock_word s) (omega arith); homes = t.homes; views = set t.views id reads }) lie dead began was_dead)
       (same_at (clock_word s) (omega arith) (clock_word s)) (λ c. refl) (same_word (clock_word s) (omega arith)) (λ q. refl) (λ q c. refl)
       (part_same t.views id k here reads (λ p. pending_by p.stamp) refl)
       (part_put t.views id k here reads (λ p. p.least))
@@ -200,16 +200,16 @@ module _ (s : Slots) (t : WholeState) (id : ℕ) (k : Known) (here : get_elem? t
     later_place : (q : ℕ) → get_or later (place_word s q) 0 ≡ get_or t.words (place_word s q) 0
     later_place q = get_or-set_other t.words (clock_word s) (place_word s q) (reading_now + 1) 0 (λ e. omega arith)
 
-    later_stamps : (c : ℕ) → stamp_at s later c ≡ stamp_at s t.words c
-    later_stamps = stamps_same s t.words later (λ slot inside. (let behind = clock_before_slots s slot in
+    later_stamps : (c : ℕ) → stamp_at s lie later c ≡ stamp_at s lie t.words c
+    later_stamps = stamps_same s lie t.words later (λ slot inside. (let behind = clock_before_slots s slot in
         get_or-set_other t.words (clock_word s) (slot_word s slot) (reading_now + 1) 0 (λ e. omega arith)))
 
     abbrev gone_on : Grace
     gone_on = record was { clock = was.clock + 1 }
 
-    periods_later : PeriodsAreSound s (record { words = later; homes = t.homes; views = t.views }) dead began was_dead
+    periods_later : PeriodsAreSound s (record { words = later; homes = t.homes; views = t.views }) lie dead began was_dead
     periods_later = record {
-      sound = grace_same s.places gone_on (grace_of s (record { words = later; homes = t.homes; views = t.views }) dead began was_dead)
+      sound = grace_same s.places gone_on (grace_of s (record { words = later; homes = t.homes; views = t.views }) lie dead began was_dead)
           later_clock (λ c. refl) (λ q. ap (λ x. if nat_lt q s.places then announced_by x else None) (later_place q))
           (λ q. refl) (λ q c. refl) (λ j. refl) (λ j. refl) (λ j q. refl) (λ j. refl) later_stamps
           (grace_goes_on s.places was gone_on h.sound (ticks refl));
@@ -219,8 +219,8 @@ module _ (s : Slots) (t : WholeState) (id : ℕ) (k : Known) (here : get_elem? t
       apart = h.apart;
     }
 
-    pub periods_ticked : PeriodsAreSound s (record { words = set t.words (clock_word s) (reading_now + 1); homes = t.homes; views = set t.views id (record { tree = k.tree; period = k.period }) }) dead began was_dead
-    periods_ticked = subst (λ l. PeriodsAreSound s (record { words = later; homes = t.homes; views = l }) dead began was_dead) (sym (set_again t.views id k here)) periods_later
+    pub periods_ticked : PeriodsAreSound s (record { words = set t.words (clock_word s) (reading_now + 1); homes = t.homes; views = set t.views id (record { tree = k.tree; period = k.period }) }) lie dead began was_dead
+    periods_ticked = subst (λ l. PeriodsAreSound s (record { words = later; homes = t.homes; views = l }) lie dead began was_dead) (sym (set_again t.views id k here)) periods_later
 
   -- the pass looks at the word of the next place
   module _ (q : ℕ) (next : q ≡ k.period.looked) (below : q < s.places) where
@@ -280,9 +280,9 @@ module _ (s : Slots) (t : WholeState) (id : ℕ) (k : Known) (here : get_elem? t
         ap {A = ℕ → Bool} (λ g. g r) (put_same was.seen id (put (was.seen id) q true)) ∙ (sym (seen_more r) ∙ there)
 
     -- then the least number is the safe one, and before that the safe number is as it was
-    seen_sound : (b : Bool) → nat_lt (k.period.looked + 1) s.places ≡ b → GraceIsSound s.places (grace_of s after_it dead began was_dead)
+    seen_sound : (b : Bool) → nat_lt (k.period.looked + 1) s.places ≡ b → GraceIsSound s.places (grace_of s after_it lie dead began was_dead)
     seen_sound true is =
-        grace_same s.places looked_now (grace_of s after_it dead began was_dead)
+        grace_same s.places looked_now (grace_of s after_it lie dead began was_dead)
         (kept_at (clock_word s)) (λ c. refl) (same_word (place_word s q) (omega arith)) (λ r. refl) (λ r c. refl) pending_after
         least_after seen_after
         (part_same t.views id k here sees (λ p. p.safe)
@@ -290,7 +290,7 @@ module _ (s : Slots) (t : WholeState) (id : ℕ) (k : Known) (here : get_elem? t
         (same_stamps (place_word s q) (omega arith)) looked_sound
     seen_sound false is =
         let all : s.places ≤ k.period.looked + 1 = grind (arith, nat_tests) in
-        grace_same s.places settled_now (grace_of s after_it dead began was_dead)
+        grace_same s.places settled_now (grace_of s after_it lie dead began was_dead)
         (kept_at (clock_word s)) (λ c. refl) (same_word (place_word s q) (omega arith)) (λ r. refl) (λ r c. refl) pending_after
         least_after seen_after
         (λ i. part_put t.views id k here sees (λ p. p.safe) i ∙ ap (λ n. put was.safe id n i) (safe_now is))
@@ -311,9 +311,9 @@ module _ (s : Slots) (t : WholeState) (id : ℕ) (k : Known) (here : get_elem? t
       rests = now.rests;
     }
 
-    pub periods_seen : PeriodsAreSound s (record { words = set t.words (place_word s q) (get_or t.words (place_word s q) 0); homes = t.homes; views = set t.views id sees }) dead began was_dead
+    pub periods_seen : PeriodsAreSound s (record { words = set t.words (place_word s q) (get_or t.words (place_word s q) 0); homes = t.homes; views = set t.views id sees }) lie dead began was_dead
     periods_seen =
-        periods_after s t id k here dead began was_dead h kept sees.period (kept_at (clock_word s)) (λ j u other at r has. kept_at (place_word s r)) gains dead began was_dead
+        periods_after s t id k here lie dead began was_dead h kept sees.period (kept_at (clock_word s)) (λ j u other at r has. kept_at (place_word s r)) gains lie dead began was_dead
         (λ r a at an. h.since id r a k here at an) (λ j r a u other there at an. h.since j r a u there at an)
         (seen_sound (nat_lt (k.period.looked + 1) s.places) refl)
         sees_holds
@@ -347,8 +347,8 @@ module _ (s : Slots) (t : WholeState) (id : ℕ) (k : Known) (here : get_elem? t
             let there : nat_lt q s.places ≡ true = grind (arith, nat_tests) in
             ap (λ b. if b then announced_by (get_or turned (place_word s q) 0) else None) there ∙ (ap announced_by turned_here ∙ says)
 
-    turned_stamps : (c : ℕ) → stamp_at s turned c ≡ stamp_at s t.words c
-    turned_stamps = stamps_same s t.words turned (λ slot inside. (let behind = before_slots s q slot in
+    turned_stamps : (c : ℕ) → stamp_at s lie turned c ≡ stamp_at s lie t.words c
+    turned_stamps = stamps_same s lie t.words turned (λ slot inside. (let behind = before_slots s q slot in
         get_or-set_other t.words (place_word s q) (slot_word s slot) v 0 (λ e. omega arith)))
 
     -- who has another place finds its word as it was
@@ -383,9 +383,9 @@ module _ (s : Slots) (t : WholeState) (id : ℕ) (k : Known) (here : get_elem? t
       ended_now = record was { word = put was.word q None }
 
       begun : (reading : ℕ) → announced_by v ≡ Some reading → reading ≤ get_or t.words (clock_word s) 0
-          → GraceIsSound s.places (grace_of s turns dead (put began q (get_or t.words (clock_word s) 0)) (put was_dead q dead))
+          → GraceIsSound s.places (grace_of s turns lie dead (put began q (get_or t.words (clock_word s) 0)) (put was_dead q dead))
       begun reading says low =
-          grace_same s.places (begun_now reading) (grace_of s turns dead (put began q (get_or t.words (clock_word s) 0)) (put was_dead q dead))
+          grace_same s.places (begun_now reading) (grace_of s turns lie dead (put began q (get_or t.words (clock_word s) 0)) (put was_dead q dead))
           turned_clock (λ c. refl) (turned_word (Some reading) says) (λ r. refl) (λ r c. refl)
           (part_same t.views id k here knows (λ x. pending_by x.stamp) (ap pending_by stamp))
           (part_same t.views id k here knows (λ x. x.least) least)
@@ -393,9 +393,9 @@ module _ (s : Slots) (t : WholeState) (id : ℕ) (k : Known) (here : get_elem? t
           (part_same t.views id k here knows (λ x. x.safe) safe)
           turned_stamps (grace_goes_on s.places was (begun_now reading) h.sound (begins q reading below low refl))
 
-      ended : announced_by v ≡ None → GraceIsSound s.places (grace_of s turns dead began was_dead)
+      ended : announced_by v ≡ None → GraceIsSound s.places (grace_of s turns lie dead began was_dead)
       ended says =
-          grace_same s.places ended_now (grace_of s turns dead began was_dead)
+          grace_same s.places ended_now (grace_of s turns lie dead began was_dead)
           turned_clock (λ c. refl) (turned_word None says) (λ r. refl) (λ r c. refl)
           (part_same t.views id k here knows (λ x. pending_by x.stamp) (ap pending_by stamp))
           (part_same t.views id k here knows (λ x. x.least) least)
@@ -410,10 +410,10 @@ module _ (s : Slots) (t : WholeState) (id : ℕ) (k : Known) (here : get_elem? t
   -- a reading of the clock is announced at the place of the pass
   pub periods_announced : (q reading : ℕ) → k.period.place ≡ Some q → k.period.reading ≡ Some reading
       → PeriodsAreSound s (record { words = set t.words (place_word s q) (reading + 2); homes = t.homes; views = set t.views id (record { tree = k.tree; period = after_announce reading (get_or t.words (clock_word s) 0) k.period }) })
-      dead (put began q (get_or t.words (clock_word s) 0)) (put was_dead q dead)
+      lie dead (put began q (get_or t.words (clock_word s) 0)) (put was_dead q dead)
   periods_announced q reading placed was =
-      periods_after s t id k here dead began was_dead h (turned q (reading + 2) below) (after_announce reading (get_or t.words (clock_word s) 0) k.period) (turned_clock q (reading + 2) below) (others_have_none q (reading + 2) below (own placed)) gains
-      dead (put began q (get_or t.words (clock_word s) 0)) (put was_dead q dead)
+      periods_after s t id k here lie dead began was_dead h (turned q (reading + 2) below) (after_announce reading (get_or t.words (clock_word s) 0) k.period) (turned_clock q (reading + 2) below) (others_have_none q (reading + 2) below (own placed)) gains
+      lie dead (put began q (get_or t.words (clock_word s) 0)) (put was_dead q dead)
       (λ r a at an. (let e : r ≡ q = same_Some r q (sym at ∙ placed) in
       ap (put began q (get_or t.words (clock_word s) 0)) e ∙ put_same began q (get_or t.words (clock_word s) 0)))
       (λ j r a u other there at an. put_other began q (get_or t.words (clock_word s) 0) r
@@ -438,10 +438,10 @@ module _ (s : Slots) (t : WholeState) (id : ℕ) (k : Known) (here : get_elem? t
 
   -- the announcement of a pass at rest is taken away
   pub periods_retracted : (q : ℕ) → k.period.place ≡ Some q → IsAtRest k.tree
-      → PeriodsAreSound s (record { words = set t.words (place_word s q) 1; homes = t.homes; views = set t.views id (record { tree = k.tree; period = after_retract k.period }) }) dead began was_dead
+      → PeriodsAreSound s (record { words = set t.words (place_word s q) 1; homes = t.homes; views = set t.views id (record { tree = k.tree; period = after_retract k.period }) }) lie dead began was_dead
   periods_retracted q placed rest =
-      periods_after s t id k here dead began was_dead h (turned q 1 below) (after_retract k.period) (turned_clock q 1 below) (others_have_none q 1 below (own placed)) gains
-      dead began was_dead
+      periods_after s t id k here lie dead began was_dead h (turned q 1 below) (after_retract k.period) (turned_clock q 1 below) (others_have_none q 1 below (own placed)) gains
+      lie dead began was_dead
       (λ r a at an. absurd (some_not_none an refl)) (λ j r a u other there at an. h.since j r a u there at an)
       (ended q 1 below (after_retract k.period) refl refl refl refl refl)
       record {
@@ -463,11 +463,11 @@ module _ (s : Slots) (t : WholeState) (id : ℕ) (k : Known) (here : get_elem? t
 
   -- a place that no pass has is taken
   pub periods_taken : (q : ℕ) → q < s.places → get_or t.words (place_word s q) 0 ≡ 0
-      → PeriodsAreSound s (record { words = set t.words (place_word s q) 1; homes = t.homes; views = set t.views id (record { tree = k.tree; period = after_take q 0 k.period }) }) dead began was_dead
+      → PeriodsAreSound s (record { words = set t.words (place_word s q) 1; homes = t.homes; views = set t.views id (record { tree = k.tree; period = after_take q 0 k.period }) }) lie dead began was_dead
   periods_taken q below empty =
-      periods_after s t id k here dead began was_dead h (turned q 1 below) (after_take q 0 k.period) (turned_clock q 1 below)
+      periods_after s t id k here lie dead began was_dead h (turned q 1 below) (after_take q 0 k.period) (turned_clock q 1 below)
       (λ j u other at r has. place_else q 1 below j r u at has (λ e. nobody j u at (subst (HasPlace u.period) e has))) gains
-      dead began was_dead
+      lie dead began was_dead
       (λ r a at an. h.since id r a k here at an) (λ j r a u other there at an. h.since j r a u there at an)
       (ended q 1 below (after_take q 0 k.period) refl refl refl refl refl)
       record {
@@ -488,10 +488,10 @@ module _ (s : Slots) (t : WholeState) (id : ℕ) (k : Known) (here : get_elem? t
 
   -- the other place of the pass is given back
   pub periods_given : (q : ℕ) → k.period.other ≡ Some q
-      → PeriodsAreSound s (record { words = set t.words (place_word s q) 0; homes = t.homes; views = set t.views id (record { tree = k.tree; period = after_give k.period }) }) dead began was_dead
+      → PeriodsAreSound s (record { words = set t.words (place_word s q) 0; homes = t.homes; views = set t.views id (record { tree = k.tree; period = after_give k.period }) }) lie dead began was_dead
   periods_given q has =
-      periods_after s t id k here dead began was_dead h (turned q 0 below) (after_give k.period) (turned_clock q 0 below) (others_have_none q 0 below (spare has)) gains
-      dead began was_dead
+      periods_after s t id k here lie dead began was_dead h (turned q 0 below) (after_give k.period) (turned_clock q 0 below) (others_have_none q 0 below (spare has)) gains
+      lie dead began was_dead
       (λ r a at an. h.since id r a k here at an) (λ j r a u other there at an. h.since j r a u there at an)
       (ended q 0 below (after_give k.period) refl refl refl refl refl)
       record {
@@ -513,10 +513,10 @@ module _ (s : Slots) (t : WholeState) (id : ℕ) (k : Known) (here : get_elem? t
 
   -- the place of a pass that announces nothing is given back, as the pass is given up
   pub periods_released : (q : ℕ) → k.period.place ≡ Some q → k.period.announced ≡ None
-      → PeriodsAreSound s (record { words = set t.words (place_word s q) 0; homes = t.homes; views = set t.views id (record { tree = k.tree; period = after_release k.period }) }) dead began was_dead
+      → PeriodsAreSound s (record { words = set t.words (place_word s q) 0; homes = t.homes; views = set t.views id (record { tree = k.tree; period = after_release k.period }) }) lie dead began was_dead
   periods_released q placed quiet =
-      periods_after s t id k here dead began was_dead h (turned q 0 below) (after_release k.period) (turned_clock q 0 below) (others_have_none q 0 below (own placed)) gains
-      dead began was_dead
+      periods_after s t id k here lie dead began was_dead h (turned q 0 below) (after_release k.period) (turned_clock q 0 below) (others_have_none q 0 below (own placed)) gains
+      lie dead began was_dead
       (λ r a at an. absurd (some_not_none at refl)) (λ j r a u other there at an. h.since j r a u there at an)
       (ended q 0 below (after_release k.period) refl refl refl refl refl)
       record {

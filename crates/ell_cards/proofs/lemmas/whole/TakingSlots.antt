@@ -1,11 +1,12 @@
 -- A pass takes the slot of its card in hand: that card lies there already, or the slot was set free with a stamp below the pass's safe number.
-use Rattle.std.proofs.Common.{◌≡◌, ◌≢◌, ℕ, ◌+◌, ◌*◌, ◌%◌, ◌<◌, ◌≤◌, ◌==◌, if◌then◌else◌, Bool, true, false, Some, length, get_or, inl, inr, ◌⊎◌, refl, sym, ap, ◌∙◌, subst, arith, eq-eqb, ne_eqb}
+use Rattle.std.proofs.Common.{◌≡◌, ◌≢◌, ℕ, ◌+◌, ◌*◌, ◌%◌, ◌<◌, ◌≤◌, ◌==◌, if◌then◌else◌, Bool, true, false, Some, length, get_or, set, inl, inr, ◌⊎◌, refl, sym, ap, ◌∙◌, subst, arith, eq-eqb, ne_eqb}
 use Rattle.std.proofs.lemmas.Bool.{cases_eq}
 use Rattle.std.proofs.lemmas.Bool.Decides.{nat_tests}
 use Rattle.std.proofs.lemmas.Option.{same_Some}
 use mathlib.Core.Option.{some}
 use lib.ListN.{get_elem?}
 use prog.Atomic.{either}
+use Rattle.ell_layout.specs.Words.{put}
 use Rattle.ell_cards.specs.declared.view.Known.{Known}
 use Rattle.ell_cards.specs.declared.view.Period.{Period}
 use Rattle.ell_cards.specs.declared.view.Seek.{Seek}
@@ -14,7 +15,7 @@ use Rattle.ell_cards.specs.Ages.{HasPeriods}
 use Rattle.ell_cards.specs.Models.{TablePlan}
 use Rattle.ell_cards.specs.Periods.{WholeState, slot_word, slots_size, after_missing, after_own, after_read, after_taking}
 use Rattle.ell_cards.specs.Seeking.{could_take, missed_one}
-use Rattle.ell_cards.specs.SlotWords.{slot_of, turn_of, turn_in, stamp_in}
+use Rattle.ell_cards.specs.SlotWords.{slot_of, turn_of, turn_in, stamp_in, is_used_for}
 use Rattle.ell_cards.specs.States.{TableState}
 use Rattle.ell_cards.specs.Stepping.{MayGoOn}
 use Rattle.ell_cards.specs.Tied.{HoldsWaiting}
@@ -23,7 +24,9 @@ use Rattle.ell_cards.proofs.lemmas.ties.Owning.{own_slots_keep_ties}
 use Rattle.ell_cards.proofs.lemmas.ties.TakingSlots.{takes_keep_ties}
 use Rattle.ell_cards.proofs.lemmas.whole.Freeing.{reads_now}
 use Rattle.ell_cards.proofs.lemmas.whole.Going.{turned_to, goes_on_whole}
-use Rattle.ell_cards.proofs.lemmas.whole.Slots.{slot_owned, slot_taken, taken_is_dead, taken_was_dead_for}
+use Rattle.ell_cards.proofs.lemmas.whole.Seats.{lie_same}
+use Rattle.ell_cards.proofs.lemmas.whole.Slots.{slot_owned, slot_taken, taken_is_dead, taken_was_dead_for, lie_taken}
+use Rattle.ell_cards.proofs.lemmas.whole.Steps.{word_again}
 use Rattle.ell_cards.proofs.lemmas.whole.Trees.{tree_at}
 
 -- what the pass knows of periods, by whether the word was as it was
@@ -32,6 +35,13 @@ word_was b p taken old is same = is ∙ ap (λ x. if x then taken else old) same
 
 pub word_changed : (b : Bool) (p taken old : Period) → p ≡ (if b then taken else old) → b ≡ false → p ≡ old
 word_changed b p taken old is other = is ∙ ap (λ x. if x then taken else old) other
+
+-- by the word of a slot that is in use for a card the slot is in use, at the card's turn
+used_is_taken : (c n : ℕ) → is_used_for c n ≡ true → n % 8 ≢ 7
+used_is_taken c n is = grind (arith, nat_tests)
+
+used_has_turn : (c n : ℕ) → is_used_for c n ≡ true → turn_in n ≡ turn_of c
+used_has_turn c n is = grind (arith, nat_tests)
 
 -- the card of a slot at a turn
 card_of_turn : (c n : ℕ) → turn_in n ≡ turn_of c → 2097152 * turn_in n + slot_of c ≡ c
@@ -47,14 +57,16 @@ module _ (plan : TablePlan) (s : Slots) (tree : TableState) (t : WholeState) (id
   found = get_or t.words at 0
 
   -- that card lies there already
-  own_now : turn_in (get_or t.words (slot_word s (slot_of c)) 0) ≡ turn_of c
+  own_now : get_or t.words (slot_word s (slot_of c)) 0 % 8 ≢ 7 → turn_in (get_or t.words (slot_word s (slot_of c)) 0) ≡ turn_of c
       → HasPeriods plan s tree (turned_to t id k (after_taking c k.period) (slot_word s (slot_of c)) (get_or t.words (slot_word s (slot_of c)) 0))
-  own_now turn =
-      let tied = own_slots_keep_ties plan s tree t h.dead h.was_dead size (record { ages = h.ages; tied = h.tied }) same id k here c hand (inside, card_of_turn c found turn) in record {
+  own_now used turn =
+      let tied = own_slots_keep_ties plan s tree t h.lie h.dead h.was_dead size (record { ages = h.ages; tied = h.tied }) same id k here c hand (inside, h.lies (slot_of c) inside used ∙ card_of_turn c found turn) in record {
+        lie = h.lie;
+        lies = lie_same s h.lie t.words (set t.words at found) (λ slot low. word_again t.words at (omega arith) (slot_word s slot)) h.lies;
         dead = h.dead;
         began = h.began;
         was_dead = h.was_dead;
-        periods = slot_owned s t id k here h.dead h.began h.was_dead h.periods size (slot_of c) inside c;
+        periods = slot_owned s t id k here h.lie h.dead h.began h.was_dead h.periods size (slot_of c) inside c;
         ages = tied.ages;
         tied = tied.tied;
       }
@@ -65,11 +77,11 @@ module _ (plan : TablePlan) (s : Slots) (tree : TableState) (t : WholeState) (id
 
   -- so the pass reads the slot's word, and has taken the slot if that is so
   pub owns_now : HasPeriods plan s tree (turned_to t id k (after_own c (get_or t.words (slot_word s (slot_of c)) 0) k.period) (slot_word s (slot_of c)) (get_or t.words (slot_word s (slot_of c)) 0))
-  owns_now = by (turn_in found == turn_of c) refl
+  owns_now = by (is_used_for c found) refl
     where
-      by : (b : Bool) → (turn_in found == turn_of c) ≡ b
+      by : (b : Bool) → is_used_for c found ≡ b
           → HasPeriods plan s tree (turned_to t id k (if b then after_taking c k.period else if could_take c found k.period.safe then after_read (slot_of c) found k.period else after_missing c found k.period) (slot_word s (slot_of c)) found)
-      by true is = own_now (grind (arith, nat_tests))
+      by true is = own_now (used_is_taken c found is) (used_has_turn c found is)
       by false is = not_own (could_take c found k.period.safe)
         where
           not_own : (b : Bool) → HasPeriods plan s tree (turned_to t id k (if b then after_read (slot_of c) found k.period else after_missing c found k.period) (slot_word s (slot_of c)) found)
@@ -82,14 +94,16 @@ module _ (plan : TablePlan) (s : Slots) (tree : TableState) (t : WholeState) (id
   takes_now low n is free safe =
       let full : found % 8 ≡ 7 = ap (λ m. m % 8) is ∙ free in
       let past : stamp_in found < k.period.safe = subst (λ m. stamp_in m < k.period.safe) (sym is) safe in
-      let few : slot_of c < 2097152 = omega arith in
-      let tied = takes_keep_ties plan s tree t h.dead h.was_dead low size (record { ages = h.ages; tied = h.tied }) same id k here c hand inside
-      (taken_is_dead s t id k here h.dead h.began h.was_dead h.periods size (slot_of c) inside few full past)
-      (taken_was_dead_for s t id k here h.dead h.began h.was_dead h.periods size (slot_of c) inside few full past) in record {
+      let own = h.tied.own (slot_of c) inside in
+      let tied = takes_keep_ties plan s tree t h.lie h.dead h.was_dead low size (record { ages = h.ages; tied = h.tied }) same id k here c hand inside
+      (taken_is_dead s t id k here h.lie h.dead h.began h.was_dead h.periods size (slot_of c) inside own full past)
+      (taken_was_dead_for s t id k here h.lie h.dead h.began h.was_dead h.periods size (slot_of c) inside own full past) in record {
+        lie = put h.lie (slot_of c) c;
+        lies = lie_taken s h.lie t.words h.lies (slot_of c) (omega arith) c refl;
         dead = h.dead;
         began = h.began;
         was_dead = h.was_dead;
-        periods = slot_taken s t id k here h.dead h.began h.was_dead h.periods size (slot_of c) inside few full past (turn_of c) c;
+        periods = slot_taken s t id k here h.lie h.dead h.began h.was_dead h.periods size (slot_of c) inside own full past (turn_of c) c refl;
         ages = tied.ages;
         tied = tied.tied;
       }

@@ -56,12 +56,12 @@ module _ (s : WholeState) (id : ℕ) (k : Known) (here : get_elem? s.views id �
   slots_stay sl i n low slot inside =
       get_or-set_other s.words i (slot_word sl slot) n 0 (let before = before_clock sl i low in let behind = clock_before_slots sl slot in omega arith)
 
-  pub tree_periods : (sl : Slots) (i n : ℕ) (homes : List (Maybe (Unit {0}))) (dead : ℕ → Bool) (began : ℕ → ℕ) (was_dead : ℕ → ℕ → Bool)
-      → i < table_size sl.last → (k.period.announced ≡ None → IsAtRest v) → PeriodsAreSound sl s dead began was_dead
-      → PeriodsAreSound sl (record { words = set s.words i n; homes = homes; views = set s.views id now }) dead began was_dead
-  tree_periods sl i n homes dead began was_dead low rests h = record {
-    sound = grace_same sl.places (grace_of sl s dead began was_dead)
-        (grace_of sl (record { words = set s.words i n; homes = homes; views = set s.views id now }) dead began was_dead)
+  pub tree_periods : (sl : Slots) (i n : ℕ) (homes : List (Maybe (Unit {0}))) (lie : ℕ → ℕ) (dead : ℕ → Bool) (began : ℕ → ℕ) (was_dead : ℕ → ℕ → Bool)
+      → i < table_size sl.last → (k.period.announced ≡ None → IsAtRest v) → PeriodsAreSound sl s lie dead began was_dead
+      → PeriodsAreSound sl (record { words = set s.words i n; homes = homes; views = set s.views id now }) lie dead began was_dead
+  tree_periods sl i n homes lie dead began was_dead low rests h = record {
+    sound = grace_same sl.places (grace_of sl s lie dead began was_dead)
+        (grace_of sl (record { words = set s.words i n; homes = homes; views = set s.views id now }) lie dead began was_dead)
         (clock_stays sl i n low) (λ c. refl)
         (λ q. ap (λ x. if nat_lt q sl.places then announced_by x else None) (place_stays sl i n low q))
         (λ q. refl) (λ q c. refl)
@@ -69,7 +69,7 @@ module _ (s : WholeState) (id : ℕ) (k : Known) (here : get_elem? s.views id �
         (part_same s.views id k here now (λ p. p.least) refl)
         (λ j q. part_same s.views id k here now (λ p. nat_lt q p.looked) refl j)
         (part_same s.views id k here now (λ p. p.safe) refl)
-        (stamps_same sl s.words (set s.words i n) (slots_stay sl i n low)) h.sound;
+        (stamps_same sl lie s.words (set s.words i n) (slots_stay sl i n low)) h.sound;
     low = let same = clock_stays sl i n low in let was = h.low in omega arith;
     each = λ j u at. ⊎_elim
         (λ (t : (j ≡ id) × (now ≡ u)). subst (PeriodHolds sl (set s.words i n)) t.1 (on now (holds_of sl s.words k now refl rests (h.each id k here))))

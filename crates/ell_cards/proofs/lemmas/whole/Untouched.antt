@@ -18,16 +18,18 @@ use Rattle.ell_cards.specs.Calls.{May, word_of}
 use Rattle.ell_cards.specs.Laws.{machine_of_table}
 use Rattle.ell_cards.specs.Models.{TablePlan}
 use Rattle.ell_cards.specs.PeriodLaws.{IsSafelyFree, FreeSlotsAreUntouched}
-use Rattle.ell_cards.specs.Periods.{WholeState, IsAtRest, slots_size, card_in}
-use Rattle.ell_cards.specs.Starts.{SlotsFit}
+use Rattle.ell_cards.specs.Periods.{WholeState, IsAtRest, slots_size}
+use Rattle.ell_cards.specs.SlotWords.{slot_of}
 use Rattle.ell_cards.specs.States.{TableState}
+use Rattle.ell_cards.specs.Tied.{MayInMemory}
+use Rattle.ell_cards.specs.Ties.{card_touched}
 use Rattle.ell_cards.specs.Touching.{Touched, AtNode, OfCard, AtRoot, touched_by, IsWordOf, IsTheRoots}
 use Rattle.ell_cards.specs.Whole.{WordsAre, PeriodsAre}
 use Rattle.ell_cards.proofs.lemmas.runs.Touching.{calls_touch_their_words}
 use Rattle.ell_cards.proofs.lemmas.whole.Rests.{rest_touches_the_root}
 use Rattle.ell_cards.proofs.lemmas.whole.Slots.{taken_is_dead, taken_was_dead_for}
 use Rattle.ell_cards.proofs.lemmas.whole.Trees.{tree_at}
-use Rattle.ell_cards.proofs.lemmas.ties.Touched.{calls_touch_nothing_out}
+use Rattle.ell_cards.proofs.lemmas.ties.Touched.{IsReady, spots, no_claim, touched_lies, calls_touch_nothing_out}
 
 -- the root is not dead
 pub root_lives : (plan : TablePlan) (tree : TableState) (dead : ℕ → Bool) → AreDead plan tree dead → dead 0 ≡ true → ⊥
@@ -52,25 +54,39 @@ rest_word plan k rest c may d f is = by (touched_by c) (calls_touch_their_words 
     by AtRoot (inl zero) root = absurd (omega arith)
     by AtRoot (inr word) root = same_card d f 0 word.0 (sym is ∙ word.1)
 
-module _ (plan : TablePlan) (s : Slots) (tree : TableState) (t : WholeState) (h : HasPeriods plan s tree t) (size : length t.words ≡ slots_size s) (low : s.last < 2097152)
+module _ (plan : TablePlan) (s : Slots) (tree : TableState) (t : WholeState) (h : HasPeriods plan s tree t) (size : length t.words ≡ slots_size s)
     (slot : ℕ) (free : IsSafelyFree s t slot) where
+  own : slot_of (h.lie slot) ≡ slot
+  own = h.tied.own slot free.there
+
   -- the card that lies there is not the root's
-  not_root : card_in s t.words slot ≢ 0
-  not_root e = root_lives plan tree h.dead h.ages.now (ap h.dead (sym e) ∙ taken_is_dead s t free.pass free.knows free.sits h.dead h.began h.was_dead h.periods size slot free.there (omega arith) free.free free.safe)
+  not_root : h.lie slot ≢ 0
+  not_root e = root_lives plan tree h.dead h.ages.now (ap h.dead (sym e) ∙ taken_is_dead s t free.pass free.knows free.sits h.lie h.dead h.began h.was_dead h.periods size slot free.there own free.free free.safe)
 
-  -- whoever is in a period began that when the card was dead, and whoever is in none is at rest
+  -- whoever is in a period began that when the card was dead, and whoever is in none is at rest; and a call touches a card that
+  -- lies in its slot
   untouched : (seat : ℕ) (k : Known) → get_elem? t.views seat ≡ some k → get_elem? tree.views seat ≡ some k.tree → (c : Call) → May plan c k.tree
-      → (f : Field) → word_of c ≢ address (card_in s t.words slot) f
-  untouched seat k here there c may f is = by k.period.announced refl
+      → MayInMemory k.period.slot k.tree c → (d : ℕ) → slot_of d ≡ slot → (f : Field) → word_of c ≢ address d f
+  untouched seat k here there c may mem d at f is = by k.period.announced refl
     where
-      at_rest : IsAtRest k.tree → ⊥
-      at_rest rest = not_root (rest_word plan k rest c may (card_in s t.words slot) f is)
+      -- it is that card
+      touches : IsReady plan tree seat k h.was_dead → d ≡ h.lie slot
+      touches ready =
+          let lies = touched_lies plan s tree t h.ages.now.machine h.lie h.dead h.was_dead h.tied seat k here there ready c may mem in
+          elim (spots c) [
+            | inl none ↦ absurd (no_claim d f (sym is ∙ none.1))
+            | inr spot ↦
+                let e = same_card d f (card_touched (touched_by c)) spot.0 (sym is ∙ spot.1) in
+                e ∙ (sym lies.1 ∙ (ap (λ x. h.lie (slot_of x)) (sym e) ∙ ap h.lie at))
+          ]
 
-      begun : (q : ℕ) → ForgotWhen plan tree seat (h.was_dead q) → h.was_dead q (card_in s t.words slot) ≡ true → ⊥
-      begun q forgot was =
-          let d = card_in s t.words slot in
+      at_rest : IsAtRest k.tree → ⊥
+      at_rest rest = not_root (sym (touches (inl rest)) ∙ rest_word plan k rest c may d f is)
+
+      begun : (q a : ℕ) → k.period.place ≡ Some q → k.period.announced ≡ Some a → ForgotWhen plan tree seat (h.was_dead q) → h.was_dead q (h.lie slot) ≡ true → ⊥
+      begun q a placed says forgot was =
           calls_touch_nothing_out plan forgot.from forgot.reached seat forgot.call forgot.begun forgot.made forgot.anew forgot.were.machine forgot.were.uses forgot.turns tree forgot.run
-          k.tree there c may d f is (λ i few. forgot.were.each d i few was)
+          k.tree there c may d f is (λ i few. forgot.were.each d i few (ap (h.was_dead q) (touches (inr (q, a, placed, says, forgot))) ∙ was))
 
       by : (a : Option ℕ) → k.period.announced ≡ a → ⊥
       by None quiet = at_rest ((h.periods.each seat k here).rests quiet)
@@ -80,13 +96,11 @@ module _ (plan : TablePlan) (s : Slots) (tree : TableState) (t : WholeState) (h 
           by_place None none = some_not_none says ((h.periods.each seat k here).none none)
           by_place (Some q) placed =
               ⊎_elim at_rest
-              (λ forgot. begun q forgot (taken_was_dead_for s t free.pass free.knows free.sits h.dead h.began h.was_dead h.periods size slot free.there (omega arith) free.free free.safe seat q a k here placed says))
+              (λ forgot. begun q a placed says forgot (taken_was_dead_for s t free.pass free.knows free.sits h.lie h.dead h.began h.was_dead h.periods size slot free.there own free.free free.safe seat q a k here placed says))
               (h.ages.since seat q a k here placed says)
 
 pub free_slots_are_untouched : FreeSlotsAreUntouched
 free_slots_are_untouched plan s t placed h slot free seat k here c may =
-    let fit = subst (SlotsFit plan) placed h.reached.starts.may.slots in
-    let low : s.last < 2097152 = let last = fit.4 in omega arith in
     let has = subst (λ o. WordsAre o t.words h.tree.words) placed h.words in
-    untouched plan s h.tree t (subst (λ o. PeriodsAre plan o h.tree t) placed h.periods) has.0 low slot free seat k here
+    untouched plan s h.tree t (subst (λ o. PeriodsAre plan o h.tree t) placed h.periods) has.0 slot free seat k here
     (ap (λ l. get_elem? l seat) (sym h.views) ∙ tree_at t.views seat k here) c may

@@ -21,6 +21,7 @@ set_free-requires-clause-may g c =
     inl record {
       read = record { slot = slot; word = word };
       has = ap (λ (p : Period). p.read) c.read_slot-word.ensures.read;
+      used = λ full. c.if-noted-word.false (full_stays word c.bits.result c.bits.ensures.low full);
       lies = refl;
       each = λ i few. noted_dead c.read_slot-word.new.seat.me.0.tree c.args.card slot word c.bits.result c.args.nodes lies c.bits.ensures.each dead
           i (all_noted (bit_or word c.bits.result) i few c.if-noted-eq7.true);
