@@ -14,10 +14,20 @@ pub record IsLink (link : Link) : Type 0 where
   pub node : link.node < tag_unit
   pub tag : link.tag ≤ greatest_tag
 
--- the word of a link
-abbrev pub linked : Link → ℕ
-linked link = 8796093022208 * link.tag + link.node
+-- node numbers are below this one
+abbrev pub node_bound : ℕ
+node_bound = 9223372036854775808
 
--- the link that a word says
+-- the number of a link: its low 64 bits are a child word, with the low bits of the node and of the tag, and above these
+-- stand the other bits of both
+abbrev pub linked : Link → ℕ
+linked link =
+    link.node % 8796093022208 + 8796093022208 * (link.tag % 2097152)
+    + 18446744073709551616 * (link.node / 8796093022208 + 1048576 * (link.tag / 2097152))
+
+-- the link that a number says
 abbrev pub link_in : ℕ → Link
-link_in word = record { node = word % 8796093022208; tag = word / 8796093022208 }
+link_in word = record {
+  node = word % 8796093022208 + 8796093022208 * (word / 18446744073709551616 % 1048576);
+  tag = word / 8796093022208 % 2097152 + 2097152 * (word / 19342813113834066795298816);
+}
