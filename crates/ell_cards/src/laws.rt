@@ -354,7 +354,7 @@ pub fn calls_touch_nothing_gone()
     ensures known { DeadIsKnown }
     // Nor do they touch a word of a card that had been laid aside then.
     ensures aside { CallsTouchNoCardAside }
-    // The nodes that a pass names it has met, but for leaves of cards, and a marked card's leaf is a child of the card's parent.
+    // A pass has met each node that it names, but for leaves of cards, and a marked card's leaf is a child of the card's parent.
     ensures named { PassesNameMet }
 {}
 
