@@ -23,7 +23,7 @@ ghost use Rattle.ell_cards.specs.Placing.{LooksHavePlaces};
 ghost use Rattle.ell_cards.specs.LayingDown.{LaidDownCallsChangeNothing, LaidDownLastChangesNothing};
 ghost use Rattle.ell_cards.specs.Answering.{AnswersHaveTheirPoints};
 ghost use Rattle.ell_cards.specs.Taking.{DeletesTakeWhatTheyTell};
-ghost use Rattle.ell_cards.specs.Touching.{CallsTouchTheirWords, TablesHaveOuts, CallsTouchNothingGone, KnownTakenOutIsGone, RestTouchesTheRoot};
+ghost use Rattle.ell_cards.specs.Touching.{CallsTouchTheirWords, TablesHaveOuts, CallsTouchNothingGone, KnownTakenOutIsGone, RestTouchesTheRoot, PassesNameMet};
 ghost use Rattle.ell_cards.specs.Dead.{TablesHaveUses, TurnsKeepDead, CallsTouchNothingDead, CallsTouchNoDeadCard, KnownNeverComes, KnownDeadIsDead, OneCardTells};
 ghost use Rattle.ell_cards.specs.Sharing.{SharesAddUp};
 ghost use Rattle.ell_cards.specs.Tellings.{NoGreaterNext, NoGreaterUpdate, NoOtherOutcome, NoUntriedClaimLost};
@@ -354,6 +354,8 @@ pub fn calls_touch_nothing_gone()
     ensures known { DeadIsKnown }
     // Nor do they touch a word of a card that had been laid aside then.
     ensures aside { CallsTouchNoCardAside }
+    // A pass has met each node that it names, but for leaves of cards, and a marked card's leaf is a child of the card's parent.
+    ensures named { PassesNameMet }
 {}
 
 /// Where a table has places, and wherever the steps of its passes have led it: a pass that is in a period, which it announces at
