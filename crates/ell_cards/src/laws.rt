@@ -33,7 +33,7 @@ ghost use Rattle.ell_cards.specs.RunLaws.{TableWinsAreInOrder, StartsAreKept, Re
 ghost use Rattle.ell_cards.specs.PeriodLaws.{SafeNumbersAreSafe, FreeSlotsAreUntouched};
 ghost use Rattle.ell_cards.specs.Ties.{CallsKeepTies, SplitsKeepTies, JoinsKeepTies, PeriodsKeepTies, TakesKeepTies, OwnSlotsKeepTies, OpeningsAreTied, CardsInSlotsAreFew, ExchangesAreNear};
 ghost use Rattle.ell_cards.specs.ShownTakings.{TakingsAreShown};
-ghost use Rattle.ell_cards.specs.Shown.{StepsAreShown, CallsCanBeShown, GuardsAreLifted, OriginsAreOfTheirKind, StoresStayWhole, TellingsAreShown, CallsActAlike, HandoversAreShown};
+ghost use Rattle.ell_cards.specs.Shown.{StepsAreShown, CallsCanBeShown, GuardsAreLifted, ClaimsAreShown, StoresStayWhole, TellingsAreShown, CallsActAlike, HandoversAreShown};
 
 /// Each step call of a pass that may make it is one atomic step on one word of the table. A table that had a machine
 /// before it has one after it, to which the call's event leads, with the answer that the word found gives; or the same
@@ -396,11 +396,11 @@ pub fn ties_are_kept()
 pub fn shown_views_step_alike()
     // What is shown of what a pass knows after a call is what it knows after the call that is shown.
     ensures steps { StepsAreShown }
+    ensures claims { ClaimsAreShown }
     // Each call can be shown whose word 64 bits hold, and an exchange of a child word if the link that it expects is near.
     ensures can { CallsCanBeShown }
     // A call that may be made by what is shown is shown of one that may be made by the whole: the same one, but for tags.
     ensures guards { GuardsAreLifted }
-    ensures origins { OriginsAreOfTheirKind }
     ensures stores { StoresStayWhole }
     // What a call tells of its word, and all that it leaves of a pass, is so of what is shown too.
     ensures tellings { TellingsAreShown }

@@ -53,6 +53,21 @@ module _ (told : List Told) where
       by (Expects c tag) has is = absurd cc
       by (Frozen c right y) has is = absurd cc
 
+  pub was_depth : (x d : ℕ) → Has (map shown_told told) (Depth x d) → WasOf told (λ y. Depth y d) cut_node x
+  was_depth x d h = by (was_told told (Depth x d) h).entry (was_told told (Depth x d) h).has (was_told told (Depth x d) h).is
+    where
+      by : (e : Told) → Has told e → shown_told e ≡ Depth x d → WasOf told (λ y. Depth y d) cut_node x
+      by (Depth y n) has is =
+          let e : cut_node y ≡ x = cc in
+          let same : n ≡ d = cc in
+          record { whole = y; has = subst (λ m. Has told (Depth y m)) same has; is = e }
+      by (Met y) has is = absurd cc
+      by (Key y n) has is = absurd cc
+      by (Value y n) has is = absurd cc
+      by (Info c f y) has is = absurd cc
+      by (Expects c tag) has is = absurd cc
+      by (Frozen c right y) has is = absurd cc
+
   pub was_key : (x key : ℕ) → Has (map shown_told told) (Key x key) → WasOf told (λ y. Key y key) cut_node x
   was_key x key h = by (was_told told (Key x key) h).entry (was_told told (Key x key) h).has (was_told told (Key x key) h).is
     where
