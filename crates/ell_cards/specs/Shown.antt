@@ -74,7 +74,7 @@ shown v = record v {
 -- a step call, with the links and the words that it has
 abbrev pub shown_call : Call → Call
 shown_call (call.Fill c f value) = call.Fill c f (shown_word f value)
-shown_call (call.IChild c p l node right) = call.IChild c p (shown_link l) node right
+shown_call (call.IChild c p l replaces right) = call.IChild c p (shown_link l) replaces right
 shown_call (call.DChild c gp p s right) = call.DChild c gp (shown_link p) s right
 shown_call c = c
 
@@ -112,7 +112,7 @@ pub record CanBeShown (c : Call) (n : ℕ) (v : View) : Type 0 where
 -- a call that has neither a link nor a word to store
 abbrev pub HasNoLink : Call → Type 0
 HasNoLink (call.Fill c f value) = ⊥
-HasNoLink (call.IChild c p l node right) = ⊥
+HasNoLink (call.IChild c p l replaces right) = ⊥
 HasNoLink (call.DChild c gp p s right) = ⊥
 HasNoLink _ = Unit {0}
 
@@ -128,16 +128,16 @@ pub record IsNear (l : Link) (n : ℕ) : Type 0 where
 pub record CallsCanBeShown : Type 0 where
   pub word : (c : Call) (n : ℕ) (v : View) → HasNoLink c → IsWord n → StandsInside c v → CanBeShown c n v
   pub fill : (c : ℕ) (f : Field) (value n : ℕ) (v : View) → CanBeShown (call.Fill c f value) n v
-  pub ichild : (c p : ℕ) (l : Link) (node : ℕ) (right : Bool) (n : ℕ) (v : View) → IsNear l n
-      → CanBeShown (call.IChild c p l node right) n v
+  pub ichild : (c p : ℕ) (l : Link) (replaces right : Bool) (n : ℕ) (v : View) → IsNear l n
+      → CanBeShown (call.IChild c p l replaces right) n v
   pub dchild : (c gp : ℕ) (p : Link) (s : ℕ) (right : Bool) (n : ℕ) (v : View) → IsNear p n
       → CanBeShown (call.DChild c gp p s right) n v
 
 -- which call a call is shown of: itself, but for a link's tag and a stored word, which are cut to those that it has
 abbrev pub IsOriginOf : Call → Call → Type 0
 IsOriginOf (call.Fill c f value) origin = (whole : ℕ) × (shown_word f whole ≡ value) × (origin ≡ call.Fill c f whole)
-IsOriginOf (call.IChild c p l node right) origin =
-    (tag : ℕ) × (cut_tag tag ≡ l.tag) × (origin ≡ call.IChild c p (record { node = l.node; tag = tag }) node right)
+IsOriginOf (call.IChild c p l replaces right) origin =
+    (tag : ℕ) × (cut_tag tag ≡ l.tag) × (origin ≡ call.IChild c p (record { node = l.node; tag = tag }) replaces right)
 IsOriginOf (call.DChild c gp p s right) origin =
     (tag : ℕ) × (cut_tag tag ≡ p.tag) × (origin ≡ call.DChild c gp (record { node = p.node; tag = tag }) s right)
 IsOriginOf c origin = origin ≡ c

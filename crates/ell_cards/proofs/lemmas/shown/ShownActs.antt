@@ -4,7 +4,7 @@ use Rattle.ell_word.specs.declared.link.Link.{Link}
 use Rattle.ell_word.specs.Link.{linked}
 use Rattle.ell_layout.specs.declared.field.Field.{Field}
 use Rattle.ell_layout.specs.declared.field.Field.TheVariants as field
-use Rattle.ell_layout.specs.Cards.{iflag, dflag, marked, clean}
+use Rattle.ell_layout.specs.Cards.{iflag, dflag, marked, clean, brought_by}
 use Rattle.ell_core.specs.declared.event.Act.TheVariants as act
 use Rattle.ell_core.specs.acts.Exchanges.{won_or_lost}
 use Rattle.ell_cards.specs.declared.call.Call.TheVariants as call
@@ -42,9 +42,9 @@ calls_act_alike (call.Claim c node_key) n v can = record {
 calls_act_alike (call.Fill c f value) n v can = record { word = refl; leaves = stored_alike f value; act = refl; said = refl }
 calls_act_alike (call.IFlag c p from) n v can =
     record { word = refl; leaves = left_alike (iflag c) (iflag c) n _ _ can.wins refl; act = refl; said = ap won_or_lost can.wins }
-calls_act_alike (call.IChild c p l node right) n v can = record {
+calls_act_alike (call.IChild c p l replaces right) n v can = record {
   word = refl;
-  leaves = left_alike _ _ n _ _ can.wins (next_alike l node);
+  leaves = left_alike _ _ n _ _ can.wins (next_alike l (brought_by c replaces));
   act = refl;
   said = ap won_or_lost can.wins;
 }

@@ -56,13 +56,13 @@ dflag_whole v c gp from stores may =
     }
 
 -- the leaf and the parent of a card have the tag that the card expects, which is told whole
-ichild_lifted : (plan : TablePlan) (v : View) (c p : ℕ) (l : Link) (node : ℕ) (right : Bool) → MayIChild (shown v) c p l node right
-    → IsLifted plan (call.IChild c p l node right) v
-ichild_lifted plan v c p l node right may =
+ichild_lifted : (plan : TablePlan) (v : View) (c p : ℕ) (l : Link) (replaces right : Bool) → MayIChild (shown v) c p l replaces right
+    → IsLifted plan (call.IChild c p l replaces right) v
+ichild_lifted plan v c p l replaces right may =
     let expects = was_expected v.told c l.tag may.expects in
     record {
-      origin = call.IChild c p (record { node = l.node; tag = expects.whole }) node right;
-      is = ap (λ tag. call.IChild c p (record { node = l.node; tag = tag }) node right) expects.is;
+      origin = call.IChild c p (record { node = l.node; tag = expects.whole }) replaces right;
+      is = ap (λ tag. call.IChild c p (record { node = l.node; tag = tag }) replaces right) expects.is;
       may = record {
         parent_key = may.parent_key;
         right_key = may.right_key;
@@ -190,7 +190,7 @@ guards_are_lifted plan (call.Claim c node_key) v stores word may = record {
 guards_are_lifted plan (call.Fill c f value) v stores word may = fill_lifted plan v c f value word may
 guards_are_lifted plan (call.IFlag c p from) v stores word may =
     record { origin = call.IFlag c p from; is = refl; may = iflag_whole v c p from stores may; fills = tt }
-guards_are_lifted plan (call.IChild c p l node right) v stores word may = ichild_lifted plan v c p l node right may
+guards_are_lifted plan (call.IChild c p l replaces right) v stores word may = ichild_lifted plan v c p l replaces right may
 guards_are_lifted plan (call.IUnflag c p) v stores word may = record {
   origin = call.IUnflag c p;
   is = refl;

@@ -12,7 +12,7 @@ use Rattle.ell_cards.proofs.lemmas.shown.CutWords.{compares_alike, links_alike}
 
 own_origin : (c : Call) → IsOriginOf (shown_call c) c
 own_origin (call.Fill c f value) = (value, refl, refl)
-own_origin (call.IChild c p l node right) = (l.tag, refl, refl)
+own_origin (call.IChild c p l replaces right) = (l.tag, refl, refl)
 own_origin (call.DChild c gp p s right) = (p.tag, refl, refl)
 own_origin _ = refl
 
@@ -28,7 +28,7 @@ field_is_whole _ n word = word
 
 word_can : (c : Call) (n : ℕ) (v : View) → HasNoLink c → IsWord n → StandsInside c v → CanBeShown c n v
 word_can (call.Fill c f value) n v plain word inside = absurd plain
-word_can (call.IChild c p l node right) n v plain word inside = absurd plain
+word_can (call.IChild c p l replaces right) n v plain word inside = absurd plain
 word_can (call.DChild c gp p s right) n v plain word inside = absurd plain
 word_can (call.Upd x) n v plain word inside = record { wins = refl; whole = word; inside = tt }
 word_can call.Next n v plain word inside = record { wins = refl; whole = word; inside = tt }
@@ -50,7 +50,7 @@ pub calls_can_be_shown : CallsCanBeShown
 calls_can_be_shown = record {
   word = word_can;
   fill = λ c f value n v. record { wins = refl; whole = tt; inside = tt };
-  ichild = λ c p l node right n v near.
+  ichild = λ c p l replaces right n v near.
       record { wins = links_alike n l near; whole = tt; inside = tt };
   dchild = λ c gp p s right n v near.
       record { wins = links_alike n p near; whole = tt; inside = tt };
