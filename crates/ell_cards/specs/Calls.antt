@@ -15,7 +15,7 @@ use Rattle.ell_layout.specs.declared.field.Field.TheVariants as field
 use Rattle.ell_layout.specs.Layout.{address}
 use Rattle.ell_layout.specs.Words.{key_field, value_field, child_field, IsLeaf, has_block}
 use Rattle.ell_core.specs.state.Machine.{Machine, ledger_of, worker_of}
-use Rattle.ell_layout.specs.Cards.{iflag, dflag, marked, clean}
+use Rattle.ell_layout.specs.Cards.{iflag, dflag, marked, clean, brought_by}
 use Rattle.ell_core.specs.acts.Searching.{MayStop, gone_down}
 use Rattle.ell_core.specs.acts.Exchanges.{won_or_lost}
 use Rattle.ell_core.specs.acts.Events.{Steps}
@@ -63,7 +63,7 @@ word_of (call.LookDown from to right) = child_address from.node right
 word_of (call.Claim c node_key) = 0
 word_of (call.Fill c f value) = address c f
 word_of (call.IFlag c p from) = update_address p
-word_of (call.IChild c p l q right) = child_address p right
+word_of (call.IChild c p l replaces right) = child_address p right
 word_of (call.IUnflag c p) = update_address p
 word_of (call.DFlag c gp from) = update_address gp
 word_of (call.Mark c p was) = update_address p
@@ -91,7 +91,7 @@ place_of (call.LookDown from to right) = slot_address (card from.node) (child_fi
 place_of (call.Claim c node_key) = 0
 place_of (call.Fill c f value) = slot_address c f
 place_of (call.IFlag c p from) = slot_address (card p) field.Update
-place_of (call.IChild c p l q right) = slot_address (card p) (child_field right)
+place_of (call.IChild c p l replaces right) = slot_address (card p) (child_field right)
 place_of (call.IUnflag c p) = slot_address (card p) field.Update
 place_of (call.DFlag c gp from) = slot_address (card gp) field.Update
 place_of (call.Mark c p was) = slot_address (card p) field.Update
@@ -115,7 +115,7 @@ abbrev pub atomic_of : Call → Atomic
 atomic_of (call.Claim c node_key) = Exchange c (c + 1)
 atomic_of (call.Fill c f value) = Store value
 atomic_of (call.IFlag c p from) = Exchange (packed from) (iflag c)
-atomic_of (call.IChild c p l q right) = Exchange (linked l) (linked (next_link l q))
+atomic_of (call.IChild c p l replaces right) = Exchange (linked l) (linked (next_link l (brought_by c replaces)))
 atomic_of (call.IUnflag c p) = Exchange (iflag c) (clean c)
 atomic_of (call.DFlag c gp from) = Exchange (packed from) (dflag c)
 atomic_of (call.Mark c p was) = Exchange was (marked c)
@@ -178,7 +178,7 @@ after (call.Fill c f value) n v = after_fill f value v
 after (call.IFlag c p from) n v =
     exchanged (if_won (n == packed from) exchange.IFlag c) n
     (after_flag (n == packed from) (fact.IFlagged c) p (unpacked n) v)
-after (call.IChild c p l q right) n v =
+after (call.IChild c p l replaces right) n v =
     exchanged (if_won (n == linked l) exchange.IChild c) n (with_fact (fact.IChanged c) v)
 after (call.IUnflag c p) n v = exchanged (if_won (n == iflag c) exchange.IUnflag c) n (with_fact (fact.IOver c) v)
 after (call.DFlag c gp from) n v =
@@ -210,7 +210,7 @@ May plan call.Rest v = IsFree v
 May plan (call.Claim c node_key) v = MayClaim (flat_from plan) v c node_key × (c ≤ plan.last_card)
 May plan (call.Fill c f value) v = MayFill v c
 May plan (call.IFlag c p from) v = MayIFlag v c p from
-May plan (call.IChild c p l q right) v = MayIChild v c p l q right
+May plan (call.IChild c p l replaces right) v = MayIChild v c p l replaces right
 May plan (call.IUnflag c p) v = KnowsPlace v (fact.IChanged c) c field.P p
 May plan (call.DFlag c gp from) v = MayDFlag v c gp from
 May plan (call.Mark c p was) v = MayMark v c p was
@@ -228,7 +228,7 @@ act_of (call.Upd x) n = Some act.Upd
 act_of (call.Down x right) n = Some act.Down
 act_of (call.Claim c node_key) n = if n == c then Some act.Claim else None
 act_of (call.IFlag c p from) n = Some act.IFlag
-act_of (call.IChild c p l q right) n = Some (act.IChild c)
+act_of (call.IChild c p l replaces right) n = Some (act.IChild c)
 act_of (call.IUnflag c p) n = Some (act.IUnflag c)
 act_of (call.DFlag c gp from) n = Some act.DFlag
 act_of (call.Mark c p was) n = Some (act.Mark c)

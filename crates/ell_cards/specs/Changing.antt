@@ -158,7 +158,7 @@ TreesAreMaps = (plan : TablePlan) (s : TableState) → Starts plan s → (turns 
 
 -- the operation by which a call changes the tree, if it does: a won ichild's insert or swap, a won dchild's delete
 abbrev pub effect_of : Call → Bool → Words → List Op
-effect_of (call.IChild c p l q right) true w = op_of_card w c ∷ []
+effect_of (call.IChild c p l replaces right) true w = op_of_card w c ∷ []
 effect_of (call.DChild c gp p y right) true w = Delete (card_key w c) ∷ []
 effect_of _ _ w = []
 

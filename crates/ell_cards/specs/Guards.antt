@@ -230,9 +230,9 @@ pub record MayDFlag (v : View) (c gp : ℕ) (from : Update) : Type 0 where
   pub read : grandparent.word ≡ packed from
   pub filled : IsFilled v
 
--- ichild: the card is known flagged; these are its parent, its leaf with the tag that it expects, the node that it
--- brings, by the keys of its leaves, and the side there of the right one's key
-pub record MayIChild (v : View) (c p : ℕ) (l : Link) (node : ℕ) (right : Bool) : Type 0 where
+-- ichild: the card is known flagged; these are its parent, its leaf with the tag that it expects, whether it replaces a
+-- leaf, as it does where the keys of its leaves are the same, and the side there of the right one's key
+pub record MayIChild (v : View) (c p : ℕ) (l : Link) (replaces right : Bool) : Type 0 where
   pub parent_key : ℕ
   pub right_key : ℕ
   pub left_key : ℕ
@@ -243,7 +243,7 @@ pub record MayIChild (v : View) (c p : ℕ) (l : Link) (node : ℕ) (right : Boo
   pub told_parent : IsTold v (Key p parent_key)
   pub told_right : IsTold v (Info c field.RightLeafKey right_key)
   pub told_left : IsTold v (Info c field.LeftLeafKey left_key)
-  pub brings : node ≡ brought_by c (left_key == right_key)
+  pub brings : replaces ≡ (left_key == right_key)
   pub side : right ≡ nat_le parent_key right_key
 
 -- mark: the card is known flagged, and these are its parent and the update word that its search read there

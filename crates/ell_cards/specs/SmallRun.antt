@@ -68,13 +68,13 @@ insert_flags =
 abbrev pub mark_is_lost : List Turn
 mark_is_lost =
     Makes 0 (call.Mark 2 4 3) ∷ Makes 0 (call.Info 3 field.L) ∷ Makes 0 (call.Info 3 field.RightLeafKey) ∷ Makes 0
-    (call.Info 3 field.LeftLeafKey) ∷ Makes 0 (call.IChild 3 4 (record { node = 5; tag = 0 }) 12 false) ∷
+    (call.Info 3 field.LeftLeafKey) ∷ Makes 0 (call.IChild 3 4 (record { node = 5; tag = 0 }) false false) ∷
     Makes 0 (call.IUnflag 3 4) ∷ Makes 0 (call.Backtrack 2 0) ∷ []
 
 -- seat 1 finds that its insert was made, and answers
 abbrev pub insert_ends : List Turn
 insert_ends =
-    Makes 1 (call.IChild 3 4 (record { node = 5; tag = 0 }) 12 false) ∷ Makes 1 (call.IUnflag 3 4) ∷ Makes 1 (call.Answer Yes) ∷ []
+    Makes 1 (call.IChild 3 4 (record { node = 5; tag = 0 }) false false) ∷ Makes 1 (call.IUnflag 3 4) ∷ Makes 1 (call.Answer Yes) ∷ []
 
 -- seat 0 tries again: it searches, and takes card 4
 abbrev pub delete_begins_anew : List Turn

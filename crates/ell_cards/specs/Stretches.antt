@@ -22,7 +22,7 @@ is_flag _ = false
 
 -- one that exchanges a child, by which the tree changes
 abbrev pub is_change : Call → Bool
-is_change (call.IChild c p l q right) = true
+is_change (call.IChild c p l replaces right) = true
 is_change (call.DChild c gp p y right) = true
 is_change _ = false
 

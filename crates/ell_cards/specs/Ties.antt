@@ -192,7 +192,7 @@ CardsInSlotsAreFew = (s : Slots) (lie : ℕ → ℕ) (cards : List ℕ) → IsDi
 
 -- the link that a child exchange expects is near the word that it found
 abbrev pub ExpectsNear : Call → ℕ → Type 0
-ExpectsNear (call.IChild c p l q right) n = IsNear l n
+ExpectsNear (call.IChild c p l replaces right) n = IsNear l n
 ExpectsNear (call.DChild c gp p y right) n = IsNear p n
 ExpectsNear _ n = Unit {0}
 

@@ -35,7 +35,7 @@ pub record HasFlagged (v : View) (c : ℕ) : Type 0 where
 
 -- what a call does to the tree: a won ichild adds its card's pair or replaces a value, a won dchild takes its pair away
 abbrev pub PairsChangeBy : Call → Bool → Words → Words → Type 0
-PairsChangeBy (call.IChild c p l q right) true old new = MakesChange (op_of_card old c) old new
+PairsChangeBy (call.IChild c p l replaces right) true old new = MakesChange (op_of_card old c) old new
 PairsChangeBy (call.DChild c gp p s right) true old new = TakesPair old new (card_key old c) (card_value old c)
 PairsChangeBy _ _ old new = SamePairs old new
 
@@ -55,7 +55,7 @@ pub record IsAtWork (s : TableState) (c : ℕ) (op : Op) : Type 0 where
 
 -- whose a won child exchange is: some pass has the card in hand, for that insert or swap, or for that delete
 abbrev pub ChangeIsOf : Call → Bool → TableState → Type 0
-ChangeIsOf (call.IChild c p l q right) true s = IsAtWork s c (op_of_card (own_words s) c)
+ChangeIsOf (call.IChild c p l replaces right) true s = IsAtWork s c (op_of_card (own_words s) c)
 ChangeIsOf (call.DChild c gp p y right) true s = IsAtWork s c (Delete (card_key (own_words s) c))
 ChangeIsOf _ _ s = Unit {0}
 
@@ -92,7 +92,7 @@ TurnsDo plan s (t ∷ ts) s' run = TurnDoes plan s t run.0 run.1 × TurnsDo plan
 -- what a call wins for a card, if it is a won exchange
 abbrev pub win_of : Call → ℕ → List Exchange
 win_of (call.IFlag c p from) d = win_for (Some c) exchange.IFlag d
-win_of (call.IChild c p l q right) d = win_for (Some c) exchange.IChild d
+win_of (call.IChild c p l replaces right) d = win_for (Some c) exchange.IChild d
 win_of (call.IUnflag c p) d = win_for (Some c) exchange.IUnflag d
 win_of (call.DFlag c gp from) d = win_for (Some c) exchange.DFlag d
 win_of (call.Mark c p was) d = win_for (Some c) exchange.Mark d

@@ -41,9 +41,9 @@ pub enum Call {
     Fill(u64, Field, u64),
     /// Flags the parent for an insert: card, parent, the update that was read there.
     IFlag(u64, u64, Update),
-    /// Exchanges a child word for an insert, which adds a leaf or replaces one: card, parent, the leaf with the tag that
-    /// is expected, the node that the card brings, side.
-    IChild(u64, u64, Link, u64, bool),
+    /// Exchanges a child word for an insert, which adds a leaf or replaces one: card, parent, the node below it with the
+    /// tag that is expected, whether the card replaces a leaf, side.
+    IChild(u64, u64, Link, bool, bool),
     /// Takes an insert's flag away: card, parent.
     IUnflag(u64, u64),
     /// Flags the grandparent for a delete: card, grandparent, the update that was read there.

@@ -1,6 +1,7 @@
 //! The step calls by which a pass finishes an operation, its own or another's, of whose card it knows how far it has come. Each
 //! is one atomic step.
 ghost use Rattle.std.specs.Prelude.{◌≡◌, ◌≢◌, ◌≤◌, ◌<◌, is_ok, IfErr};
+ghost use Rattle.ell_word.specs.Node.{greatest_number};
 ghost use Rattle.ell_word.specs.Word.{packed, unpacked};
 ghost use Rattle.ell_word.specs.Link.{linked};
 ghost use Rattle.ell_word.specs.declared.link.Link.{Link};
@@ -8,7 +9,7 @@ ghost use Rattle.ell_core.specs.declared.exchange.Exchange.TheVariants as exchan
 ghost use Rattle.ell_core.specs.declared.fact.Fact.TheVariants.{IChanged, IOver, Marked, Unmarkable, Cut, DOver, Backed};
 ghost use Rattle.ell_cards.specs.Depths.{IsShallow, deepest};
 ghost use Rattle.ell_layout.specs.declared.field.Field.TheVariants.{Gp, P};
-ghost use Rattle.ell_layout.specs.Cards.{iflag, dflag, says_by};
+ghost use Rattle.ell_layout.specs.Cards.{iflag, dflag, says_by, brought_by};
 ghost use Rattle.ell_cards.specs.Models.{Steps, InTable};
 ghost use Rattle.ell_cards.specs.Changes.{after_mark, with_fact, if_won, exchanged, found_update, found_word, child_found};
 ghost use Rattle.ell_cards.specs.declared.call.Call.TheVariants as call;
@@ -21,7 +22,7 @@ use crate::pass::Pass;
 use crate::places::{child_address, field_address, update_address};
 use crate::table::CardTable;
 use ell_layout::{Field, update_word};
-use ell_word::{Link, State, Update};
+use ell_word::{Link, State, Update, internal_of, right_leaf_of};
 use std::alloc::Allocator;
 
 impl<A: Allocator + Copy> CardTable<A> {
@@ -60,8 +61,9 @@ impl<A: Allocator + Copy> CardTable<A> {
     }
 
     /// Exchanges the child word of an insert's parent, from the leaf with the tag that the card expects to the node that
-    /// the card brings, with the next tag. If that fails, the error is the child word that was found. Either way, the pass
-    /// then knows that the card is changed.
+    /// the card brings, with the next tag. That node is the card's right leaf if it replaces a leaf, else its internal
+    /// node. If the exchange fails, the error is the child word that was found. Either way, the pass then knows that the
+    /// card is changed.
     #[inline(always)]
     pub fn ichild(
         &self,
@@ -69,11 +71,11 @@ impl<A: Allocator + Copy> CardTable<A> {
         card: u64,
         parent: u64,
         leaf: Link,
-        node: u64,
+        replaces: bool,
         right: bool,
     ) -> Result<(), Link>
         requires own { pass.old.table ≡ self.now.id }
-        requires may { MayIChild pass.old.view card parent leaf node right }
+        requires may { MayIChild pass.old.view card parent leaf replaces right }
         // It makes one step and counts it. The pass then knows exactly what this call tells.
         ensures step { Steps pass.old pass.new (exchanged (if_won (is_ok result) exchange.IChild card)
             (child_found (linked leaf) result) (with_fact (IChanged card) pass.old.view)) }
@@ -81,8 +83,10 @@ impl<A: Allocator + Copy> CardTable<A> {
         ensures lost { IfErr result (λ found. found ≢ leaf) }
     {
         self.names(pass);
-        let call = Call::IChild(card, parent, leaf, node, right);
-        let found = self.exchange_child(pass, call, child_address(parent, right), leaf, node);
+        let call = Call::IChild(card, parent, leaf, replaces, right);
+        let word = child_address(parent, right);
+        let node = node_brought(card, replaces);
+        let found = self.exchange_child(pass, call, word, leaf, node);
         child_outcome(leaf.word(), found)
     }
 
@@ -194,5 +198,18 @@ impl<A: Allocator + Copy> CardTable<A> {
         let call = Call::Backtrack(card, grandparent);
         let found = self.exchange(pass, call, update_address(grandparent), flag, clean);
         update_outcome(flag, found)
+    }
+}
+
+// The node that an insert's card brings to its parent: its right leaf if it replaces a leaf, else its internal node.
+#[inline(always)]
+fn node_brought(card: u64, replaces: bool) -> u64
+    requires { card ≤ greatest_number }
+    ensures { result ≡ brought_by card replaces }
+{
+    if replaces {
+        right_leaf_of(card)
+    } else {
+        internal_of(card)
     }
 }

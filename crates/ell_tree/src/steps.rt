@@ -26,7 +26,7 @@ ghost use Rattle.ell_tree.specs.Tries.{Begins, Lays};
 use crate::gate::{Kind, StepGate};
 use ell_cards::{CardTable, Pass};
 use ell_core::Exchange;
-use ell_layout::{Field, brought_node};
+use ell_layout::Field;
 use ell_ops::{Op, Reply};
 use ell_word::{Link, State, Update};
 use std::alloc::Allocator;
@@ -214,9 +214,9 @@ pub(crate) fn change_child<A: Allocator + Copy, G: StepGate>(
 {
     gate.before(pass.label(), Kind::Exchange(Exchange::IChild));
     table.facts_stay_inside(pass);
-    let node = brought_node(card, left_key, right_key);
+    let replaces = left_key == right_key;
     let right = parent.key <= right_key;
-    let _ = table.ichild(pass, card, parent.node, leaf, node, right);
+    let _ = table.ichild(pass, card, parent.node, leaf, replaces, right);
 }
 
 /// Takes the flag of an insert away.

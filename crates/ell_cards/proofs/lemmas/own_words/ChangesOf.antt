@@ -111,14 +111,14 @@ one_win : (c : ℕ) (k : Exchange) → (if c == c then k ∷ [] else []) ≡ k �
 one_win c k = ap (λ b. if b then k ∷ [] else []) (eq-eqb c c refl)
 
 pub table_changes_are_operations : OperationsByMachine
-table_changes_are_operations plan s r id v (call.IChild c p l q right) here may =
-    let step = steps_are_events plan s r id v (call.IChild c p l q right) here may in by step.kept (found_by s (call.IChild c p l q right) == linked l) step.event
+table_changes_are_operations plan s r id v (call.IChild c p l replaces right) here may =
+    let step = steps_are_events plan s r id v (call.IChild c p l replaces right) here may in by step.kept (found_by s (call.IChild c p l replaces right) == linked l) step.event
   where
-    by : (r' : HasMachine plan (state_after s id v (call.IChild c p l q right))) (b : Bool)
-        → Becomes id (Some (act.IChild c)) (won_or_lost b) (machine_of_table plan s r) (machine_of_table plan (state_after s id v (call.IChild c p l q right)) r')
-        → ChangeIsOf (call.IChild c p l q right) b s
+    by : (r' : HasMachine plan (state_after s id v (call.IChild c p l replaces right))) (b : Bool)
+        → Becomes id (Some (act.IChild c)) (won_or_lost b) (machine_of_table plan s r) (machine_of_table plan (state_after s id v (call.IChild c p l replaces right)) r')
+        → ChangeIsOf (call.IChild c p l replaces right) b s
     by r' true h =
-        let won = won_by plan s r id (act.IChild c) c exchange.IChild (state_after s id v (call.IChild c p l q right)) r' h (one_win c exchange.IChild) in
+        let won = won_by plan s r id (act.IChild c) c exchange.IChild (state_after s id v (call.IChild c p l replaces right)) r' h (one_win c exchange.IChild) in
         let opened = before_ichild (r.stages c) won.0 won.1 in
         let work = at_work plan s r c (λ o. o ≡ op_of_card r.words c)
         (λ u o f. inserts plan s r u o c (insert_open-insert (r.stages c) opened) f) (r.invariant.workers.insert_in_hand c opened) in

@@ -48,9 +48,9 @@ module _ (m : Machine) (stage : Stages) (holds : Invariant m stage) (i : ℕ) (m
   machine_pairs (call.Down x right) n h = acts act.Down Moved h
   machine_pairs (call.Claim c q) n h = claims (n == c) h
   machine_pairs (call.IFlag c p from) n h = acts act.IFlag (said_of (call.IFlag c p from) n) h
-  machine_pairs (call.IChild c p l q right) n h = by (n == linked l) h
+  machine_pairs (call.IChild c p l replaces right) n h = by (n == linked l) h
     where
-      by : (b : Bool) → Becomes i (Some (act.IChild c)) (won_or_lost b) m m' → PairsChangeBy (call.IChild c p l q right) b m.words m'.words
+      by : (b : Bool) → Becomes i (Some (act.IChild c)) (won_or_lost b) m m' → PairsChangeBy (call.IChild c p l replaces right) b m.words m'.words
       by true h = acts (act.IChild c) (won_or_lost true) h
       by false h = acts (act.IChild c) (won_or_lost false) h
   machine_pairs (call.IUnflag c p) n h = acts (act.IUnflag c) (said_of (call.IUnflag c p) n) h
@@ -106,7 +106,7 @@ module _ (w w' t t' : Words) (before : SamePairs t w) (after : SamePairs t' w') 
       → ((d : ℕ) → KnowsCard v d → card_key w d ≡ card_key t d) → ((d : ℕ) → KnowsCard v d → card_value w d ≡ card_value t d)
       → ((d : ℕ) → KnowsCard v d → op_of_card w d ≡ op_of_card t d)
       → PairsChangeBy c b w w' → PairsChangeBy c b t t'
-  own_change (call.IChild c p l q right) true v plan may key value op_is h =
+  own_change (call.IChild c p l replaces right) true v plan may key value op_is h =
       subst (λ op. MakesChange op t t') (op_is c (inl may.knows)) (own_brings (is_replace_card w c) (card_key w c) (w.value (w.l c)) (card_value w c) h)
   own_change (call.DChild c gp p sibling right) true v plan may key value op_is h =
       subst (λ k. TakesPair t t' k (card_value t c)) (key c (inr (inr may.knows)))

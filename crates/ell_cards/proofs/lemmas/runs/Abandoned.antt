@@ -108,7 +108,7 @@ one_win true k c d = by (d == c)
 call_wins_one : (c : Call) (n d : ℕ) → wins_in_all d (won_by c n) ≤ 1
 call_wins_one (call.Claim c q) n d = one_win (n == c) exchange.Claim c d
 call_wins_one (call.IFlag c p from) n d = one_win (n == packed from) exchange.IFlag c d
-call_wins_one (call.IChild c p l q right) n d = one_win (n == linked l) exchange.IChild c d
+call_wins_one (call.IChild c p l replaces right) n d = one_win (n == linked l) exchange.IChild c d
 call_wins_one (call.IUnflag c p) n d = one_win (n == iflag c) exchange.IUnflag c d
 call_wins_one (call.DFlag c gp from) n d = one_win (n == packed from) exchange.DFlag c d
 call_wins_one (call.Mark c p was) n d = one_win (n == was) exchange.Mark c d

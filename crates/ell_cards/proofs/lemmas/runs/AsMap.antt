@@ -174,9 +174,9 @@ same_map old new same there map k v = (λ h. (map k v).0 ((same k v).0 h), λ e.
 
 -- a call leads from a map to a map
 call_map : (c : Call) (b : Bool) (old new : Words) → PairsChangeBy c b old new → (there : Contents) → HasMap old there → (after : Contents) × HasMap new after
-call_map (call.IChild c p l q right) true old new makes there map =
+call_map (call.IChild c p l replaces right) true old new makes there map =
     (after (op_of_card old c) there, change_map (op_of_card old c) old new makes there map)
-call_map (call.IChild c p l q right) false old new same there map = (there, same_map old new same there map)
+call_map (call.IChild c p l replaces right) false old new same there map = (there, same_map old new same there map)
 call_map (call.DChild c gp p s right) true old new takes there map = (without there (card_key old c), taken old new (card_key old c) (card_value old c) takes there map)
 call_map (call.DChild c gp p s right) false old new same there map = (there, same_map old new same there map)
 call_map _ b old new same there map = (there, same_map old new same there map)
@@ -203,8 +203,8 @@ trees_are_maps plan s starts turns s' run =
 
 -- a call leads from a map to that after its effect
 effect_map : (c : Call) (b : Bool) (old new : Words) → PairsChangeBy c b old new → (there : Contents) → HasMap old there → HasMap new (final there (effect_of c b old))
-effect_map (call.IChild c p l q right) true old new makes there map = change_map (op_of_card old c) old new makes there map
-effect_map (call.IChild c p l q right) false old new same there map = same_map old new same there map
+effect_map (call.IChild c p l replaces right) true old new makes there map = change_map (op_of_card old c) old new makes there map
+effect_map (call.IChild c p l replaces right) false old new same there map = same_map old new same there map
 effect_map (call.DChild c gp p s right) true old new takes there map = taken old new (card_key old c) (card_value old c) takes there map
 effect_map (call.DChild c gp p s right) false old new same there map = same_map old new same there map
 effect_map _ b old new same there map = same_map old new same there map

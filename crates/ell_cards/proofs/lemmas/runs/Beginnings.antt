@@ -65,7 +65,7 @@ module _ (plan : TablePlan) (seat : ℕ) where
   look_before (call.Info c f) n v may e = inr (tt, e)
   look_before (call.FrozenChild c p right) n v may e = inr (tt, e)
   look_before (call.Fill c f value) n v may e = inr (tt, e)
-  look_before (call.IChild c p l q right) n v may e = inr (tt, e)
+  look_before (call.IChild c p l replaces right) n v may e = inr (tt, e)
   look_before (call.IUnflag c p) n v may e = inr (tt, e)
   look_before (call.DChild c gp p y right) n v may e = inr (tt, e)
   look_before (call.DUnflag c gp) n v may e = inr (tt, e)

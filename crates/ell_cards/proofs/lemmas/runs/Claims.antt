@@ -97,7 +97,7 @@ pub leaves_next : (c : Call) (ws : List ℕ) → ((d q : ℕ) → c ≢ call.Cla
 leaves_next (call.Claim c q) ws apart = absurd (apart c q refl)
 leaves_next (call.Fill c f value) ws apart = get_or-set_other ws (word_of (call.Fill c f value)) 0 _ 0 (λ e. omega arith)
 leaves_next (call.IFlag c p from) ws apart = get_or-set_other ws (word_of (call.IFlag c p from)) 0 _ 0 (λ e. omega arith)
-leaves_next (call.IChild c p l q right) ws apart = get_or-set_other ws (word_of (call.IChild c p l q right)) 0 _ 0 (λ e. omega arith)
+leaves_next (call.IChild c p l replaces right) ws apart = get_or-set_other ws (word_of (call.IChild c p l replaces right)) 0 _ 0 (λ e. omega arith)
 leaves_next (call.IUnflag c p) ws apart = get_or-set_other ws (word_of (call.IUnflag c p)) 0 _ 0 (λ e. omega arith)
 leaves_next (call.DFlag c gp from) ws apart = get_or-set_other ws (word_of (call.DFlag c gp from)) 0 _ 0 (λ e. omega arith)
 leaves_next (call.Mark c p was) ws apart = get_or-set_other ws (word_of (call.Mark c p was)) 0 _ 0 (λ e. omega arith)

@@ -63,7 +63,7 @@ pub record ClaimsCount (first : ℕ) (s : TableState) : Type 0 where
 pub claims_none : (c : Call) (n d : ℕ) → ((e q : ℕ) → c ≢ call.Claim e q) → times exchange.Claim d (won_by c n) ≡ 0
 claims_none (call.Claim c q) n d apart = absurd (apart c q refl)
 claims_none (call.IFlag c p from) n d apart = other_kind (n == packed from) exchange.IFlag exchange.Claim c d refl
-claims_none (call.IChild c p l q right) n d apart = other_kind (n == linked l) exchange.IChild exchange.Claim c d refl
+claims_none (call.IChild c p l replaces right) n d apart = other_kind (n == linked l) exchange.IChild exchange.Claim c d refl
 claims_none (call.IUnflag c p) n d apart = other_kind (n == iflag c) exchange.IUnflag exchange.Claim c d refl
 claims_none (call.DFlag c gp from) n d apart = other_kind (n == packed from) exchange.DFlag exchange.Claim c d refl
 claims_none (call.Mark c p was) n d apart = other_kind (n == was) exchange.Mark exchange.Claim c d refl

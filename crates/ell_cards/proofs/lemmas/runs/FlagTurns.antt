@@ -25,7 +25,7 @@ lost f b k c d e = ap (λ b. sum_by f (if b then win_for (Some c) k d else [])) 
 
 -- a call that wins no exchange of a child
 call_unchanged : (c : Call) (n d : ℕ) → (is_change c && is_won (atomic_of c) n) ≡ false → sum_by child_changes (if is_won (atomic_of c) n then win_of c d else []) ≡ 0
-call_unchanged (call.IChild c p l q right) n d e = lost child_changes (is_won (atomic_of (call.IChild c p l q right)) n) exchange.IChild c d e
+call_unchanged (call.IChild c p l replaces right) n d e = lost child_changes (is_won (atomic_of (call.IChild c p l replaces right)) n) exchange.IChild c d e
 call_unchanged (call.DChild c gp p y right) n d e = lost child_changes (is_won (atomic_of (call.DChild c gp p y right)) n) exchange.DChild c d e
 call_unchanged (call.IFlag c p from) n d e = none_if child_changes (is_won (atomic_of (call.IFlag c p from)) n) exchange.IFlag c d refl
 call_unchanged (call.IUnflag c p) n d e = none_if child_changes (is_won (atomic_of (call.IUnflag c p)) n) exchange.IUnflag c d refl

@@ -478,7 +478,7 @@ module _ (plan : TablePlan) (seat : ℕ) where
     call_came (call.Info c f) keeps may = at.came
     call_came (call.FrozenChild c p right) keeps may = at.came
     call_came (call.Fill c f value) keeps may = at.came
-    call_came (call.IChild c p l q right) keeps may = at.came
+    call_came (call.IChild c p l replaces right) keeps may = at.came
     call_came (call.IUnflag c p) keeps may = at.came
     call_came (call.DChild c gp p y right) keeps may = at.came
     call_came (call.DUnflag c gp) keeps may = at.came

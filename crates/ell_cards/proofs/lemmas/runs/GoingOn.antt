@@ -161,7 +161,7 @@ module _ (m : Machine) (stage : Stages) (holds : Invariant m stage) (i : ℕ) (m
   call_wins (call.Claim c q) n v plan mine may h = claims (n == c) h
   call_wins (call.IFlag c p from) n v plan mine may h =
       flags act.IFlag exchange.IFlag (n == packed from) c (λ hand d. refl) (mine ∙ may.may.holds) h
-  call_wins (call.IChild c p l q right) n v plan mine may h = tries (act.IChild c) (n == linked l) h
+  call_wins (call.IChild c p l replaces right) n v plan mine may h = tries (act.IChild c) (n == linked l) h
   call_wins (call.IUnflag c p) n v plan mine may h = tries (act.IUnflag c) (n == iflag c) h
   call_wins (call.DFlag c gp from) n v plan mine may h =
       flags act.DFlag exchange.DFlag (n == packed from) c (λ hand d. refl) (mine ∙ may.may.holds) h

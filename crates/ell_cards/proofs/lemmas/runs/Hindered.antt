@@ -607,7 +607,7 @@ module _ (plan : TablePlan) (m0 : Machine) (stage : Stages) (first : Invariant m
   call_hindered (call.Claim c q) keeps may = claim_hindered c q may (found_by s (call.Claim c q) == c) refl
   call_hindered (call.Fill c f value) keeps may = quiet _ refl refl refl refl refl refl refl (λ seen h. h)
   call_hindered (call.IFlag c p from) keeps may = iflag_hindered c p from may
-  call_hindered (call.IChild c p l q right) keeps may = quiet _ refl refl refl refl refl refl refl (λ seen h. h)
+  call_hindered (call.IChild c p l replaces right) keeps may = quiet _ refl refl refl refl refl refl refl (λ seen h. h)
   call_hindered (call.IUnflag c p) keeps may = quiet _ refl refl refl refl refl refl refl (λ seen h. h)
   call_hindered (call.DFlag c gp from) keeps may = dflag_hindered c gp from may
   call_hindered (call.Mark c p was) keeps may = mark_hindered c p was may

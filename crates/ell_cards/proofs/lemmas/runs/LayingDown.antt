@@ -118,7 +118,7 @@ module _ (op : Op) where
   laid_before (call.LookDown from key right) n v e = inr (tt, e)
   laid_before call.Rest n v e = inr (tt, e)
   laid_before (call.Fill c f value) n v e = inr (tt, e)
-  laid_before (call.IChild c p l q right) n v e = inr (tt, e)
+  laid_before (call.IChild c p l replaces right) n v e = inr (tt, e)
   laid_before (call.IUnflag c p) n v e = inr (tt, e)
   laid_before (call.DChild c gp p y right) n v e = inr (tt, e)
   laid_before (call.DUnflag c gp) n v e = inr (tt, e)

@@ -30,7 +30,7 @@ brought_finds false key was value c w = tt
 
 -- a call changes the tree by one operation or not at all
 effect_cases : (y : Call) (b : Bool) (w : Words) → (effect_of y b w ≡ []) ⊎ ((op : Op) × (effect_of y b w ≡ op ∷ []))
-effect_cases (call.IChild d p l q right) true w = inr (op_of_card w d, refl)
+effect_cases (call.IChild d p l replaces right) true w = inr (op_of_card w d, refl)
 effect_cases (call.DChild d gp p y right) true w = inr (Delete (card_key w d), refl)
 effect_cases _ b w = inl refl
 
@@ -42,7 +42,7 @@ turn_cases s (Joins seat other) = inl refl
 -- a call that does not wins no exchange of a child
 effect_none : (y : Call) (b : Bool) (w : Words) (c : ℕ) → effect_of y b w ≡ [] → sum_by child_changes (if b then win_of y c else []) ≡ 0
 effect_none y false w c e = refl
-effect_none (call.IChild d p l q right) true w c e = absurd cc
+effect_none (call.IChild d p l replaces right) true w c e = absurd cc
 effect_none (call.DChild d gp p y right) true w c e = absurd cc
 effect_none (call.IFlag d p from) true w c e = win_sum child_changes (Some d) exchange.IFlag c refl
 effect_none (call.IUnflag d p) true w c e = win_sum child_changes (Some d) exchange.IUnflag c refl
@@ -71,8 +71,8 @@ one_op : (a b : Op) → a ∷ [] ≡ b ∷ [] → a ≡ b
 one_op a b e = cc
 
 call_changes : (s : TableState) (y : Call) (b : Bool) (op : Op) → effect_of y b (own_words s) ≡ op ∷ [] → CallChanges s y b op
-call_changes s (call.IChild d p l q right) true op e =
-    subst (CallChanges s (call.IChild d p l q right) true) (one_op (op_of_card (own_words s) d) op e)
+call_changes s (call.IChild d p l replaces right) true op e =
+    subst (CallChanges s (call.IChild d p l replaces right) true) (one_op (op_of_card (own_words s) d) op e)
     (record {
       card = d;
       own = λ c. ap (λ ks. if c == d then ks else []) (sym (card_change (own_words s) d));

@@ -98,7 +98,7 @@ call_goes (call.Upd x) n h = inl tt
 call_goes (call.Down x right) n h = inl tt
 call_goes (call.Claim c q) n h = inl (claim_goes (n == c))
 call_goes (call.IFlag c p from) n h = inl tt
-call_goes (call.IChild c p l q right) n h = inl tt
+call_goes (call.IChild c p l replaces right) n h = inl tt
 call_goes (call.IUnflag c p) n h = inl tt
 call_goes (call.DFlag c gp from) n h = inl tt
 call_goes (call.Mark c p was) n h = inl tt

@@ -270,8 +270,8 @@ module _ (plan : TablePlan) (s : TableState) (h : IsReached plan s) (id : ℕ) (
   abbrev Alike : Call → Type 0
   Alike c = May plan c v → (n : ℕ) → IsReached plan (told_of s id v c n) → is_won (atomic_of c) n ≡ is_won (atomic_of c) (found_by s c)
 
-  ichild_alike : (c p : ℕ) (l : Link) (q : ℕ) (right : Bool) → Alike (call.IChild c p l q right)
-  ichild_alike c p l q right may n on = taught_alike plan s h id v here (call.IChild c p l q right) may n on exchange.IChild (omega arith)
+  ichild_alike : (c p : ℕ) (l : Link) (replaces right : Bool) → Alike (call.IChild c p l replaces right)
+  ichild_alike c p l replaces right may n on = taught_alike plan s h id v here (call.IChild c p l replaces right) may n on exchange.IChild (omega arith)
       (fact.IChanged c) (changed-once c) refl refl (knows_new (fact.IChanged c) v.worker.knows) (knows_new (fact.IChanged c) v.worker.knows)
 
   iunflag_alike : (c p : ℕ) → Alike (call.IUnflag c p)
@@ -481,7 +481,7 @@ module _ (plan : TablePlan) (s : TableState) (h : IsReached plan s) (id : ℕ) (
   pub outcomes_alike : (c : Call) → Alike c
   outcomes_alike (call.Claim c q) = claim_alike c q
   outcomes_alike (call.IFlag c p from) = iflag_alike c p from
-  outcomes_alike (call.IChild c p l q right) = ichild_alike c p l q right
+  outcomes_alike (call.IChild c p l replaces right) = ichild_alike c p l replaces right
   outcomes_alike (call.IUnflag c p) = iunflag_alike c p
   outcomes_alike (call.DFlag c gp from) = dflag_alike c gp from
   outcomes_alike (call.Mark c p was) = mark_alike c p was

@@ -189,7 +189,7 @@ module _ (plan : TablePlan) where
   claims_or_not call.Rest = inr (λ d q e. cc)
   claims_or_not (call.Fill c f value) = inr (λ d q e. cc)
   claims_or_not (call.IFlag c p from) = inr (λ d q e. cc)
-  claims_or_not (call.IChild c p l q right) = inr (λ d q e. cc)
+  claims_or_not (call.IChild c p l replaces right) = inr (λ d q e. cc)
   claims_or_not (call.IUnflag c p) = inr (λ d q e. cc)
   claims_or_not (call.DFlag c gp from) = inr (λ d q e. cc)
   claims_or_not (call.Mark c p was) = inr (λ d q e. cc)
@@ -257,7 +257,7 @@ no_win k false h = not_in_none k [] refl h
 inserts_by : (s : TableState) (old new : Words) (c : ℕ) (y : Call) (b : Bool) → InList exchange.IChild (if b then win_of y c else [])
     → PairsChangeBy y b old new → ChangeIsOf y b s → Inserts s old new c (if b then win_of y c else [])
 inserts_by s old new c y false h pairs work = absurd (not_in_none exchange.IChild [] refl h)
-inserts_by s old new c (call.IChild d p l q right) true h pairs work =
+inserts_by s old new c (call.IChild d p l replaces right) true h pairs work =
     let w = in_win exchange.IChild exchange.IChild d c h in record {
       makes = subst (λ n. MakesChange (op_of_card old n) old new) w.1 pairs;
       work = subst (λ n. IsAtWork s n (op_of_card (own_words s) n)) w.1 work;
@@ -282,7 +282,7 @@ deletes_by s old new c (call.DChild d gp p z right) true h pairs work =
       own = w.2;
     }
 deletes_by s old new c (call.IFlag d p from) true h pairs work = absurd (let w = in_win exchange.DChild exchange.IFlag d c h in let e : exchange.DChild ≡ exchange.IFlag = w.0 in cc)
-deletes_by s old new c (call.IChild d p l q right) true h pairs work = absurd (let w = in_win exchange.DChild exchange.IChild d c h in let e : exchange.DChild ≡ exchange.IChild = w.0 in cc)
+deletes_by s old new c (call.IChild d p l replaces right) true h pairs work = absurd (let w = in_win exchange.DChild exchange.IChild d c h in let e : exchange.DChild ≡ exchange.IChild = w.0 in cc)
 deletes_by s old new c (call.IUnflag d p) true h pairs work = absurd (let w = in_win exchange.DChild exchange.IUnflag d c h in let e : exchange.DChild ≡ exchange.IUnflag = w.0 in cc)
 deletes_by s old new c (call.DFlag d gp from) true h pairs work = absurd (let w = in_win exchange.DChild exchange.DFlag d c h in let e : exchange.DChild ≡ exchange.DFlag = w.0 in cc)
 deletes_by s old new c (call.Mark d p was) true h pairs work = absurd (let w = in_win exchange.DChild exchange.Mark d c h in let e : exchange.DChild ≡ exchange.Mark = w.0 in cc)

@@ -200,7 +200,7 @@ module _ (plan : TablePlan) (seat key : ℕ) (real : key ≤ greatest_key) (aske
     goes_by (call.Info c f) keeps may = stays _ (λ op d. d) (λ op x d e. (d, e))
     goes_by (call.FrozenChild c p right) keeps may = stays _ (λ op d. d) (λ op x d e. (d, e))
     goes_by (call.Fill c f value) keeps may = stays _ (λ op d. d) (λ op x d e. (d, e))
-    goes_by (call.IChild c p l q right) keeps may = stays _ (λ op d. d) (λ op x d e. (d, e))
+    goes_by (call.IChild c p l replaces right) keeps may = stays _ (λ op d. d) (λ op x d e. (d, e))
     goes_by (call.IUnflag c p) keeps may = stays _ (λ op d. d) (λ op x d e. (d, e))
     goes_by (call.DChild c gp p y right) keeps may = stays _ (λ op d. d) (λ op x d e. (d, e))
     goes_by (call.DUnflag c gp) keeps may = stays _ (λ op d. d) (λ op x d e. (d, e))

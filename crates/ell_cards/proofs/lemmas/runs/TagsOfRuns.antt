@@ -179,7 +179,7 @@ pub record ExchangesAreNear (plan : TablePlan) (m : Machine) (has : HasTags m) (
   pub from : ComesFrom m has.outs.stages (machine_of_table plan now machine)
   pub tags : TagsFrom m has.outs.stages (machine_of_table plan now machine) from
   pub wins : (d : ℕ) → wins_of (from.stages d) ≡ wins_of (has.outs.stages d) ++ won d
-  pub insert : (v : View) → get_elem? now.views seat ≡ some v → (c p : ℕ) (l : Link) (q : ℕ) (right : Bool) → MayIChild v c p l q right
+  pub insert : (v : View) → get_elem? now.views seat ≡ some v → (c p : ℕ) (l : Link) (replaces right : Bool) → MayIChild v c p l replaces right
       → IsNear plan has.outs.stages now machine from.stages p right l.tag
   pub delete : (v : View) → get_elem? now.views seat ≡ some v → (c gp : ℕ) (p : Link) (y : ℕ) (right : Bool) → MayDChild v c gp p y right
       → IsNear plan has.outs.stages now machine from.stages gp right p.tag
@@ -208,9 +208,9 @@ module _ (plan : TablePlan) (s : TableState) (reached : IsReached plan s) (seat 
   allowed k to v there f knows = (to.invariant.workers.each seat).facts f (ap (λ (u : Worker). u.knows f) (mine_is plan now k seat v there) ∙ knows)
 
   insert_near : (k : HasMachine plan now) (to : ComesFrom m has.outs.stages (machine_of_table plan now k)) → TagsFrom m has.outs.stages (machine_of_table plan now k) to
-      → (v : View) → get_elem? now.views seat ≡ some v → (c p : ℕ) (l : Link) (q : ℕ) (right : Bool) → MayIChild v c p l q right
+      → (v : View) → get_elem? now.views seat ≡ some v → (c p : ℕ) (l : Link) (replaces right : Bool) → MayIChild v c p l replaces right
       → IsNear plan has.outs.stages now k to.stages p right l.tag
-  insert_near k to tags v there c p l q right may =
+  insert_near k to tags v there c p l replaces right may =
       let w = k.words in
       let said = insert_flagged plan now k seat v there c may.knows in
       let p_is : w.p c ≡ p = told_is plan now k seat v there c field.P p may.parent in

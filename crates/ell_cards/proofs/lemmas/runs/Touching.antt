@@ -92,7 +92,7 @@ calls_touch_their_words (call.FrozenChild c p right) = (_, refl)
 calls_touch_their_words (call.LookDown from to right) = (_, refl)
 calls_touch_their_words (call.Fill c f value) = (f, refl)
 calls_touch_their_words (call.IFlag c p from) = (field.Update, refl)
-calls_touch_their_words (call.IChild c p l q right) = (_, refl)
+calls_touch_their_words (call.IChild c p l replaces right) = (_, refl)
 calls_touch_their_words (call.IUnflag c p) = (field.Update, refl)
 calls_touch_their_words (call.DFlag c gp from) = (field.Update, refl)
 calls_touch_their_words (call.Mark c p was) = (field.Update, refl)
@@ -448,7 +448,7 @@ module _ (plan : TablePlan) (m : Machine) (stage : Stages) (first : Invariant m 
           let passed = subst (IsPassed v) may.node (met.parent may.parent may.behind) in (old (Met p) passed.met).1
       touches (call.DFlag c gp at) may =
           let passed = subst (IsPassed v) may.node (met.grandparent may.grandparent may.above) in (old (Met gp) passed.met).1
-      touches (call.IChild c p l q right) may =
+      touches (call.IChild c p l replaces right) may =
           (at_parent c p may.parent (insert_goes c (allowed (fact.IFlagged c) may.knows) (card_un c field.P p may.parent))).1
       touches (call.IUnflag c p) may =
           (at_parent c p may.place (insert_goes c (changed-won (from.stages c) (allowed (fact.IChanged c) may.knows)) (card_un c field.P p may.place))).1

@@ -63,7 +63,7 @@ pub won_alike : (plan : TablePlan) (c : Call) (n : ℕ) (v : View) → May plan 
 won_alike plan (call.Claim c q) n v may d = claimed (n == c) v.worker.card d
 won_alike plan (call.IFlag c p from) n v may d =
     tried act.IFlag (n == packed from) v.worker.card d ∙ λ t. if n == packed from then win_for (may.may.holds t) exchange.IFlag d else []
-won_alike plan (call.IChild c p l q right) n v may d = tried (act.IChild c) (n == linked l) v.worker.card d
+won_alike plan (call.IChild c p l replaces right) n v may d = tried (act.IChild c) (n == linked l) v.worker.card d
 won_alike plan (call.IUnflag c p) n v may d = tried (act.IUnflag c) (n == iflag c) v.worker.card d
 won_alike plan (call.DFlag c gp from) n v may d =
     tried act.DFlag (n == packed from) v.worker.card d ∙ λ t. if n == packed from then win_for (may.may.holds t) exchange.DFlag d else []

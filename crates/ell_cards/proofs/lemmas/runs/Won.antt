@@ -61,7 +61,7 @@ total k c s = times_in k c s.views
 abbrev pub won_by : Call → ℕ → List (Exchange × ℕ)
 won_by (call.Claim c q) n = if_won (n == c) exchange.Claim c
 won_by (call.IFlag c p from) n = if_won (n == packed from) exchange.IFlag c
-won_by (call.IChild c p l q right) n = if_won (n == linked l) exchange.IChild c
+won_by (call.IChild c p l replaces right) n = if_won (n == linked l) exchange.IChild c
 won_by (call.IUnflag c p) n = if_won (n == iflag c) exchange.IUnflag c
 won_by (call.DFlag c gp from) n = if_won (n == packed from) exchange.DFlag c
 won_by (call.Mark c p was) n = if_won (n == was) exchange.Mark c
@@ -174,7 +174,7 @@ no_claim true k c d more = by (d == c)
 call_counts : (k : Exchange) → 0 < number k → (c : Call) (d n : ℕ) → times k d (won_by c n) ≡ count k (if is_won (atomic_of c) n then win_of c d else [])
 call_counts k more (call.Claim c q) d n = no_claim (n == c) k c d more
 call_counts k more (call.IFlag c p from) d n = single (n == packed from) exchange.IFlag c k d
-call_counts k more (call.IChild c p l q right) d n = single (n == linked l) exchange.IChild c k d
+call_counts k more (call.IChild c p l replaces right) d n = single (n == linked l) exchange.IChild c k d
 call_counts k more (call.IUnflag c p) d n = single (n == iflag c) exchange.IUnflag c k d
 call_counts k more (call.DFlag c gp from) d n = single (n == packed from) exchange.DFlag c k d
 call_counts k more (call.Mark c p was) d n = single (n == was) exchange.Mark c k d

@@ -89,7 +89,7 @@ module _ (last : ℕ) where
   place_fits plan (call.Fill c f value) v may fill placed = at_card c f fill
   place_fits plan (call.IFlag c p from) v may fill placed = at_card (card p) field.Update
       (subst (λ y. slot_of (card y) ≤ last) may.node (placed.parent may.leaf _ may.stands may.behind))
-  place_fits plan (call.IChild c p l q right) v may fill placed = at_card (card p) (child_field right) (placed.entries (Info c field.P p) may.parent)
+  place_fits plan (call.IChild c p l replaces right) v may fill placed = at_card (card p) (child_field right) (placed.entries (Info c field.P p) may.parent)
   place_fits plan (call.IUnflag c p) v may fill placed = at_card (card p) field.Update (placed.entries (Info c field.P p) may.place)
   place_fits plan (call.DFlag c gp from) v may fill placed = at_card (card gp) field.Update
       (subst (λ y. slot_of (card y) ≤ last) may.node (placed.grandparent may.leaf may.parent _ may.stands may.behind may.above))

@@ -119,7 +119,7 @@ word_fits plan (call.LookDown from key right) v may last named = address_fits la
 word_fits plan (call.Fill c f value) v may last named = address_fits last c f (named.hand c may.holds)
 word_fits plan (call.IFlag c p from) v may last named = address_fits last (card p) field.Update
     (subst (λ y. card y ≤ last) may.node (named.parent may.leaf _ may.stands may.behind).node)
-word_fits plan (call.IChild c p l q right) v may last named = address_fits last (card p) (child_field right) (named.entries (Info c field.P p) may.parent).1
+word_fits plan (call.IChild c p l replaces right) v may last named = address_fits last (card p) (child_field right) (named.entries (Info c field.P p) may.parent).1
 word_fits plan (call.IUnflag c p) v may last named = address_fits last (card p) field.Update (named.entries (Info c field.P p) may.place).1
 word_fits plan (call.DFlag c gp from) v may last named =
     address_fits last (card gp) field.Update

@@ -36,9 +36,9 @@ use Rattle.ell_cards.proofs.lemmas.seats.Seats.{mine_sound}
 use Rattle.ell_core.proofs.lemmas.stages.Order.{insert-claimed, insert_won-insert}
 
 -- a node that a card of the table brings is small
-brought_small : (c last q : ℕ) (replaces : Bool) → q ≡ brought_by c replaces → c ≤ last → last ≤ greatest_number → q < tag_unit
-brought_small c last q true e low room = omega arith
-brought_small c last q false e low room = omega arith
+brought_small : (c last : ℕ) (replaces : Bool) → c ≤ last → last ≤ greatest_number → brought_by c replaces < tag_unit
+brought_small c last true low room = omega arith
+brought_small c last false low room = omega arith
 
 -- the key of the right leaf of an insert's card lies on the side of the parent on which its node goes
 pub right_side : (w : Words) (stage : Stages) (c : ℕ) → InsertCard w stage c → is_right w (w.p c) (w.key (right_leaf c)) ≡ insert_side w c
@@ -51,8 +51,8 @@ right_side w stage c said = by said.copy
 
 module _ (plan : TablePlan) (s : TableState) (r : HasMachine plan s) (id : ℕ) (v : View) (here : get_elem? s.views id ≡ some v) where
   -- ichild
-  pub keeps_ichild : (c p : ℕ) (l : Link) (q : ℕ) (right : Bool) → MayIChild v c p l q right → IsEvent plan s r id v (call.IChild c p l q right)
-  keeps_ichild c p l q right may =
+  pub keeps_ichild : (c p : ℕ) (l : Link) (replaces right : Bool) → MayIChild v c p l replaces right → IsEvent plan s r id v (call.IChild c p l replaces right)
+  keeps_ichild c p l replaces right may =
       let w = r.words in
       let a = act.IChild c in
       let g = child_field right in
@@ -64,7 +64,8 @@ module _ (plan : TablePlan) (s : TableState) (r : HasMachine plan s) (id : ℕ) 
       let link_is : l ≡ expected w c (w.l c) = λ t. record { node = sym l_is t; tag = sym tag_is t } in
       let left_is : w.key (left_leaf c) ≡ may.left_key = told_is plan s r id v here c field.LeftLeafKey may.left_key may.told_left in
       let right_is : w.key (right_leaf c) ≡ may.right_key = told_is plan s r id v here c field.RightLeafKey may.right_key may.told_right in
-      let brought_is : brought w c ≡ q = (λ t. brought_by c (left_is t == right_is t)) ∙ sym may.brings in
+      let q = brought_by c replaces in
+      let brought_is : brought w c ≡ q = ap (brought_by c) ((λ t. left_is t == right_is t) ∙ sym may.brings) in
       let side : exchange_side w (w.p c) q ≡ right =
       ap (exchange_side w (w.p c)) (sym brought_is) ∙ (brought_side w r.stages c said ∙ (sym (right_side w r.stages c said) ∙ (ap (λ k. nat_le k (w.key (right_leaf c))) (ap w.key p_is ∙ told_key plan s r id v here p may.parent_key may.told_parent)
       ∙ (ap (nat_le may.parent_key) right_is ∙ sym may.side)))) in
@@ -72,10 +73,10 @@ module _ (plan : TablePlan) (s : TableState) (r : HasMachine plan s) (id : ℕ) 
       let child_small = born_small plan s r id v here (w.child (w.p c) right) (child_born plan s r id v here (w.p c) right said.parent.inner said.parent.born) in
       let leaf_small : l.node < tag_unit = subst (λ y. y < tag_unit) l_is (born_small plan s r id v here (w.l c) said.lower) in
       let claimed = (r.invariant.words.cards c).claimed.0 (insert-claimed (r.stages c) (insert_won-insert (r.stages c) ((mine_sound plan s r id v here).facts (IFlagged c) may.knows))) in
-      let new_small : q < tag_unit = brought_small c plan.last_card q (may.left_key == may.right_key) may.brings (let room = r.invariant.limit in omega arith) r.limit in
+      let new_small : q < tag_unit = brought_small c plan.last_card replaces (let room = r.invariant.limit in omega arith) r.limit in
       let exchanged = child_exchanged w (w.p c) p l q n right p_is said.parent.inner side is child_small leaf_small new_small in
       let born = subst (Born r.stages) p_is said.parent.born in
-      is_event plan s r id v here (call.IChild c p l q right) a _ _
+      is_event plan s r id v here (call.IChild c p l replaces right) a _ _
       (teaches plan s r id v here a (card p) g (linked l) (linked (next_link l q)) (IChanged c) exchange.IChild c
       (in_list plan s r id v here p g born) (born-settled (r.stages (card p)) (p % 4) born)
       (λ e. (cc)) (λ e. (cc)) (λ e. refl) (λ e. refl) (record {

@@ -48,7 +48,7 @@ after_knows : (c : Call) (n : ℕ) (v : View) (f : Fact) → Knows v f → Knows
 after_knows (call.Upd x) n v f h = facts_by_more (unpacked n).state (unpacked n).card v.worker.knows f h
 after_knows (call.Claim c q) n v f h = claim_knows (n == c) c q v f h
 after_knows (call.IFlag c p from) n v f h = flag_knows (n == packed from) (fact.IFlagged c) p (unpacked n) v f h
-after_knows (call.IChild c p l q right) n v f h = knows_more (fact.IChanged c) f v.worker.knows h
+after_knows (call.IChild c p l replaces right) n v f h = knows_more (fact.IChanged c) f v.worker.knows h
 after_knows (call.IUnflag c p) n v f h = knows_more (fact.IOver c) f v.worker.knows h
 after_knows (call.DFlag c gp from) n v f h = flag_knows (n == packed from) (fact.DFlagged c) gp (unpacked n) v f h
 after_knows (call.Mark c p was) n v f h = mark_knows (n == was) c p (unpacked n) v f h
@@ -143,9 +143,9 @@ own_kind true k c d more = elim (cases_eq d c) [
 
 -- a call that wins a child exchange tells of it
 tells_change : (c : Call) (n : ℕ) (v : View) (d : ℕ) → 0 < times exchange.IChild d (won_by c n) → Knows (after c n v) (fact.IChanged d)
-tells_change (call.IChild c p l q right) n v d more =
+tells_change (call.IChild c p l replaces right) n v d more =
     let own = own_kind (n == linked l) exchange.IChild c d more in
-    subst (λ e. Knows (after (call.IChild c p l q right) n v) (fact.IChanged e)) (sym own) (knows_new (fact.IChanged c) v.worker.knows)
+    subst (λ e. Knows (after (call.IChild c p l replaces right) n v) (fact.IChanged e)) (sym own) (knows_new (fact.IChanged c) v.worker.knows)
 tells_change (call.Claim c q) n v d more = let none = other_kind (n == c) exchange.Claim exchange.IChild c d refl in absurd (omega arith)
 tells_change (call.IFlag c p from) n v d more = let none = other_kind (n == packed from) exchange.IFlag exchange.IChild c d refl in absurd (omega arith)
 tells_change (call.IUnflag c p) n v d more = let none = other_kind (n == iflag c) exchange.IUnflag exchange.IChild c d refl in absurd (omega arith)
@@ -162,7 +162,7 @@ tells_cut (call.DChild c gp p y right) n v d more =
     subst (λ e. Knows (after (call.DChild c gp p y right) n v) (fact.Cut e)) (sym own) (knows_new (fact.Cut c) v.worker.knows)
 tells_cut (call.Claim c q) n v d more = let none = other_kind (n == c) exchange.Claim exchange.DChild c d refl in absurd (omega arith)
 tells_cut (call.IFlag c p from) n v d more = let none = other_kind (n == packed from) exchange.IFlag exchange.DChild c d refl in absurd (omega arith)
-tells_cut (call.IChild c p l q right) n v d more = let none = other_kind (n == linked l) exchange.IChild exchange.DChild c d refl in absurd (omega arith)
+tells_cut (call.IChild c p l replaces right) n v d more = let none = other_kind (n == linked l) exchange.IChild exchange.DChild c d refl in absurd (omega arith)
 tells_cut (call.IUnflag c p) n v d more = let none = other_kind (n == iflag c) exchange.IUnflag exchange.DChild c d refl in absurd (omega arith)
 tells_cut (call.DFlag c gp from) n v d more = let none = other_kind (n == packed from) exchange.DFlag exchange.DChild c d refl in absurd (omega arith)
 tells_cut (call.Mark c p was) n v d more = let none = other_kind (n == was) exchange.Mark exchange.DChild c d refl in absurd (omega arith)

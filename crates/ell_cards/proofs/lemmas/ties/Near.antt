@@ -201,8 +201,8 @@ module _ (plan : TablePlan) (s : Slots) (tree : TableState) (t : WholeState) (li
       let last = near.machine.limit in
       omega arith
 
-  insert_near : (c p : ℕ) (l : Link) (q : ℕ) (right : Bool) → MayIChild k.tree c p l q right → IsNear l (get_or tree.words (child_address p right) 0)
-  insert_near c p l q right may = link_near p right l (near.insert k.tree there c p l q right may)
+  insert_near : (c p : ℕ) (l : Link) (replaces right : Bool) → MayIChild k.tree c p l replaces right → IsNear l (get_or tree.words (child_address p right) 0)
+  insert_near c p l replaces right may = link_near p right l (near.insert k.tree there c p l replaces right may)
       (subst (λ n. n < tag_unit) (told_is plan tree near.machine id k.tree there c field.L l.node may.leaf)
       (has_room (near.machine.words.l c) (insert_flagged plan tree near.machine id k.tree there c may.knows).lower))
 
@@ -216,8 +216,8 @@ expected_links_are_near plan s tree t lie dead was_dead tied reached low id k he
     by (tied.ages.since id period.place period.reading k period.there period.has period.announces) made may
   where
     by : IsAtRest k.tree ⊎ ForgotWhen plan tree id (was_dead period.place) → (c : Call) → May plan c k.tree → ExpectsNear c (found_by tree c)
-    by (inl rest) (call.IChild c p l q right) may = absurd (rest.forgot (Info c field.P p) may.parent)
+    by (inl rest) (call.IChild c p l replaces right) may = absurd (rest.forgot (Info c field.P p) may.parent)
     by (inl rest) (call.DChild c gp p y right) may = absurd (rest.forgot (Info c field.Gp gp) may.grandparent)
-    by (inr forgot) (call.IChild c p l q right) may = insert_near plan s tree t lie dead was_dead tied low id k here there period forgot c p l q right may
+    by (inr forgot) (call.IChild c p l replaces right) may = insert_near plan s tree t lie dead was_dead tied low id k here there period forgot c p l replaces right may
     by (inr forgot) (call.DChild c gp p y right) may = delete_near plan s tree t lie dead was_dead tied low id k here there period forgot c gp p y right may
     by _ _ may = tt

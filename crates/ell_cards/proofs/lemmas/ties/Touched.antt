@@ -84,7 +84,7 @@ spots (call.FrozenChild c p right) = inr (child_field right, refl, refl, said_ch
 spots (call.LookDown from to right) = inr (child_field right, refl, refl, said_child right)
 spots (call.Fill c f value) = inr (f, refl, refl, tt)
 spots (call.IFlag c p from) = inr (field.Update, refl, refl, refl)
-spots (call.IChild c p l q right) = inr (child_field right, refl, refl, said_child right)
+spots (call.IChild c p l replaces right) = inr (child_field right, refl, refl, said_child right)
 spots (call.IUnflag c p) = inr (field.Update, refl, refl, refl)
 spots (call.DFlag c gp from) = inr (field.Update, refl, refl, refl)
 spots (call.Mark c p was) = inr (field.Update, refl, refl, refl)
@@ -172,7 +172,7 @@ module _ (plan : TablePlan) (s : TableState) (r : HasMachine plan s) (id : ℕ) 
       of_node may.grandparent.node gp may.node
       ((relies plan s r id v here).grandparent may.leaf may.parent may.grandparent (ap (λ (z : Worker). z.search.node) same ∙ may.stands)
       (ap (λ (z : Worker). z.search.parent) same ∙ may.behind) (ap (λ (z : Worker). z.search.grandparent) same ∙ may.above)).node.born
-  touched_won (call.IChild c p l q right) may =
+  touched_won (call.IChild c p l replaces right) may =
       of_node (r.words.p c) p (told_is plan s r id v here c field.P p may.parent) (insert_flagged plan s r id v here c may.knows).parent.born
   touched_won (call.IUnflag c p) may =
       of_node (r.words.p c) p (told_is plan s r id v here c field.P p may.place) (insert_changed plan s r id v here c may.knows).parent.born

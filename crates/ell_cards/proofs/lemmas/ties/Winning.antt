@@ -125,7 +125,7 @@ module _ (plan : TablePlan) (s : TableState) (r : HasMachine plan s) (id : ℕ) 
   pub gains : (c : Call) → May plan c v → (d : ℕ) → (turn_wins s (Makes id c) d ≡ []) ⊎ (HasWon r.stages d ⊎ FlagsCard c d)
   gains (call.IFlag c p from) may d = elim (for_card (is_won (atomic_of (call.IFlag c p from)) (found_by s (call.IFlag c p from))) exchange.IFlag c d) [ inl e ↦ inl e | inr e ↦ inr (inr e) ]
   gains (call.DFlag c gp from) may d = elim (for_card (is_won (atomic_of (call.DFlag c gp from)) (found_by s (call.DFlag c gp from))) exchange.DFlag c d) [ inl e ↦ inl e | inr e ↦ inr (inr e) ]
-  gains (call.IChild c p l q right) may d = elim (for_card (is_won (atomic_of (call.IChild c p l q right)) (found_by s (call.IChild c p l q right))) exchange.IChild c d) [
+  gains (call.IChild c p l replaces right) may d = elim (for_card (is_won (atomic_of (call.IChild c p l replaces right)) (found_by s (call.IChild c p l replaces right))) exchange.IChild c d) [
     | inl e ↦ inl e
     | inr e ↦ inr (inl (subst (HasWon r.stages) (sym e) (insert_is_won (r.stages c) ((mine_sound plan s r id v here).facts (fact.IFlagged c) may.knows))))
   ]

@@ -217,7 +217,7 @@ module _ (plan : TablePlan) (s : WholeState) (h : IsWhole plan s) (id : ℕ) (k 
       ]
         where
           rest_near : (d : Call) → IsAtRest k.tree → May plan d k.tree → ExpectsNear d (found_by h.tree d)
-          rest_near (call.IChild e p l q right) rest may = absurd (rest.forgot (Info e field.P p) may.parent)
+          rest_near (call.IChild e p l replaces right) rest may = absurd (rest.forgot (Info e field.P p) may.parent)
           rest_near (call.DChild e gp p y right) rest may = absurd (rest.forgot (Info e field.Gp gp) may.grandparent)
           rest_near _ rest may = tt
 
@@ -291,7 +291,7 @@ asks_whole slot v _ asks = tt
 -- it touches the word that the call touches
 place_shown : (c : Call) → place_of (shown_call c) ≡ place_of c
 place_shown (call.Fill e f value) = refl
-place_shown (call.IChild e p l q right) = refl
+place_shown (call.IChild e p l replaces right) = refl
 place_shown (call.DChild e gp p y right) = refl
 place_shown _ = refl
 

@@ -105,7 +105,7 @@ fields_after plan tree v (call.DUnflag c gp) may named fills whole =
     put_field tree.words whole (card gp) field.Update _ (left_word _ _ _ (update_word state.Clean c (named.facts (fact.Cut c) may.knows)) (whole (card gp) field.Update))
 fields_after plan tree v (call.Backtrack c gp) may named fills whole =
     put_field tree.words whole (card gp) field.Update _ (left_word _ _ _ (update_word state.Clean c (named.facts (fact.Unmarkable c) may.knows)) (whole (card gp) field.Update))
-fields_after plan tree v (call.IChild c p l q right) may named fills whole = put_field tree.words whole (card p) (child_field right) _ (child_whole right _)
+fields_after plan tree v (call.IChild c p l replaces right) may named fills whole = put_field tree.words whole (card p) (child_field right) _ (child_whole right _)
 fields_after plan tree v (call.DChild c gp p y right) may named fills whole = put_field tree.words whole (card gp) (child_field right) _ (child_whole right _)
 fields_after plan tree v c may named fills whole = put_again tree.words whole (word_of c)
 
@@ -125,7 +125,7 @@ field_can tree claim whole (call.DFlag c gp from) v near inside = calls_can_be_s
 field_can tree claim whole (call.Mark c p was) v near inside = calls_can_be_shown.word (call.Mark c p was) _ v tt (whole (card p) field.Update) tt
 field_can tree claim whole (call.DUnflag c gp) v near inside = calls_can_be_shown.word (call.DUnflag c gp) _ v tt (whole (card gp) field.Update) tt
 field_can tree claim whole (call.Backtrack c gp) v near inside = calls_can_be_shown.word (call.Backtrack c gp) _ v tt (whole (card gp) field.Update) tt
-field_can tree claim whole (call.IChild c p l q right) v near inside = calls_can_be_shown.ichild c p l q right _ v near
+field_can tree claim whole (call.IChild c p l replaces right) v near inside = calls_can_be_shown.ichild c p l replaces right _ v near
 field_can tree claim whole (call.DChild c gp p y right) v near inside = calls_can_be_shown.dchild c gp p y right _ v near
 field_can tree claim whole (call.Fill c f value) v near inside = calls_can_be_shown.fill c f value _ v
 field_can tree claim whole _ v near inside = record { wins = refl; whole = tt; inside = tt }

@@ -57,13 +57,13 @@ module _ (plan : TablePlan) (v : View) (last : ℕ) (few : last ≤ greatest_car
           may = record { holds = may.holds; unflagged = may.unflagged };
           fills = fills_whole f value word (planned x (record { holds = may.holds; unflagged = may.unflagged }));
         }
-        by (call.IChild x p l node right) word may lift =
-            let own = origins_are_of_their_kind lift.origin (call.IChild x p l node right) lift.is in
+        by (call.IChild x p l replaces right) word may lift =
+            let own = origins_are_of_their_kind lift.origin (call.IChild x p l replaces right) lift.is in
             let asks = subst (λ d. May plan d v) own.2 lift.may in
             let stays = tag_stays x own.0 (named.entries (Expects x own.0) asks.expects) in
             let tag : own.0 ≡ l.tag = sym stays ∙ own.1 in record {
-              same = λ t. call.IChild x p (record { node = l.node; tag = (ap cut_tag (sym tag) ∙ own.1) t }) node right;
-              may = subst (λ g. May plan (call.IChild x p (record { node = l.node; tag = g }) node right) v) tag asks;
+              same = λ t. call.IChild x p (record { node = l.node; tag = (ap cut_tag (sym tag) ∙ own.1) t }) replaces right;
+              may = subst (λ g. May plan (call.IChild x p (record { node = l.node; tag = g }) replaces right) v) tag asks;
               fills = tt;
             }
         by (call.DChild x gp p s right) word may lift =

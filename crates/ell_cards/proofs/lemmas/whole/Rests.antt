@@ -76,7 +76,7 @@ module _ (v : View) (rest : IsAtRest v) where
   stays_at_rest plan (call.Claim c node_key) n quiet may = absurd (some_not_none may.0.busy rest.free)
   stays_at_rest plan (call.Fill c f value) n quiet may = told_same _ refl rest.free rest.nowhere rest.empty rest.nothing
   stays_at_rest plan (call.IFlag c p from) n quiet may = absurd (some_not_none may.busy rest.free)
-  stays_at_rest plan (call.IChild c p l q right) n quiet may = absurd (rest.forgot (Info c field.P p) may.parent)
+  stays_at_rest plan (call.IChild c p l replaces right) n quiet may = absurd (rest.forgot (Info c field.P p) may.parent)
   stays_at_rest plan (call.IUnflag c p) n quiet may = absurd (rest.forgot (Info c field.P p) may.place)
   stays_at_rest plan (call.DFlag c gp from) n quiet may = absurd (some_not_none may.busy rest.free)
   stays_at_rest plan (call.Mark c p was) n quiet may = absurd (rest.forgot (Info c field.P p) may.0.place)
@@ -105,7 +105,7 @@ rest_touches_the_root plan v rest (call.LookDown from to right) may =
     absurd (has_none may.come.glance (subst (λ es. Has es may.come.glance) rest.nothing may.come.among))
 rest_touches_the_root plan v rest (call.Fill c f value) may = some_not_none may.holds rest.empty
 rest_touches_the_root plan v rest (call.IFlag c p from) may = absurd (some_not_none may.busy rest.free)
-rest_touches_the_root plan v rest (call.IChild c p l q right) may = absurd (rest.forgot (Info c field.P p) may.parent)
+rest_touches_the_root plan v rest (call.IChild c p l replaces right) may = absurd (rest.forgot (Info c field.P p) may.parent)
 rest_touches_the_root plan v rest (call.IUnflag c p) may = absurd (rest.forgot (Info c field.P p) may.place)
 rest_touches_the_root plan v rest (call.DFlag c gp from) may = absurd (some_not_none may.busy rest.free)
 rest_touches_the_root plan v rest (call.Mark c p was) may = absurd (rest.forgot (Info c field.P p) may.0.place)
