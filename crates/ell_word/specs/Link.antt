@@ -23,7 +23,7 @@ node_bound = 2 ^ 63
 -- tag at the top.
 abbrev pub linked : Link → ℕ
 linked link = link.node % 8796093022208 + 8796093022208 * (link.tag % 2097152)
-  + 18446744073709551616 * (link.node / 8796093022208 + 1048576 * (link.tag / 2097152))
+    + 18446744073709551616 * (link.node / 8796093022208 + 1048576 * (link.tag / 2097152))
 
 -- the link that a number says
 abbrev pub link_in : ℕ → Link
