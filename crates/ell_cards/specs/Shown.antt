@@ -28,6 +28,10 @@ IsWord n = n < 2 ^ 64
 abbrev pub cut_word : ℕ → ℕ
 cut_word n = n % 2 ^ 64
 
+-- a number that says a node for which a child word has room: then the word of 64 bits that it is cut to says that node
+abbrev pub NodeFits : ℕ → Type 0
+NodeFits n = (link_in n).node < tag_unit
+
 -- what a child word holds of a tag
 abbrev pub cut_tag : ℕ → ℕ
 cut_tag tag = tag % (greatest_tag + 1)
@@ -78,20 +82,24 @@ shown_call (call.IChild c p l node right) = call.IChild c p (shown_link l) node 
 shown_call (call.DChild c gp p s right) = call.DChild c gp (shown_link p) s right
 shown_call c = c
 
--- a word of a card that may be a child word, or else is a number that a word holds
+-- a word of a card that may be a child word, which has room for its node, or else is a number that a word holds
 abbrev pub FieldIsWhole : Field → ℕ → Type 0
-FieldIsWhole field.L n = Unit {0}
-FieldIsWhole field.Left n = Unit {0}
-FieldIsWhole field.Right n = Unit {0}
+FieldIsWhole field.L n = NodeFits n
+FieldIsWhole field.Left n = NodeFits n
+FieldIsWhole field.Right n = NodeFits n
 FieldIsWhole f n = IsWord n
 
--- a call that reads a word other than a child word has found one that a word holds
+-- a call that reads a word has found one that a word holds, or a child word that has room for its node
 abbrev pub ReadsWhole : Call → ℕ → Type 0
 ReadsWhole (call.Upd x) n = IsWord n
 ReadsWhole call.Next n = IsWord n
 ReadsWhole (call.KeyOf x) n = IsWord n
 ReadsWhole (call.ValueOf x) n = IsWord n
 ReadsWhole (call.Info c f) n = FieldIsWhole f n
+ReadsWhole (call.Down x right) n = NodeFits n
+ReadsWhole (call.FrozenChild c p right) n = NodeFits n
+ReadsWhole call.Look n = NodeFits n
+ReadsWhole (call.LookDown from to right) n = NodeFits n
 ReadsWhole (call.IFlag c p from) n = IsWord n
 ReadsWhole (call.DFlag c gp from) n = IsWord n
 ReadsWhole (call.Mark c p was) n = IsWord n
@@ -116,10 +124,11 @@ HasNoLink (call.IChild c p l node right) = ⊥
 HasNoLink (call.DChild c gp p s right) = ⊥
 HasNoLink _ = Unit {0}
 
--- a child word has room for a link's node and, if it has that node itself, a tag that is no less than the link's, and
--- greater by less than there are tags that words tell apart
+-- a child word has room for a link's node, and for the node that this number says; and if that is the link's node, the
+-- number's tag is no less than the link's, and greater by less than there are tags that words tell apart
 pub record IsNear (l : Link) (n : ℕ) : Type 0 where
   pub inside : l.node < tag_unit
+  pub fits : NodeFits n
   pub least : (link_in n).node ≡ l.node → l.tag ≤ (link_in n).tag
   pub most : (link_in n).node ≡ l.node → (link_in n).tag ≤ l.tag + greatest_tag
 
@@ -161,18 +170,24 @@ abbrev pub FillIsWhole : Call → View → Type 0
 FillIsWhole (call.Fill c f value) v = IsWholeFor f value v
 FillIsWhole _ v = Unit {0}
 
+-- what a call fills in a field is whole
+abbrev pub FillsWhole : Call → Type 0
+FillsWhole (call.Fill c f value) = FieldIsWhole f value
+FillsWhole _ = Unit {0}
+
 -- what a call has to store is a word
 abbrev pub StoresWord : Call → Type 0
 StoresWord (call.Fill c f value) = IsWord value
 StoresWord _ = Unit {0}
 
 -- a call that may be made by what is shown of what a pass knows is what is shown of a call that may be made by that
--- itself
+-- itself, and what it fills in a field is whole if the leaf's word that is planned for the card in hand is
 pub record IsLifted (plan : TablePlan) (c : Call) (v : View) : Type 0 where
   pub origin : Call
   pub is : shown_call origin ≡ c
   pub may : May plan origin v
   pub fills : FillIsWhole origin v
+  pub whole : FieldIsWhole field.L (stored v.planned field.L 0) → FillsWhole origin
 
 -- what is shown of what a pass knows after a call is what it knows after the call that is shown
 abbrev pub StepsAreShown : Type 0

@@ -78,6 +78,7 @@ ichild_lifted plan v c p l node right may =
         side = may.side;
       };
       fills = tt;
+      whole = λ _. tt;
     }
 
 sibling_whole : (v : View) (c l s : ℕ) → IsSibling (shown v) c l s → IsSibling v c l s
@@ -108,36 +109,40 @@ dchild_lifted plan v c gp p s right may =
         side = may.side;
       };
       fills = tt;
+      whole = λ _. tt;
     }
 
 fill_lifted : (plan : TablePlan) (v : View) (c : ℕ) (f : Field) (value : ℕ) → IsWord value → MayFill (shown v) c
     → IsLifted plan (call.Fill c f value) v
 fill_lifted plan v c f value word may =
     let old = was_stored f value v word in
-    record { origin = call.Fill c f old.whole; is = ap (call.Fill c f) old.is; may = fill_whole v c may; fills = old.fills }
+    record { origin = call.Fill c f old.whole; is = ap (call.Fill c f) old.is; may = fill_whole v c may; fills = old.fills; whole = old.fits }
 
 pub guards_are_lifted : GuardsAreLifted
 guards_are_lifted plan (call.Begin op) v stores word may =
-    record { origin = call.Begin op; is = refl; may = may; fills = tt }
+    record { origin = call.Begin op; is = refl; may = may; fills = tt; whole = λ _. tt }
 guards_are_lifted plan call.Again v stores word may = record {
   origin = call.Again;
   is = refl;
   may = record { op = may.op; busy = may.busy; backed = may.backed };
   fills = tt;
+  whole = λ _. tt;
 }
 guards_are_lifted plan call.Leave v stores word may = record {
   origin = call.Leave;
   is = refl;
   may = record { op = may.op; busy = may.busy; backed = may.backed };
   fills = tt;
+  whole = λ _. tt;
 }
 guards_are_lifted plan (call.Answer said) v stores word may =
-    record { origin = call.Answer said; is = refl; may = answer_whole v said may; fills = tt }
+    record { origin = call.Answer said; is = refl; may = answer_whole v said may; fills = tt; whole = λ _. tt }
 guards_are_lifted plan (call.Upd x) v stores word may = record {
   origin = call.Upd x;
   is = refl;
   may = record { stands = may.stands; inner = may.inner; unread = may.unread };
   fills = tt;
+  whole = λ _. tt;
 }
 guards_are_lifted plan (call.Down x right) v stores word may = record {
   origin = call.Down x right;
@@ -155,55 +160,62 @@ guards_are_lifted plan (call.Down x right) v stores word may = record {
     no_card = may.no_card;
   };
   fills = tt;
+  whole = λ _. tt;
 }
-guards_are_lifted plan call.Next v stores word may = record { origin = call.Next; is = refl; may = may; fills = tt }
+guards_are_lifted plan call.Next v stores word may = record { origin = call.Next; is = refl; may = may; fills = tt; whole = λ _. tt }
 guards_are_lifted plan (call.KeyOf x) v stores word may =
-    record { origin = call.KeyOf x; is = refl; may = itself v.told (Met x) tt may; fills = tt }
+    record { origin = call.KeyOf x; is = refl; may = itself v.told (Met x) tt may; fills = tt; whole = λ _. tt }
 guards_are_lifted plan (call.ValueOf x) v stores word may =
-    record { origin = call.ValueOf x; is = refl; may = (itself v.told (Met x) tt may.0, may.1); fills = tt }
+    record { origin = call.ValueOf x; is = refl; may = (itself v.told (Met x) tt may.0, may.1); fills = tt; whole = λ _. tt }
 guards_are_lifted plan (call.Info c f) v stores word may = record {
   origin = call.Info c f;
   is = refl;
   may = record { knows = may.knows; place = where_whole v c may.place; fixed = may.fixed };
   fills = tt;
+  whole = λ _. tt;
 }
 guards_are_lifted plan (call.FrozenChild c p right) v stores word may = record {
   origin = call.FrozenChild c p right;
   is = refl;
   may = place_whole v (fact.Marked c) c field.P p may;
   fills = tt;
+  whole = λ _. tt;
 }
-guards_are_lifted plan call.Look v stores word may = record { origin = call.Look; is = refl; may = may; fills = tt }
+guards_are_lifted plan call.Look v stores word may = record { origin = call.Look; is = refl; may = may; fills = tt; whole = λ _. tt }
 guards_are_lifted plan (call.LookDown from to right) v stores word may = record {
   origin = call.LookDown from to right;
   is = refl;
   may = look_down_whole (flat_from plan) v from to right may;
   fills = tt;
+  whole = λ _. tt;
 }
-guards_are_lifted plan call.Rest v stores word may = record { origin = call.Rest; is = refl; may = may; fills = tt }
+guards_are_lifted plan call.Rest v stores word may = record { origin = call.Rest; is = refl; may = may; fills = tt; whole = λ _. tt }
 guards_are_lifted plan (call.Claim c node_key) v stores word may = record {
   origin = call.Claim c node_key;
   is = refl;
   may = (claim_whole (flat_from plan) v c node_key may.0, may.1);
   fills = tt;
+  whole = λ _. tt;
 }
 guards_are_lifted plan (call.Fill c f value) v stores word may = fill_lifted plan v c f value word may
 guards_are_lifted plan (call.IFlag c p from) v stores word may =
-    record { origin = call.IFlag c p from; is = refl; may = iflag_whole v c p from stores may; fills = tt }
+    record { origin = call.IFlag c p from; is = refl; may = iflag_whole v c p from stores may; fills = tt; whole = λ _. tt }
 guards_are_lifted plan (call.IChild c p l node right) v stores word may = ichild_lifted plan v c p l node right may
 guards_are_lifted plan (call.IUnflag c p) v stores word may = record {
   origin = call.IUnflag c p;
   is = refl;
   may = place_whole v (fact.IChanged c) c field.P p may;
   fills = tt;
+  whole = λ _. tt;
 }
 guards_are_lifted plan (call.DFlag c gp from) v stores word may =
-    record { origin = call.DFlag c gp from; is = refl; may = dflag_whole v c gp from stores may; fills = tt }
+    record { origin = call.DFlag c gp from; is = refl; may = dflag_whole v c gp from stores may; fills = tt; whole = λ _. tt }
 guards_are_lifted plan (call.Mark c p was) v stores word may = record {
   origin = call.Mark c p was;
   is = refl;
   may = (place_whole v (fact.DFlagged c) c field.P p may.0, itself v.told (Info c field.Was was) tt may.1);
   fills = tt;
+  whole = λ _. tt;
 }
 guards_are_lifted plan (call.DChild c gp p s right) v stores word may = dchild_lifted plan v c gp p s right may
 guards_are_lifted plan (call.DUnflag c gp) v stores word may = record {
@@ -211,10 +223,12 @@ guards_are_lifted plan (call.DUnflag c gp) v stores word may = record {
   is = refl;
   may = place_whole v (fact.Cut c) c field.Gp gp may;
   fills = tt;
+  whole = λ _. tt;
 }
 guards_are_lifted plan (call.Backtrack c gp) v stores word may = record {
   origin = call.Backtrack c gp;
   is = refl;
   may = place_whole v (fact.Unmarkable c) c field.Gp gp may;
   fills = tt;
+  whole = λ _. tt;
 }

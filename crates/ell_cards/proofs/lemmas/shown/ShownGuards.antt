@@ -17,8 +17,9 @@ use Rattle.ell_cards.specs.declared.view.Told.TheVariants.{Met, Key, Value, Info
 use Rattle.ell_cards.specs.declared.view.View.{View}
 use Rattle.ell_cards.specs.Models.{HasCome, stored_at}
 use Rattle.ell_cards.specs.Guards.{TellsOf, CardIsOver, MayAnswer, KnowsWhere, MayLookDown, KnowsPlace, Wants, MayClaim, IsFilled}
-use Rattle.ell_cards.specs.Shown.{IsWord, cut_word, shown_seen, shown_word, shown, StoresAreWhole, IsWholeFor}
-use Rattle.ell_cards.proofs.lemmas.shown.CutWords.{cut_same}
+use Rattle.ell_cards.specs.Shown.{IsWord, NodeFits, cut_word, shown_seen, shown_word, shown, FieldIsWhole, StoresAreWhole, IsWholeFor}
+use Rattle.ell_cards.proofs.lemmas.shown.CutWords.{cut_same, word_fits}
+use Rattle.ell_cards.proofs.lemmas.shown.ShownKinds.{field_is_whole}
 use Rattle.ell_cards.proofs.lemmas.shown.ShownTold.{itself}
 use Rattle.ell_cards.proofs.lemmas.shown.ShownWords.{stored_at_shown, planned_shown}
 
@@ -150,6 +151,7 @@ pub record WasStored (f : Field) (value : ℕ) (v : View) : Type 0 where
   pub whole : ℕ
   pub is : shown_word f whole ≡ value
   pub fills : IsWholeFor f whole v
+  pub fits : NodeFits (stored v.planned field.L 0) → FieldIsWhole f whole
 
 leaf_stored : (value : ℕ) (v : View) → IsWord value → WasStored field.L value v
 leaf_stored value v word = by (cut_word (stored v.planned field.L 0) == value) refl
@@ -159,16 +161,18 @@ leaf_stored value v word = by (cut_word (stored v.planned field.L 0) == value) r
       whole = stored v.planned field.L 0;
       is = eqb-true (cut_word (stored v.planned field.L 0)) value same;
       fills = λ _. refl;
+      fits = λ planned. planned;
     }
     by false other = record {
       whole = value;
       is = cut_same value word;
       fills = λ e. absurd (true≢false (sym (eq-eqb (cut_word (stored v.planned field.L 0)) value (sym e ∙ cut_same value word)) ∙ other));
+      fits = λ _. word_fits value word;
     }
 
 pub was_stored : (f : Field) (value : ℕ) (v : View) → IsWord value → WasStored f value v
 was_stored field.L value v word = leaf_stored value v word
-was_stored _ value v word = record { whole = value; is = refl; fills = tt }
+was_stored f value v word = record { whole = value; is = refl; fills = tt; fits = λ _. field_is_whole f value word }
 
 -- the card in hand is filled
 pub filled_whole : (v : View) → StoresAreWhole v → IsFilled (shown v) → IsFilled v

@@ -8,7 +8,7 @@ use Rattle.ell_cards.specs.declared.call.Call.{Call}
 use Rattle.ell_cards.specs.declared.call.Call.TheVariants as call
 use Rattle.ell_cards.specs.declared.view.View.{View}
 use Rattle.ell_cards.specs.Shown.{IsWord, shown_call, FieldIsWhole, StandsInside, CanBeShown, HasNoLink, CallsCanBeShown, IsOriginOf, OriginsAreOfTheirKind}
-use Rattle.ell_cards.proofs.lemmas.shown.CutWords.{compares_alike, links_alike}
+use Rattle.ell_cards.proofs.lemmas.shown.CutWords.{word_fits, compares_alike, links_alike}
 
 own_origin : (c : Call) → IsOriginOf (shown_call c) c
 own_origin (call.Fill c f value) = (value, refl, refl)
@@ -21,9 +21,9 @@ origins_are_of_their_kind origin c is = subst (λ d. IsOriginOf d origin) is (ow
 
 -- a call without a link that finds a word can be shown
 pub field_is_whole : (f : Field) (n : ℕ) → IsWord n → FieldIsWhole f n
-field_is_whole field.L n word = tt
-field_is_whole field.Left n word = tt
-field_is_whole field.Right n word = tt
+field_is_whole field.L n word = word_fits n word
+field_is_whole field.Left n word = word_fits n word
+field_is_whole field.Right n word = word_fits n word
 field_is_whole _ n word = word
 
 word_can : (c : Call) (n : ℕ) (v : View) → HasNoLink c → IsWord n → StandsInside c v → CanBeShown c n v
@@ -34,6 +34,10 @@ word_can (call.Upd x) n v plain word inside = record { wins = refl; whole = word
 word_can call.Next n v plain word inside = record { wins = refl; whole = word; inside = tt }
 word_can (call.KeyOf x) n v plain word inside = record { wins = refl; whole = word; inside = tt }
 word_can (call.ValueOf x) n v plain word inside = record { wins = refl; whole = word; inside = tt }
+word_can (call.Down x right) n v plain word inside = record { wins = refl; whole = word_fits n word; inside = tt }
+word_can (call.FrozenChild c p right) n v plain word inside = record { wins = refl; whole = word_fits n word; inside = tt }
+word_can call.Look n v plain word inside = record { wins = refl; whole = word_fits n word; inside = tt }
+word_can (call.LookDown from to right) n v plain word inside = record { wins = refl; whole = word_fits n word; inside = tt }
 word_can (call.Info c f) n v plain word inside = record { wins = refl; whole = field_is_whole f n word; inside = tt }
 word_can (call.Claim c node_key) n v plain word inside = record { wins = compares_alike n c word; whole = tt; inside = inside }
 word_can (call.IFlag c p from) n v plain word inside =

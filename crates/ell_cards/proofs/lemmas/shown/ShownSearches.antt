@@ -21,7 +21,7 @@ use Rattle.ell_cards.specs.declared.view.View.{View}
 use Rattle.ell_cards.specs.Depths.{met_at}
 use Rattle.ell_cards.specs.Changes.{counted, forgotten, way_now, in_the_way, read_in_way, first_in_way, was_hindered, tries_hindered, given_up, at_rest, answered_ledger, answered_so, with_answer, after_begin, after_again, after_leave, after_answer, after_upd, places_by, told_info, depth_there, knows_delete}
 use Rattle.ell_cards.specs.Calls.{after}
-use Rattle.ell_cards.specs.Shown.{IsWord, cut_word, shown_seen, shown_told, shown, FieldIsWhole}
+use Rattle.ell_cards.specs.Shown.{IsWord, cut_word, shown_seen, shown_told, shown, NodeFits, FieldIsWhole}
 use Rattle.ell_cards.proofs.lemmas.shown.CutWords.{cut_node, cut_tag_in, cut_same}
 use Rattle.ell_cards.proofs.lemmas.shown.ShownTold.{depth_shown, under_shown, taken_shown}
 
@@ -81,9 +81,9 @@ upd_shown x n v whole =
     (places_shown x (unpacked n).state (unpacked n).card v.told)
     ∙ ap (λ m. after_upd x (unpacked m) (shown v)) (sym (cut_same n whole))
 
-pub down_shown : (x : ℕ) (right : Bool) (n : ℕ) (v : View)
+pub down_shown : (x : ℕ) (right : Bool) (n : ℕ) (v : View) → NodeFits n
     → shown (after (call.Down x right) n v) ≡ after (call.Down x right) (cut_word n) (shown v)
-down_shown x right n v = λ t. down_to (sym (cut_node n) t) (sym (cut_tag_in n) t) (sym (depth_shown v.told x) t)
+down_shown x right n v fits = λ t. down_to (sym (cut_node n fits) t) (sym (cut_tag_in n) t) (sym (depth_shown v.told x) t)
   where
     down_to : ℕ → ℕ → ℕ → View
     down_to node tag depth = counted (record (shown v) {
@@ -115,9 +115,9 @@ depth_of_word v c _ = refl
 info_told : (depth c : ℕ) (f : Field) (n : ℕ) (told : List Told) → FieldIsWhole f n
     → map shown_told (told_info depth c f n told) ≡ told_info depth c f (cut_word n) (map shown_told told)
 info_told depth c field.L n told whole =
-    λ t. Info c field.L (sym (cut_node n) t) ∷ Expects c (sym (cut_tag_in n) t) ∷ map shown_told told
-info_told depth c field.Left n told whole = λ t. Info c field.Left (sym (cut_node n) t) ∷ map shown_told told
-info_told depth c field.Right n told whole = λ t. Info c field.Right (sym (cut_node n) t) ∷ map shown_told told
+    λ t. Info c field.L (sym (cut_node n whole) t) ∷ Expects c (sym (cut_tag_in n) t) ∷ map shown_told told
+info_told depth c field.Left n told whole = λ t. Info c field.Left (sym (cut_node n whole) t) ∷ map shown_told told
+info_told depth c field.Right n told whole = λ t. Info c field.Right (sym (cut_node n whole) t) ∷ map shown_told told
 info_told depth c field.Gp n told whole = λ t. told_info depth c field.Gp (sym (cut_same n whole) t) (map shown_told told)
 info_told depth c field.P n told whole = λ t. told_info depth c field.P (sym (cut_same n whole) t) (map shown_told told)
 info_told depth c field.Was n told whole = λ t. Info c field.Was (sym (cut_same n whole) t) ∷ map shown_told told
@@ -136,17 +136,17 @@ info_shown c f n v whole =
     ∙ ap (λ depth. told_info depth c f (cut_word n) (map shown_told v.told)) (sym (depth_of_word v c f)))
 
 -- frozen_child
-pub frozen_child_shown : (c p : ℕ) (right : Bool) (n : ℕ) (v : View)
+pub frozen_child_shown : (c p : ℕ) (right : Bool) (n : ℕ) (v : View) → NodeFits n
     → shown (after (call.FrozenChild c p right) n v) ≡ after (call.FrozenChild c p right) (cut_word n) (shown v)
-frozen_child_shown c p right n v = λ t. told_of (sym (cut_node n) t) (sym (depth_shown v.told p) t)
+frozen_child_shown c p right n v fits = λ t. told_of (sym (cut_node n fits) t) (sym (depth_shown v.told p) t)
   where
     told_of : ℕ → ℕ → View
     told_of node depth =
         record (shown v) { told = Frozen c right node ∷ met_at (depth + 1) node (shown v).told; made = v.made + 1 }
 
 -- look and look_down
-pub look_shown : (n : ℕ) (v : View) → shown (after call.Look n v) ≡ after call.Look (cut_word n) (shown v)
-look_shown n v = ap at (sym (cut_node n))
+pub look_shown : (n : ℕ) (v : View) → NodeFits n → shown (after call.Look n v) ≡ after call.Look (cut_word n) (shown v)
+look_shown n v fits = ap at (sym (cut_node n fits))
   where
     at : ℕ → View
     at node = counted (record (shown v) {
@@ -155,9 +155,9 @@ look_shown n v = ap at (sym (cut_node n))
       looks = v.looks + 1;
     })
 
-pub look_down_shown : (from : Glance) (to : Stretch) (right : Bool) (n : ℕ) (v : View)
+pub look_down_shown : (from : Glance) (to : Stretch) (right : Bool) (n : ℕ) (v : View) → NodeFits n
     → shown (after (call.LookDown from to right) n v) ≡ after (call.LookDown from to right) (cut_word n) (shown v)
-look_down_shown from to right n v = λ t. at (sym (cut_node n) t) (sym (depth_shown v.told from.node) t)
+look_down_shown from to right n v fits = λ t. at (sym (cut_node n fits) t) (sym (depth_shown v.told from.node) t)
   where
     at : ℕ → ℕ → View
     at node depth = counted (record (shown v) {

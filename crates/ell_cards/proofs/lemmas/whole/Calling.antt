@@ -11,6 +11,7 @@ use Rattle.ell_core.proofs.lemmas.outcomes.Decide.{some_not_none}
 use Rattle.ell_word.specs.Link.{linked, tag_unit}
 use Rattle.ell_word.specs.declared.link.Link.{Link}
 use Rattle.ell_word.specs.Node.{greatest_card, greatest_number}
+use Rattle.ell_layout.specs.Cards.{stored}
 use Rattle.ell_layout.specs.Layout.{address, table_size}
 use Rattle.ell_layout.specs.declared.field.Field.{Field}
 use Rattle.ell_layout.specs.declared.field.Field.TheVariants as field
@@ -23,12 +24,13 @@ use Rattle.ell_cards.specs.declared.view.Told.TheVariants.{Info}
 use Rattle.ell_cards.specs.declared.view.View.{View}
 use Rattle.ell_cards.specs.Ages.{HasPeriods}
 use Rattle.ell_cards.specs.Calls.{Load, Store, Exchange, next_link, word_of, place_of, atomic_of, is_won, left_by, May}
+use Rattle.ell_cards.specs.Guards.{MayFill}
 use Rattle.ell_cards.specs.Machines.{HasMachine}
 use Rattle.ell_cards.specs.Models.{Has, latest, earlier, TablePlan, last_slot, last_slot_of}
 use Rattle.ell_cards.specs.Naming.{IsNamed, IsPlaced}
 use Rattle.ell_cards.specs.PeriodLaws.{IsInPeriod}
 use Rattle.ell_cards.specs.Periods.{WholeState, IsAtRest, slots_size, after_flagging}
-use Rattle.ell_cards.specs.Shown.{IsWord, cut_word, shown_word, shown_words, shown, shown_call, FieldIsWhole, FillIsWhole, StandsInside, CanBeShown, StoresAreWhole, StoresWord}
+use Rattle.ell_cards.specs.Shown.{IsWord, cut_word, shown_word, shown_words, shown, shown_call, NodeFits, FillsWhole, FillIsWhole, StandsInside, CanBeShown, StoresAreWhole, StoresWord}
 use Rattle.ell_cards.specs.SlotWords.{slot_of}
 use Rattle.ell_cards.specs.Starts.{SlotsFit}
 use Rattle.ell_cards.specs.States.{TableState}
@@ -39,7 +41,7 @@ use Rattle.ell_cards.specs.Touching.{touched_by}
 use Rattle.ell_cards.specs.Turns.{Makes, found_by, view_after, state_after}
 use Rattle.ell_cards.specs.Whole.{FieldsAreWhole, WordsAre, PeriodsAre, AllStoresAreWhole, IsWhole}
 use Rattle.ell_cards.proofs.lemmas.runs.Reaching.{reached_kept, call_on}
-use Rattle.ell_cards.proofs.lemmas.seats.Named.{kept_named, named_more, planned_leaf}
+use Rattle.ell_cards.proofs.lemmas.seats.Named.{kept_named, named_more, planned_leaf, planned_fits}
 use Rattle.ell_cards.proofs.lemmas.seats.Placed.{named_placed}
 use Rattle.ell_cards.proofs.lemmas.seats.Seats.{set_there}
 use Rattle.ell_cards.proofs.lemmas.shown.CutWords.{cut_same}
@@ -51,7 +53,7 @@ use Rattle.ell_cards.proofs.lemmas.ties.Near.{expected_links_are_near}
 use Rattle.ell_cards.proofs.lemmas.ties.Placed.{placed_to}
 use Rattle.ell_cards.proofs.lemmas.ties.Touched.{spots, touched_won, claim_is_word}
 use Rattle.ell_cards.proofs.lemmas.whole.Ages.{AgesOn}
-use Rattle.ell_cards.proofs.lemmas.whole.Fields.{FillsWhole, fields_after, field_can}
+use Rattle.ell_cards.proofs.lemmas.whole.Fields.{fields_after, field_can}
 use Rattle.ell_cards.proofs.lemmas.whole.Losing.{aside_in_ages, lost_now}
 use Rattle.ell_cards.proofs.lemmas.whole.Lifts.{is_its_own, stands_inside, can_be_shown}
 use Rattle.ell_cards.proofs.lemmas.whole.Rests.{stays_at_rest}
@@ -301,16 +303,11 @@ quiet_whole (call.Begin op) quiet = quiet
 quiet_whole call.Look quiet = quiet
 quiet_whole _ quiet = tt
 
--- and stores a word where the call stores what a field holds whole
-word_filled : (f : Field) (value : ℕ) → IsWord (shown_word f value) → FieldIsWhole f value
-word_filled field.L value word = tt
-word_filled field.Left value word = tt
-word_filled field.Right value word = tt
-word_filled _ value word = word
-
-fills_whole : (c : Call) → StoresWord (shown_call c) → FillsWhole c
-fills_whole (call.Fill e f value) word = word_filled f value word
-fills_whole _ word = tt
+-- and what it fills in a field is whole where the leaf's word that is planned is
+fills_whole : (plan : TablePlan) (v : View) (c : Call) → May plan c v → ((x : ℕ) → MayFill v x → NodeFits (stored v.planned field.L 0))
+    → (NodeFits (stored v.planned field.L 0) → FillsWhole c) → FillsWhole c
+fills_whole plan v (call.Fill e f value) may planned fills = fills (planned e may)
+fills_whole plan v _ may planned fills = tt
 
 -- a call stores a word
 abbrev pub IsFill : Call → Type 0
@@ -391,7 +388,9 @@ module _ (plan : TablePlan) (k : Known) (c : Call) (f : ℕ → ℕ) (told : ℕ
       let lift = guards_are_lifted plan c k.tree stores word by_shown in
       let whole = lift.origin in
       let asks = asks_whole k.period.slot k.tree whole (subst (MayInMemory k.period.slot (shown k.tree)) (sym lift.is) (mem some)) in
-      let fills = fills_whole whole (subst StoresWord (sym lift.is) word) in
+      let kept = tree_kept plan s h id k here in
+      let fills = fills_whole plan k.tree whole lift.may
+      (λ x may. planned_fits plan h.tree kept id k.tree there plan.last_card kept.invariant.limit h.reached.starts.may.limit x may.holds may.unflagged) lift.whole in
       let calm : k.period.announced ≡ None → IsQuiet whole = λ none. quiet_whole whole (subst IsQuiet (sym lift.is) (quiet some none)) in
       let touch = tied_touch plan s h id k here whole lift.may lift.fills sl placed asks fills calm in
       let can = tied_can plan s h id k here whole lift.may lift.fills sl placed asks fills calm in

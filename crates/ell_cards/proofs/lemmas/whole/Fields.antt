@@ -1,27 +1,31 @@
 -- What a tree has in fields that are no child words stays what words of 64 bits hold, and so a call can be shown there.
-use Rattle.std.proofs.Common.{◌≡◌, ℕ, zero, suc, ◌≤◌, ◌%◌, if◌then◌else◌, Bool, true, false, List, [], ◌∷◌, get_or, set, inl, inr, ◌⊎◌, refl, sym, ap, ◌∙◌, subst, arith}
+use Rattle.std.proofs.Common.{◌≡◌, ℕ, zero, suc, ◌+◌, ◌≤◌, ◌==◌, ◌%◌, if◌then◌else◌, Bool, true, false, List, [], ◌∷◌, get_or, set, inl, inr, ◌⊎◌, refl, sym, ap, ◌∙◌, subst, arith}
 use Rattle.ell_word.specs.Node.{card, greatest_number}
+use Rattle.ell_word.specs.Link.{linked}
 use Rattle.ell_word.specs.Word.{packed}
 use Rattle.ell_word.specs.declared.update.State.{State}
 use Rattle.ell_word.specs.declared.update.State.TheVariants as state
 use Rattle.ell_layout.specs.declared.field.Field.{Field}
 use Rattle.ell_layout.specs.declared.field.Field.TheVariants as field
+use Rattle.ell_layout.specs.Cards.{brought_by}
 use Rattle.ell_layout.specs.Layout.{address}
 use Rattle.ell_layout.specs.Words.{key_field, value_field, child_field}
 use Rattle.ell_layout.proofs.lemmas.Listed.{addresses_apart}
 use Rattle.ell_core.specs.declared.fact.Fact.TheVariants as fact
 use Rattle.ell_cards.specs.declared.call.Call.{Call}
 use Rattle.ell_cards.specs.declared.call.Call.TheVariants as call
+use Rattle.ell_cards.specs.declared.view.Told.TheVariants.{Frozen}
 use Rattle.ell_cards.specs.declared.view.View.{View}
 use Rattle.ell_cards.specs.Calls.{May, word_of, atomic_of, left_by}
+use Rattle.ell_cards.specs.Guards.{IsSibling}
 use Rattle.ell_cards.specs.Models.{TablePlan}
 use Rattle.ell_cards.specs.Naming.{IsNamed}
-use Rattle.ell_cards.specs.Shown.{IsWord, FieldIsWhole, StandsInside, CanBeShown}
+use Rattle.ell_cards.specs.Shown.{IsWord, NodeFits, FieldIsWhole, StandsInside, CanBeShown, FillsWhole}
 use Rattle.ell_cards.specs.States.{TableState}
 use Rattle.ell_cards.specs.Ties.{ExpectsNear}
 use Rattle.ell_cards.specs.Turns.{found_by}
 use Rattle.ell_cards.specs.Whole.{FieldsAreWhole}
-use Rattle.ell_cards.proofs.lemmas.shown.CutWords.{compares_alike}
+use Rattle.ell_cards.proofs.lemmas.shown.CutWords.{compares_alike, linked_fits}
 use Rattle.ell_cards.proofs.lemmas.shown.ShownKinds.{calls_can_be_shown}
 
 -- a number in a list where one was put is that one, there, or what it was
@@ -57,9 +61,13 @@ put_again words whole i d g = elim (read_set words i (get_or words i 0) (address
 ]
 
 -- a child word
-child_whole : (right : Bool) (n : ℕ) → FieldIsWhole (child_field right) n
-child_whole true n = tt
-child_whole false n = tt
+child_whole : (right : Bool) (n : ℕ) → NodeFits n → FieldIsWhole (child_field right) n
+child_whole true n fits = fits
+child_whole false n fits = fits
+
+child_fits : (right : Bool) (n : ℕ) → FieldIsWhole (child_field right) n → NodeFits n
+child_fits true n h = h
+child_fits false n h = h
 
 -- a key and a value
 key_whole : (k n : ℕ) → FieldIsWhole (key_field k) n → IsWord n
@@ -79,15 +87,27 @@ update_word state.IFlag c low = omega arith
 update_word state.DFlag c low = omega arith
 update_word state.Mark c low = omega arith
 
--- what a call fills in a field is whole
-abbrev pub FillsWhole : Call → Type 0
-FillsWhole (call.Fill c f value) = FieldIsWhole f value
-FillsWhole _ = Unit {0}
-
 -- what an exchange leaves is a word where it finds one
 left_word : (won : Bool) (value n : ℕ) → IsWord value → IsWord n → IsWord (if won then value else n)
 left_word true value n new old = new
 left_word false value n new old = old
+
+-- and a child word that has room for its node where it finds such a one
+left_fits : (won : Bool) (value n : ℕ) → NodeFits value → NodeFits n → NodeFits (if won then value else n)
+left_fits true value n new old = new
+left_fits false value n new old = old
+
+-- a child word has room for the node that an insert's card brings
+brought_fits : (c q tag : ℕ) (replaces : Bool) → q ≡ brought_by c replaces → c ≤ greatest_number → NodeFits (linked (record { node = q; tag = tag }))
+brought_fits c q tag true is low = linked_fits q tag (omega (arith, is, low))
+brought_fits c q tag false is low = linked_fits q tag (omega (arith, is, low))
+
+-- and for the sibling of a delete's leaf
+sibling_fits : (v : View) (c l y tag : ℕ) → IsNamed greatest_number v → IsSibling v c l y → NodeFits (linked (record { node = y; tag = tag }))
+sibling_fits v c l y tag named (inl right) =
+    let low = (named.entries (Frozen c true y) right.0).1 in linked_fits y tag (omega (arith, low))
+sibling_fits v c l y tag named (inr both) =
+    let low = (named.entries (Frozen c false y) both.1).1 in linked_fits y tag (omega (arith, low))
 
 pub fields_after : (plan : TablePlan) (tree : TableState) (v : View) (c : Call) → May plan c v → IsNamed greatest_number v → FillsWhole c → FieldsAreWhole tree.words
     → FieldsAreWhole (set tree.words (word_of c) (left_by (atomic_of c) (found_by tree c)))
@@ -105,8 +125,13 @@ fields_after plan tree v (call.DUnflag c gp) may named fills whole =
     put_field tree.words whole (card gp) field.Update _ (left_word _ _ _ (update_word state.Clean c (named.facts (fact.Cut c) may.knows)) (whole (card gp) field.Update))
 fields_after plan tree v (call.Backtrack c gp) may named fills whole =
     put_field tree.words whole (card gp) field.Update _ (left_word _ _ _ (update_word state.Clean c (named.facts (fact.Unmarkable c) may.knows)) (whole (card gp) field.Update))
-fields_after plan tree v (call.IChild c p l q right) may named fills whole = put_field tree.words whole (card p) (child_field right) _ (child_whole right _)
-fields_after plan tree v (call.DChild c gp p y right) may named fills whole = put_field tree.words whole (card gp) (child_field right) _ (child_whole right _)
+fields_after plan tree v (call.IChild c p l q right) may named fills whole =
+    put_field tree.words whole (card p) (child_field right) _ (child_whole right _
+    (left_fits _ _ _ (brought_fits c q (l.tag + 1) (may.left_key == may.right_key) may.brings (named.facts (fact.IFlagged c) may.knows))
+    (child_fits right _ (whole (card p) (child_field right)))))
+fields_after plan tree v (call.DChild c gp p y right) may named fills whole =
+    put_field tree.words whole (card gp) (child_field right) _ (child_whole right _
+    (left_fits _ _ _ (sibling_fits v c may.leaf y (p.tag + 1) named may.sibling) (child_fits right _ (whole (card gp) (child_field right)))))
 fields_after plan tree v c may named fills whole = put_again tree.words whole (word_of c)
 
 -- a call that finds such words can be shown, if the link that it expects is near
@@ -117,6 +142,13 @@ field_can tree claim whole (call.Claim c q) v near inside = record { wins = comp
 field_can tree claim whole (call.Upd x) v near inside = record { wins = refl; whole = whole (card x) field.Update; inside = tt }
 field_can tree claim whole (call.KeyOf x) v near inside = record { wins = refl; whole = key_whole (x % 4) _ (whole (card x) (key_field (x % 4))); inside = tt }
 field_can tree claim whole (call.ValueOf x) v near inside = record { wins = refl; whole = value_whole (x % 4) _ (whole (card x) (value_field (x % 4))); inside = tt }
+field_can tree claim whole (call.Down x right) v near inside =
+    record { wins = refl; whole = child_fits right _ (whole (card x) (child_field right)); inside = tt }
+field_can tree claim whole (call.FrozenChild c p right) v near inside =
+    record { wins = refl; whole = child_fits right _ (whole (card p) (child_field right)); inside = tt }
+field_can tree claim whole call.Look v near inside = record { wins = refl; whole = whole 0 field.Left; inside = tt }
+field_can tree claim whole (call.LookDown from to right) v near inside =
+    record { wins = refl; whole = child_fits right _ (whole (card from.node) (child_field right)); inside = tt }
 field_can tree claim whole (call.Info c f) v near inside = record { wins = refl; whole = whole c f; inside = tt }
 field_can tree claim whole (call.IFlag c p from) v near inside =
     calls_can_be_shown.word (call.IFlag c p from) _ v tt (whole (card p) field.Update) tt

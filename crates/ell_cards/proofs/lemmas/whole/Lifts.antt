@@ -14,7 +14,7 @@ use Rattle.ell_cards.specs.Naming.{IsNamed}
 use Rattle.ell_cards.specs.Guards.{MayFill}
 use Rattle.ell_cards.specs.Calls.{Atomic, Store, atomic_of, is_won, May}
 use Rattle.ell_cards.specs.Shown.{IsWord, cut_tag, shown_word, shown, shown_call, ReadsWhole, StandsInside, CanBeShown, StoresAreWhole, IsWholeFor, FillIsWhole, StoresWord, IsLifted}
-use Rattle.ell_cards.proofs.lemmas.shown.CutWords.{cut_same}
+use Rattle.ell_cards.proofs.lemmas.shown.CutWords.{cut_same, word_fits}
 use Rattle.ell_cards.proofs.lemmas.shown.ShownCalls.{guards_are_lifted}
 use Rattle.ell_cards.proofs.lemmas.shown.ShownKinds.{field_is_whole, origins_are_of_their_kind}
 
@@ -87,6 +87,10 @@ module _ (plan : TablePlan) (v : View) (last : ℕ) (few : last ≤ greatest_car
   reads_whole call.Next n word = word
   reads_whole (call.KeyOf x) n word = word
   reads_whole (call.ValueOf x) n word = word
+  reads_whole (call.Down x right) n word = word_fits n word
+  reads_whole (call.FrozenChild x p right) n word = word_fits n word
+  reads_whole call.Look n word = word_fits n word
+  reads_whole (call.LookDown from to right) n word = word_fits n word
   reads_whole (call.Info x f) n word = field_is_whole f n word
   reads_whole (call.IFlag x p from) n word = word
   reads_whole (call.DFlag x gp from) n word = word
