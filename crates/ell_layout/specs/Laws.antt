@@ -1,6 +1,6 @@
 use Rattle.std.specs.Prelude.{◌≡◌, ◌≢◌, ◌%◌, Bool, slice_index, ℕ, ◌<◌, ◌≤◌, List, length, slice_set}
 use Rattle.ell_word.specs.Node.{IsInternal, IsNode, card, greatest_number}
-use Rattle.ell_word.specs.Link.{linked, tag_unit}
+use Rattle.ell_word.specs.Link.{linked, node_bound}
 use Rattle.ell_layout.specs.declared.field.Field.{Field}
 use Rattle.ell_layout.specs.declared.field.Field.TheVariants.{Update}
 use Rattle.ell_layout.specs.Layout.{address, table_size, listed}
@@ -42,7 +42,7 @@ pub record FillingsAreClaims (w : Words) (parent leaf tag : ℕ) : Type 0 where
       ≡ claimed w tag (delete_filling grandparent parent leaf was)
 
 abbrev pub TablesClaim : Type 0
-TablesClaim = (w : Words) (parent leaf tag : ℕ) → leaf < tag_unit → FillingsAreClaims w parent leaf tag
+TablesClaim = (w : Words) (parent leaf tag : ℕ) → leaf < node_bound → FillingsAreClaims w parent leaf tag
 
 -- each field of a filled card has what was written to it last, or what it had
 abbrev pub FilledCardsSay : Type 0

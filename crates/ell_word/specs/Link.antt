@@ -9,20 +9,20 @@ tag_unit = 8796093022208
 abbrev pub greatest_tag : ℕ
 greatest_tag = 2 ^ 21 - 1
 
--- a link that has a word
+-- a link that has a word of 64 bits
 pub record IsLink (link : Link) : Type 0 where
   pub node : link.node < tag_unit
   pub tag : link.tag ≤ greatest_tag
 
--- node numbers are below this one
+-- the numbers of nodes are below this one
 abbrev pub node_bound : ℕ
-node_bound = 9223372036854775808
+node_bound = 2 ^ 63
 
--- the number of a link: its low 64 bits are a child word, with the low bits of the node and of the tag, and above these
--- stand the other bits of both
+-- The number of a link, for any tag and any node below the bound. Its low 64 bits are a child word, with the low 43 bits
+-- of the node and the low 21 bits of the tag. The other 20 bits of the node stand above these, and the other bits of the
+-- tag at the top.
 abbrev pub linked : Link → ℕ
-linked link =
-    link.node % 8796093022208 + 8796093022208 * (link.tag % 2097152)
+linked link = link.node % 8796093022208 + 8796093022208 * (link.tag % 2097152)
     + 18446744073709551616 * (link.node / 8796093022208 + 1048576 * (link.tag / 2097152))
 
 -- the link that a number says

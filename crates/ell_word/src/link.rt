@@ -1,6 +1,6 @@
 //! The child word of an internal node: a node, and a tag that counts how often the word has changed.
 ghost use Rattle.std.specs.Prelude.{◌≡◌, ◌≤◌, ◌<◌};
-ghost use Rattle.ell_word.specs.Link.{IsLink, tag_unit, linked, link_in};
+ghost use Rattle.ell_word.specs.Link.{IsLink, node_bound, linked, link_in};
 ghost use Rattle.ell_word.specs.declared.link.Link.{Link};
 
 // Node numbers are below this one, so that a mask gives the node, which is asked at each node of a search.
@@ -41,7 +41,8 @@ impl Link {
     }
 }
 
-/// Linking and its reading undo each other for nodes below 2^43: each such node has with each tag a word of its own.
+/// Reading undoes linking for nodes below 2^63: each such node has with each tag a number of its own, of which a child
+/// word has the low 64 bits.
 pub fn links()
-    ensures back { (link : Link) → link.node < tag_unit → link_in (linked link) ≡ link }
+    ensures back { (link : Link) → link.node < node_bound → link_in (linked link) ≡ link }
 {}
