@@ -13,7 +13,7 @@ use Rattle.ell_cards.specs.declared.view.View.{View}
 use Rattle.ell_cards.specs.Models.{Has}
 use Rattle.ell_cards.specs.Periods.{WholeState}
 use Rattle.ell_cards.specs.Sayings.{says, put_says, delete_says}
-use Rattle.ell_cards.specs.Shown.{cut_word}
+use Rattle.ell_cards.specs.Shown.{cut_field}
 use Rattle.ell_cards.specs.SlotWords.{slot_of}
 use Rattle.ell_cards.specs.States.{TableState}
 
@@ -57,7 +57,7 @@ pub record IsTied (s : Slots) (tree : TableState) (t : WholeState) (stage : Stag
   pub root : lie 0 ≡ 0
   pub own : (slot : ℕ) → slot ≤ s.last → slot_of (lie slot) ≡ slot
   pub at : (slot : ℕ) (f : Field) → slot ≤ s.last → IsKept stage t.views (lie slot) f
-      → slice_index t.words (address slot f) ≡ cut_word (slice_index tree.words (address (lie slot) f))
+      → slice_index t.words (address slot f) ≡ cut_field f (slice_index tree.words (address (lie slot) f))
   pub alive : (c : ℕ) → HasWon stage c → dead c ≡ false → LiesThere s lie c
   pub lives : (seat q a c : ℕ) (k : Known) → get_elem? t.views seat ≡ some k → k.period.place ≡ Some q
       → k.period.announced ≡ Some a → HasWon stage c → was_dead q c ≡ false → LiesThere s lie c

@@ -20,7 +20,7 @@ use Rattle.ell_cards.specs.Calls.{May, place_of, atomic_of, left_by}
 use Rattle.ell_cards.specs.Models.{TablePlan, IsFree, MayPart}
 use Rattle.ell_cards.specs.PeriodLaws.{IsInPeriod}
 use Rattle.ell_cards.specs.Periods.{WholeState, IsAtRest, slot_word, slots_size, opening_words, after_give, after_taking, given_period}
-use Rattle.ell_cards.specs.Shown.{IsWord, cut_word, IsNear}
+use Rattle.ell_cards.specs.Shown.{IsWord, cut_by, IsNear}
 use Rattle.ell_cards.specs.SlotWords.{slot_of, turn_of}
 use Rattle.ell_cards.specs.Starts.{MayStart, IsReached}
 use Rattle.ell_cards.specs.States.{TableState}
@@ -38,7 +38,7 @@ card_touched AtRoot = 0
 -- a call finds in memory what is cut of what it finds in the tree; a store finds nothing that matters
 abbrev pub FindsTied : List ℕ → TableState → Call → Type 0
 FindsTied words tree (call.Fill c f value) = Unit {0}
-FindsTied words tree c = slice_index words (place_of c) ≡ cut_word (found_by tree c)
+FindsTied words tree c = slice_index words (place_of c) ≡ cut_by c (found_by tree c)
 
 -- the word that a call touches is one of the slots, and the card to which it belongs lies in its slot
 pub record TouchesTied (s : Slots) (lie : ℕ → ℕ) (words : List ℕ) (tree : TableState) (c : Call) : Type 0 where
@@ -50,7 +50,7 @@ pub record TouchesTied (s : Slots) (lie : ℕ → ℕ) (words : List ℕ) (tree 
 -- the tree
 abbrev pub memory_after : TableState → WholeState → List (Maybe (Unit {0})) → ℕ → Known → Call → WholeState
 memory_after tree t homes id k c = record {
-  words = slice_set t.words (place_of c) (cut_word (left_by (atomic_of c) (found_by tree c)));
+  words = slice_set t.words (place_of c) (cut_by c (left_by (atomic_of c) (found_by tree c)));
   homes = homes;
   views = slice_set t.views id (record { tree = view_after tree k.tree c; period = k.period });
 }

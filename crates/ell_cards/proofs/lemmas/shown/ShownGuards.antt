@@ -118,12 +118,12 @@ module _ (plan : TablePlan) (v : View) (apart : IsApart plan v) where
   ]
 
   -- where a look has come to
-  glance_was : (l : List Glance) (g : Glance) → Has (map shown_glance l) g → (whole : Glance) × Has l whole × (shown_glance whole ≡ g)
+  abbrev glance_was : (l : List Glance) (g : Glance) → Has (map shown_glance l) g → (whole : Glance) × Has l whole × (shown_glance whole ≡ g)
   glance_was [] g none = elim none [ ]
   glance_was (d ∷ l) _ (latest _ _) = (d, latest d l, refl)
   glance_was (d ∷ l) g (earlier _ _ _ h) = (let old = glance_was l g h in (old.0, earlier old.0 d l old.1, old.2))
 
-  pub come_whole : (node y low high : ℕ) → cut_node node ≡ y → IsTold v (Met node) → HasCome (shown v) y low high → HasCome v node low high
+  abbrev pub come_whole : (node y low high : ℕ) → cut_node node ≡ y → IsTold v (Met node) → HasCome (shown v) y low high → HasCome v node low high
   come_whole node y low high is met h =
       let old = glance_was v.glances h.glance h.among in record {
         glance = old.0;

@@ -136,7 +136,7 @@ module _ (plan : TablePlan) (v : View) (apart : IsApart plan v) where
       no_root zero e = absurd (wanted (flat_from plan) v may.op may.parent.node may.key node_key
           (subst (λ y. Wants (flat_from plan) v may.op may.parent.node y may.key node_key) e may.wants))
       no_root (suc x) e = omega arith
-  claim_stays c node_key false may stores f = stores f
+  claim_stays c node_key false may stores f e = stores f e
 
 -- fill: one field has another number
 fill_stays : (c : ℕ) (g : Field) (value n : ℕ) (v : View) → IsWholeFor g value v → StoresAreWhole v

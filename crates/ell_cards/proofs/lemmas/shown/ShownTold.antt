@@ -150,10 +150,8 @@ pub depth_shown : (told : List Told) (x : ℕ) → ((y d : ℕ) → Has told (De
     → depth_told (map shown_told told) (cut_node x) ≡ depth_told told x
 depth_shown [] x apart = refl
 depth_shown (Depth y d ∷ told) x apart =
-    (λ t. if same_cut y x (apart y d (latest (Depth y d) told)) t then max d (rest t) else rest t)
-  where
-    rest : depth_told (map shown_told told) (cut_node x) ≡ depth_told told x
-    rest = depth_shown told x (λ z n has. apart z n (earlier (Depth z n) (Depth y d) told has))
+    let rest = depth_shown told x (λ z n has. apart z n (earlier (Depth z n) (Depth y d) told has)) in
+    λ t. if same_cut y x (apart y d (latest (Depth y d) told)) t then max d (rest t) else rest t
 depth_shown (Met y ∷ told) x apart = depth_shown told x (λ z n has. apart z n (earlier (Depth z n) (Met y) told has))
 depth_shown (Key y k ∷ told) x apart = depth_shown told x (λ z n has. apart z n (earlier (Depth z n) (Key y k) told has))
 depth_shown (Value y k ∷ told) x apart = depth_shown told x (λ z n has. apart z n (earlier (Depth z n) (Value y k) told has))
@@ -195,11 +193,10 @@ pub under_shown : (c : ℕ) (told es : List Told)
     → ((e : Told) → Has es e → (above : ℕ) → tells_grandparent_of c e ≡ Some above → (y d : ℕ) → Has told (Depth y d) → cut_node y ≡ cut_node above → y ≡ above)
     → depth_under (tells_grandparent_of c) (map shown_told told) (map shown_told es) ≡ depth_under (tells_grandparent_of c) told es
 under_shown c told [] apart = refl
-under_shown c told (e ∷ es) apart = λ t. max (first t) (rest t)
+under_shown c told (e ∷ es) apart =
+    let rest = under_shown c told es (λ d has. apart d (earlier d e es has)) in
+    λ t. max (first t) (rest t)
   where
-    rest : depth_under (tells_grandparent_of c) (map shown_told told) (map shown_told es) ≡ depth_under (tells_grandparent_of c) told es
-    rest = under_shown c told es (λ d has. apart d (earlier d e es has))
-
     first : depth_below (map shown_told told) (tells_grandparent_of c (shown_told e)) ≡ depth_below told (tells_grandparent_of c e)
     first = ap (depth_below (map shown_told told)) (tells_above c e) ∙ below_shown told (tells_grandparent_of c e) (apart e (latest e es))
 
@@ -264,14 +261,8 @@ stays_so (Some x) = refl
 -- the leaf that entries told of a card the last time is one that one of them told
 last_leaf : (c : ℕ) (told : List Told) (leaf : ℕ) → last_told (tells_leaf_of c) told ≡ Some leaf → Has told (Info c field.L leaf)
 last_leaf c [] leaf is = absurd cc
-last_leaf c (e ∷ told) leaf is = by (tells_leaf_of c e) refl
+last_leaf c (e ∷ told) leaf is = by (tells_leaf_of c e) refl (last_leaf c told leaf)
   where
-    by : (o : Option ℕ) → tells_leaf_of c e ≡ o → Has (e ∷ told) (Info c field.L leaf)
-    by None none = earlier (Info c field.L leaf) e told (last_leaf c told leaf (sym (ap (λ p. option_or p (last_told (tells_leaf_of c) told)) none) ∙ is))
-    by (Some x) some =
-        let x_is : Some x ≡ Some leaf = sym (ap (λ p. option_or p (last_told (tells_leaf_of c) told)) some) ∙ is in
-        subst (λ d. Has (d ∷ told) (Info c field.L leaf)) (sym (told_leaf e leaf (some ∙ x_is))) (latest (Info c field.L leaf) told)
-
     told_leaf : (e : Told) (leaf : ℕ) → tells_leaf_of c e ≡ Some leaf → e ≡ Info c field.L leaf
     told_leaf (Info d field.L x) leaf is = at (d == c) refl is
       where
@@ -279,6 +270,12 @@ last_leaf c (e ∷ told) leaf is = by (tells_leaf_of c e) refl
         at true same is = (let card = eqb-true d c same in let node : x ≡ leaf = cc in λ t. Info (card t) field.L (node t))
         at false other is = absurd cc
     told_leaf _ leaf is = absurd cc
+
+    by : (o : Option ℕ) → tells_leaf_of c e ≡ o → (last_told (tells_leaf_of c) told ≡ Some leaf → Has told (Info c field.L leaf)) → Has (e ∷ told) (Info c field.L leaf)
+    by None none rest = earlier (Info c field.L leaf) e told (rest (sym (ap (λ p. option_or p (last_told (tells_leaf_of c) told)) none) ∙ is))
+    by (Some x) some rest =
+        let x_is : Some x ≡ Some leaf = sym (ap (λ p. option_or p (last_told (tells_leaf_of c) told)) some) ∙ is in
+        subst (λ d. Has (d ∷ told) (Info c field.L leaf)) (sym (told_leaf e leaf (some ∙ x_is))) (latest (Info c field.L leaf) told)
 
 -- and what an operation took, where values were told of no other node that is cut to its card's leaf
 pub taken_shown : (op : Option Op) (card : Option ℕ) (said : Reply) (told : List Told)
