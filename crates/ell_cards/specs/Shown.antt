@@ -1,7 +1,7 @@
 -- What is shown of the knowledge of a pass where words are numbers of 64 bits. A child word has a node and a tag, and
 -- both may outgrow the word: then the word has their low bits alone. So a pass that read such words knows what it
 -- would know had it read whole ones, except that each node and each tag is cut.
-use Rattle.std.specs.Prelude.{◌≡◌, ◌↔◌, ℕ, ◌+◌, ◌<◌, ◌≤◌, ◌%◌, ◌^◌, Bool, option_map, map, List, []}
+use Rattle.std.specs.Prelude.{◌≡◌, ◌↔◌, ℕ, ◌+◌, ◌<◌, ◌≤◌, ◌%◌, ◌^◌, Bool, true, option_map, map, List, []}
 use Rattle.ell_word.specs.declared.link.Link.{Link}
 use Rattle.ell_word.specs.Link.{link_in, node_bound, greatest_tag}
 use Rattle.ell_layout.specs.declared.field.Field.{Field}
@@ -217,11 +217,14 @@ abbrev pub StepsAreShown : Type 0
 StepsAreShown = (plan : TablePlan) (c : Call) (n : ℕ) (v : View) → IsNoClaim c → IsApart plan v → May plan c v
     → CanBeShown c n → shown (after c n v) ≡ after (shown_call c) (cut_by c n) (shown v)
 
--- what is shown of what it knows after a claim is shown of what it knows after that claim by what is shown: for the
--- words that are planned then have the whole numbers of the card's own nodes
+-- what is planned, as words of 64 bits hold it
+abbrev pub cut_planned : View → View
+cut_planned v = record v { planned = shown_words v.planned }
+
+-- so it is after a claim that is won, with what is planned cut: for that has the whole numbers of the card's own nodes
 abbrev pub ClaimsAreShown : Type 0
-ClaimsAreShown = (plan : TablePlan) (won : Bool) (c node_key : ℕ) (v : View) → IsApart plan v
-    → shown (after_claim won c node_key v) ≡ shown (after_claim won c node_key (shown v))
+ClaimsAreShown = (plan : TablePlan) (c node_key : ℕ) (v : View) → IsApart plan v
+    → shown (after_claim true c node_key v) ≡ cut_planned (after_claim true c node_key (shown v))
 
 -- each call that is shown, and may be made by what is shown, is lifted
 abbrev pub GuardsAreLifted : Type 0

@@ -17,11 +17,11 @@ use Rattle.ell_cards.specs.declared.view.Told.TheVariants.{Met, Depth, Key, Valu
 use Rattle.ell_cards.specs.declared.view.View.{View}
 use Rattle.ell_cards.specs.Apart.{cut_node, IsApart}
 use Rattle.ell_cards.specs.Models.{TablePlan}
-use Rattle.ell_cards.specs.Changes.{if_won, exchanged, with_fact, after_claim, after_flag, after_mark, is_mark_of, unmarking, expected_tag, filling_of, told_filling}
+use Rattle.ell_cards.specs.Changes.{if_won, exchanged, with_fact, after_claim, after_flag, after_mark, is_mark_of, unmarking, expected_tag}
 use Rattle.ell_cards.specs.Calls.{after}
 use Rattle.ell_cards.specs.Shown.{IsWord, cut_word, cut_tag, shown_info, shown_seen, shown_search, shown_glance, shown_told, shown_word, shown_words, shown, ClaimsAreShown}
 use Rattle.ell_cards.proofs.lemmas.shown.CutWords.{node_again, tag_again, cut_again, cut_same}
-use Rattle.ell_cards.proofs.lemmas.shown.ShownWords.{planned_shown_alike, filling_shown, tag_shown, told_filling_shown}
+use Rattle.ell_cards.proofs.lemmas.shown.ShownWords.{planned_shown_alike, tag_shown, told_of_claim}
 use Rattle.ell_cards.proofs.lemmas.shown.ShownSearches.{places_shown}
 
 -- what is shown of what is shown is shown so
@@ -92,33 +92,11 @@ shown_again v = λ t. record v {
 }
 
 -- claim
-module _ (plan : TablePlan) (c node_key : ℕ) (v : View) (apart : IsApart plan v) where
-  told_is : (Expects c (cut_tag (expected_tag v)) ∷ map shown_told (told_filling c (filling_of c node_key v) v.told))
-      ≡ (Expects c (cut_tag (expected_tag (shown v))) ∷ map shown_told (told_filling c (filling_of c node_key (shown v)) (map shown_told v.told)))
-  told_is = λ t. Expects c (tag t) ∷ rest t
-    where
-      tag : cut_tag (expected_tag v) ≡ cut_tag (expected_tag (shown v))
-      tag = sym (tag_again (expected_tag v)) ∙ ap cut_tag (sym (tag_shown v))
-
-      rest : map shown_told (told_filling c (filling_of c node_key v) v.told)
-          ≡ map shown_told (told_filling c (filling_of c node_key (shown v)) (map shown_told v.told))
-      rest =
-          told_filling_shown c (filling_of c node_key v) v.told
-          ∙ ((λ t. told_filling c (filling_shown plan c node_key v apart t) (sym (told_again v.told) t))
-          ∙ sym (told_filling_shown c (filling_of c node_key (shown v)) (map shown_told v.told)))
-
-  pub claimed_shown : (won : Bool) → shown (after_claim won c node_key v) ≡ shown (after_claim won c node_key (shown v))
-  claimed_shown true = λ t. record (shown (after_claim true c node_key v)) {
-    worker = record ((shown (after_claim true c node_key v)).worker) { search = sym (search_again v.worker.search) t };
-    told = told_is t;
-    planned = planned_shown_alike plan c node_key v apart t;
-    found = sym (word_again v.found) t;
-    glances = sym (glances_again v.glances) t;
-  }
-  claimed_shown false = ap (after_claim false c node_key) (sym (shown_again v))
-
 pub claims_are_shown : ClaimsAreShown
-claims_are_shown plan won c node_key v apart = claimed_shown plan c node_key v apart won
+claims_are_shown plan c node_key v apart = λ t. record (after_claim true c node_key (shown v)) {
+  told = Expects c (sym (tag_shown v) t) ∷ told_of_claim plan c node_key v apart t;
+  planned = planned_shown_alike plan c node_key v apart t;
+}
 
 -- an exchange that teaches the same, won or not
 pub taught_shown : (k : Exchange) (c : ℕ) (new : Fact) (n : ℕ) (v : View) (cut whole : Bool) → cut ≡ whole

@@ -170,38 +170,35 @@ told_filling_shown c (e ∷ es) told =
     by true = refl
     by false = refl
 
--- the nodes of what fills an insert's card
-put_nodes : (c k value node_key parent below key there there' : ℕ) → there ≡ there'
-    → shown_filling (put_filling c k value node_key parent below key there)
-    ≡ shown_filling (put_filling c k value node_key (cut_node parent) (cut_node below) key there')
-put_nodes c k value node_key parent below key there there' same = λ t.
-    (field.P, sym (node_again parent) t) ∷ (field.L, sym (node_again below) t) ∷ (field.Key, node_key) ∷ (field.Left, left_alike c k below key t)
-    ∷ (field.Right, right_alike c k below key t) ∷ (field.Update, clean 0) ∷ (field.LeftLeafKey, min k key) ∷ (field.RightLeafKey, max k key)
-    ∷ (field.LeftValue, (if nat_lt k key then value else same t)) ∷ (field.RightValue, (if nat_lt k key then same t else value)) ∷ []
+-- that is so of the fields that never change: in them no card's own node stands
+told_put : (c k value node_key parent below key there there' : ℕ) (told : List Told) → there ≡ there'
+    → told_filling c (shown_filling (put_filling c k value node_key parent below key there)) told
+    ≡ told_filling c (put_filling c k value node_key (cut_node parent) (cut_node below) key there') told
+told_put c k value node_key parent below key there there' told same =
+    ap (λ x. told_filling c (put_filling c k value node_key (cut_node parent) (cut_node below) key x) told) same
 
--- what fills a card has the same nodes once they are cut
-filling_alike : (c node_key : ℕ) (op : Option Op) (node : Option ℕ) (parent above : Option Seen) (key : ℕ) (value_of value_of' : ℕ → ℕ)
+told_alike : (c node_key : ℕ) (op : Option Op) (node : Option ℕ) (parent above : Option Seen) (key : ℕ) (value_of value_of' : ℕ → ℕ) (told : List Told)
     → ((x : ℕ) → node ≡ Some x → value_of x ≡ value_of' (cut_node x))
-    → shown_filling (filling_for c node_key op node parent above key value_of)
-    ≡ shown_filling (filling_for c node_key op (option_map cut_node node) (option_map shown_seen parent) (option_map shown_seen above) key value_of')
-filling_alike c node_key (Some (Insert k value)) (Some below) (Some parent) above key value_of value_of' same =
-    put_nodes c k value node_key parent.node below key (value_of below) (value_of' (cut_node below)) (same below refl)
-filling_alike c node_key (Some (Swap k was value)) (Some below) (Some parent) above key value_of value_of' same =
-    put_nodes c k value node_key parent.node below key (value_of below) (value_of' (cut_node below)) (same below refl)
-filling_alike c node_key (Some (Delete k)) (Some leaf) (Some parent) (Some above) key value_of value_of' same = λ t.
-    (field.Gp, sym (node_again above.node) t) ∷ (field.P, sym (node_again parent.node) t) ∷ (field.L, sym (node_again leaf) t) ∷ (field.Was, parent.word) ∷ []
-filling_alike c node_key (Some (Delete k)) (Some leaf) (Some parent) None key value_of value_of' same = refl
-filling_alike c node_key (Some (Delete k)) (Some leaf) None above key value_of value_of' same = refl
-filling_alike c node_key (Some (Delete k)) None parent above key value_of value_of' same = refl
-filling_alike c node_key (Some (Insert k value)) (Some below) None above key value_of value_of' same = refl
-filling_alike c node_key (Some (Insert k value)) None parent above key value_of value_of' same = refl
-filling_alike c node_key (Some (Swap k was value)) (Some below) None above key value_of value_of' same = refl
-filling_alike c node_key (Some (Swap k was value)) None parent above key value_of value_of' same = refl
-filling_alike c node_key (Some (Find k)) node parent above key value_of value_of' same = refl
-filling_alike c node_key None node parent above key value_of value_of' same = refl
+    → told_filling c (shown_filling (filling_for c node_key op node parent above key value_of)) told
+    ≡ told_filling c (filling_for c node_key op (option_map cut_node node) (option_map shown_seen parent) (option_map shown_seen above) key value_of') told
+told_alike c node_key (Some (Insert k value)) (Some below) (Some parent) above key value_of value_of' told same =
+    told_put c k value node_key parent.node below key (value_of below) (value_of' (cut_node below)) told (same below refl)
+told_alike c node_key (Some (Swap k was value)) (Some below) (Some parent) above key value_of value_of' told same =
+    told_put c k value node_key parent.node below key (value_of below) (value_of' (cut_node below)) told (same below refl)
+told_alike c node_key (Some (Delete k)) (Some leaf) (Some parent) (Some above) key value_of value_of' told same = refl
+told_alike c node_key (Some (Delete k)) (Some leaf) (Some parent) None key value_of value_of' told same = refl
+told_alike c node_key (Some (Delete k)) (Some leaf) None above key value_of value_of' told same = refl
+told_alike c node_key (Some (Delete k)) None parent above key value_of value_of' told same = refl
+told_alike c node_key (Some (Insert k value)) (Some below) None above key value_of value_of' told same = refl
+told_alike c node_key (Some (Insert k value)) None parent above key value_of value_of' told same = refl
+told_alike c node_key (Some (Swap k was value)) (Some below) None above key value_of value_of' told same = refl
+told_alike c node_key (Some (Swap k was value)) None parent above key value_of value_of' told same = refl
+told_alike c node_key (Some (Find k)) node parent above key value_of value_of' told same = refl
+told_alike c node_key None node parent above key value_of value_of' told same = refl
 
-pub filling_shown : (plan : TablePlan) (c node_key : ℕ) (v : View) → IsApart plan v
-    → shown_filling (filling_of c node_key v) ≡ shown_filling (filling_of c node_key (shown v))
-filling_shown plan c node_key v apart =
-    filling_alike c node_key v.worker.operation v.worker.search.node v.worker.search.parent v.worker.search.grandparent (unwrap_or v.here 0)
-    (value_told v.told) (value_told (shown v).told) (value_here plan v apart)
+pub told_of_claim : (plan : TablePlan) (c node_key : ℕ) (v : View) → IsApart plan v
+    → map shown_told (told_filling c (filling_of c node_key v) v.told) ≡ told_filling c (filling_of c node_key (shown v)) (shown v).told
+told_of_claim plan c node_key v apart =
+    told_filling_shown c (filling_of c node_key v) v.told
+    ∙ told_alike c node_key v.worker.operation v.worker.search.node v.worker.search.parent v.worker.search.grandparent (unwrap_or v.here 0)
+    (value_told v.told) (value_told (shown v).told) (map shown_told v.told) (value_here plan v apart)

@@ -177,13 +177,17 @@ module _ (plan : TablePlan) (s : Slots) (tree : TableState) (t : WholeState) (li
 
   -- a link is near a child word if its tag is
   link_near : (x : ℕ) (right : Bool) (l : Link) → IsNearSince plan before tree near.machine near.from.stages x right l.tag → l.node < tag_unit
-      → IsNear l (get_or tree.words (child_address x right) 0)
-  link_near x right l by inside = record {
-    inside = inside;
+      → near.machine.words.child x right < tag_unit → IsNear l (get_or tree.words (child_address x right) 0)
+  link_near x right l by inside child = record {
+    low = omega (arith, inside);
+    node = λ same. sym (node_small (link_in (get_or tree.words (child_address x right) 0)).node (subst (λ y. y < tag_unit) (sym node) child)) ∙ (same ∙ node_small l.node inside);
     least = λ same. subst (λ n. l.tag ≤ n) (sym tag) by.near.low;
     most = λ same. subst (λ n. n ≤ l.tag + greatest_tag) (sym tag) most;
   }
     where
+      node : (link_in (get_or tree.words (child_address x right) 0)).node ≡ near.machine.words.child x right
+      node = ap (λ (j : Link). j.node) by.is
+
       tag : (link_in (get_or tree.words (child_address x right) 0)).tag ≡ near.machine.words.tag x right
       tag = ap (λ (j : Link). j.tag) by.is
 
@@ -201,15 +205,28 @@ module _ (plan : TablePlan) (s : Slots) (tree : TableState) (t : WholeState) (li
       let last = near.machine.limit in
       omega arith
 
+  -- and for a child of an internal one, which may be known by another name
+  child_has_room : (x y : ℕ) (right : Bool) → x ≡ y → IsInternal x → Born near.machine.stages x → near.machine.words.child y right < tag_unit
+  child_has_room x y right same inner born =
+      subst (λ z. near.machine.words.child z right < tag_unit) same
+      (has_room (near.machine.words.child x right) ((near.machine.invariant.words.children x inner born).born right))
+
   insert_near : (c p : ℕ) (l : Link) (replaces right : Bool) → MayIChild k.tree c p l replaces right → IsNear l (get_or tree.words (child_address p right) 0)
-  insert_near c p l replaces right may = link_near p right l (near.insert k.tree there c p l replaces right may)
+  insert_near c p l replaces right may =
+      let said = insert_flagged plan tree near.machine id k.tree there c may.knows in
+      link_near p right l (near.insert k.tree there c p l replaces right may)
       (subst (λ n. n < tag_unit) (told_is plan tree near.machine id k.tree there c field.L l.node may.leaf)
-      (has_room (near.machine.words.l c) (insert_flagged plan tree near.machine id k.tree there c may.knows).lower))
+      (has_room (near.machine.words.l c) said.lower))
+      (child_has_room (near.machine.words.p c) p right (told_is plan tree near.machine id k.tree there c field.P p may.parent) said.parent.inner said.parent.born)
 
   delete_near : (c gp : ℕ) (p : Link) (y : ℕ) (right : Bool) → MayDChild k.tree c gp p y right → IsNear p (get_or tree.words (child_address gp right) 0)
-  delete_near c gp p y right may = link_near gp right p (near.delete k.tree there c gp p y right may)
+  delete_near c gp p y right may =
+      let said = known_delete plan tree near.machine id k.tree there c (inr may.knows) in
+      link_near gp right p (near.delete k.tree there c gp p y right may)
       (subst (λ n. n < tag_unit) (told_is plan tree near.machine id k.tree there c field.P p.node may.parent)
-      (has_room (near.machine.words.p c) (known_delete plan tree near.machine id k.tree there c (inr may.knows)).parent.born))
+      (has_room (near.machine.words.p c) said.parent.born))
+      (child_has_room (near.machine.words.gp c) gp right (told_is plan tree near.machine id k.tree there c field.Gp gp may.grandparent)
+      said.grandparent.inner said.grandparent.born)
 
 pub expected_links_are_near : ExchangesAreNear
 expected_links_are_near plan s tree t lie dead was_dead tied reached low id k here there period made may =

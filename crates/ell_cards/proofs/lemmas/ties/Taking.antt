@@ -16,7 +16,7 @@ use Rattle.ell_cards.specs.declared.view.Known.{Known}
 use Rattle.ell_cards.specs.declared.view.Period.{Period}
 use Rattle.ell_cards.specs.declared.view.Slots.{Slots}
 use Rattle.ell_cards.specs.Periods.{WholeState, slot_word}
-use Rattle.ell_cards.specs.Shown.{cut_word}
+use Rattle.ell_cards.specs.Shown.{cut_field}
 use Rattle.ell_cards.specs.SlotWords.{slot_of, turn_of}
 use Rattle.ell_cards.specs.States.{TableState}
 use Rattle.ell_cards.specs.Tied.{LiesThere, HasWon, HoldsWaiting, HasStored, IsKept, IsTied}
@@ -85,14 +85,14 @@ module _ (s : Slots) (low : s.last < 2097152) (tree : TableState) (t : WholeStat
           own u at waits' has = tied.stores id c f k here waits (subst (λ (x : Known). HasStored x.tree f) (some-injective u k (sym at ∙ here)) has)
 
   at_slot : (other : ℕ) (f : Field) → other ≤ s.last → IsKept stage (set t.views id now) (lie' other) f
-      → get_or words (address other f) 0 ≡ cut_word (get_or tree.words (address (lie' other) f) 0)
+      → get_or words (address other f) 0 ≡ cut_field f (get_or tree.words (address (lie' other) f) 0)
   at_slot other f below kept = elim (cases_eq other slot) [
     | inl same ↦ absurd (none_kept f (subst (λ e. IsKept stage (set t.views id now) e f) (ap lie' same ∙ card_now) kept))
     | inr apart ↦
         let is = card_else other apart in
         slots_stay (address other f) (address_in_table s.last other f below).1
         ∙ (tied.at other f below (subst (λ e. IsKept stage t.views e f) is (kept_of_period stage t.views id k here p (lie' other) f kept))
-        ∙ ap (λ e. cut_word (get_or tree.words (address e f) 0)) (sym is))
+        ∙ ap (λ e. cut_field f (get_or tree.words (address e f) 0)) (sym is))
   ]
 
   lives_not : (seat q a d : ℕ) (u : Known) → get_elem? t.views seat ≡ some u → u.period.place ≡ Some q → u.period.announced ≡ Some a → was_dead q d ≡ false → d ≢ old

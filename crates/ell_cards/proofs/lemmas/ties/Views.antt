@@ -12,7 +12,7 @@ use Rattle.ell_cards.specs.declared.view.Known.{Known}
 use Rattle.ell_cards.specs.declared.view.Slots.{Slots}
 use Rattle.ell_cards.specs.Periods.{WholeState}
 use Rattle.ell_cards.specs.Sayings.{says}
-use Rattle.ell_cards.specs.Shown.{cut_word}
+use Rattle.ell_cards.specs.Shown.{cut_field}
 use Rattle.ell_cards.specs.States.{TableState}
 use Rattle.ell_cards.specs.Tied.{LiesThere, HasWon, HoldsWaiting, HasStored, IsKept, IsTied}
 use Rattle.ell_cards.specs.Tied.IsKept.{won, stored}
@@ -42,10 +42,10 @@ module _ (s : Slots) (low : s.last < 2097152) (tree tree' : TableState) (t : Who
   ]
 
   at_slot : (slot : ℕ) (f : Field) → slot ≤ s.last → IsKept next views (lie slot) f
-      → get_or words (address slot f) 0 ≡ cut_word (get_or tree'.words (address (lie slot) f) 0)
+      → get_or words (address slot f) 0 ≡ cut_field f (get_or tree'.words (address (lie slot) f) 0)
   at_slot slot f inside kept =
       slots (address slot f) (address_in_table s.last slot f inside).1
-      ∙ (tied.at slot f inside (kept_before (lie slot) f kept) ∙ ap (λ l. cut_word (get_or l (address (lie slot) f) 0)) (sym cards))
+      ∙ (tied.at slot f inside (kept_before (lie slot) f kept) ∙ ap (λ l. cut_field f (get_or l (address (lie slot) f) 0)) (sym cards))
 
   first_words : (i : ℕ) → i < 2 → get_or t.words i 0 ≡ get_or tree.words i 0 → get_or words i 0 ≡ get_or tree'.words i 0
   first_words i few is = slots i (omega arith) ∙ (is ∙ ap (λ l. get_or l i 0) (sym cards))
