@@ -4,7 +4,7 @@ ghost use Rattle.ell_core.specs.declared.fact.Fact.TheVariants.{IFlagged, DFlagg
 ghost use Rattle.ell_word.specs.Word.{packed};
 ghost use Rattle.ell_core.specs.declared.exchange.Exchange.TheVariants as exchange;
 ghost use Rattle.ell_cards.specs.Models.{Steps, flat_from};
-ghost use Rattle.ell_cards.specs.Changes.{after_claim, after_fill, after_flag, if_won, exchanged, found_update, found_word};
+ghost use Rattle.ell_cards.specs.Changes.{after_fill, after_flag, if_won, exchanged, found_update, found_word};
 ghost use Rattle.ell_cards.specs.Skipping.{after_claimed_row};
 ghost use Rattle.ell_cards.specs.Sayings.{delete_says, put_says};
 ghost use Rattle.ell_cards.specs.Stepping.{IsWholeIn};
@@ -30,10 +30,11 @@ impl<A: Allocator + Copy> CardTable<A> {
         requires may { MayClaim (flat_from self.now.plan) pass.old.view card node_key }
         requires room { card ≤ self.now.plan.last_card }
         // It makes one step and counts it. The pass then knows exactly what this call tells.
-        ensures step { Steps pass.old pass.new (after_claim result card node_key pass.old.view) }
+        ensures step { Steps pass.old pass.new (after_claimed_row result card card node_key pass.old.view) }
     {
         self.names(pass);
-        self.exchange(pass, Call::Claim(card, node_key), 0, card, card + 1) == card
+        let call = Call::Claim(card, node_key);
+        self.exchange_as::<Brand>(pass, call, 0, card, card + 1) == card
     }
 
     /// Takes all numbers from the card that `next` read in this try to a later one at once, if the card is still the next

@@ -17,7 +17,7 @@ ghost use Rattle.ell_cards.specs.declared.view.Period.{Period};
 ghost use Rattle.ell_cards.specs.Periods.{after_flagging, whole_size};
 ghost use Rattle.ell_cards.specs.Tied.{FlagsCard};
 ghost use Rattle.ell_cards.specs.Starts.{SlotsFit};
-ghost use Rattle.ell_cards.specs.Shown.{cut_word};
+ghost use Rattle.ell_cards.specs.Shown.{IsNoClaim, cut_word};
 ghost use Rattle.ell_cards.specs.Skipping.{MayStepOn};
 ghost use Rattle.ell_cards.specs.SlotWords.{slot_of};
 ghost use Rattle.ell_cards.specs.Stepping.{Exchanges, IsQuiet, MayInTable, MayTell, KeepsPass, SeesBy, StepsBy};
@@ -228,7 +228,7 @@ impl<A: Allocator + Copy> CardTable<A> {
 
     // Exchanges a word.
     #[inline(always)]
-    fn exchange_as<J: Telling>(
+    pub(crate) fn exchange_as<J: Telling>(
         &self,
         pass: &mut Pass<A>,
         call: Call,
@@ -256,7 +256,8 @@ impl<A: Allocator + Copy> CardTable<A> {
         found
     }
 
-    /// A step call that exchanges its word, if it has the expected value, and returns what it found.
+    /// A step call that exchanges its word, which is not the claim word, if it has the expected value, and returns what it
+    /// found.
     #[inline(always)]
     pub(crate) fn exchange(
         &self,
@@ -268,6 +269,7 @@ impl<A: Allocator + Copy> CardTable<A> {
     ) -> u64
         requires own { pass.old.table ≡ self.now.id }
         requires may { May self.now.plan call pass.old.view }
+        requires plain { IsNoClaim call }
         requires word { word ≡ place_of call }
         requires kept { MayInTable self.now.plan pass.old call }
         requires atomic { atomic_of call ≡ Exchange expected value }
@@ -373,6 +375,7 @@ impl<A: Allocator + Copy> CardTable<A> {
     ) -> u64
         requires own { pass.old.table ≡ self.now.id }
         requires may { May self.now.plan call pass.old.view }
+        requires plain { IsNoClaim call }
         requires word { word ≡ place_of call }
         requires kept { MayInTable self.now.plan pass.old call }
         requires link { IsLink old }

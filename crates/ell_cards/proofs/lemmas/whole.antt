@@ -41,3 +41,5 @@ pub mod TakingSlots
 pub mod Skipping
 -- the row of numbers whose slots a search reads
 pub mod Seeking
+-- a pass tells nodes apart by what child words hold of their numbers
+pub mod Apart

@@ -6,6 +6,7 @@ use Rattle.std.specs.List.{All, AllByRecursion}
 use mathlib.Core.Option.{some}
 use lib.ListN.{get_elem?}
 use Rattle.ell_word.specs.Link.{link_in, tag_unit, greatest_tag}
+use Rattle.ell_word.specs.Node.{IsInternal}
 use Rattle.ell_word.specs.declared.link.Link.{Link}
 use Rattle.ell_layout.specs.declared.field.Field.TheVariants as field
 use Rattle.ell_core.specs.declared.exchange.Exchange.{Exchange}
@@ -45,6 +46,7 @@ use Rattle.ell_cards.proofs.lemmas.runs.TagsOfRuns.{IsNear as IsNearSince}
 use Rattle.ell_cards.proofs.lemmas.runs.TagsOfRuns.{ExchangesAreNear as AreNearSince}
 use Rattle.ell_cards.proofs.lemmas.runs.Won.{count, count_append}
 use Rattle.ell_cards.proofs.lemmas.seats.Seats.{mine_sound}
+use Rattle.ell_cards.proofs.lemmas.shown.CutWords.{node_small}
 use Rattle.ell_cards.proofs.lemmas.stepping.Exchanges.{told_is}
 use Rattle.ell_cards.proofs.lemmas.stepping.Known.{insert_flagged, known_delete}
 use Rattle.ell_cards.proofs.lemmas.ties.Few.{few_in_slots}

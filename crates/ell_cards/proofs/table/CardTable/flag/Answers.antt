@@ -7,7 +7,7 @@ pub flag_as-requires-clause-quiet : goal.flag_as-requires-clause-quiet
 flag_as-requires-clause-quiet g c = exchange_is_quiet c.args.call c.args.expected c.args.value c.requires.atomic
 
 pub flag_as-requires-clause-tells : goal.flag_as-requires-clause-tells
-flag_as-requires-clause-tells g c = calls_tell c.args.self.now.plan c.args.call c.args.pass.now.view
+flag_as-requires-clause-tells g c = calls_tell c.args.self.now.plan c.args.call c.args.pass.now.view (flag_claims_none c.args.call c.args.card c.requires.flags)
 
 pub flag_as-requires-clause-keeps : goal.flag_as-requires-clause-keeps
 flag_as-requires-clause-keeps g c = taken_keeps c.args.self.now.plan c.args.call c.args.pass.now.view
