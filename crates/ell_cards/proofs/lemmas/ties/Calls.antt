@@ -22,10 +22,10 @@ use Rattle.ell_cards.specs.declared.view.View.{View}
 use Rattle.ell_cards.specs.Calls.{word_of, atomic_of, left_by, after, May, slot_address, place_of}
 use Rattle.ell_cards.specs.Changes.{after_claim, after_flag, after_mark, is_mark_of, with_fact, unmarking}
 use Rattle.ell_cards.specs.Models.{TablePlan, Has, latest, earlier}
-use Rattle.ell_cards.specs.Periods.{WholeState, slot_word}
+use Rattle.ell_cards.specs.Periods.{WholeState}
 use Rattle.ell_cards.specs.Sayings.{says}
 use Rattle.ell_cards.specs.Shown.{cut_word}
-use Rattle.ell_cards.specs.SlotWords.{slot_of, card_by}
+use Rattle.ell_cards.specs.SlotWords.{slot_of}
 use Rattle.ell_cards.specs.States.{TableState}
 use Rattle.ell_cards.specs.Tied.{LiesThere, HasWon, HoldsWaiting, HasStored, HasStoredAll, IsKept, IsTied, MayInMemory, FlagsCard}
 use Rattle.ell_cards.specs.Ties.{card_touched, TouchesTied}
@@ -35,8 +35,6 @@ use Rattle.ell_cards.specs.Turns.{found_by, view_after, state_after}
 use Rattle.ell_cards.proofs.lemmas.runs.Met.{some_same}
 use Rattle.ell_cards.proofs.lemmas.shown.CutWords.{cut_same}
 use Rattle.ell_cards.proofs.lemmas.whole.Rests.{has_none}
-use Rattle.ell_cards.proofs.lemmas.whole.Seats.{before_clock, clock_before_slots}
-use Rattle.ell_cards.proofs.lemmas.whole.Slots.{card_lies}
 use Rattle.ell_cards.proofs.lemmas.ties.Touched.{spots, no_claim, no_flat}
 use Rattle.ell_cards.proofs.lemmas.ties.Winning.{flag_says}
 

@@ -15,7 +15,7 @@ use Rattle.ell_cards.specs.Ages.{AgesAreSound, HasPeriods}
 use Rattle.ell_cards.specs.Changes.{first_of}
 use Rattle.ell_cards.specs.Machines.{HasMachine}
 use Rattle.ell_cards.specs.Models.{TablePlan}
-use Rattle.ell_cards.specs.Periods.{WholeState, IsAtRest, slot_word, opening_words, period_by}
+use Rattle.ell_cards.specs.Periods.{WholeState, IsAtRest, opening_words, period_by}
 use Rattle.ell_cards.specs.Shown.{IsWord, cut_word}
 use Rattle.ell_cards.specs.SlotWords.{slot_of}
 use Rattle.ell_cards.specs.Starts.{MayStart, SlotsFit, IsReached}

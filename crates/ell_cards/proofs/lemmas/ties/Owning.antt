@@ -14,10 +14,9 @@ use Rattle.ell_cards.specs.declared.view.Slots.{Slots}
 use Rattle.ell_cards.specs.Ages.{IsOut}
 use Rattle.ell_cards.specs.Machines.{HasMachine}
 use Rattle.ell_cards.specs.Periods.{WholeState, slot_word, after_taking}
-use Rattle.ell_cards.specs.Shown.{cut_word}
-use Rattle.ell_cards.specs.SlotWords.{slot_of, card_by, is_noted}
+use Rattle.ell_cards.specs.SlotWords.{slot_of, is_noted}
 use Rattle.ell_cards.specs.States.{TableState}
-use Rattle.ell_cards.specs.Tied.{LiesThere, HoldsWaiting, IsKept, IsTied}
+use Rattle.ell_cards.specs.Tied.{LiesThere, HoldsWaiting, IsTied}
 use Rattle.ell_cards.specs.Ties.{OwnSlotsKeepTies}
 use Rattle.ell_cards.proofs.lemmas.runs.Met.{some_same}
 use Rattle.ell_cards.proofs.lemmas.whole.Ages.{ages_of_period}
