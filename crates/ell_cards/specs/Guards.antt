@@ -12,7 +12,7 @@ use Rattle.ell_layout.specs.declared.field.Field.TheVariants as field
 use Rattle.ell_core.specs.declared.put.Put.{Put}
 use Rattle.ell_core.specs.declared.view.Seen.{Seen}
 use Rattle.ell_core.specs.state.Machine.{worker_of}
-use Rattle.ell_layout.specs.Cards.{stored, brought_by}
+use Rattle.ell_layout.specs.Cards.{stored}
 use Rattle.ell_core.specs.acts.Searching.{put_of, IsClean, MayTake, leaf_answer}
 use Rattle.ell_layout.specs.Words.{IsLeaf, has_block}
 use Rattle.ell_core.specs.statements.Told.{is_fixed}

@@ -213,7 +213,6 @@ pub(crate) fn change_child<A: Allocator + Copy, G: StepGate>(
     ensures changed { Knows pass.new.view (fact.IChanged card) }
 {
     gate.before(pass.label(), Kind::Exchange(Exchange::IChild));
-    table.facts_stay_inside(pass);
     let replaces = left_key == right_key;
     let right = parent.key <= right_key;
     let _ = table.ichild(pass, card, parent.node, leaf, replaces, right);
