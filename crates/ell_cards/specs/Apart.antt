@@ -31,9 +31,10 @@ EntryIsMet v (Info c f x) = InfoIsMet v f x
 EntryIsMet v (Expects c tag) = Unit {0}
 EntryIsMet v (Frozen c right x) = IsTold v (Met x)
 
--- The nodes that a pass names it has met: those of its search, those that it was told of, and those to which its look
--- has come; and the leaf of its card in hand.
+-- The nodes that a pass names it has met: the root, those of its search, those that it was told of, and those to which
+-- its look has come; and the leaf of its card in hand.
 pub record NamesMet (v : View) : Type 0 where
+  pub root : IsTold v (Met 0)
   pub node : (x : ℕ) → StandsAt v x → IsTold v (Met x)
   pub parent : (seen : Seen) → v.worker.search.parent ≡ Some seen → IsTold v (Met seen.node)
   pub grandparent : (seen : Seen) → v.worker.search.grandparent ≡ Some seen → IsTold v (Met seen.node)

@@ -38,6 +38,7 @@ use Rattle.ell_cards.proofs.lemmas.whole.Calling.{set_twice, tree_here, tied_who
 use Rattle.ell_cards.proofs.lemmas.whole.Calling.Notes.{nothing}
 use Rattle.ell_cards.proofs.lemmas.whole.Lifts.{stands_inside}
 use Rattle.ell_cards.proofs.lemmas.whole.Places.{size_some}
+use Rattle.ell_cards.proofs.lemmas.words.Slotted.{slot_inside}
 
 -- a flat tree is flat from some card on
 pub from_some : (plan : TablePlan) → plan.flat ≡ true → 0 < flat_from plan
@@ -67,7 +68,7 @@ module _ (plan : TablePlan) (s : Slots) (placed : plan.slots ≡ Some s) where
       let periods = has_periods t h in (
         kept_named plan h.tree (reached_kept plan h.tree h.reached) id k.tree there,
         subst (λ o. IsPlaced (last_slot_of o plan.last_card) k.tree) (sym placed)
-            (placed_to plan h.tree periods.ages.now.machine id k.tree there s.last periods.tied.fits),
+            (placed_to plan h.tree periods.ages.now.machine id k.tree there s.last (λ c has. slot_inside s.last c (periods.tied.fits c has))),
       )
 
   -- and stands at a node that a child word has room for
