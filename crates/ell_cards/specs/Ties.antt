@@ -21,7 +21,7 @@ use Rattle.ell_cards.specs.Models.{TablePlan, IsFree, MayPart}
 use Rattle.ell_cards.specs.PeriodLaws.{IsInPeriod}
 use Rattle.ell_cards.specs.Periods.{WholeState, IsAtRest, slot_word, slots_size, opening_words, after_give, after_taking, given_period}
 use Rattle.ell_cards.specs.Shown.{IsWord, cut_by, IsNear}
-use Rattle.ell_cards.specs.SlotWords.{slot_of, turn_of}
+use Rattle.ell_cards.specs.SlotWords.{has_slot_in, slot_of, turn_of}
 use Rattle.ell_cards.specs.Starts.{MayStart, IsReached}
 use Rattle.ell_cards.specs.States.{TableState}
 use Rattle.ell_cards.specs.Tied.{LiesThere, HoldsWaiting, IsTied, MayInMemory}
@@ -163,7 +163,7 @@ abbrev pub TakesKeepTies : Type 0
 TakesKeepTies = (plan : TablePlan) (s : Slots) (tree : TableState) (t : WholeState) (lie : ℕ → ℕ)
     (dead : ℕ → Bool) (was_dead : ℕ → ℕ → Bool) → s.last < 2097152 → length t.words ≡ slots_size s
     → IsTiedByAges plan s tree t lie dead was_dead → trees_of t.views ≡ tree.views
-    → (id : ℕ) (k : Known) → get_elem? t.views id ≡ some k → (c : ℕ) → HoldsWaiting k.tree c → slot_of c ≤ s.last
+    → (id : ℕ) (k : Known) → get_elem? t.views id ≡ some k → (c : ℕ) → HoldsWaiting k.tree c → has_slot_in s.last c ≡ true
     → dead (lie (slot_of c)) ≡ true
     → ((seat q a : ℕ) (u : Known) → get_elem? t.views seat ≡ some u → u.period.place ≡ Some q
     → u.period.announced ≡ Some a
@@ -176,7 +176,8 @@ abbrev pub OwnSlotsKeepTies : Type 0
 OwnSlotsKeepTies = (plan : TablePlan) (s : Slots) (tree : TableState) (t : WholeState) (lie : ℕ → ℕ)
     (dead : ℕ → Bool) (was_dead : ℕ → ℕ → Bool) → length t.words ≡ slots_size s
     → IsTiedByAges plan s tree t lie dead was_dead → trees_of t.views ≡ tree.views
-    → (id : ℕ) (k : Known) → get_elem? t.views id ≡ some k → (c : ℕ) → HoldsWaiting k.tree c → LiesThere s lie c
+    → (id : ℕ) (k : Known) → get_elem? t.views id ≡ some k → (c : ℕ) → HoldsWaiting k.tree c → has_slot_in s.last c ≡ true
+    → LiesThere s lie c
     → IsTiedByAges plan s tree
     (record {
       words = slice_set t.words (slot_word s (slot_of c)) (slice_index t.words (slot_word s (slot_of c)));

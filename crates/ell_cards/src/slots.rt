@@ -9,7 +9,7 @@ ghost use Rattle.ell_cards.specs.CardNodes.{KnowsDeadNodes};
 ghost use Rattle.ell_cards.specs.Guards.{MayFill};
 ghost use Rattle.ell_cards.specs.Periods.{StandsAs, after_missing, after_own, after_read, after_seek, after_stamp, after_taking, has_slot, last_reading, slot_word};
 ghost use Rattle.ell_cards.specs.Seeking.{FindsNone, FindsNoneIn, FindsOneFor, may_have, missed_none, missed_one, sought_on};
-ghost use Rattle.ell_cards.specs.SlotWords.{card_by, is_noted, slot_of, stamp_in, turn_in, turn_of};
+ghost use Rattle.ell_cards.specs.SlotWords.{card_by, has_slot_in, has_slots, is_noted, slot_of, stamp_in, turn_in, turn_of};
 ghost use Rattle.ell_cards.specs.Stepping.{MayGoOn};
 ghost use Rattle.ell_cards.specs.Tied.{HoldsWaiting};
 
@@ -25,6 +25,9 @@ use std::marker::Brand;
 
 /// How many numbers of cards a turn has. Each slot has one of them.
 const NUMBERS_PER_TURN: u64 = 2_097_152;
+
+/// How many turns child words tell apart: of two turns that are a multiple of this apart, they hold the same.
+const TURNS_TOLD_APART: u64 = 1_048_576;
 
 /// How many slots are left to deletes: the last ones of the table, which a pass takes for no other change.
 const LEFT_TO_DELETES: u64 = 2;
@@ -43,6 +46,14 @@ pub(crate) fn turn_of(card: u64) -> u64
     ensures { result ≡ turn_of card }
 {
     card / NUMBERS_PER_TURN
+}
+
+// Returns whether a turn is the first one, or one that child words tell from the first: only such a turn has slots.
+#[inline(always)]
+fn has_slots(turn: u64) -> bool
+    ensures { result ≡ has_slots turn }
+{
+    turn == 0 || turn % TURNS_TOLD_APART != 0
 }
 
 // Returns the turn of the card in a slot in use, by the slot's word.
@@ -69,19 +80,33 @@ impl Slots {
         (self.last / 8).clamp(1, 64)
     }
 
-    /// Returns the least number of a card that has a slot, from this card on: the first one of the turn behind, if
-    /// the card has none.
+    /// Returns whether a card has a slot: it is one of the table, and the card's turn is the first one, or one that
+    /// child words tell from the first.
+    #[inline(always)]
+    fn has_slot(self, card: u64) -> bool
+        ensures has { result ≡ has_slot_in self.last card }
+        ensures inside { result ≡ true → slot_of card ≤ self.last }
+    {
+        slot_of(card) <= self.last && has_slots(turn_of(card))
+    }
+
+    /// Returns the least number of a card that has a slot, from this card on: the first one of the next turn that has
+    /// slots, if the card has none.
     #[inline(always)]
     fn next_with_slot(self, card: u64) -> u64
         requires { card ≤ greatest_number + 1 }
         ensures from { card ≤ result }
-        ensures slot { slot_of result ≤ self.last }
-        ensures first { (c : ℕ) → card ≤ c → slot_of c ≤ self.last → result ≤ c }
+        ensures slot { has_slot_in self.last result ≡ true }
+        ensures first { (c : ℕ) → card ≤ c → has_slot_in self.last c ≡ true → result ≤ c }
     {
-        if slot_of(card) <= self.last {
-            card
+        if self.has_slot(card) {
+            return card;
+        }
+        let next = turn_of(card) + 1;
+        if has_slots(next) {
+            NUMBERS_PER_TURN * next
         } else {
-            NUMBERS_PER_TURN * (turn_of(card) + 1)
+            NUMBERS_PER_TURN * (next + 1)
         }
     }
 
@@ -273,7 +298,7 @@ impl<A: Allocator + Copy> CardTable<A> {
             return;
         };
         let slot = slot_of(card);
-        if !lost || slot > slots.last {
+        if !lost || !slots.has_slot(card) {
             return;
         }
         let word = self.read_slot(seat, slots, slot);
@@ -310,7 +335,7 @@ impl<A: Allocator + Copy> CardTable<A> {
         let Some(slots) = self.slots else {
             return false;
         };
-        if slot_of(card) > slots.last {
+        if !slots.has_slot(card) {
             return false;
         }
         self.note_surely(&mut pass.seat, slots, card, nodes)
@@ -321,7 +346,7 @@ impl<A: Allocator + Copy> CardTable<A> {
         requires own { seat.old.table_id ≡ self.now.id }
         requires empty { seat.old.me.1 ≡ [] }
         requires slots { self.now.plan.slots ≡ Some slots }
-        requires slot { slot_of card ≤ slots.last }
+        requires slot { has_slot_in slots.last card ≡ true }
         requires hand { HoldsWaiting seat.old.me.0.tree card }
         ensures read { seat.new.me.0.period ≡ after_own card result seat.old.me.0.period }
         ensures tree { seat.new.me.0.tree ≡ seat.old.me.0.tree }
@@ -336,7 +361,7 @@ impl<A: Allocator + Copy> CardTable<A> {
         requires own { seat.old.table_id ≡ self.now.id }
         requires empty { seat.old.me.1 ≡ [] }
         requires slots { self.now.plan.slots ≡ Some slots }
-        requires slot { slot_of card ≤ slots.last }
+        requires slot { has_slot_in slots.last card ≡ true }
         requires low { slots.last < 2097152 }
         requires hand { HoldsWaiting seat.old.me.0.tree card }
         requires free { word % 8 ≡ 7 }
@@ -422,7 +447,7 @@ impl<A: Allocator + Copy> CardTable<A> {
     ) -> bool
         requires own { pass.old.table ≡ self.now.id }
         requires slots { self.now.plan.slots ≡ Some slots }
-        requires slot { slot_of card ≤ slots.last }
+        requires slot { has_slot_in slots.last card ≡ true }
         ensures same { pass.new ≡ record (pass.old) {
           sought = sought_on slots begins for_delete card pass.old.view.made result pass.old.sought;
         } }
@@ -450,7 +475,7 @@ impl<A: Allocator + Copy> CardTable<A> {
         requires slots { self.now.plan.slots ≡ Some slots }
         requires room { card ≤ self.now.plan.last_card }
         ensures same { pass.new ≡ record (pass.old) { sought = pass.new.sought } }
-        ensures found { IfSome result (λ c. (card ≤ c) × (c ≤ self.now.plan.last_card) × (slot_of c ≤ slots.last)) }
+        ensures found { IfSome result (λ c. (card ≤ c) × (c ≤ self.now.plan.last_card) × (has_slot_in slots.last c ≡ true)) }
         ensures has { IfSome result (λ c. may_have slots for_delete c ≡ true) }
         ensures none { result ≡ None → FindsNone slots self.now.plan.last_card card for_delete pass.old.view.made
             pass.new.sought }
@@ -533,7 +558,7 @@ impl<A: Allocator + Copy> CardTable<A> {
         let Some(slots) = self.slots else {
             return true;
         };
-        if slot_of(card) > slots.last {
+        if !slots.has_slot(card) {
             return false;
         }
         self.look_now_and_then(pass, slots);

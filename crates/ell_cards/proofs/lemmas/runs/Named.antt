@@ -28,7 +28,7 @@ use Rattle.ell_cards.specs.Machines.{HasMachine}
 use Rattle.ell_cards.specs.Starts.{IsReached}
 use Rattle.ell_cards.specs.Touching.{PassesNameMet}
 use Rattle.ell_cards.specs.Turns.{Turn, Makes, Splits, Joins, TableTurns, TableRun, found_by}
-use Rattle.ell_cards.proofs.lemmas.views.Depths.{met_there}
+use Rattle.ell_cards.proofs.lemmas.views.Depths.{met_more, met_there}
 use Rattle.ell_cards.proofs.lemmas.views.Entries.{filling_more}
 use Rattle.ell_cards.proofs.lemmas.seats.Seats.{mine_sound, rests_ended}
 use Rattle.ell_cards.proofs.lemmas.lifetimes.Splits.{each_split}
@@ -47,8 +47,10 @@ record LeafIsMet (v : View) (c : ℕ) : Type 0 where
   told : IsTold v (Info c field.L leaf)
   met : IsTold v (Met leaf)
 
--- all that a pass was told names nodes that it has met; to those its look has come; and so is the leaf of its card in hand
+-- a pass has met the root; all that it was told names nodes that it has met; to those its look has come; and so is the leaf
+-- of its card in hand
 record ViewNames (v : View) : Type 0 where
+  root : IsTold v (Met 0)
   entries : AllIn v.told
   glances : (glance : Glance) → Has v.glances glance → IsTold v (Met glance.node)
   leaf : (c : ℕ) → v.worker.card ≡ Some c → LeafIsMet v c
@@ -57,6 +59,7 @@ record ViewNames (v : View) : Type 0 where
 names_still : (v w : View) → ((e : Told) → IsTold v e → IsTold w e) → AllIn w.told → w.glances ≡ v.glances
     → ((c : ℕ) → w.worker.card ≡ Some c → v.worker.card ≡ Some c) → ViewNames v → ViewNames w
 names_still v w more entries glances held h = record {
+  root = more (Met 0) h.root;
   entries = entries;
   glances = λ g at. more (Met g.node) (h.glances g (subst (λ gs. Has gs g) glances at));
   leaf = λ c has. let l = h.leaf c (held c has) in record { leaf = l.leaf; told = more (Info c field.L l.leaf) l.told; met = more (Met l.leaf) l.met };
@@ -65,6 +68,7 @@ names_still v w more entries glances held h = record {
 -- where it has forgotten what it was told, and has no card in hand
 names_rest : (w : View) → w.told ≡ forgotten → w.glances ≡ [] → w.worker.card ≡ None → ViewNames w
 names_rest w told glances card = record {
+  root = subst (λ es. Has es (Met 0)) (sym told) (latest (Met 0) []);
   entries = subst AllIn (sym told) forgotten_in;
   glances = λ g at. elim (subst (λ gs. Has gs g) glances at) [ ];
   leaf = λ c has. absurd (some_not_none has card);
@@ -127,6 +131,7 @@ claim_names from true c q v may met h =
     (λ seen e. (met.parent seen e).met) (λ seen e. (met.grandparent seen e).met) in
     let leaf = leaf_filled c q v.worker.operation k.node k.parent k.grandparent (unwrap_or v.here 0) (value_told v.told) v.told may.op may.below may.parent
     may.busy may.stands may.behind (wants_above from v may.op may.parent.node may.below may.key q may.wants) in record {
+      root = more (Met 0) h.root;
       entries = first_in (told_filling c es v.told) tag (filling_in c es v.told fills h.entries) tt;
       glances = λ g at. more (Met g.node) (h.glances g at);
       leaf = λ d has. subst (LeafIsMet w) (some_same has)
@@ -165,6 +170,7 @@ after_names plan (call.FrozenChild c p right) n v may rests met h =
 after_names plan call.Look n v may rests met h =
     let x = (link_in n).node in
     let w = after call.Look n v in record {
+      root = met_more 1 x forgotten (Met 0) (latest (Met 0) []);
       entries = met_in 1 x forgotten forgotten_in;
       glances = glance_in w.told _ [] (met_there 1 x forgotten) (λ g at. elim at [ ]);
       leaf = λ c has. absurd (some_not_none has (rests may));
@@ -174,6 +180,7 @@ after_names plan (call.LookDown from to right) n v may rests met h =
     let x = (link_in n).node in
     let w = after (call.LookDown from to right) n v in
     let more = after_told (call.LookDown from to right) refl n v in record {
+      root = more (Met 0) h.root;
       entries = met_in depth x v.told h.entries;
       glances = glance_in w.told _ v.glances (met_there depth x v.told) (λ g at. more (Met g.node) (h.glances g at));
       leaf = λ c has. let l = h.leaf c has in record { leaf = l.leaf; told = more (Info c field.L l.leaf) l.told; met = more (Met l.leaf) l.met };
@@ -274,6 +281,7 @@ passes_name_met plan s h seat v at =
     let names = passes_name plan s h seat v at in
     let met = searches_are_met plan s h seat v at in (
       record {
+        root = names.root;
         node = met.node;
         parent = λ seen e. (met.parent seen e).met;
         grandparent = λ seen e. (met.grandparent seen e).met;

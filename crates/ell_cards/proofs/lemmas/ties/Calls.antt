@@ -283,10 +283,17 @@ module _ (plan : TablePlan) (s : Slots) (low : s.last < 2097152) (tree : TableSt
           (at_set t.views id seat knows u at)
       | inr flags ↦ hand_lies e flags
     ];
-    fits = λ e has. elim (wins e has) [ inl had ↦ tied.fits e had | inr flags ↦ (hand_lies e flags).0 ];
+    fits = λ e has. elim (wins e has) [
+      | inl had ↦ tied.fits e had
+      | inr flags ↦ tied.slotted id e k here (flag_in_hand plan c k may mem e flags).1
+    ];
     hand = λ seat e u at slot waits. ⊎_elim
         (λ (w : (seat ≡ id) × (knows ≡ u)). mine e (ap (λ (x : Known). x.period.slot) w.1 ∙ slot) (subst (λ (x : Known). HoldsWaiting x.tree e) (sym w.1) waits))
         (λ (w : (seat ≢ id) × (get_elem? t.views seat ≡ some u)). tied.hand seat e u w.1 slot waits)
+        (at_set t.views id seat knows u at);
+    slotted = λ seat e u at slot. ⊎_elim
+        (λ (w : (seat ≡ id) × (knows ≡ u)). tied.slotted id e k here (ap (λ (x : Known). x.period.slot) w.1 ∙ slot))
+        (λ (w : (seat ≢ id) × (get_elem? t.views seat ≡ some u)). tied.slotted seat e u w.1 slot)
         (at_set t.views id seat knows u at);
     past = λ seat e u at slot.
         let was : e < get_or t.words 0 0 = ⊎_elim

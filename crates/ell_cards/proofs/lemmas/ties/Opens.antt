@@ -27,6 +27,7 @@ use Rattle.ell_cards.proofs.lemmas.runs.Reaching.{reached_first}
 use Rattle.ell_cards.proofs.lemmas.shown.CutWords.{cut_same}
 use Rattle.ell_cards.proofs.lemmas.whole.Opens.{zeros_many, with_zeros, words_same, other_word, slots_empty, first_ages, first_periods}
 use Rattle.ell_cards.proofs.lemmas.whole.Rests.{is_at_rest}
+use Rattle.ell_cards.proofs.lemmas.words.Slotted.{has_slot_by}
 
 -- memory that has the tree's words in slots, whose words are 0, where each card that was claimed has a slot
 module _ (plan : TablePlan) (s : Slots) (low : s.last < 2097152) (tree : TableState) (r : HasMachine plan tree) (words : List ℕ)
@@ -57,8 +58,9 @@ module _ (plan : TablePlan) (s : Slots) (low : s.last < 2097152) (tree : TableSt
         ∙ ap cut_word (same (address slot f) there);
     alive = λ c has lives. lies c has;
     lives = λ seat q a c u at placed an has alive. lies c has;
-    fits = λ c has. (lies c has).0;
+    fits = λ c has. has_slot_by s.last c (lies c has).0 (λ none. (let is = (lies c has).1 in omega arith));
     hand = λ seat c u at slot. absurd (some_not_none slot (alone (λ j x. x.period.slot ≡ None) unslotted seat u at));
+    slotted = λ seat c u at slot. absurd (some_not_none slot (alone (λ j x. x.period.slot ≡ None) unslotted seat u at));
     past = λ seat c u at slot. absurd (some_not_none slot (alone (λ j x. x.period.slot ≡ None) unslotted seat u at));
     stores = λ seat c f u at waits has. absurd (some_not_none waits.0 (alone (λ j x. x.tree.worker.card ≡ None) none seat u at));
   }

@@ -17,7 +17,7 @@ use Rattle.ell_cards.specs.declared.view.Period.{Period}
 use Rattle.ell_cards.specs.declared.view.Slots.{Slots}
 use Rattle.ell_cards.specs.Periods.{WholeState, slot_word}
 use Rattle.ell_cards.specs.Shown.{cut_field}
-use Rattle.ell_cards.specs.SlotWords.{slot_of, turn_of}
+use Rattle.ell_cards.specs.SlotWords.{has_slot_in, slot_of, turn_of}
 use Rattle.ell_cards.specs.States.{TableState}
 use Rattle.ell_cards.specs.Tied.{LiesThere, HasWon, HoldsWaiting, HasStored, IsKept, IsTied}
 use Rattle.ell_cards.specs.Tied.IsKept.{won, stored}
@@ -27,7 +27,7 @@ use Rattle.ell_cards.proofs.lemmas.ties.Periods.{kept_of_period}
 
 module _ (s : Slots) (low : s.last < 2097152) (tree : TableState) (t : WholeState) (stage : Stages) (lie : ℕ → ℕ) (dead : ℕ → Bool) (was_dead : ℕ → ℕ → Bool)
     (tied : IsTied s tree t stage lie dead was_dead) (id : ℕ) (k : Known) (here : get_elem? t.views id ≡ some k)
-    (c : ℕ) (inside : slot_of c ≤ s.last) (waits : HoldsWaiting k.tree c) (unwon : ¬ HasWon stage c) (claimed : c < get_or t.words 0 0)
+    (c : ℕ) (inside : slot_of c ≤ s.last) (numbered : has_slot_in s.last c ≡ true) (waits : HoldsWaiting k.tree c) (unwon : ¬ HasWon stage c) (claimed : c < get_or t.words 0 0)
     (p : Period) (place : p.place ≡ k.period.place) (announced : p.announced ≡ k.period.announced) (taken : p.slot ≡ Some c)
     (room : slot_word s (slot_of c) < length t.words) (gone : dead (lie (slot_of c)) ≡ true)
     (was_gone : (seat q a : ℕ) (u : Known) → get_elem? t.views seat ≡ some u → u.period.place ≡ Some q → u.period.announced ≡ Some a
@@ -124,6 +124,10 @@ module _ (s : Slots) (low : s.last < 2097152) (tree : TableState) (t : WholeStat
     hand = λ seat d u at slot waits. ⊎_elim
         (λ (e : (seat ≡ id) × (now ≡ u)). subst (LiesThere s lie') (some_same (sym taken ∙ (ap (λ (x : Known). x.period.slot) e.1 ∙ slot))) lies_now)
         (λ (e : (seat ≢ id) × (get_elem? t.views seat ≡ some u)). lies_on d (alive_not d (hands seat d u e.1 waits)) (tied.hand seat d u e.1 slot waits))
+        (at_set t.views id seat now u at);
+    slotted = λ seat d u at slot. ⊎_elim
+        (λ (e : (seat ≡ id) × (now ≡ u)). subst (λ x. has_slot_in s.last x ≡ true) (some_same (sym taken ∙ (ap (λ (x : Known). x.period.slot) e.1 ∙ slot))) numbered)
+        (λ (e : (seat ≢ id) × (get_elem? t.views seat ≡ some u)). tied.slotted seat d u e.1 slot)
         (at_set t.views id seat now u at);
     past = λ seat d u at slot. subst (λ n. d < n) (sym (slots_stay 0 (omega arith))) (⊎_elim
         (λ (e : (seat ≡ id) × (now ≡ u)). subst (λ x. x < get_or t.words 0 0) (some_same (sym taken ∙ (ap (λ (x : Known). x.period.slot) e.1 ∙ slot))) claimed)

@@ -13,6 +13,7 @@ use Rattle.ell_cards.specs.declared.view.Slots.{Slots}
 use Rattle.ell_cards.specs.Periods.{WholeState}
 use Rattle.ell_cards.specs.Sayings.{says}
 use Rattle.ell_cards.specs.Shown.{cut_field}
+use Rattle.ell_cards.specs.SlotWords.{has_slot_in}
 use Rattle.ell_cards.specs.States.{TableState}
 use Rattle.ell_cards.specs.Tied.{LiesThere, HasWon, HoldsWaiting, HasStored, IsKept, IsTied}
 use Rattle.ell_cards.specs.Tied.IsKept.{won, stored}
@@ -75,6 +76,14 @@ module _ (s : Slots) (low : s.last < 2097152) (tree tree' : TableState) (t : Who
     | blank none says taken ↦ absurd (some_not_none slot taken)
   ]
 
+  slotted_on : (seat c : ℕ) (u : Known) → get_elem? views seat ≡ some u → u.period.slot ≡ Some c → has_slot_in s.last c ≡ true
+  slotted_on seat c u at slot = elim (stays seat u at) [
+    | same there ↦ tied.slotted seat c u there slot
+    | goes_on k there is place says taken ↦ tied.slotted seat c k there (sym taken ∙ slot)
+    | idle none other k there place says taken ↦ tied.slotted other c k there (sym taken ∙ slot)
+    | blank none says taken ↦ absurd (some_not_none slot taken)
+  ]
+
   stores_on : (seat c : ℕ) (f : Field) (u : Known) → get_elem? views seat ≡ some u → HoldsWaiting u.tree c → HasStored u.tree f → u.period.slot ≡ Some c
   stores_on seat c f u at waits has = elim (stays seat u at) [
     | same there ↦ tied.stores seat c f u there waits has
@@ -94,6 +103,7 @@ module _ (s : Slots) (low : s.last < 2097152) (tree tree' : TableState) (t : Who
     lives = lives_on;
     fits = λ c has. tied.fits c (wins c has);
     hand = hand_on;
+    slotted = slotted_on;
     past = λ seat c u at slot. subst (λ n. c < n) (sym (slots 0 (omega arith))) (past_on seat c u at slot);
     stores = stores_on;
   }

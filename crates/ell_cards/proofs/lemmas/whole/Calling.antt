@@ -59,6 +59,7 @@ use Rattle.ell_cards.proofs.lemmas.whole.Lifts.{IsFill, is_its_own, can_be_shown
 use Rattle.ell_cards.proofs.lemmas.whole.Rests.{stays_at_rest}
 use Rattle.ell_cards.proofs.lemmas.whole.Seats.{lie_same}
 use Rattle.ell_cards.proofs.lemmas.whole.Trees.{tree_at, slots_stay, tree_periods}
+use Rattle.ell_cards.proofs.lemmas.words.Slotted.{slot_inside}
 
 -- a card that is no later than the last one that may have a slot of its own has that
 own_slot : (c : ℕ) → c ≤ greatest_card → slot_of c ≡ c
@@ -287,7 +288,7 @@ module _ (plan : TablePlan) (s : WholeState) (h : IsWhole plan s) (id : ℕ) (k 
 
       pub tied_placed : IsPlaced (last_slot plan) (view_after h.tree k.tree c)
       tied_placed = subst (λ o. IsPlaced (last_slot_of o plan.last_card) (view_after h.tree k.tree c)) (sym placed)
-          (placed_to plan after tied_ages.ages.now.machine id (view_after h.tree k.tree c) tree_there sl.last still_tied.fits)
+          (placed_to plan after tied_ages.ages.now.machine id (view_after h.tree k.tree c) tree_there sl.last (λ e has. slot_inside sl.last e (still_tied.fits e has)))
 
 -- what a pass has stored of its card in hand, by what is shown
 was_stored : (es : List (Field × ℕ)) (f : Field) (x : ℕ) → Has (shown_words es) (f, x) → (y : ℕ) × Has es (f, y)

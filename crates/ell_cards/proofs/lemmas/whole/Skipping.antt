@@ -37,6 +37,7 @@ use Rattle.ell_cards.proofs.lemmas.whole.Calling.{set_twice, tree_here, tied_who
 use Rattle.ell_cards.proofs.lemmas.whole.Calling.Notes.{nothing}
 use Rattle.ell_cards.proofs.lemmas.whole.Apart.{reached_apart}
 use Rattle.ell_cards.proofs.lemmas.whole.Places.{size_some}
+use Rattle.ell_cards.proofs.lemmas.words.Slotted.{slot_inside}
 
 -- a flat tree is flat from some card on
 pub from_some : (plan : TablePlan) → plan.flat ≡ true → 0 < flat_from plan
@@ -66,7 +67,7 @@ module _ (plan : TablePlan) (s : Slots) (placed : plan.slots ≡ Some s) where
       let periods = has_periods t h in (
         kept_named plan h.tree (reached_kept plan h.tree h.reached) id k.tree there,
         subst (λ o. IsPlaced (last_slot_of o plan.last_card) k.tree) (sym placed)
-            (placed_to plan h.tree periods.ages.now.machine id k.tree there s.last periods.tied.fits),
+            (placed_to plan h.tree periods.ages.now.machine id k.tree there s.last (λ c has. slot_inside s.last c (periods.tied.fits c has))),
       )
 
   -- and tells nodes apart

@@ -15,7 +15,7 @@ use Rattle.ell_cards.specs.Ages.{HasPeriods}
 use Rattle.ell_cards.specs.Models.{TablePlan}
 use Rattle.ell_cards.specs.Periods.{WholeState, slot_word, slots_size, after_missing, after_own, after_read, after_taking}
 use Rattle.ell_cards.specs.Seeking.{could_take, missed_one}
-use Rattle.ell_cards.specs.SlotWords.{slot_of, turn_of, turn_in, stamp_in, is_used_for}
+use Rattle.ell_cards.specs.SlotWords.{has_slot_in, slot_of, turn_of, turn_in, stamp_in, is_used_for}
 use Rattle.ell_cards.specs.States.{TableState}
 use Rattle.ell_cards.specs.Stepping.{MayGoOn}
 use Rattle.ell_cards.specs.Tied.{HoldsWaiting}
@@ -49,7 +49,7 @@ card_of_turn c n turn = omega arith
 
 -- the periods of a table where a pass takes the slot of its card in hand
 module _ (plan : TablePlan) (s : Slots) (tree : TableState) (t : WholeState) (id : ℕ) (k : Known) (here : get_elem? t.views id ≡ some k) (same : trees_of t.views ≡ tree.views)
-    (h : HasPeriods plan s tree t) (size : length t.words ≡ slots_size s) (c : ℕ) (hand : HoldsWaiting k.tree c) (inside : slot_of c ≤ s.last) where
+    (h : HasPeriods plan s tree t) (size : length t.words ≡ slots_size s) (c : ℕ) (hand : HoldsWaiting k.tree c) (inside : slot_of c ≤ s.last) (numbered : has_slot_in s.last c ≡ true) where
   abbrev at : ℕ
   at = slot_word s (slot_of c)
 
@@ -60,7 +60,7 @@ module _ (plan : TablePlan) (s : Slots) (tree : TableState) (t : WholeState) (id
   own_now : get_or t.words (slot_word s (slot_of c)) 0 % 8 ≢ 7 → turn_in (get_or t.words (slot_word s (slot_of c)) 0) ≡ turn_of c
       → HasPeriods plan s tree (turned_to t id k (after_taking c k.period) (slot_word s (slot_of c)) (get_or t.words (slot_word s (slot_of c)) 0))
   own_now used turn =
-      let tied = own_slots_keep_ties plan s tree t h.lie h.dead h.was_dead size (record { ages = h.ages; tied = h.tied }) same id k here c hand (inside, h.lies (slot_of c) inside used ∙ card_of_turn c found turn) in record {
+      let tied = own_slots_keep_ties plan s tree t h.lie h.dead h.was_dead size (record { ages = h.ages; tied = h.tied }) same id k here c hand numbered (inside, h.lies (slot_of c) inside used ∙ card_of_turn c found turn) in record {
         lie = h.lie;
         lies = lie_same s h.lie t.words (set t.words at found) (λ slot low. word_again t.words at (omega arith) (slot_word s slot)) h.lies;
         dead = h.dead;
@@ -95,7 +95,7 @@ module _ (plan : TablePlan) (s : Slots) (tree : TableState) (t : WholeState) (id
       let full : found % 8 ≡ 7 = ap (λ m. m % 8) is ∙ free in
       let past : stamp_in found < k.period.safe = subst (λ m. stamp_in m < k.period.safe) (sym is) safe in
       let own = h.tied.own (slot_of c) inside in
-      let tied = takes_keep_ties plan s tree t h.lie h.dead h.was_dead low size (record { ages = h.ages; tied = h.tied }) same id k here c hand inside
+      let tied = takes_keep_ties plan s tree t h.lie h.dead h.was_dead low size (record { ages = h.ages; tied = h.tied }) same id k here c hand numbered
       (taken_is_dead s t id k here h.lie h.dead h.began h.was_dead h.periods size (slot_of c) inside own full past)
       (taken_was_dead_for s t id k here h.lie h.dead h.began h.was_dead h.periods size (slot_of c) inside own full past) in record {
         lie = put h.lie (slot_of c) c;
@@ -109,12 +109,12 @@ module _ (plan : TablePlan) (s : Slots) (tree : TableState) (t : WholeState) (id
       }
 
 -- these steps are steps of the table
-module _ (plan : TablePlan) (s : Slots) (placed : plan.slots ≡ Some s) (k : Known) (c : ℕ) (hand : HoldsWaiting k.tree c) (inside : slot_of c ≤ s.last) where
+module _ (plan : TablePlan) (s : Slots) (placed : plan.slots ≡ Some s) (k : Known) (c : ℕ) (hand : HoldsWaiting k.tree c) (inside : slot_of c ≤ s.last) (numbered : has_slot_in s.last c ≡ true) where
   -- a pass reads the word of the slot, and has taken it if its card lies there already
   pub owns_slot : MayGoOn plan k (slot_word s (slot_of c)) (λ n. n) (λ n p. p ≡ after_own c n k.period)
   owns_slot =
       goes_on_whole plan s placed k (slot_word s (slot_of c)) (λ n. n) (λ n p. p ≡ after_own c n k.period) (λ t. after_own c (get_or t.words (slot_word s (slot_of c)) 0) k.period)
-      (λ tree t id here same h size. (owns_now plan s tree t id k here same h size c hand inside, refl))
+      (λ tree t id here same h size. (owns_now plan s tree t id k here same h size c hand inside numbered, refl))
 
   -- it takes the slot, if the word is as it was
   pub takes_slot : s.last < 2097152 → (n : ℕ) → n % 8 ≡ 7 → stamp_in n < k.period.safe
@@ -133,10 +133,10 @@ module _ (plan : TablePlan) (s : Slots) (placed : plan.slots ≡ Some s) (k : Kn
           (either (get_or t.words (slot_word s (slot_of c)) 0 == n) (8 * turn_of c) (get_or t.words (slot_word s (slot_of c)) 0)))
       by tree t id here same h size (inl is) =
           subst (after t tree id (get_or t.words (slot_word s (slot_of c)) 0)) (sym (eq-eqb (get_or t.words (slot_word s (slot_of c)) 0) n is))
-          (takes_now plan s tree t id k here same h size c hand inside low n is free safe)
+          (takes_now plan s tree t id k here same h size c hand inside numbered low n is free safe)
       by tree t id here same h size (inr other) =
           subst (after t tree id (get_or t.words (slot_word s (slot_of c)) 0)) (sym (ne_eqb (get_or t.words (slot_word s (slot_of c)) 0) n other))
-          (reads_so plan s tree t id k here same h size c hand inside (missed_one k.period.sought))
+          (reads_so plan s tree t id k here same h size c hand inside numbered (missed_one k.period.sought))
 
   -- whichever card the pass has in hand, and whatever slot's word this is
   one : (d : ℕ) → k.tree.worker.card ≡ Some d → c ≡ d
