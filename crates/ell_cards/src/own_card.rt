@@ -6,6 +6,7 @@ ghost use Rattle.ell_core.specs.declared.exchange.Exchange.TheVariants as exchan
 ghost use Rattle.ell_cards.specs.Models.{Steps, flat_from};
 ghost use Rattle.ell_cards.specs.Changes.{after_fill, after_flag, if_won, exchanged, found_update, found_word};
 ghost use Rattle.ell_cards.specs.Skipping.{after_claimed_row};
+ghost use Rattle.ell_cards.specs.Shown.{shown_word};
 ghost use Rattle.ell_cards.specs.Sayings.{delete_says, put_says};
 ghost use Rattle.ell_cards.specs.Stepping.{IsWholeIn};
 ghost use Rattle.ell_cards.specs.Guards.{MayClaim, MayFill, MayIFlag, MayDFlag};
@@ -55,13 +56,14 @@ impl<A: Allocator + Copy> CardTable<A> {
         self.exchange_claim::<Brand>(pass, first, node_key, last + 1) == first
     }
 
-    /// Stores a word of the card in hand, which is not flagged. If the table has places, the pass has taken the card's
-    /// slot.
+    /// Stores a word of the card in hand, which is not flagged: for the grandparent or the parent the low 43 bits of a
+    /// node, as the pass knows them. If the table has places, the pass has taken the card's slot.
     #[inline(always)]
     pub fn fill(&self, pass: &mut Pass<A>, card: u64, field: Field, value: u64)
         requires own { pass.old.table ≡ self.now.id }
         requires may { MayFill pass.old.view card }
         requires slot { self.now.plan.slots ≢ None → pass.old.slot ≡ Some card }
+        requires fits { shown_word field value ≡ value }
         // It makes one step and counts it. The pass then knows exactly what this call tells.
         ensures step { Steps pass.old pass.new (after_fill field value pass.old.view) }
     {

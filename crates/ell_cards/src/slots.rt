@@ -12,6 +12,7 @@ ghost use Rattle.ell_cards.specs.Seeking.{FindsNone, FindsNoneIn, FindsOneFor, m
 ghost use Rattle.ell_cards.specs.SlotWords.{card_by, has_slot_in, has_slots, is_noted, slot_of, stamp_in, turn_in, turn_of};
 ghost use Rattle.ell_cards.specs.Stepping.{MayGoOn};
 ghost use Rattle.ell_cards.specs.Tied.{HoldsWaiting};
+ghost use Rattle.ell_cards.specs.Shown.{shown};
 
 use crate::card_nodes::CardNodes;
 use crate::pass::Pass;
@@ -183,7 +184,7 @@ impl<A: Allocator + Copy> CardTable<A> {
         requires taken { word % 8 ≢ 7 }
         requires others { noted % 8 ≢ 7 }
         requires dead { (i : ℕ) → is_noted noted i ≡ true →
-            (is_noted word i ≡ true) ⊎ KnowsDeadNode seat.old.me.0.tree (4 * card_by slot word + i) }
+            (is_noted word i ≡ true) ⊎ KnowsDeadNode (shown seat.old.me.0.tree) (4 * card_by slot word + i) }
         ensures period { seat.new.me.0.period ≡ seat.old.me.0.period }
         ensures tree { seat.new.me.0.tree ≡ seat.old.me.0.tree }
         ensures seat { (seat.new.table_id ≡ seat.old.table_id) × (seat.new.me.1 ≡ []) }
@@ -229,7 +230,7 @@ impl<A: Allocator + Copy> CardTable<A> {
         requires slots { self.now.plan.slots ≡ Some slots }
         requires slot { slot_of card ≤ slots.last }
         requires low { slots.last < 2097152 }
-        requires dead { KnowsDeadNodes seat.old.me.0.tree card nodes }
+        requires dead { KnowsDeadNodes (shown seat.old.me.0.tree) card nodes }
         ensures stands { StandsAs seat.old.me.0.period seat.new.me.0.period }
         ensures slot { seat.new.me.0.period.slot ≡ seat.old.me.0.period.slot }
         ensures sought { seat.new.me.0.period.sought ≡ seat.old.me.0.period.sought }
@@ -265,7 +266,7 @@ impl<A: Allocator + Copy> CardTable<A> {
         requires slots { self.now.plan.slots ≡ Some slots }
         requires slot { slot_of card ≤ slots.last }
         requires low { slots.last < 2097152 }
-        requires dead { KnowsDeadNodes seat.old.me.0.tree card nodes }
+        requires dead { KnowsDeadNodes (shown seat.old.me.0.tree) card nodes }
         ensures stands { StandsAs seat.old.me.0.period seat.new.me.0.period }
         ensures slot { seat.new.me.0.period.slot ≡ seat.old.me.0.period.slot }
         ensures sought { seat.new.me.0.period.sought ≡ seat.old.me.0.period.sought }

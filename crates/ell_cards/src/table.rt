@@ -17,7 +17,7 @@ ghost use Rattle.ell_cards.specs.declared.view.Period.{Period};
 ghost use Rattle.ell_cards.specs.Periods.{after_flagging, whole_size};
 ghost use Rattle.ell_cards.specs.Tied.{FlagsCard};
 ghost use Rattle.ell_cards.specs.Starts.{SlotsFit};
-ghost use Rattle.ell_cards.specs.Shown.{IsNoClaim, cut_word};
+ghost use Rattle.ell_cards.specs.Shown.{IsNoClaim, StoresWord, cut_word, shown_word};
 ghost use Rattle.ell_cards.specs.Skipping.{MayStepOn};
 ghost use Rattle.ell_cards.specs.SlotWords.{slot_of};
 ghost use Rattle.ell_cards.specs.Stepping.{Exchanges, IsQuiet, MayInTable, MayTell, KeepsPass, SeesBy, StepsBy};
@@ -202,6 +202,7 @@ impl<A: Allocator + Copy> CardTable<A> {
         requires word { word ≡ place_of call }
         requires kept { MayInTable self.now.plan pass.old call }
         requires atomic { atomic_of call ≡ Store value }
+        requires stores { StoresWord call }
         requires tells { MayTell self.now.plan call pass.old.view (λ n. J.then value) }
         requires keeps { KeepsPass self.now.plan pass.old.view J.then }
         ensures told { J.then value pass.new.view }
@@ -220,6 +221,7 @@ impl<A: Allocator + Copy> CardTable<A> {
         requires own { pass.old.table ≡ self.now.id }
         requires may { MayFill pass.old.view card }
         requires slot { self.now.plan.slots ≢ None → pass.old.slot ≡ Some card }
+        requires fits { shown_word field value ≡ value }
         requires word { word ≡ slot_address card field }
         ensures step { Steps pass.old pass.new (after_fill field value pass.old.view) }
     {

@@ -22,10 +22,15 @@ use Rattle.ell_cards.specs.CardNodes.{has_node, KnowsDeadNodes}
 use Rattle.ell_cards.specs.Models.{TablePlan}
 use Rattle.ell_cards.specs.Periods.{WholeState, clock_word, slot_word, slots_size, last_reading, LieInSlots, pending_by, after_read, after_seek, after_stamp, PeriodsAreSound}
 use Rattle.ell_cards.specs.Seeking.{could_have, sought_on}
+use Rattle.ell_cards.specs.Shown.{shown}
 use Rattle.ell_cards.specs.SlotWords.{card_by, slot_of, turn_of, turn_in, free_word, is_noted}
+use Rattle.ell_cards.specs.Starts.{IsReached}
 use Rattle.ell_cards.specs.States.{TableState}
 use Rattle.ell_cards.specs.Stepping.{MayGoOn}
 use Rattle.ell_cards.proofs.lemmas.runs.Alive.{known_dead_is_dead}
+use Rattle.ell_cards.proofs.lemmas.runs.Reaching.{reached_kept}
+use Rattle.ell_cards.proofs.lemmas.seats.Named.{kept_named}
+use Rattle.ell_cards.proofs.lemmas.shown.ShownDead.{dead_node_whole}
 use Rattle.ell_cards.proofs.lemmas.whole.Ages.{ages_of_period}
 use Rattle.ell_cards.proofs.lemmas.ties.Periods.{tie_of_period}
 use Rattle.ell_cards.proofs.lemmas.whole.Going.{turned_to, behind, same_noted, same_again, stays, goes_on_there}
@@ -93,13 +98,15 @@ full_stays n m low all =
 
 -- the steps of a pass on the words of slots, as those of a whole table
 module _ (plan : TablePlan) (s : Slots) (tree : TableState) (t : WholeState) (id : ℕ) (k : Known) (here : get_elem? t.views id ≡ some k)
-    (there : get_elem? tree.views id ≡ some k.tree) (h : HasPeriods plan s tree t) (size : length t.words ≡ slots_size s) where
+    (there : get_elem? tree.views id ≡ some k.tree) (h : HasPeriods plan s tree t) (size : length t.words ≡ slots_size s) (reached : IsReached plan tree) where
   abbrev OutNow : ℕ → Type 0
   OutNow x = IsOut plan tree h.ages.now.machine h.ages.now.uses x
 
   -- what the pass knows to be dead is out
-  dead_by : (x : ℕ) → KnowsDeadNode k.tree x → OutNow x
-  dead_by x knows = inl (known_dead_is_dead plan tree id k.tree there knows.0 x knows.1 h.ages.now.machine h.ages.now.uses.outs)
+  dead_by : (x : ℕ) → KnowsDeadNode (shown k.tree) x → OutNow x
+  dead_by x knows =
+      let dead = dead_node_whole k.tree plan.last_card (kept_named plan tree (reached_kept plan tree reached) id k.tree there) (let limit = reached.starts.may.limit in omega arith) x knows in
+      inl (known_dead_is_dead plan tree id k.tree there dead.0 x dead.1 h.ages.now.machine h.ages.now.uses.outs)
 
   -- it reads the word of a slot, whatever its search has read then
   pub reads_now : (slot : ℕ) → slot ≤ s.last → (sought : Seek)
@@ -212,7 +219,7 @@ module _ (plan : TablePlan) (s : Slots) (tree : TableState) (t : WholeState) (id
 
   -- more nodes of the card that lies in a slot are noted as dead
   pub notes_now : (slot n m : ℕ) → slot ≤ s.last → get_or t.words (slot_word s slot) 0 ≡ n → turn_in m ≡ turn_in n → n % 8 ≢ 7 → m % 8 ≢ 7
-      → ((i : ℕ) → is_noted m i ≡ true → (is_noted n i ≡ true) ⊎ KnowsDeadNode k.tree (4 * card_by slot n + i))
+      → ((i : ℕ) → is_noted m i ≡ true → (is_noted n i ≡ true) ⊎ KnowsDeadNode (shown k.tree) (4 * card_by slot n + i))
       → HasPeriods plan s tree (turned_to t id k k.period (slot_word s slot) m)
   notes_now slot n m inside is turn some_bit some_bit' knows =
       turns_now slot m inside (lie_noted s h.lie t.words h.lies slot (omega arith) m used (turn ∙ ap turn_in (sym is)))
@@ -258,7 +265,7 @@ module _ (plan : TablePlan) (s : Slots) (placed : plan.slots ≡ Some s) (slot :
   pub reads_slot : (k : Known) → MayGoOn plan k (slot_word s slot) (λ n. n) (λ n p. p ≡ after_read slot n k.period)
   reads_slot k =
       goes_on_there plan s placed k (slot_word s slot) (λ n. n) (λ n p. p ≡ after_read slot n k.period) (λ t. after_read slot (get_or t.words (slot_word s slot) 0) k.period)
-      (λ tree t id here there h size. (reads_now plan s tree t id k here there h size slot inside k.period.sought, refl))
+      (λ tree t id reached here there h size. (reads_now plan s tree t id k here there h size reached slot inside k.period.sought, refl))
 
   -- whatever slot a word is of
   pub reads_any : (k : Known) (word : ℕ) → word ≡ slot_word s slot
@@ -280,9 +287,9 @@ module _ (plan : TablePlan) (s : Slots) (placed : plan.slots ≡ Some s) (slot :
   seeks begins for_delete c made lies k word is =
       subst (λ i. MayGoOn plan k i (λ n. n) (λ n p. p ≡ after_seek s begins for_delete c made n k.period)) (sym is)
       (goes_on_there plan s placed k (slot_word s slot) (λ n. n) (λ n p. p ≡ after_seek s begins for_delete c made n k.period) (λ t. after_seek s begins for_delete c made (get_or t.words (slot_word s slot) 0) k.period)
-      (λ tree t id here there h size. (
+      (λ tree t id reached here there h size. (
         subst (λ x. HasPeriods plan s tree (turned_to t id k (record (after_read x (get_or t.words (slot_word s slot) 0) k.period) { sought = now t }) (slot_word s slot) (get_or t.words (slot_word s slot) 0))) (sym lies)
-            (reads_now plan s tree t id k here there h size slot inside (now t)),
+            (reads_now plan s tree t id k here there h size reached slot inside (now t)),
         refl,
       )))
     where
@@ -291,20 +298,20 @@ module _ (plan : TablePlan) (s : Slots) (placed : plan.slots ≡ Some s) (slot :
 
   -- it notes more nodes as dead, if the word is as it was
   pub notes_nodes : (k : Known) (n m : ℕ) → turn_in m ≡ turn_in n → n % 8 ≢ 7 → m % 8 ≢ 7
-      → ((i : ℕ) → is_noted m i ≡ true → (is_noted n i ≡ true) ⊎ KnowsDeadNode k.tree (4 * card_by slot n + i))
+      → ((i : ℕ) → is_noted m i ≡ true → (is_noted n i ≡ true) ⊎ KnowsDeadNode (shown k.tree) (4 * card_by slot n + i))
       → MayGoOn plan k (slot_word s slot) (λ x. either (x == n) m x) (λ x p. p ≡ k.period)
   notes_nodes k n m turn some_bit some_bit' knows =
       goes_on_there plan s placed k (slot_word s slot) (λ x. either (x == n) m x) (λ x p. p ≡ k.period) (λ t. k.period)
-      (λ tree t id here there h size. (by tree t id here there h size (cases_eq (get_or t.words (slot_word s slot) 0) n), refl))
+      (λ tree t id reached here there h size. (by tree t id reached here there h size (cases_eq (get_or t.words (slot_word s slot) 0) n), refl))
     where
-      by : (tree : TableState) (t : WholeState) (id : ℕ) → get_elem? t.views id ≡ some k → get_elem? tree.views id ≡ some k.tree → HasPeriods plan s tree t → length t.words ≡ slots_size s
+      by : (tree : TableState) (t : WholeState) (id : ℕ) → IsReached plan tree → get_elem? t.views id ≡ some k → get_elem? tree.views id ≡ some k.tree → HasPeriods plan s tree t → length t.words ≡ slots_size s
           → (get_or t.words (slot_word s slot) 0 ≡ n) ⊎ (get_or t.words (slot_word s slot) 0 ≢ n)
           → HasPeriods plan s tree (turned_to t id k k.period (slot_word s slot) (either (get_or t.words (slot_word s slot) 0 == n) m (get_or t.words (slot_word s slot) 0)))
-      by tree t id here there h size (inl is) =
+      by tree t id reached here there h size (inl is) =
           subst (λ x. HasPeriods plan s tree (turned_to t id k k.period (slot_word s slot) x))
           (sym (ap (λ b. either b m (get_or t.words (slot_word s slot) 0)) (eq-eqb (get_or t.words (slot_word s slot) 0) n is)))
-          (notes_now plan s tree t id k here there h size slot n m inside is turn some_bit some_bit' knows)
-      by tree t id here there h size (inr other) =
+          (notes_now plan s tree t id k here there h size reached slot n m inside is turn some_bit some_bit' knows)
+      by tree t id reached here there h size (inr other) =
           subst (λ x. HasPeriods plan s tree (turned_to t id k k.period (slot_word s slot) x))
           (sym (ap (λ b. either b m (get_or t.words (slot_word s slot) 0)) (ne_eqb (get_or t.words (slot_word s slot) 0) n other)))
           (stays plan s tree t id k here h size (slot_word s slot) (omega arith))
@@ -314,16 +321,16 @@ module _ (plan : TablePlan) (s : Slots) (placed : plan.slots ≡ Some s) (slot :
       → MayGoOn plan k (slot_word s slot) (λ m. either (m == n) (free_word reading) m) (λ m p. p ≡ k.period)
   frees_slot k reading n some_bit has =
       goes_on_there plan s placed k (slot_word s slot) (λ m. either (m == n) (free_word reading) m) (λ m p. p ≡ k.period) (λ t. k.period)
-      (λ tree t id here there h size. (by tree t id here there h size (cases_eq (get_or t.words (slot_word s slot) 0) n), refl))
+      (λ tree t id reached here there h size. (by tree t id reached here there h size (cases_eq (get_or t.words (slot_word s slot) 0) n), refl))
     where
-      by : (tree : TableState) (t : WholeState) (id : ℕ) → get_elem? t.views id ≡ some k → get_elem? tree.views id ≡ some k.tree → HasPeriods plan s tree t → length t.words ≡ slots_size s
+      by : (tree : TableState) (t : WholeState) (id : ℕ) → IsReached plan tree → get_elem? t.views id ≡ some k → get_elem? tree.views id ≡ some k.tree → HasPeriods plan s tree t → length t.words ≡ slots_size s
           → (get_or t.words (slot_word s slot) 0 ≡ n) ⊎ (get_or t.words (slot_word s slot) 0 ≢ n)
           → HasPeriods plan s tree (turned_to t id k k.period (slot_word s slot) (either (get_or t.words (slot_word s slot) 0 == n) (free_word reading) (get_or t.words (slot_word s slot) 0)))
-      by tree t id here there h size (inl is) =
+      by tree t id reached here there h size (inl is) =
           subst (λ m. HasPeriods plan s tree (turned_to t id k k.period (slot_word s slot) m))
           (sym (ap (λ b. either b (free_word reading) (get_or t.words (slot_word s slot) 0)) (eq-eqb (get_or t.words (slot_word s slot) 0) n is)))
-          (frees_now plan s tree t id k here there h size slot reading inside n is some_bit has)
-      by tree t id here there h size (inr other) =
+          (frees_now plan s tree t id k here there h size reached slot reading inside n is some_bit has)
+      by tree t id reached here there h size (inr other) =
           subst (λ m. HasPeriods plan s tree (turned_to t id k k.period (slot_word s slot) m))
           (sym (ap (λ b. either b (free_word reading) (get_or t.words (slot_word s slot) 0)) (ne_eqb (get_or t.words (slot_word s slot) 0) n other)))
           (stays plan s tree t id k here h size (slot_word s slot) (omega arith))
@@ -333,4 +340,4 @@ pub stamps_card : (plan : TablePlan) (s : Slots) → plan.slots ≡ Some s → (
     → MayGoOn plan k (clock_word s) (λ n. n) (λ n p. (p ≡ after_stamp c n k.period) × (n ≤ last_reading))
 stamps_card plan s placed k c may =
     goes_on_there plan s placed k (clock_word s) (λ n. n) (λ n p. (p ≡ after_stamp c n k.period) × (n ≤ last_reading)) (λ t. after_stamp c (get_or t.words (clock_word s) 0) k.period)
-    (λ tree t id here there h size. (stamps_now plan s tree t id k here there h size c may, (refl, h.periods.low)))
+    (λ tree t id reached here there h size. (stamps_now plan s tree t id k here there h size reached c may, (refl, h.periods.low)))

@@ -48,6 +48,11 @@ abbrev pub IsFill : Call → Type 0
 IsFill (call.Fill e f value) = Unit {0}
 IsFill _ = ⊥
 
+-- a call that stores none has none to show
+pub plain_shown : (c : Call) → (IsFill c → ⊥) → FillsShown c
+plain_shown (call.Fill x f value) plain = absurd (plain tt)
+plain_shown _ plain = tt
+
 pub fill_shown : (c : Call) → IsFill c → IsFill (shown_call c)
 fill_shown (call.Fill e f value) is = is
 fill_shown _ is = absurd is

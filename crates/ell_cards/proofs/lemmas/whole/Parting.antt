@@ -17,7 +17,7 @@ use Rattle.ell_cards.specs.Starts.{SlotsFit}
 use Rattle.ell_cards.specs.Turns.{TableTurns, Splits as SplitsInto, Joins as JoinsWith, state_split, state_joined}
 use Rattle.ell_cards.proofs.lemmas.ties.Handovers.{splits_keep_ties, joins_keep_ties}
 use Rattle.ell_cards.proofs.lemmas.whole.Handovers.{split_periods, join_periods}
-use Rattle.ell_cards.specs.Whole.{trees_of, joined_known, spent_known, PeriodsAre, IsWhole}
+use Rattle.ell_cards.specs.Whole.{trees_of, joined_known, spent_known, PeriodsAre, IsWhole, PlansFit}
 use Rattle.ell_cards.proofs.lemmas.lifetimes.Joins.{each_joined as each_view_joined}
 use Rattle.ell_cards.proofs.lemmas.lifetimes.Splits.{each_split as each_view_split}
 use Rattle.ell_cards.proofs.lemmas.shown.ShownViews.{unfilled_whole}

@@ -20,10 +20,10 @@ use Rattle.ell_cards.specs.Apart.{IsApart}
 use Rattle.ell_cards.specs.Shown.{IsWord, cut_word, cut_planned, shown}
 use Rattle.ell_cards.specs.Skipping.{after_one, after_row, after_claimed_row, MayStepOn, RowTells}
 use Rattle.ell_cards.specs.Starts.{SlotsFit}
-use Rattle.ell_cards.specs.Stepping.{IsInside, KeepsPass, SameShare}
-use Rattle.ell_cards.specs.Turns.{found_by}
+use Rattle.ell_cards.specs.Stepping.{IsInside, KeepsPass, SameShare, MayTell}
+use Rattle.ell_cards.specs.Turns.{found_by, state_after, view_after}
 use Rattle.ell_cards.specs.Whole.{WordsAre, PeriodsAre, IsWhole}
-use Rattle.ell_cards.proofs.lemmas.runs.Reaching.{reached_kept}
+use Rattle.ell_cards.proofs.lemmas.runs.Reaching.{reached_kept, call_on}
 use Rattle.ell_cards.proofs.lemmas.seats.Named.{kept_named}
 use Rattle.ell_cards.proofs.lemmas.seats.Opened.{allowed, of_table}
 use Rattle.ell_cards.proofs.lemmas.seats.Seats.{set_there}

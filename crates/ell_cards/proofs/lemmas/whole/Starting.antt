@@ -11,7 +11,7 @@ use Rattle.ell_cards.specs.Models.{TablePlan, last_slot, last_slot_of}
 use Rattle.ell_cards.specs.Periods.{opening_words, whole_words, slots_size, period_by}
 use Rattle.ell_cards.specs.Shown.{IsWord, FieldIsWhole, StoresAreWhole}
 use Rattle.ell_cards.specs.Starts.{MayStart, SlotsFit}
-use Rattle.ell_cards.specs.Whole.{first_known, WordsAre, PeriodsAre, IsWhole}
+use Rattle.ell_cards.specs.Whole.{first_known, WordsAre, PeriodsAre, IsWhole, PlansFit}
 use Rattle.ell_cards.proofs.lemmas.lifetimes.Openings.{each_first}
 use Rattle.ell_cards.proofs.lemmas.runs.Reaching.{reached_first}
 use Rattle.ell_cards.proofs.lemmas.shown.ShownKinds.{field_is_whole}

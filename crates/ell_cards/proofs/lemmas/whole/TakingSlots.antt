@@ -114,7 +114,7 @@ module _ (plan : TablePlan) (s : Slots) (placed : plan.slots ≡ Some s) (k : Kn
   pub owns_slot : MayGoOn plan k (slot_word s (slot_of c)) (λ n. n) (λ n p. p ≡ after_own c n k.period)
   owns_slot =
       goes_on_whole plan s placed k (slot_word s (slot_of c)) (λ n. n) (λ n p. p ≡ after_own c n k.period) (λ t. after_own c (get_or t.words (slot_word s (slot_of c)) 0) k.period)
-      (λ tree t id here same h size. (owns_now plan s tree t id k here same h size c hand inside numbered, refl))
+      (λ tree t id reached here same h size. (owns_now plan s tree t id k here same h size c hand inside numbered, refl))
 
   -- it takes the slot, if the word is as it was
   pub takes_slot : s.last < 2097152 → (n : ℕ) → n % 8 ≡ 7 → stamp_in n < k.period.safe
@@ -122,7 +122,7 @@ module _ (plan : TablePlan) (s : Slots) (placed : plan.slots ≡ Some s) (k : Kn
   takes_slot low n free safe =
       goes_on_whole plan s placed k (slot_word s (slot_of c)) (λ m. either (m == n) (8 * turn_of c) m) (λ m p. p ≡ (if m == n then after_taking c k.period else after_missing c m k.period))
       (λ t. if get_or t.words (slot_word s (slot_of c)) 0 == n then after_taking c k.period else after_missing c (get_or t.words (slot_word s (slot_of c)) 0) k.period)
-      (λ tree t id here same h size. (by tree t id here same h size (cases_eq (get_or t.words (slot_word s (slot_of c)) 0) n), refl))
+      (λ tree t id reached here same h size. (by tree t id here same h size (cases_eq (get_or t.words (slot_word s (slot_of c)) 0) n), refl))
     where
       after : WholeState → TableState → ℕ → ℕ → Bool → Type 0
       after t tree id m b = HasPeriods plan s tree (turned_to t id k (if b then after_taking c k.period else after_missing c m k.period) (slot_word s (slot_of c)) (either b (8 * turn_of c) m))

@@ -1,5 +1,5 @@
 use Rattle.ell_cards.proofs.lemmas.seats.Taken.{taken_keeps, steps_by}
-use Rattle.ell_cards.proofs.lemmas.whole.Rests.{exchange_is_quiet}
+use Rattle.ell_cards.proofs.lemmas.whole.Rests.{exchange_is_quiet, flag_claims_none}
 use Rattle.ell_cards.proofs.lemmas.runs.Reaching.{calls_tell}
 use Rattle.ell_cards.proofs.table.CardTable.flag.Goals as goal
 

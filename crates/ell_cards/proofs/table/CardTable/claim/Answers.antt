@@ -1,0 +1,12 @@
+use Rattle.ell_cards.proofs.lemmas.seats.Taken.{steps_by}
+use Rattle.ell_cards.proofs.lemmas.whole.Skipping.{claim_tells, row_keeps_pass}
+use Rattle.ell_cards.proofs.table.CardTable.claim.Goals as goal
+
+pub exchange_as-requires-clause-tells : goal.exchange_as-requires-clause-tells
+exchange_as-requires-clause-tells g c = claim_tells c.args.self.now.plan c.args.card c.args.node_key c.args.pass.now.view
+
+pub exchange_as-requires-clause-keeps : goal.exchange_as-requires-clause-keeps
+exchange_as-requires-clause-keeps g c = row_keeps_pass c.args.self.now.plan c.args.pass.now.view c.args.card c.args.card c.args.node_key
+
+pub returns : goal.returns
+returns g c = record { step = steps_by c.args.pass.now c.exchange_as.new.pass _ c.exchange_as.ensures.step c.exchange_as.ensures.told.0 }
