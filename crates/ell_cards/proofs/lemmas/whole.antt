@@ -41,3 +41,5 @@ pub mod TakingSlots
 pub mod Skipping
 -- the row of numbers whose slots a search reads
 pub mod Seeking
+-- nodes that a pass tells apart
+pub mod Apart
