@@ -1,12 +1,12 @@
 -- A pass that is ready tells nodes that it has met apart by what child words hold of their numbers.
-use Rattle.std.proofs.Common.{◌≡◌, ◌≢◌, ℕ, ◌+◌, ◌*◌, ◌/◌, ◌%◌, ◌<◌, ◌≤◌, ◌⊎◌, ◌&&◌, nat_lt, nat_le, if◌then◌else◌, Bool, true, false, Option, Some, None, length, inl, inr, refl, sym, ap, ◌∙◌, subst, arith}
+use Rattle.std.proofs.Common.{◌≡◌, ◌≢◌, ℕ, ◌+◌, ◌%◌, ◌<◌, ◌≤◌, ◌&&◌, nat_lt, nat_le, if◌then◌else◌, Bool, true, false, Some, None, length, inl, inr, sym, ap, ◌∙◌, subst, arith}
 use Rattle.std.proofs.lemmas.Bool.{cases_eq}
 use Rattle.std.proofs.lemmas.Bool.Decides.{nat_tests}
 use mathlib.Core.Option.{some}
 use lib.ListN.{get_elem?}
 use Rattle.ell_word.specs.Node.{card, greatest_card}
 use Rattle.ell_layout.specs.Words.{has_block}
-use Rattle.ell_core.specs.history.Stages.{Stages, Born}
+use Rattle.ell_core.specs.history.Stages.{Born}
 use Rattle.ell_cards.specs.declared.call.Call.TheVariants as call
 use Rattle.ell_cards.specs.declared.view.Known.{Known}
 use Rattle.ell_cards.specs.declared.view.Slots.{Slots}
@@ -25,7 +25,7 @@ use Rattle.ell_cards.proofs.lemmas.runs.Reaching.{reached_kept}
 use Rattle.ell_cards.proofs.lemmas.seats.Named.{kept_named}
 use Rattle.ell_cards.proofs.lemmas.ties.Touched.{IsReady, touched_lies, touched_won}
 use Rattle.ell_cards.proofs.lemmas.ties.Winning.{born_won}
-use Rattle.ell_cards.proofs.lemmas.words.Slotted.{slot_inside, turn_apart}
+use Rattle.ell_cards.proofs.lemmas.words.Slotted.{turn_apart}
 
 -- of two nodes that are cut to the same the cards have one slot, and the nodes one place there
 same_slot : (x y : ℕ) → cut_node x ≡ cut_node y → slot_of (card x) ≡ slot_of (card y)

@@ -1,33 +1,28 @@
 -- The node to which a child word leads lies in its slot, if the word is of a node that a ready pass has met.
-use Rattle.std.proofs.Common.{◌≡◌, ◌≢◌, ℕ, ◌+◌, ◌*◌, ◌%◌, ◌<◌, inl, inr, Bool, true, false, Some, None, List, [], ◌∷◌, get_or, refl, sym, ap, ◌∙◌, subst, arith}
+use Rattle.std.proofs.Common.{◌≡◌, ◌≢◌, ℕ, ◌%◌, ◌<◌, inl, inr, Bool, true, false, Some, None, ◌∷◌, refl, sym, ap, ◌∙◌, subst, arith}
 use mathlib.Core.Option.{some}
 use lib.ListN.{get_elem?}
-use Rattle.ell_word.specs.Link.{link_in}
 use Rattle.ell_word.specs.declared.link.Link.{Link}
 use Rattle.ell_word.specs.Node.{IsInternal, IsNode, card}
 use Rattle.ell_layout.specs.Words.{has_block}
 use Rattle.ell_core.specs.history.Invariant.{Invariant}
 use Rattle.ell_core.specs.history.Stages.{Stages, Born}
 use Rattle.ell_core.specs.state.Machine.{Machine}
-use Rattle.ell_grace.specs.Dead.{IsDead, HasUses}
-use Rattle.ell_cards.specs.declared.call.Call.{Call}
 use Rattle.ell_cards.specs.declared.view.Known.{Known}
 use Rattle.ell_cards.specs.declared.view.Slots.{Slots}
 use Rattle.ell_cards.specs.declared.view.Told.TheVariants.{Met}
 use Rattle.ell_cards.specs.declared.view.View.{View}
 use Rattle.ell_cards.specs.Ages.{IsOut, AreDead, ForgotWhen}
 use Rattle.ell_cards.specs.Apart.{cut_node, IsToldApart}
-use Rattle.ell_cards.specs.Calls.{child_address}
 use Rattle.ell_cards.specs.Laws.{machine_of_table}
 use Rattle.ell_cards.specs.Machines.{HasMachine}
 use Rattle.ell_cards.specs.Models.{TablePlan, IsTold, flat_from}
-use Rattle.ell_cards.specs.Periods.{WholeState, IsAtRest}
-use Rattle.ell_cards.specs.Starts.{IsReached, SlotsFit}
+use Rattle.ell_cards.specs.Periods.{WholeState}
+use Rattle.ell_cards.specs.Starts.{IsReached}
 use Rattle.ell_cards.specs.States.{TableState}
 use Rattle.ell_cards.specs.Tied.{HasWon, IsTied, LiesThere}
 use Rattle.ell_cards.specs.Ties.{child_now}
-use Rattle.ell_cards.specs.Touching.{forgets}
-use Rattle.ell_cards.specs.Turns.{Turn, Makes, CallIsMade, TableRun}
+use Rattle.ell_cards.specs.Turns.{Makes}
 use Rattle.ell_grace.proofs.lemmas.dead.Runs.{uses_begin}
 use Rattle.ell_cards.proofs.lemmas.runs.Alive.{used, was, not_dead}
 use Rattle.ell_cards.proofs.lemmas.runs.Aside.{aside_not_won, aside_in_run}
