@@ -54,3 +54,9 @@ pub record IsApart (plan : TablePlan) (v : View) : Type 0 where
   pub blocks : (x : ℕ) → IsTold v (Met x) → has_block (flat_from plan) (cut_node x) ≡ has_block (flat_from plan) x
   pub names : NamesMet v
   pub leaf : LeafIsChild v
+
+-- By what child words hold of their numbers, a pass would tell this node, which it need not know, from each other that it
+-- has met, and would know whether it has a block.
+pub record IsToldApart (plan : TablePlan) (v : View) (y : ℕ) : Type 0 where
+  pub met : (x : ℕ) → IsTold v (Met x) → cut_node y ≡ cut_node x → y ≡ x
+  pub block : has_block (flat_from plan) (cut_node y) ≡ has_block (flat_from plan) y

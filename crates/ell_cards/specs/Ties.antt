@@ -7,17 +7,20 @@ use Rattle.atomic_table.specs.Table.{opening}
 use Rattle.ell_layout.specs.Start.{words_at_start}
 use Rattle.ell_layout.specs.Words.{put, words_of}
 use Rattle.ell_layout.specs.Layout.{table_size}
-use Rattle.ell_word.specs.Node.{card}
+use Rattle.ell_word.specs.Link.{link_in}
+use Rattle.ell_word.specs.Node.{IsInternal, card}
 use Rattle.ell_core.specs.history.Stages.{Stages}
 use Rattle.ell_cards.specs.declared.call.Call.{Call}
 use Rattle.ell_cards.specs.declared.call.Call.TheVariants as call
 use Rattle.ell_cards.specs.declared.view.Known.{Known}
 use Rattle.ell_cards.specs.declared.view.Period.{Period}
 use Rattle.ell_cards.specs.declared.view.Slots.{Slots}
+use Rattle.ell_cards.specs.declared.view.Told.TheVariants.{Met}
 use Rattle.ell_cards.specs.Ages.{AgesAreSound}
 use Rattle.ell_cards.specs.Changes.{left_view, right_view}
-use Rattle.ell_cards.specs.Calls.{May, place_of, atomic_of, left_by}
-use Rattle.ell_cards.specs.Models.{TablePlan, IsFree, MayPart}
+use Rattle.ell_cards.specs.Apart.{IsApart, IsToldApart}
+use Rattle.ell_cards.specs.Calls.{May, child_address, place_of, atomic_of, left_by}
+use Rattle.ell_cards.specs.Models.{TablePlan, IsFree, IsTold, MayPart}
 use Rattle.ell_cards.specs.PeriodLaws.{IsInPeriod}
 use Rattle.ell_cards.specs.Periods.{WholeState, IsAtRest, slot_word, slots_size, opening_words, after_give, after_taking, given_period}
 use Rattle.ell_cards.specs.Shown.{IsWord, cut_by, IsNear}
@@ -27,7 +30,7 @@ use Rattle.ell_cards.specs.States.{TableState}
 use Rattle.ell_cards.specs.Tied.{LiesThere, HoldsWaiting, IsTied, MayInMemory}
 use Rattle.ell_cards.specs.Touching.{Touched, AtNode, OfCard, AtRoot, touched_by}
 use Rattle.ell_cards.specs.Turns.{found_by, view_after, state_after, state_split, state_joined}
-use Rattle.ell_cards.specs.Whole.{trees_of, first_known, joined_known, spent_known}
+use Rattle.ell_cards.specs.Whole.{IsWhole, trees_of, first_known, joined_known, spent_known}
 
 -- the card whose word a call touches; the claim word is taken for one of card 0
 abbrev pub card_touched : Touched → ℕ
@@ -185,6 +188,22 @@ OwnSlotsKeepTies = (plan : TablePlan) (s : Slots) (tree : TableState) (t : Whole
       views = slice_set t.views id (record { tree = k.tree; period = after_taking c k.period });
     })
     lie dead was_dead
+
+-- the node to which a child word of the tree leads now
+abbrev pub child_now : TableState → ℕ → Bool → ℕ
+child_now s x right = (link_in (slice_index s.words (child_address x right))).node
+
+-- Wherever the steps of its passes have led a table, each pass tells the nodes that it has met apart by what child words
+-- hold of their numbers.
+abbrev pub PassesTellApart : Type 0
+PassesTellApart = (plan : TablePlan) (t : WholeState) → IsWhole plan t → (id : ℕ) (k : Known) → get_elem? t.views id ≡ some k
+    → IsApart plan k.tree
+
+-- So it would with the node to which a child word leads in the tree now, if the word is of an internal node that the pass
+-- has met.
+abbrev pub ChildrenAreApart : Type 0
+ChildrenAreApart = (plan : TablePlan) (t : WholeState) (h : IsWhole plan t) (id : ℕ) (k : Known) → get_elem? t.views id ≡ some k
+    → (x : ℕ) → IsInternal x → IsTold k.tree (Met x) → (right : Bool) → IsToldApart plan k.tree (child_now h.tree x right)
 
 -- Cards that all lie in their slots, none of them twice in a list, are at most as many as there are slots.
 abbrev pub CardsInSlotsAreFew : Type 0

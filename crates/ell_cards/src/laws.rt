@@ -31,7 +31,7 @@ ghost use Rattle.ell_cards.specs.Laws.{StepsAreEvents, SplitsAreHandovers, Joins
 ghost use Rattle.ell_cards.specs.Runs.{RunsAreLawful, RunsAreSchedules};
 ghost use Rattle.ell_cards.specs.RunLaws.{TableWinsAreInOrder, StartsAreKept, ReachedHasMachine};
 ghost use Rattle.ell_cards.specs.PeriodLaws.{SafeNumbersAreSafe, FreeSlotsAreUntouched};
-ghost use Rattle.ell_cards.specs.Ties.{CallsKeepTies, SplitsKeepTies, JoinsKeepTies, PeriodsKeepTies, TakesKeepTies, OwnSlotsKeepTies, OpeningsAreTied, CardsInSlotsAreFew, ExchangesAreNear};
+ghost use Rattle.ell_cards.specs.Ties.{CallsKeepTies, SplitsKeepTies, JoinsKeepTies, PeriodsKeepTies, TakesKeepTies, OwnSlotsKeepTies, OpeningsAreTied, CardsInSlotsAreFew, ExchangesAreNear, PassesTellApart, ChildrenAreApart};
 ghost use Rattle.ell_cards.specs.ShownTakings.{TakingsAreShown};
 ghost use Rattle.ell_cards.specs.Shown.{StepsAreShown, CallsCanBeShown, GuardsAreLifted, ClaimsAreShown, StoresStayWhole, TellingsAreShown, CallsActAlike, HandoversAreShown};
 
@@ -387,6 +387,10 @@ pub fn ties_are_kept()
     ensures few { CardsInSlotsAreFew }
     // So a child exchange that a pass in a period may make expects a link that is near the one in the tree.
     ensures near { ExchangesAreNear }
+    // Each pass tells the nodes that it has met apart by what child words hold of their numbers.
+    ensures apart { PassesTellApart }
+    // So it would with each node to which a child word of an internal one of them leads in the tree.
+    ensures children { ChildrenAreApart }
 {}
 
 /// Where words have 64 bits, child words have their tags cut, and a pass that reads them knows what is shown of what it

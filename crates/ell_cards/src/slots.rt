@@ -1,7 +1,7 @@
 //! Slots: a card lies in one, at one of the turns there. The word of a slot has the turn of its card, and notes which
 //! of the three nodes of the card are dead. Once all three are, the slot is set free: the word then has a reading of
-//! the clock as its stamp, and a pass takes the slot for another card once that stamp is safe. The steps are not
-//! counted.
+//! the clock as its stamp, and a pass takes the slot for another card once that stamp is safe. The numbers of a later
+//! turn that child words do not tell from the first have no slots. The steps are not counted.
 ghost use Rattle.std.specs.Prelude.{◌≡◌, ◌≢◌, ◌+◌, ◌*◌, ◌<◌, ◌≤◌, ◌%◌, ◌⊎◌, ℕ, IfSome, None, Some, [], true, false};
 ghost use Rattle.ell_word.specs.Node.{greatest_card, greatest_number};
 ghost use Rattle.ell_cards.specs.Ages.{KnowsDeadNode, MayStamp};

@@ -29,3 +29,5 @@ pub mod Known
 pub mod Near
 -- a pass that is ready tells nodes that it has met apart
 pub mod Apart
+-- and from those to which child words lead
+pub mod Found

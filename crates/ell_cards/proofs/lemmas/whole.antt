@@ -41,5 +41,6 @@ pub mod TakingSlots
 pub mod Skipping
 -- the row of numbers whose slots a search reads
 pub mod Seeking
--- a pass tells nodes apart by what child words hold of their numbers
+-- nodes so small that nothing is cut, and nodes that a pass tells apart
+pub mod SmallNodes
 pub mod Apart

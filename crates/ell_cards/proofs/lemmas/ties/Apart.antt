@@ -1,12 +1,12 @@
 -- A pass that is ready tells nodes that it has met apart by what child words hold of their numbers.
-use Rattle.std.proofs.Common.{◌≡◌, ◌≢◌, ℕ, ◌+◌, ◌*◌, ◌/◌, ◌%◌, ◌<◌, ◌≤◌, ◌⊎◌, ◌&&◌, nat_lt, nat_le, if◌then◌else◌, Bool, true, false, Option, Some, None, length, inl, inr, refl, sym, ap, ◌∙◌, subst, arith}
+use Rattle.std.proofs.Common.{◌≡◌, ◌≢◌, ℕ, ◌+◌, ◌%◌, ◌<◌, ◌≤◌, ◌&&◌, nat_lt, nat_le, if◌then◌else◌, Bool, true, false, Some, None, length, inl, inr, sym, ap, ◌∙◌, subst, arith}
 use Rattle.std.proofs.lemmas.Bool.{cases_eq}
 use Rattle.std.proofs.lemmas.Bool.Decides.{nat_tests}
 use mathlib.Core.Option.{some}
 use lib.ListN.{get_elem?}
 use Rattle.ell_word.specs.Node.{card, greatest_card}
 use Rattle.ell_layout.specs.Words.{has_block}
-use Rattle.ell_core.specs.history.Stages.{Stages, Born}
+use Rattle.ell_core.specs.history.Stages.{Born}
 use Rattle.ell_cards.specs.declared.call.Call.TheVariants as call
 use Rattle.ell_cards.specs.declared.view.Known.{Known}
 use Rattle.ell_cards.specs.declared.view.Slots.{Slots}
@@ -17,7 +17,7 @@ use Rattle.ell_cards.specs.Machines.{HasMachine}
 use Rattle.ell_cards.specs.Models.{TablePlan, IsTold, flat_from}
 use Rattle.ell_cards.specs.Periods.{WholeState}
 use Rattle.ell_cards.specs.SlotWords.{has_slot_in, slot_of, turn_of}
-use Rattle.ell_cards.specs.Starts.{IsReached, SlotsFit}
+use Rattle.ell_cards.specs.Starts.{IsReached, MayStart, SlotsFit}
 use Rattle.ell_cards.specs.States.{TableState}
 use Rattle.ell_cards.specs.Tied.{HasWon, IsTied, LiesThere}
 use Rattle.ell_cards.proofs.lemmas.runs.Named.{passes_name_met}
@@ -25,7 +25,7 @@ use Rattle.ell_cards.proofs.lemmas.runs.Reaching.{reached_kept}
 use Rattle.ell_cards.proofs.lemmas.seats.Named.{kept_named}
 use Rattle.ell_cards.proofs.lemmas.ties.Touched.{IsReady, touched_lies, touched_won}
 use Rattle.ell_cards.proofs.lemmas.ties.Winning.{born_won}
-use Rattle.ell_cards.proofs.lemmas.words.Slotted.{slot_inside, turn_apart}
+use Rattle.ell_cards.proofs.lemmas.words.Slotted.{turn_apart}
 
 -- of two nodes that are cut to the same the cards have one slot, and the nodes one place there
 same_slot : (x y : ℕ) → cut_node x ≡ cut_node y → slot_of (card x) ≡ slot_of (card y)
@@ -35,14 +35,14 @@ same_place : (x y : ℕ) → cut_node x ≡ cut_node y → x % 4 ≡ y % 4
 same_place x y same = omega arith
 
 -- so where both cards lie in their slots, they are one node
-lying_apart : (s : Slots) (lie : ℕ → ℕ) (x y : ℕ) → LiesThere s lie (card x) → LiesThere s lie (card y) → cut_node x ≡ cut_node y → x ≡ y
+pub lying_apart : (s : Slots) (lie : ℕ → ℕ) (x y : ℕ) → LiesThere s lie (card x) → LiesThere s lie (card y) → cut_node x ≡ cut_node y → x ≡ y
 lying_apart s lie x y lies lies' same =
     let one : card x ≡ card y = sym lies.1 ∙ (ap lie (same_slot x y same) ∙ lies'.1) in
     let place = same_place x y same in
     omega arith
 
 -- a node of a card up to the last one that has words in a table without places is not cut
-few_uncut : (x : ℕ) → card x ≤ greatest_card → cut_node x ≡ x
+pub few_uncut : (x : ℕ) → card x ≤ greatest_card → cut_node x ≡ x
 few_uncut x few = omega arith
 
 -- what is cut of a node tells whether it has a block, if its card has a slot
@@ -72,6 +72,13 @@ flat_low plan s few = by plan.flat
     by true = omega arith
     by false = omega arith
 
+-- so what is cut of a node whose card has a slot tells whether it has a block in such a table
+pub lying_block : (plan : TablePlan) (s : Slots) → plan.slots ≡ Some s → MayStart plan → (x : ℕ) → has_slot_in s.last (card x) ≡ true
+    → has_block (flat_from plan) (cut_node x) ≡ has_block (flat_from plan) x
+lying_block plan s placed may x has =
+    let fit = subst (SlotsFit plan) placed may.slots in
+    block_told s.last (flat_from plan) x (let most = fit.4 in omega arith) (flat_low plan s fit.3) has
+
 -- where memory is tied, whichever node a ready pass has met lies in its slot
 module _ (plan : TablePlan) (s : Slots) (tree : TableState) (t : WholeState) (r : HasMachine plan tree) (lie : ℕ → ℕ) (dead : ℕ → Bool) (was_dead : ℕ → ℕ → Bool)
     (tied : IsTied s tree t r.stages lie dead was_dead) where
@@ -86,11 +93,9 @@ module _ (plan : TablePlan) (s : Slots) (tree : TableState) (t : WholeState) (r 
   pub tells_apart : plan.slots ≡ Some s → IsReached plan tree → (id : ℕ) (k : Known) → get_elem? t.views id ≡ some k → get_elem? tree.views id ≡ some k.tree
       → IsReady plan tree id k was_dead → IsApart plan k.tree
   tells_apart placed reached id k here there ready =
-      let fit = subst (SlotsFit plan) placed reached.starts.may.slots in
       let names = passes_name_met plan tree reached id k.tree there in record {
         met = λ x y met met'. lying_apart s lie x y (met_lies id k here there ready x met) (met_lies id k here there ready y met');
-        blocks = λ x met. block_told s.last (flat_from plan) x (let most = fit.4 in omega arith) (flat_low plan s fit.3)
-            (tied.fits (card x) (met_won id k.tree there x met));
+        blocks = λ x met. lying_block plan s placed reached.starts.may x (tied.fits (card x) (met_won id k.tree there x met));
         names = names.0;
         leaf = names.1;
       }
@@ -106,18 +111,25 @@ module _ (plan : TablePlan) (s : Slots) (tree : TableState) (t : WholeState) (r 
 pub met_no_root : (plan : TablePlan) (v : View) → IsApart plan v → (x : ℕ) → IsTold v (Met x) → 0 < x → cut_node x ≢ 0
 met_no_root plan v apart x met past cut = (let same = apart.met x 0 met apart.names.root cut in absurd (omega arith))
 
--- In a table without places nothing is cut, so every pass tells nodes apart.
+-- a table without places has no more cards than there may be words for
+pub plain_few : (plan : TablePlan) → plan.slots ≡ None → MayStart plan → plan.last_card ≤ greatest_card
+plain_few plan none may = subst (SlotsFit plan) none may.slots
+
+-- In such a table nothing is cut, so every pass tells nodes apart.
+pub met_uncut : (plan : TablePlan) → plan.slots ≡ None → (s : TableState) → IsReached plan s → (id : ℕ) (v : View) → get_elem? s.views id ≡ some v
+    → (x : ℕ) → IsTold v (Met x) → cut_node x ≡ x
+met_uncut plan none s reached id v here x met =
+    let low = (kept_named plan s (reached_kept plan s reached) id v here).entries (Met x) met in
+    let most = plain_few plan none reached.starts.may in
+    few_uncut x (omega arith)
+
 pub tells_apart_plain : (plan : TablePlan) → plan.slots ≡ None → (s : TableState) → IsReached plan s → (id : ℕ) (v : View) → get_elem? s.views id ≡ some v
     → IsApart plan v
-tells_apart_plain plan none s reached id v here = record {
-  met = λ x y met met' same. sym (uncut x met) ∙ (same ∙ uncut y met');
-  blocks = λ x met. ap (has_block (flat_from plan)) (uncut x met);
-  names = (passes_name_met plan s reached id v here).0;
-  leaf = (passes_name_met plan s reached id v here).1;
-}
-  where
-    few : plan.last_card ≤ greatest_card
-    few = subst (SlotsFit plan) none reached.starts.may.slots
-
-    uncut : (x : ℕ) → IsTold v (Met x) → cut_node x ≡ x
-    uncut x met = few_uncut x (let low = (kept_named plan s (reached_kept plan s reached) id v here).entries (Met x) met in let most = few in omega arith)
+tells_apart_plain plan none s reached id v here =
+    let uncut = met_uncut plan none s reached id v here in
+    let names = passes_name_met plan s reached id v here in record {
+      met = λ x y met met' same. sym (uncut x met) ∙ (same ∙ uncut y met');
+      blocks = λ x met. ap (has_block (flat_from plan)) (uncut x met);
+      names = names.0;
+      leaf = names.1;
+    }

@@ -26,7 +26,7 @@ use Rattle.ell_cards.specs.Whole.{trees_of, WordsAre, PeriodsAre}
 use Rattle.ell_cards.proofs.lemmas.shown.ShownViews.{rests_whole}
 use Rattle.ell_cards.proofs.lemmas.ties.Periods.{tie_of_period}
 use Rattle.ell_cards.proofs.lemmas.whole.Ages.{ages_of_period}
-use Rattle.ell_cards.proofs.lemmas.whole.Apart.{reached_apart}
+use Rattle.ell_cards.proofs.lemmas.whole.SmallNodes.{reached_apart}
 use Rattle.ell_cards.proofs.lemmas.whole.Seats.{before_clock, lie_same}
 use Rattle.ell_cards.proofs.lemmas.whole.Steps.{word_again, periods_stay, periods_read, periods_ticked, periods_seen, periods_announced, periods_retracted, periods_taken, periods_given, periods_released}
 use Rattle.ell_cards.proofs.lemmas.whole.Trees.{tree_at}

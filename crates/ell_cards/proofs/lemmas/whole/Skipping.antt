@@ -35,7 +35,7 @@ use Rattle.ell_cards.proofs.lemmas.ties.Placed.{placed_to}
 use Rattle.ell_cards.proofs.lemmas.views.Rows.{one_claims_on, row_keys, row_share}
 use Rattle.ell_cards.proofs.lemmas.whole.Calling.{set_twice, tree_here, tied_whole}
 use Rattle.ell_cards.proofs.lemmas.whole.Calling.Notes.{nothing}
-use Rattle.ell_cards.proofs.lemmas.whole.Apart.{reached_apart}
+use Rattle.ell_cards.proofs.lemmas.whole.SmallNodes.{reached_apart}
 use Rattle.ell_cards.proofs.lemmas.whole.Places.{size_some}
 use Rattle.ell_cards.proofs.lemmas.words.Slotted.{slot_inside}
 

@@ -16,6 +16,7 @@ use Rattle.ell_cards.specs.Models.{TablePlan}
 use Rattle.ell_cards.specs.Periods.{WholeState, slot_word, slots_size, after_missing, after_own, after_read, after_taking}
 use Rattle.ell_cards.specs.Seeking.{could_take, missed_one}
 use Rattle.ell_cards.specs.SlotWords.{has_slot_in, slot_of, turn_of, turn_in, stamp_in, is_used_for}
+use Rattle.ell_cards.specs.Starts.{IsReached}
 use Rattle.ell_cards.specs.States.{TableState}
 use Rattle.ell_cards.specs.Stepping.{MayGoOn}
 use Rattle.ell_cards.specs.Tied.{HoldsWaiting}
@@ -49,7 +50,7 @@ card_of_turn c n turn = omega arith
 
 -- the periods of a table where a pass takes the slot of its card in hand
 module _ (plan : TablePlan) (s : Slots) (tree : TableState) (t : WholeState) (id : ℕ) (k : Known) (here : get_elem? t.views id ≡ some k) (same : trees_of t.views ≡ tree.views)
-    (h : HasPeriods plan s tree t) (size : length t.words ≡ slots_size s) (c : ℕ) (hand : HoldsWaiting k.tree c) (inside : slot_of c ≤ s.last) (numbered : has_slot_in s.last c ≡ true) where
+    (h : HasPeriods plan s tree t) (size : length t.words ≡ slots_size s) (c : ℕ) (hand : HoldsWaiting k.tree c) (inside : slot_of c ≤ s.last) (numbered : has_slot_in s.last c ≡ true) (reached : IsReached plan tree) where
   abbrev at : ℕ
   at = slot_word s (slot_of c)
 
@@ -73,7 +74,7 @@ module _ (plan : TablePlan) (s : Slots) (tree : TableState) (t : WholeState) (id
 
   -- it reads the slot's word
   pub reads_so : (sought : Seek) → HasPeriods plan s tree (turned_to t id k (record (after_read (slot_of c) (get_or t.words (slot_word s (slot_of c)) 0) k.period) { sought = sought }) (slot_word s (slot_of c)) (get_or t.words (slot_word s (slot_of c)) 0))
-  reads_so sought = reads_now plan s tree t id k here (ap (λ l. get_elem? l id) (sym same) ∙ tree_at t.views id k here) h size (slot_of c) inside sought
+  reads_so sought = reads_now plan s tree t id k here (ap (λ l. get_elem? l id) (sym same) ∙ tree_at t.views id k here) h size reached (slot_of c) inside sought
 
   -- so the pass reads the slot's word, and has taken the slot if that is so
   pub owns_now : HasPeriods plan s tree (turned_to t id k (after_own c (get_or t.words (slot_word s (slot_of c)) 0) k.period) (slot_word s (slot_of c)) (get_or t.words (slot_word s (slot_of c)) 0))
@@ -114,7 +115,7 @@ module _ (plan : TablePlan) (s : Slots) (placed : plan.slots ≡ Some s) (k : Kn
   pub owns_slot : MayGoOn plan k (slot_word s (slot_of c)) (λ n. n) (λ n p. p ≡ after_own c n k.period)
   owns_slot =
       goes_on_whole plan s placed k (slot_word s (slot_of c)) (λ n. n) (λ n p. p ≡ after_own c n k.period) (λ t. after_own c (get_or t.words (slot_word s (slot_of c)) 0) k.period)
-      (λ tree t id reached here same h size. (owns_now plan s tree t id k here same h size c hand inside numbered, refl))
+      (λ tree t id reached here same h size. (owns_now plan s tree t id k here same h size c hand inside numbered reached, refl))
 
   -- it takes the slot, if the word is as it was
   pub takes_slot : s.last < 2097152 → (n : ℕ) → n % 8 ≡ 7 → stamp_in n < k.period.safe
@@ -122,21 +123,21 @@ module _ (plan : TablePlan) (s : Slots) (placed : plan.slots ≡ Some s) (k : Kn
   takes_slot low n free safe =
       goes_on_whole plan s placed k (slot_word s (slot_of c)) (λ m. either (m == n) (8 * turn_of c) m) (λ m p. p ≡ (if m == n then after_taking c k.period else after_missing c m k.period))
       (λ t. if get_or t.words (slot_word s (slot_of c)) 0 == n then after_taking c k.period else after_missing c (get_or t.words (slot_word s (slot_of c)) 0) k.period)
-      (λ tree t id reached here same h size. (by tree t id here same h size (cases_eq (get_or t.words (slot_word s (slot_of c)) 0) n), refl))
+      (λ tree t id reached here same h size. (by tree t id reached here same h size (cases_eq (get_or t.words (slot_word s (slot_of c)) 0) n), refl))
     where
       after : WholeState → TableState → ℕ → ℕ → Bool → Type 0
       after t tree id m b = HasPeriods plan s tree (turned_to t id k (if b then after_taking c k.period else after_missing c m k.period) (slot_word s (slot_of c)) (either b (8 * turn_of c) m))
 
-      by : (tree : TableState) (t : WholeState) (id : ℕ) → get_elem? t.views id ≡ some k → trees_of t.views ≡ tree.views → HasPeriods plan s tree t → length t.words ≡ slots_size s
+      by : (tree : TableState) (t : WholeState) (id : ℕ) → IsReached plan tree → get_elem? t.views id ≡ some k → trees_of t.views ≡ tree.views → HasPeriods plan s tree t → length t.words ≡ slots_size s
           → (get_or t.words (slot_word s (slot_of c)) 0 ≡ n) ⊎ (get_or t.words (slot_word s (slot_of c)) 0 ≢ n)
           → HasPeriods plan s tree (turned_to t id k (if get_or t.words (slot_word s (slot_of c)) 0 == n then after_taking c k.period else after_missing c (get_or t.words (slot_word s (slot_of c)) 0) k.period) (slot_word s (slot_of c))
           (either (get_or t.words (slot_word s (slot_of c)) 0 == n) (8 * turn_of c) (get_or t.words (slot_word s (slot_of c)) 0)))
-      by tree t id here same h size (inl is) =
+      by tree t id reached here same h size (inl is) =
           subst (after t tree id (get_or t.words (slot_word s (slot_of c)) 0)) (sym (eq-eqb (get_or t.words (slot_word s (slot_of c)) 0) n is))
-          (takes_now plan s tree t id k here same h size c hand inside numbered low n is free safe)
-      by tree t id here same h size (inr other) =
+          (takes_now plan s tree t id k here same h size c hand inside numbered reached low n is free safe)
+      by tree t id reached here same h size (inr other) =
           subst (after t tree id (get_or t.words (slot_word s (slot_of c)) 0)) (sym (ne_eqb (get_or t.words (slot_word s (slot_of c)) 0) n other))
-          (reads_so plan s tree t id k here same h size c hand inside numbered (missed_one k.period.sought))
+          (reads_so plan s tree t id k here same h size c hand inside numbered reached (missed_one k.period.sought))
 
   -- whichever card the pass has in hand, and whatever slot's word this is
   one : (d : ℕ) → k.tree.worker.card ≡ Some d → c ≡ d
