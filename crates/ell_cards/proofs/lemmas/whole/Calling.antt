@@ -54,7 +54,8 @@ use Rattle.ell_cards.proofs.lemmas.ties.Touched.{spots, touched_won, claim_is_wo
 use Rattle.ell_cards.proofs.lemmas.whole.Ages.{AgesOn}
 use Rattle.ell_cards.proofs.lemmas.whole.Fields.{FillsWhole, fields_after, field_can}
 use Rattle.ell_cards.proofs.lemmas.whole.Losing.{aside_in_ages, lost_now}
-use Rattle.ell_cards.proofs.lemmas.whole.SmallNodes.{reached_apart}
+use Rattle.ell_cards.proofs.lemmas.ties.Apart.{tells_apart, tells_apart_plain}
+use Rattle.ell_cards.proofs.lemmas.whole.Apart.{passes_tell_apart, ready_there}
 use Rattle.ell_cards.proofs.lemmas.whole.Lifts.{IsFill, is_its_own, can_be_shown, told_plain, plan_fits}
 use Rattle.ell_cards.proofs.lemmas.whole.Rests.{stays_at_rest}
 use Rattle.ell_cards.proofs.lemmas.whole.Seats.{lie_same}
@@ -99,7 +100,7 @@ module _ (plan : TablePlan) (s : WholeState) (h : IsWhole plan s) (id : ℕ) (k 
 
   -- and it tells nodes apart
   pub apart_here : IsApart plan k.tree
-  apart_here = reached_apart plan h.tree h.reached id k.tree tree_here
+  apart_here = passes_tell_apart plan s h id k here
 
   -- without places there are no more cards than slots
   pub few_plain : plan.slots ≡ None → plan.last_card ≤ greatest_card
@@ -150,10 +151,6 @@ module _ (plan : TablePlan) (s : WholeState) (h : IsWhole plan s) (id : ℕ) (k 
     tree_there : get_elem? after.views id ≡ some (view_after h.tree k.tree c)
     tree_there = set_there h.tree.views id (view_after h.tree k.tree c) k.tree tree_here
 
-    -- the pass tells nodes apart after the call too
-    pub apart_after : IsApart plan (view_after h.tree k.tree c)
-    apart_after = reached_apart plan after (call_on plan h.tree h.reached id c k.tree tree_here may) id (view_after h.tree k.tree c) tree_there
-
     -- without places
     module _ (none : plan.slots ≡ None) where
       -- each card has a slot of its own, so the word stands in memory where it does in the tree
@@ -187,6 +184,10 @@ module _ (plan : TablePlan) (s : WholeState) (h : IsWhole plan s) (id : ℕ) (k 
       pub plain_placed : IsPlaced (last_slot plan) (view_after h.tree k.tree c)
       plain_placed = subst (λ o. IsPlaced (last_slot_of o plan.last_card) (view_after h.tree k.tree c)) (sym none)
           (named_placed plan.last_card (view_after h.tree k.tree c) plain_named)
+
+      -- and it tells nodes apart after the call too
+      pub plain_apart : IsApart plan (view_after h.tree k.tree c)
+      plain_apart = tells_apart_plain plan none after (call_on plan h.tree h.reached id c k.tree tree_here may) id (view_after h.tree k.tree c) tree_there
 
     -- with places
     module _ (sl : Slots) (placed : plan.slots ≡ Some sl) (mem : MayInMemory k.period.slot k.tree c) (whole_fill : FillsWhole c)
@@ -285,6 +286,13 @@ module _ (plan : TablePlan) (s : WholeState) (h : IsWhole plan s) (id : ℕ) (k 
             fields_after plan h.tree k.tree c may (named_more plan.last_card greatest_number h.reached.starts.may.limit k.tree tree_named) whole_fill has_words.1,
           ))
           (subst (λ o. PeriodsAre plan o after (record { words = set s.words (place_of c) cut; homes = homes; views = set s.views id (noting p) })) (sym placed) (noted_periods p notes))
+
+      pub tied_apart : IsApart plan (view_after h.tree k.tree c)
+      tied_apart =
+          let at : get_elem? (set s.views id knows) id ≡ some knows = set_there s.views id knows k here in
+          tells_apart plan sl after (memory_after h.tree s homes id k c) tied_ages.ages.now.machine has.lie has.dead has.was_dead still_tied placed
+          (call_on plan h.tree h.reached id c k.tree tree_here may) id knows at tree_there
+          (ready_there plan sl after (memory_after h.tree s homes id k c) tied_periods id knows at)
 
       pub tied_placed : IsPlaced (last_slot plan) (view_after h.tree k.tree c)
       tied_placed = subst (λ o. IsPlaced (last_slot_of o plan.last_card) (view_after h.tree k.tree c)) (sym placed)
@@ -386,7 +394,7 @@ module _ (plan : TablePlan) (k : Known) (c : Call) (f : ℕ → ℕ) (told : ℕ
           told_plain plan k.tree plan.last_card few named c (found_by h.tree c) n told (shown w) (plain_named plan s h id k here c own.may own.fills none) found (sym at)
               (λ fill a b. same fill a b (shown w))
               (tells h.tree h.reached id k.tree there refl apart c own.same own.may can (plain_placed plan s h id k here c own.may own.fills none)
-              (apart_after plan s h id k here c own.may own.fills)),
+              (plain_apart plan s h id k here c own.may own.fills none)),
           refl,
           refl,
         ),
@@ -422,7 +430,7 @@ module _ (plan : TablePlan) (k : Known) (c : Call) (f : ℕ → ℕ) (told : ℕ
               (told_tied s.words h.tree whole told (shown w) touch.finds (λ fill a b. same (subst IsFill lift.is fill) a b (shown w))
               (tells h.tree h.reached id k.tree there refl apart whole lift.is lift.may can
               (tied_placed plan s h id k here whole lift.may lift.fills sl placed asks fills calm)
-              (apart_after plan s h id k here whole lift.may lift.fills))),
+              (tied_apart plan s h id k here whole lift.may lift.fills sl placed asks fills calm))),
           refl,
           refl,
         ),

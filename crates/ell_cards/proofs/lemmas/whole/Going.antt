@@ -24,9 +24,10 @@ use Rattle.ell_cards.specs.States.{TableState}
 use Rattle.ell_cards.specs.Stepping.{MayGoOn}
 use Rattle.ell_cards.specs.Whole.{trees_of, WordsAre, PeriodsAre}
 use Rattle.ell_cards.proofs.lemmas.shown.ShownViews.{rests_whole}
+use Rattle.ell_cards.proofs.lemmas.ties.Apart.{tells_apart}
 use Rattle.ell_cards.proofs.lemmas.ties.Periods.{tie_of_period}
 use Rattle.ell_cards.proofs.lemmas.whole.Ages.{ages_of_period}
-use Rattle.ell_cards.proofs.lemmas.whole.SmallNodes.{reached_apart}
+use Rattle.ell_cards.proofs.lemmas.whole.Apart.{ready_there}
 use Rattle.ell_cards.proofs.lemmas.whole.Seats.{before_clock, lie_same}
 use Rattle.ell_cards.proofs.lemmas.whole.Steps.{word_again, periods_stay, periods_read, periods_ticked, periods_seen, periods_announced, periods_retracted, periods_taken, periods_given, periods_released}
 use Rattle.ell_cards.proofs.lemmas.whole.Trees.{tree_at}
@@ -180,7 +181,7 @@ module _ (plan : TablePlan) (s : Slots) (placed : plan.slots ≡ Some s) where
       → MayGoOn plan k (place_word s q) (λ n. 1) (λ n p. p ≡ after_retract k.period)
   retracts k q has rest =
       goes_on_there k (place_word s q) (λ n. 1) (λ n p. p ≡ after_retract k.period) (λ t. after_retract k.period)
-      (λ tree t id reached here there h size. (going plan s tree t id k here h (after_retract k.period) (place_word s q) 1 (λ r a at an. absurd (some_not_none an refl)) refl refl refl (behind plan s tree t id k here h (place_word s q) 1 (omega arith)) (λ slot. get_or-set_other t.words (place_word s q) (slot_word s slot) 1 0 (λ e. omega arith)) (periods_retracted s t id k here h.lie h.dead h.began h.was_dead h.periods size q has (rests_whole plan k.tree (reached_apart plan tree reached id k.tree there) rest)), refl))
+      (λ tree t id reached here there h size. (going plan s tree t id k here h (after_retract k.period) (place_word s q) 1 (λ r a at an. absurd (some_not_none an refl)) refl refl refl (behind plan s tree t id k here h (place_word s q) 1 (omega arith)) (λ slot. get_or-set_other t.words (place_word s q) (slot_word s slot) 1 0 (λ e. omega arith)) (periods_retracted s t id k here h.lie h.dead h.began h.was_dead h.periods size q has (rests_whole plan k.tree (tells_apart plan s tree t h.ages.now.machine h.lie h.dead h.was_dead h.tied placed reached id k here there (ready_there plan s tree t h id k here)) rest)), refl))
 
   -- it takes a place, if no pass has it
   pub takes : (k : Known) (q : ℕ) → q < s.places → MayGoOn plan k (place_word s q) (λ n. either (n == 0) 1 n) (λ n p. p ≡ after_take q n k.period)

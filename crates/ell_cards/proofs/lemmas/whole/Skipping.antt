@@ -35,7 +35,7 @@ use Rattle.ell_cards.proofs.lemmas.ties.Placed.{placed_to}
 use Rattle.ell_cards.proofs.lemmas.views.Rows.{one_claims_on, row_keys, row_share}
 use Rattle.ell_cards.proofs.lemmas.whole.Calling.{set_twice, tree_here, tied_whole}
 use Rattle.ell_cards.proofs.lemmas.whole.Calling.Notes.{nothing}
-use Rattle.ell_cards.proofs.lemmas.whole.SmallNodes.{reached_apart}
+use Rattle.ell_cards.proofs.lemmas.whole.Apart.{passes_tell_apart}
 use Rattle.ell_cards.proofs.lemmas.whole.Places.{size_some}
 use Rattle.ell_cards.proofs.lemmas.words.Slotted.{slot_inside}
 
@@ -72,7 +72,7 @@ module _ (plan : TablePlan) (s : Slots) (placed : plan.slots ≡ Some s) where
 
   -- and tells nodes apart
   pub whole_apart : (t : WholeState) → IsWhole plan t → (id : ℕ) (k : Known) → get_elem? t.views id ≡ some k → IsApart plan k.tree
-  whole_apart t h id k here = reached_apart plan h.tree h.reached id k.tree (tree_here plan t h id k here)
+  whole_apart t h id k here = passes_tell_apart plan t h id k here
 
   module _ (t : WholeState) (h : IsWhole plan t) (id : ℕ) (k : Known) (here : get_elem? t.views id ≡ some k) where
     -- the claim word of the tree is that of the table
