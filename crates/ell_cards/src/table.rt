@@ -7,6 +7,7 @@ ghost use Rattle.ell_word.specs.Node.{greatest_card, greatest_number};
 ghost use Rattle.ell_word.specs.Link.{IsLink, greatest_tag, linked, tag_unit};
 ghost use Rattle.ell_cards.specs.declared.view.Told.TheVariants.{Expects};
 ghost use Rattle.ell_cards.specs.Models.{flat_from, IsTold, Knows, Sees, TableModel, Steps};
+ghost use Rattle.ell_cards.specs.Apart.{NamesLowBits};
 ghost use Rattle.ell_cards.specs.Changes.{after_fill};
 ghost use Rattle.ell_cards.specs.Naming.{IsNamed, IsPlaced};
 ghost use Rattle.ell_cards.specs.Guards.{MayFill};
@@ -79,6 +80,8 @@ impl<A: Allocator + Copy> CardTable<A> {
         // All that the pass knows is of cards of the table.
         ensures cards { (fact : Fact) → Knows pass.now.view fact → card_of_fact fact ≤ self.now.plan.last_card }
         ensures room { self.now.plan.last_card ≤ greatest_number }
+        // Of each node it knows what words hold of the node's number: the low 43 bits.
+        ensures short { NamesLowBits pass.now.view }
         // No internal node of the table is deeper than this.
         ensures deep { deepest self.now.plan ≤ greatest_number + 64 }
         // Without places, the last card is at most `CARD_MAX`, and no internal node is more than 64 deeper than that.
@@ -94,6 +97,7 @@ impl<A: Allocator + Copy> CardTable<A> {
         requires own { pass.now.table ≡ self.now.id }
         ensures named { IsNamed self.now.plan.last_card pass.now.view }
         ensures placed { IsPlaced greatest_card pass.now.view }
+        ensures short { NamesLowBits pass.now.view }
         ensures slot { (c : ℕ) → pass.now.slot ≡ Some c → slot_of c ≤ greatest_card }
         ensures tags { (c tag : ℕ) → IsTold pass.now.view (Expects c tag) → tag ≤ greatest_tag }
         ensures room { self.now.plan.last_card ≤ greatest_number }
