@@ -1,7 +1,9 @@
-use Rattle.std.proofs.Common.{◌≡◌, ℕ, ◌+◌, if◌then◌else◌, nat_lt, min, max, Bool, true, false, true≢false, List, [], ◌∷◌, Some, refl, sym, ◌∙◌, ap, subst, arith}
+use Rattle.std.proofs.Common.{◌≡◌, ℕ, ◌+◌, ◌<◌, ◌≤◌, if◌then◌else◌, nat_lt, min, max, Bool, true, false, true≢false, List, [], ◌∷◌, Some, refl, sym, ◌∙◌, ap, subst, arith}
 use Rattle.ell_layout.specs.declared.field.Field.{Field}
 use Rattle.ell_layout.specs.declared.field.Field.TheVariants as field
-use Rattle.ell_word.specs.Link.{linked}
+use Rattle.ell_word.specs.Link.{linked, tag_unit}
+use Rattle.ell_word.specs.Node.{greatest_number, left_leaf, right_leaf}
+use Rattle.ell_word.proofs.Numbers.{bare_node}
 use Rattle.ell_layout.specs.Cards.{clean, stored, put_filling, left_of_card, right_of_card, delete_filling}
 use Rattle.ell_cards.specs.declared.view.View.{View}
 use Rattle.ell_cards.specs.Models.{PassModel, Steps, Has, latest, earlier, stored_at}
@@ -54,23 +56,34 @@ insert_words parent below node_key lesser greater left right update left_value r
     (field.RightValue, right_value) ∷ (field.LeftValue, left_value) ∷ (field.RightLeafKey, greater) ∷ (field.LeftLeafKey, lesser)
     ∷ (field.Update, update) ∷ (field.Right, right) ∷ (field.Left, left) ∷ (field.Key, node_key) ∷ (field.L, below) ∷ (field.P, parent) ∷ []
 
+-- the children of its node are in 43 bits if the node where it goes is
+one_of : (test : Bool) (below own : ℕ) → below < tag_unit → own < tag_unit → (if test then below else own) < tag_unit
+one_of true below own small less = small
+one_of false below own small less = less
+
+left_small : (c k below below_key : ℕ) → c ≤ greatest_number → below < tag_unit → left_of_card c k below below_key < tag_unit
+left_small c k below below_key low small = one_of _ below (left_leaf c) small (omega (arith, low))
+
+right_small : (c k below below_key : ℕ) → c ≤ greatest_number → below < tag_unit → right_of_card c k below below_key < tag_unit
+right_small c k below below_key low small = one_of _ below (right_leaf c) small (omega (arith, low))
+
 -- it is what the card is to say
-stored_of_insert : (c k value node_key parent below tag below_key below_value : ℕ) (f : Field)
+stored_of_insert : (c k value node_key parent below tag below_key below_value : ℕ) → c ≤ greatest_number → below < tag_unit → (f : Field)
     → stored_at (insert_words parent (linked (record { node = below; tag = tag })) node_key (min k below_key) (max k below_key) (left_of_card c k below below_key)
     (right_of_card c k below below_key) (clean 0) (if nat_lt k below_key then value else below_value) (if nat_lt k below_key then below_value else value)) f
     ≡ stored (tagged tag (put_filling c k value node_key parent below below_key below_value)) f 0
-stored_of_insert c k value node_key parent below tag below_key below_value field.Gp = refl
-stored_of_insert c k value node_key parent below tag below_key below_value field.P = refl
-stored_of_insert c k value node_key parent below tag below_key below_value field.L = refl
-stored_of_insert c k value node_key parent below tag below_key below_value field.Was = refl
-stored_of_insert c k value node_key parent below tag below_key below_value field.Key = refl
-stored_of_insert c k value node_key parent below tag below_key below_value field.Left = refl
-stored_of_insert c k value node_key parent below tag below_key below_value field.Right = refl
-stored_of_insert c k value node_key parent below tag below_key below_value field.Update = refl
-stored_of_insert c k value node_key parent below tag below_key below_value field.LeftLeafKey = refl
-stored_of_insert c k value node_key parent below tag below_key below_value field.RightLeafKey = refl
-stored_of_insert c k value node_key parent below tag below_key below_value field.LeftValue = refl
-stored_of_insert c k value node_key parent below tag below_key below_value field.RightValue = refl
+stored_of_insert c k value node_key parent below tag below_key below_value low small field.Gp = refl
+stored_of_insert c k value node_key parent below tag below_key below_value low small field.P = refl
+stored_of_insert c k value node_key parent below tag below_key below_value low small field.L = refl
+stored_of_insert c k value node_key parent below tag below_key below_value low small field.Was = refl
+stored_of_insert c k value node_key parent below tag below_key below_value low small field.Key = refl
+stored_of_insert c k value node_key parent below tag below_key below_value low small field.Left = sym (bare_node _ (left_small c k below below_key low small))
+stored_of_insert c k value node_key parent below tag below_key below_value low small field.Right = sym (bare_node _ (right_small c k below below_key low small))
+stored_of_insert c k value node_key parent below tag below_key below_value low small field.Update = refl
+stored_of_insert c k value node_key parent below tag below_key below_value low small field.LeftLeafKey = refl
+stored_of_insert c k value node_key parent below tag below_key below_value low small field.RightLeafKey = refl
+stored_of_insert c k value node_key parent below tag below_key below_value low small field.LeftValue = refl
+stored_of_insert c k value node_key parent below tag below_key below_value low small field.RightValue = refl
 
 -- a card of which all that it is to say was stored is filled
 fills : (a b : PassModel) (n : ℕ) (stores says : List (Field × ℕ)) → Stores a b stores n → a.view.planned ≡ says
@@ -104,16 +117,16 @@ said_of_insert parent word node_key lesser greater left right update left_value 
 -- an insert's card is filled by ten stores
 module _ (a b : PassModel) (parent word node_key lesser greater left right update left_value right_value : ℕ)
     (h : Stores a b (insert_words parent word node_key lesser greater left right update left_value right_value) 10) where
-  pub fills_insert : (c k value below tag below_key below_value : ℕ)
+  pub fills_insert : (c k value below tag below_key below_value : ℕ) → c ≤ greatest_number → below < tag_unit
       → a.view.planned ≡ tagged tag (put_filling c k value node_key parent below below_key below_value)
       → word ≡ linked (record { node = below; tag = tag })
       → lesser ≡ min k below_key → greater ≡ max k below_key → left ≡ left_of_card c k below below_key → right ≡ right_of_card c k below below_key → update ≡ clean 0
       → left_value ≡ (if nat_lt k below_key then value else below_value) → right_value ≡ (if nat_lt k below_key then below_value else value)
       → Fills a b 10
-  fills_insert c k value below tag below_key below_value says w low high l r u lv rv =
+  fills_insert c k value below tag below_key below_value limit small says w low high l r u lv rv =
       fills a b 10 _ (tagged tag (put_filling c k value node_key parent below below_key below_value)) h says
       (λ f. (λ t. stored_at (insert_words parent (w t) node_key (low t) (high t) (l t) (r t) (u t) (lv t) (rv t)) f)
-      ∙ stored_of_insert c k value node_key parent below tag below_key below_value f)
+      ∙ stored_of_insert c k value node_key parent below tag below_key below_value limit small f)
 
   -- and then it is whole
   pub whole_insert : (c : ℕ) → a.slot ≡ Some c → IsWholeIn b c put_says

@@ -29,7 +29,7 @@ returns g c =
     let s10 = stores_more a c.fill-9.new.pass c.fill-10.new.pass _ 9 field.RightValue values.1 s9 c.fill-10.ensures in
     record {
       fills = fills_insert a c.fill-10.new.pass place.parent.node word c.args.node_key lesser greater left right update values.0 values.1 s10
-          c.args.card c.args.what.key c.args.what.value place.node place.parent.tag place.key place.value c.requires.card.card.says
+          c.args.card c.args.what.key c.args.what.value place.node place.parent.tag place.key place.value c.requires.limit c.requires.link.node c.requires.card.card.says
           (c.word-below.ensures ∙ ap linked c.node_with.ensures) c.min-lesser.ensures c.max-greater.ensures c.card_children-left.ensures.left c.card_children-left.ensures.right
           c.update_word-clean.ensures sides.0 sides.1;
       whole = λ some. whole_insert a c.fill-10.new.pass place.parent.node word c.args.node_key lesser greater left right update values.0 values.1 s10
