@@ -161,13 +161,13 @@ HasNoLink (call.IChild c p l node right) = ⊥
 HasNoLink (call.DChild c gp p s right) = ⊥
 HasNoLink _ = Unit {0}
 
--- A number says a link that is near one: its node is that one's if their low bits are the same; and if it is that node, it
--- has a tag that is no less than the link's, and greater by less than there are tags that words tell apart.
+-- A number says a link that is near one: its tag is no less than that one's, and greater by less than there are tags
+-- that words tell apart; and if it has that tag, it is that link.
 pub record IsNear (l : Link) (n : ℕ) : Type 0 where
   pub low : l.node < node_bound
-  pub node : cut_node (link_in n).node ≡ cut_node l.node → (link_in n).node ≡ l.node
-  pub least : (link_in n).node ≡ l.node → l.tag ≤ (link_in n).tag
-  pub most : (link_in n).node ≡ l.node → (link_in n).tag ≤ l.tag + greatest_tag
+  pub least : l.tag ≤ (link_in n).tag
+  pub most : (link_in n).tag ≤ l.tag + greatest_tag
+  pub same : (link_in n).tag ≡ l.tag → (link_in n).node ≡ l.node
 
 -- a call without a link can be shown where it found a word; a store can always; and an exchange of a child word can
 -- where the link that it expects is near the word that it found

@@ -97,15 +97,14 @@ links_alike n l near = by (n == linked l) refl
     by true same = eq-eqb (cut_word n) (linked (shown_link l)) (ap cut_word (eqb-true n (linked l) same) ∙ cut_linked l.node l.tag)
     by false other = cases (cut_word n == linked (shown_link l)) refl
       where
-        -- the same words are of the same node, whose tag is so near that it is the same
+        -- the same words have the same tag, as that is so near, and so the same node
         same_link : cut_word n ≡ linked (shown_link l) → n ≡ linked l
         same_link cut =
-            let nodes : cut_node (link_in n).node ≡ cut_node l.node = sym (cut_node_in n) ∙ (ap (λ m. (link_in m).node) cut ∙ omega arith) in
-            let node = near.node nodes in
             let tags : cut_tag (link_in n).tag ≡ cut_tag l.tag = sym (cut_tag_in n) ∙ (ap (λ m. (link_in m).tag) cut ∙ omega arith) in
-            let least = near.least node in
-            let most = near.most node in
+            let least = near.least in
+            let most = near.most in
             let tag : (link_in n).tag ≡ l.tag = omega (arith, tags, least, most) in
+            let node = near.same tag in
             sym (number_again n) ∙ (λ t. linked (record { node = node t; tag = tag t }))
 
         cases : (b : Bool) → (cut_word n == linked (shown_link l)) ≡ b → b ≡ false

@@ -5,8 +5,7 @@ use Rattle.std.proofs.lemmas.List.Elements.{All-head, All-tail}
 use Rattle.std.specs.List.{All, AllByRecursion}
 use mathlib.Core.Option.{some}
 use lib.ListN.{get_elem?}
-use Rattle.ell_word.specs.Link.{link_in, tag_unit, greatest_tag}
-use Rattle.ell_word.specs.Node.{IsInternal}
+use Rattle.ell_word.specs.Link.{link_in, node_bound, greatest_tag}
 use Rattle.ell_word.specs.declared.link.Link.{Link}
 use Rattle.ell_layout.specs.declared.field.Field.TheVariants as field
 use Rattle.ell_core.specs.declared.exchange.Exchange.{Exchange}
@@ -46,7 +45,6 @@ use Rattle.ell_cards.proofs.lemmas.runs.TagsOfRuns.{IsNear as IsNearSince}
 use Rattle.ell_cards.proofs.lemmas.runs.TagsOfRuns.{ExchangesAreNear as AreNearSince}
 use Rattle.ell_cards.proofs.lemmas.runs.Won.{count, count_append}
 use Rattle.ell_cards.proofs.lemmas.seats.Seats.{mine_sound}
-use Rattle.ell_cards.proofs.lemmas.shown.CutWords.{node_small}
 use Rattle.ell_cards.proofs.lemmas.stepping.Exchanges.{told_is}
 use Rattle.ell_cards.proofs.lemmas.stepping.Known.{insert_flagged, known_delete}
 use Rattle.ell_cards.proofs.lemmas.ties.Few.{few_in_slots}
@@ -178,13 +176,13 @@ module _ (plan : TablePlan) (s : Slots) (tree : TableState) (t : WholeState) (li
   )
 
   -- a link is near a child word if its tag is
-  link_near : (x : ℕ) (right : Bool) (l : Link) → IsNearSince plan before tree near.machine near.from.stages x right l.tag → l.node < tag_unit
-      → near.machine.words.child x right < tag_unit → IsNear l (get_or tree.words (child_address x right) 0)
-  link_near x right l by inside child = record {
-    low = omega (arith, inside);
-    node = λ same. sym (node_small (link_in (get_or tree.words (child_address x right) 0)).node (subst (λ y. y < tag_unit) (sym node) child)) ∙ (same ∙ node_small l.node inside);
-    least = λ same. subst (λ n. l.tag ≤ n) (sym tag) by.near.low;
-    most = λ same. subst (λ n. n ≤ l.tag + greatest_tag) (sym tag) most;
+  link_near : (x : ℕ) (right : Bool) (l : Link) → IsNearSince plan before tree near.machine near.from.stages x right l.tag l.node → l.node < node_bound
+      → IsNear l (get_or tree.words (child_address x right) 0)
+  link_near x right l by inside = record {
+    low = inside;
+    least = subst (λ n. l.tag ≤ n) (sym tag) by.near.low;
+    most = subst (λ n. n ≤ l.tag + greatest_tag) (sym tag) most;
+    same = λ is. node ∙ by.same (sym tag ∙ is);
   }
     where
       node : (link_in (get_or tree.words (child_address x right) 0)).node ≡ near.machine.words.child x right
@@ -199,36 +197,27 @@ module _ (plan : TablePlan) (s : Slots) (tree : TableState) (t : WholeState) (li
       most : near.machine.words.tag x right ≤ l.tag + greatest_tag
       most = let high = by.near.high in let fits = few in omega arith
 
-  -- a child word has room for a node that came into the tree
-  has_room : (x : ℕ) → Born near.machine.stages x → x < tag_unit
+  -- the number of a link has room for a node that came into the tree
+  has_room : (x : ℕ) → Born near.machine.stages x → x < node_bound
   has_room x born =
       let below = born_below near.machine.words near.machine.stages near.machine.invariant.words x born in
       let next = near.machine.invariant.limit in
       let last = near.machine.limit in
       omega arith
 
-  -- and for a child of an internal one, which may be known by another name
-  child_has_room : (x y : ℕ) (right : Bool) → x ≡ y → IsInternal x → Born near.machine.stages x → near.machine.words.child y right < tag_unit
-  child_has_room x y right same inner born =
-      subst (λ z. near.machine.words.child z right < tag_unit) same
-      (has_room (near.machine.words.child x right) ((near.machine.invariant.words.children x inner born).born right))
-
   insert_near : (c p : ℕ) (l : Link) (replaces right : Bool) → MayIChild k.tree c p l replaces right → IsNear l (get_or tree.words (child_address p right) 0)
   insert_near c p l replaces right may =
       let said = insert_flagged plan tree near.machine id k.tree there c may.knows in
       link_near p right l (near.insert k.tree there c p l replaces right may)
-      (subst (λ n. n < tag_unit) (told_is plan tree near.machine id k.tree there c field.L l.node may.leaf)
+      (subst (λ n. n < node_bound) (told_is plan tree near.machine id k.tree there c field.L l.node may.leaf)
       (has_room (near.machine.words.l c) said.lower))
-      (child_has_room (near.machine.words.p c) p right (told_is plan tree near.machine id k.tree there c field.P p may.parent) said.parent.inner said.parent.born)
 
   delete_near : (c gp : ℕ) (p : Link) (y : ℕ) (right : Bool) → MayDChild k.tree c gp p y right → IsNear p (get_or tree.words (child_address gp right) 0)
   delete_near c gp p y right may =
       let said = known_delete plan tree near.machine id k.tree there c (inr may.knows) in
       link_near gp right p (near.delete k.tree there c gp p y right may)
-      (subst (λ n. n < tag_unit) (told_is plan tree near.machine id k.tree there c field.P p.node may.parent)
+      (subst (λ n. n < node_bound) (told_is plan tree near.machine id k.tree there c field.P p.node may.parent)
       (has_room (near.machine.words.p c) said.parent.born))
-      (child_has_room (near.machine.words.gp c) gp right (told_is plan tree near.machine id k.tree there c field.Gp gp may.grandparent)
-      said.grandparent.inner said.grandparent.born)
 
 pub expected_links_are_near : ExchangesAreNear
 expected_links_are_near plan s tree t lie dead was_dead tied reached low id k here there period made may =
