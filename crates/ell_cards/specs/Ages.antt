@@ -14,7 +14,6 @@ use Rattle.ell_cards.specs.Laws.{machine_of_table}
 use Rattle.ell_cards.specs.Machines.{HasMachine}
 use Rattle.ell_cards.specs.Models.{TablePlan}
 use Rattle.ell_cards.specs.Periods.{WholeState, IsAtRest, LieInSlots, PeriodsAreSound, slot_word}
-use Rattle.ell_cards.specs.Shown.{shown}
 use Rattle.ell_cards.specs.SlotWords.{card_by, is_noted}
 use Rattle.ell_cards.specs.Starts.{IsReached}
 use Rattle.ell_cards.specs.States.{TableState}
@@ -81,13 +80,13 @@ abbrev pub KnowsDeadNode : View → ℕ → Type 0
 KnowsDeadNode v x = (c : ℕ) × KnowsDead v c x
 
 -- By what a pass knows, all three nodes of a card are dead: each is noted in the word of the card's slot, which it
--- has read when the slot was in use, or it knows it of the node itself by what is shown of what it knows.
+-- has read when the slot was in use, or it knows it of the node itself.
 pub record KnowsDeadCard (k : Known) (c : ℕ) : Type 0 where
   pub read : SlotRead
   pub has : k.period.read ≡ Some read
   pub used : read.word % 8 ≢ 7
   pub lies : card_by read.slot read.word ≡ c
-  pub each : (i : ℕ) → i < 3 → (is_noted read.word i ≡ true) ⊎ KnowsDeadNode (shown k.tree) (4 * c + i)
+  pub each : (i : ℕ) → i < 3 → (is_noted read.word i ≡ true) ⊎ KnowsDeadNode k.tree (4 * c + i)
 
 -- So a pass may read the clock for a card as one that is to be set free: it knows its nodes dead, or it is the card
 -- whose flag the pass lost last.
