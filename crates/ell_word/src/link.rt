@@ -1,5 +1,5 @@
 //! The child word of an internal node: a node, and a tag that counts how often the word has changed.
-ghost use Rattle.std.specs.Prelude.{◌≡◌, ◌≤◌, ◌<◌};
+ghost use Rattle.std.specs.Prelude.{◌≡◌, ◌≤◌, ◌<◌, ◌%◌, ◌^◌};
 ghost use Rattle.ell_word.specs.Link.{IsLink, node_bound, linked, link_in};
 ghost use Rattle.ell_word.specs.declared.link.Link.{Link};
 
@@ -39,6 +39,15 @@ impl Link {
             tag: word / TAG_UNIT,
         }
     }
+}
+
+/// Returns the child word of a node with tag 0: the low 43 bits of the node, whichever node it is.
+#[inline(always)]
+pub fn child_word(node: u64) -> u64
+    // Returns the low 64 bits of the number of the node's link with tag 0.
+    ensures { result ≡ linked (record { node = node; tag = 0 }) % 2 ^ 64 }
+{
+    node % TAG_UNIT
 }
 
 /// Reading undoes linking for nodes below 2^63: each such node has with each tag a number of its own, of which a child

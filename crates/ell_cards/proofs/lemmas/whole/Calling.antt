@@ -128,9 +128,10 @@ module _ (plan : TablePlan) (s : WholeState) (h : IsWhole plan s) (id : ℕ) (k 
     -- what each pass has stored after the step
     stores_after : AllStoresAreWhole plan.slots after
     stores_after j v at = ⊎_elim
-        (λ (t : (j ≡ id) × (view_after h.tree k.tree c ≡ v)). subst (λ u. StoresAreWhole u × PlansFit plan.slots u) t.1
-        (stores_stay_whole plan c (found_by h.tree c) k.tree apart_here may fills (h.stores id k.tree tree_here).0,
-        plans_after plan.slots refl (h.stores id k.tree tree_here).1))
+        (λ (t : (j ≡ id) × (view_after h.tree k.tree c ≡ v)). subst (λ u. StoresAreWhole u × PlansFit plan.slots u) t.1 (
+          stores_stay_whole plan c (found_by h.tree c) k.tree apart_here may fills (h.stores id k.tree tree_here).0,
+          plans_after plan.slots refl (h.stores id k.tree tree_here).1,
+        ))
         (λ (t : (j ≢ id) × (get_elem? h.tree.views j ≡ some v)). h.stores j v t.1)
         (at_set h.tree.views id j (view_after h.tree k.tree c) v at)
 
