@@ -60,6 +60,10 @@ finish_own-requires-clause-read g c =
     c.requires.searched.ends.at c.in-Card.ensures.claims.0 in
     told_was c.take_card.new.pass.view c.flag_delete.new.pass.view c.in-Card.card c.args.place c.flag_delete.ensures.keeps.view c.args.key c.in-Some.above card
 
+-- its card is in hand still
+pub retire_deleted-requires-clause-hand : goal.retire_deleted-requires-clause-hand
+retire_deleted-requires-clause-hand g c = c.finish_own.ensures.keeps_but_met.card ∙ c.in_default-flag_delete.ensures.flags.card
+
 -- what its card told of the parent and the leaf is known once it is over
 pub retire_deleted-requires-clause-parent : goal.retire_deleted-requires-clause-parent
 retire_deleted-requires-clause-parent g c =
