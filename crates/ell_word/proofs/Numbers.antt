@@ -1,5 +1,4 @@
-use Rattle.std.proofs.Common.{◌≡◌, ℕ, ◌+◌, ◌*◌, ◌/◌, ◌%◌, ◌<◌, ◌≤◌, ◌^◌, arith}
-use Rattle.ell_word.specs.declared.link.Link.{Link}
+use Rattle.std.proofs.Common.{◌≡◌, ℕ, ◌%◌, ◌<◌, ◌^◌, arith}
 use Rattle.ell_word.specs.Link.{linked, link_in, tag_unit, node_bound}
 
 -- Linking what a number says gives the number again.

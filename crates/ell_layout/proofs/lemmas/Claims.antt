@@ -1,4 +1,4 @@
-use Rattle.std.proofs.Common.{◌≡◌, ℕ, ◌+◌, ◌*◌, ◌/◌, ◌%◌, ◌<◌, true, false, List, [], ◌∷◌, drop, refl, ap, ap₂, ◌∙◌, arith}
+use Rattle.std.proofs.Common.{◌≡◌, ℕ, ◌+◌, ◌*◌, ◌<◌, true, false, List, [], ◌∷◌, drop, refl, ap, ap₂, ◌∙◌, arith}
 use Rattle.ell_word.specs.Link.{linked, tag_unit, node_bound}
 use Rattle.ell_word.proofs.Numbers.{link_back, bare_says_node, bare_says_tag}
 use Rattle.ell_word.specs.Node.{left_leaf, right_leaf}
