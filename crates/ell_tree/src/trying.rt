@@ -162,7 +162,7 @@ fn claim_up_to<A: Allocator + Copy>(
     }
 }
 
-/// Stores a word of the card in hand.
+/// Stores a word of the card in hand: where it names a node, the low bits of the node.
 pub(crate) fn fill<A: Allocator + Copy, G: StepGate>(
     table: &CardTable<A>,
     pass: &mut Pass<A>,
