@@ -1,5 +1,5 @@
 -- That a pass tells the nodes which it names apart by what child words hold of their numbers.
-use Rattle.std.specs.Prelude.{◌≡◌, ℕ, ◌⊎◌, ◌%◌, ◌<◌, true, false, Some}
+use Rattle.std.specs.Prelude.{◌≡◌, ℕ, ◌⊎◌, ◌%◌, ◌<◌, Bool, true, false, Some}
 use Rattle.ell_word.specs.Link.{tag_unit}
 use Rattle.ell_layout.specs.declared.field.Field.{Field}
 use Rattle.ell_layout.specs.declared.field.Field.TheVariants.{Gp, P, L}
@@ -16,12 +16,21 @@ use Rattle.ell_cards.specs.Models.{TablePlan, Has, IsTold, Knows, StandsAt, flat
 abbrev pub cut_node : ℕ → ℕ
 cut_node x = x % 8796093022208
 
+-- a word of a card that is a node is a number of 43 bits
+abbrev pub InfoIsLow : Field → ℕ → Type 0
+InfoIsLow Gp x = x < tag_unit
+InfoIsLow P x = x < tag_unit
+InfoIsLow L x = x < tag_unit
+InfoIsLow _ x = Unit {0}
+
 -- the nodes that a pass names, by what words hold of them, are numbers of 43 bits
 pub record NamesLowBits (v : View) : Type 0 where
   pub met : (x : ℕ) → IsTold v (Met x) → x < tag_unit
   pub node : (x : ℕ) → StandsAt v x → x < tag_unit
   pub parent : (seen : Seen) → v.worker.search.parent ≡ Some seen → seen.node < tag_unit
   pub grandparent : (seen : Seen) → v.worker.search.grandparent ≡ Some seen → seen.node < tag_unit
+  pub info : (c : ℕ) (f : Field) (x : ℕ) → IsTold v (Info c f x) → InfoIsLow f x
+  pub frozen : (c : ℕ) (right : Bool) (x : ℕ) → IsTold v (Frozen c right x) → x < tag_unit
 
 -- where a card goes, by one of its words, is a node that the pass has met
 abbrev pub InfoIsMet : View → Field → ℕ → Type 0

@@ -385,7 +385,7 @@ impl<A: Allocator + Copy> CardTable<A> {
         requires word { word ≡ place_of call }
         requires kept { MayInTable self.now.plan pass.old call }
         requires link { IsLink old }
-        requires node { node < tag_unit }
+        requires fits { self.now.plan.slots ≡ None → node < tag_unit }
         requires few { self.now.plan.slots ≡ None → old.tag ≤ greatest_card }
         requires atomic { atomic_of call ≡ Exchange (linked old) (linked (next_link old node)) }
         ensures step { Steps pass.old pass.new (after call result pass.old.view) }
@@ -394,18 +394,20 @@ impl<A: Allocator + Copy> CardTable<A> {
     }
 }
 
+/// How many nodes a child word tells apart.
+const NODES: u64 = 8_796_093_022_208;
+
 /// How many tags a child word tells apart.
 const TAGS: u64 = 2_097_152;
 
-// The word of the child word that follows one: another node, and the next tag, after the last one the first.
+// The word of the child word that follows one: the low bits of another node, and the next tag, after the last one the first.
 #[inline(always)]
 fn next_word(old: Link, node: u64) -> u64
     requires old { IsLink old }
-    requires node { node < tag_unit }
     ensures { result ≡ cut_word (linked (next_link old node)) }
 {
     let next = Link {
-        node,
+        node: node % NODES,
         tag: (old.tag + 1) % TAGS,
     };
     next.word()

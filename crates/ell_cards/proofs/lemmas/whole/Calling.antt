@@ -488,12 +488,12 @@ exchange_stores _ expected value is fill = fill
 
 -- the exchange of a child word, in words of 64 bits
 pub child_exchanges : (plan : TablePlan) (c : Call) (old : Link) (node expected value : ℕ) → expected ≡ linked old → value ≡ cut_word (linked (next_link old node))
-    → atomic_of c ≡ Exchange (linked old) (linked (next_link old node)) → node < tag_unit → (plan.slots ≡ None → old.tag ≤ greatest_card) → Exchanges plan c expected value
+    → atomic_of c ≡ Exchange (linked old) (linked (next_link old node)) → (plan.slots ≡ None → node < tag_unit) → (plan.slots ≡ None → old.tag ≤ greatest_card) → Exchanges plan c expected value
 child_exchanges plan c old node expected value at cut is inside few = record {
   whole = linked (next_link old node);
   is = is ∙ ap (λ x. Exchange x (linked (next_link old node))) (sym at);
   cut = cut;
-  all = λ none. (let low = few none in cut ∙ cut_same (linked (next_link old node)) (omega arith));
+  all = λ none. (let low = few none in let small = inside none in cut ∙ cut_same (linked (next_link old node)) (omega arith));
 }
 
 -- what a pass notes where it is to set a flag
