@@ -20,9 +20,3 @@ retire_nodes-requires-clause-never g c =
           rw w.left_leaf_of-unused.ensures
           (left_dead c.args.what c.args.place v c.args.card c.requires.put inner (search rules))
     ])
-
--- at a leaf of the operation's key
-pub retire_nodes-requires-2-clause-never : goal.retire_nodes-requires-2-clause-never
-retire_nodes-requires-2-clause-never g c =
-    rw c.retire.ensures.same
-    (replaced_nodes_dead c.args.what c.args.place c.args.pass.now.view c.args.card c.requires.put (search rules))
