@@ -314,8 +314,11 @@ module _ (plan : TablePlan) (s : Slots) (placed : plan.slots ≡ Some s) (slot :
       (λ t. after_read slot (get_or t.words (slot_word s slot) 0) k.period)
       (λ tree t id reached here there h size. (
         reads_now plan s tree t id k here there h size reached slot inside k.period.sought,
-        (refl, λ c nodes at taken used i has. by c i (three nodes i has) _ (taken_lies plan s tree t id k here there h size reached placed slot inside used (4 * c + i)
-            (slot_there c i (three nodes i has) ∙ at) (taken i has))),
+        (
+          refl,
+          λ c nodes at taken used i has. by c i (three nodes i has) _ (taken_lies plan s tree t id k here there h size reached placed slot inside used (4 * c + i)
+              (slot_there c i (three nodes i has) ∙ at) (taken i has)),
+        ),
       ))
     where
       slot_there : (c i : ℕ) → i < 3 → slot_of (card (4 * c + i)) ≡ slot_of c
@@ -335,8 +338,7 @@ module _ (plan : TablePlan) (s : Slots) (placed : plan.slots ≡ Some s) (slot :
       × ((c : ℕ) (nodes : CardNodes) → slot_of c ≡ r → AreTakenOut (shown k.tree) c nodes → n % 8 ≢ 7 → KnowsDeadNodes k.tree (card_by r n) nodes))
   reads_any_taken k word is id t h homes here small =
       let may = subst (λ i. MayGoOn plan k i (λ n. n) (λ n p. (p ≡ after_read slot n k.period) × TellsTaken k n)) (sym is) (reads_taken k) in
-      let x = may id t h homes here small in
-      (
+      let x = may id t h homes here small in (
         x.0,
         x.1,
         x.2,
