@@ -2,6 +2,7 @@ use Rattle.std.specs.Prelude.{◌≡◌, ℕ, zero, suc, ◌+◌, ◌*◌, ◌==
 use Rattle.ell_cards.specs.declared.card_nodes.CardNodes.{CardNodes}
 use Rattle.ell_cards.specs.declared.view.View.{View}
 use Rattle.ell_cards.specs.Ages.{KnowsDeadNode}
+use Rattle.ell_cards.specs.Dead.{HasTakenOut, KnowsNeverComes}
 
 -- whether a node of the card is one of these, by its place among the three
 abbrev pub has_node : CardNodes → ℕ → Bool
@@ -24,6 +25,17 @@ nodes_of_both nodes others = record {
   right = nodes.right || others.right;
 }
 
--- by what a pass knows, each of these nodes of a card is dead
+-- this is so of each of these nodes of a card
+abbrev pub AllOfCard : (ℕ → Type 0) → ℕ → CardNodes → Type 0
+AllOfCard P c nodes = (i : ℕ) → has_node nodes i ≡ true → P (4 * c + i)
+
+-- by what a pass knows, each of these nodes of a card is dead; or never comes into the tree; or its card in hand has taken
+-- each of them out
 abbrev pub KnowsDeadNodes : View → ℕ → CardNodes → Type 0
-KnowsDeadNodes v c nodes = (i : ℕ) → has_node nodes i ≡ true → KnowsDeadNode v (4 * c + i)
+KnowsDeadNodes v = AllOfCard (KnowsDeadNode v)
+
+abbrev pub NeverCome : View → ℕ → CardNodes → Type 0
+NeverCome v c = AllOfCard (KnowsNeverComes v c) c
+
+abbrev pub AreTakenOut : View → ℕ → CardNodes → Type 0
+AreTakenOut v = AllOfCard (HasTakenOut v)

@@ -98,6 +98,10 @@ abbrev pub KnowsNeverComes : View → ℕ → ℕ → Type 0
 KnowsNeverComes v c x =
     (card x ≡ c) × (KnowsDeleteEnded v c ⊎ (Knows v (fact.IOver c) × (KnowsReplaced v c x ⊎ KnowsUnused v c x)))
 
+-- the card in hand, which is over, has taken a node out of the tree
+abbrev pub HasTakenOut : View → ℕ → Type 0
+HasTakenOut v x = (c : ℕ) × (v.worker.card ≡ Some c) × KnowsTakenOut v c x
+
 -- such a node never comes
 abbrev pub KnownNeverComes : Type 0
 KnownNeverComes = (plan : TablePlan) (s : TableState) (seat : ℕ) (v : View)

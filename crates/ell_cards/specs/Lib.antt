@@ -15,6 +15,8 @@ pub mod Guards
 -- the step calls as one table: the word that each touches, what it does to it, its event, the change, the guard, what
 -- it tells
 pub mod Calls
+-- nodes that a pass tells apart by what words hold of their numbers
+pub mod Apart
 -- what is shown of all this where words have 64 bits
 pub mod Shown
 -- what a step call leaves of a pass, as it is shown

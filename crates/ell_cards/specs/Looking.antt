@@ -13,6 +13,7 @@ use Rattle.ell_cards.specs.declared.call.Call.TheVariants as call
 use Rattle.ell_cards.specs.declared.view.Told.TheVariants.{Info, Key, Value}
 use Rattle.ell_cards.specs.declared.view.View.{View}
 use Rattle.ell_cards.specs.Models.{TablePlan, flat_from, IsTold, HasCome, HasComeWhole}
+use Rattle.ell_cards.specs.Apart.{IsApart}
 use Rattle.ell_cards.specs.Guards.{TellsOf}
 use Rattle.ell_cards.specs.Shown.{shown}
 use Rattle.ell_cards.specs.States.{TableState}
@@ -87,10 +88,11 @@ pub record FoundInRun (plan : TablePlan) (s : TableState) (turns : List Turn) (s
   pub began : Began plan s turns s' seat
   pub so : WasSo plan began.to (drop (suc began.first) turns) s' what
 
--- so it is in every run of a table with this plan, from its start to a state in which a pass knows what is shown so
+-- so it is in every run of a table with this plan, from its start to a state in which a pass that tells nodes apart
+-- knows what is shown so
 abbrev pub IsFoundInRuns : TablePlan → View → (Words → Type 0) → Type 0
 IsFoundInRuns plan v what = (s : TableState) → Starts plan s → (turns : List Turn) (s' : TableState)
-    → TableRun plan s turns s' → (seat : ℕ) (w : View) → shown w ≡ v → get_elem? s'.views seat ≡ some w
+    → TableRun plan s turns s' → (seat : ℕ) (w : View) → shown w ≡ v → IsApart plan w → get_elem? s'.views seat ≡ some w
     → FoundInRun plan s turns s' seat what
 
 -- what any pass has found of any key by its last look, whoever owns it, whatever turns of whatever passes came

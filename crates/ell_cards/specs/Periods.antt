@@ -16,7 +16,7 @@ use Rattle.ell_cards.specs.declared.view.Told.TheVariants.{Met, Key}
 use Rattle.ell_cards.specs.declared.view.View.{View}
 use Rattle.ell_cards.specs.Models.{TablePlan, IsFree, IsTold}
 use Rattle.ell_cards.specs.Seeking.{could_have, could_take, missed_none, missed_one, no_seek, sought_on}
-use Rattle.ell_cards.specs.SlotWords.{slot_of, card_by, freed_by, is_used_for}
+use Rattle.ell_cards.specs.SlotWords.{slot_of, card_by, freed_by, has_slot_in, is_used_for}
 
 -- the state of a table, with all that its passes know
 abbrev pub WholeState : Type 0
@@ -90,7 +90,7 @@ most_claims (Some s) = s.last + 2
 -- whether a card has a slot
 abbrev pub has_slot : Option Slots → ℕ → Bool
 has_slot None c = true
-has_slot (Some s) c = nat_le (slot_of c) s.last
+has_slot (Some s) c = has_slot_in s.last c
 
 -- The word of a place is 0 if no pass has it, 1 if its pass is in no period, and else the reading of the clock that
 -- its pass announces, and 2.

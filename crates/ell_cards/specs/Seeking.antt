@@ -1,12 +1,13 @@
 -- What a search for a slot has read.
-use Rattle.std.specs.Prelude.{◌≡◌, ℕ, ◌⊎◌, ◌+◌, ◌*◌, ◌<◌, ◌≤◌, ◌%◌, ◌==◌, ◌&&◌, nat_lt, nat_le, not, if◌then◌else◌, Bool, true, false, Option, IfSome}
+use Rattle.std.specs.Prelude.{◌≡◌, ℕ, ◌⊎◌, ◌+◌, ◌-◌, ◌*◌, ◌/◌, ◌<◌, ◌≤◌, ◌%◌, ◌==◌, ◌&&◌, nat_lt, nat_le, not, if◌then◌else◌, Bool, true, false, Option, IfSome}
 use Rattle.ell_cards.specs.declared.view.Seek.{Seek}
 use Rattle.ell_cards.specs.declared.view.Slots.{Slots}
-use Rattle.ell_cards.specs.SlotWords.{slot_of, turn_of, turn_in, stamp_in}
+use Rattle.ell_cards.specs.SlotWords.{has_slot_in, slot_of, turn_of, turn_in, stamp_in}
 
--- how many of the numbers that have slots come before this one, which has one: each turn has as many as there are slots
+-- how many of the numbers that have slots come before this one, which has one: each turn has as many as there are slots,
+-- but for those that child words do not tell from the first, which have none
 abbrev pub slots_before : Slots → ℕ → ℕ
-slots_before s c = (s.last + 1) * turn_of c + slot_of c
+slots_before s c = (s.last + 1) * (turn_of c - turn_of c / 1048576) + slot_of c
 
 -- whether a pass with a safe number could take the slot of a card, by the slot's word: that is of the card's turn and
 -- not free, or it was set free with a stamp below the safe number
@@ -50,16 +51,16 @@ missed_none k = record k { missed = 0 }
 
 -- of the numbers from one on and up to the last one of a table none has a slot
 abbrev pub NumbersEnd : Slots → ℕ → ℕ → Type 0
-NumbersEnd s last card = (c : ℕ) → card ≤ c → slot_of c ≤ s.last → last < c
+NumbersEnd s last card = (c : ℕ) → card ≤ c → has_slot_in s.last c ≡ true → last < c
 
 -- A row begins with the first number from this one on that has a slot, and has each slot once, or all such numbers up
 -- to the last one of the table; it was read for a delete, or another change, and began where the pass had made so many
 -- step calls; and the pass could have taken none of its slots for that change.
 pub record HasNone (s : Slots) (last card : ℕ) (for_delete : Bool) (made : ℕ) (k : Seek) : Type 0 where
   pub from : card ≤ k.from
-  pub first : (c : ℕ) → card ≤ c → slot_of c ≤ s.last → k.from ≤ c
+  pub first : (c : ℕ) → card ≤ c → has_slot_in s.last c ≡ true → k.from ≤ c
   pub far : (k.read ≡ s.last + 1)
-      ⊎ ((c : ℕ) → c ≤ last → slot_of c ≤ s.last → slots_before s c < slots_before s k.from + k.read)
+      ⊎ ((c : ℕ) → c ≤ last → has_slot_in s.last c ≡ true → slots_before s c < slots_before s k.from + k.read)
   pub change : k.for_delete ≡ for_delete
   pub began : k.made ≡ made
   pub none : k.takeable ≡ 0

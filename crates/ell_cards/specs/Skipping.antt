@@ -12,7 +12,7 @@ use Rattle.ell_cards.specs.declared.view.View.{View}
 use Rattle.ell_cards.specs.Models.{TablePlan, Has, IsTold}
 use Rattle.ell_cards.specs.Changes.{after_claim, expected_tag, filling_of, tagged, told_filling, value_told}
 use Rattle.ell_cards.specs.Calls.{after}
-use Rattle.ell_cards.specs.Shown.{shown}
+use Rattle.ell_cards.specs.Shown.{cut_planned, shown_words, shown}
 use Rattle.ell_cards.specs.Stepping.{IsInside}
 use Rattle.ell_cards.specs.Whole.{IsWhole}
 
@@ -26,10 +26,10 @@ abbrev pub after_row : ℕ → ℕ → ℕ → View → View
 after_row zero c node_key v = after_claim true c node_key v
 after_row (suc n) c node_key v = after_row n (c + 1) node_key (after_one c node_key v)
 
--- once it has claimed all cards from a first one to a last one, or else lost the claim
+-- once it has claimed all cards from a first one to a last one, by words of 64 bits, or else lost the claim
 abbrev pub after_claimed_row : Bool → ℕ → ℕ → ℕ → View → View
 after_claimed_row won first last node_key v =
-    if won then after_row (last - first) first node_key v else after_claim false first node_key v
+    if won then cut_planned (after_row (last - first) first node_key v) else after_claim false first node_key v
 
 -- what is told of a card that is claimed
 abbrev pub told_of_claim : ℕ → ℕ → View → List Told
@@ -43,7 +43,7 @@ pub record IsToldInRow (first last node_key : ℕ) (v : View) (e : Told) : Type 
   pub among : Has (told_of_claim card node_key v) e
 
 -- What a pass knows after a row of claims, from a first card to a last one: that is in hand, not flagged, and nothing
--- of it is stored; it is to say what it would have been to say had it been the first; and beside what was told
+-- of it is stored; it is to say what it would have been to say had it been the first, cut to 64 bits; and beside what was told
 -- before, what was told is of the cards of the row, and no leaf's value. It has won a claim for each of these, and
 -- has made a call between two of them. All else is as it was.
 pub record IsAfterRow (first last node_key : ℕ) (old new : View) : Type 0 where
@@ -54,7 +54,7 @@ pub record IsAfterRow (first last node_key : ℕ) (old new : View) : Type 0 wher
   pub shared : new.worker.shared ≡ old.worker.shared
   pub card : new.worker.card ≡ Some last
   pub unflagged : new.worker.flagged ≡ false
-  pub planned : new.planned ≡ tagged (expected_tag old) (filling_of last node_key old)
+  pub planned : new.planned ≡ shown_words (tagged (expected_tag old) (filling_of last node_key old))
   pub stores : new.stores ≡ []
   pub here : new.here ≡ old.here
   pub next : old.next ≡ Some first → new.next ≡ Some last

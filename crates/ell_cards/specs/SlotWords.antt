@@ -1,4 +1,4 @@
-use Rattle.std.specs.Prelude.{ℕ, zero, suc, ◌+◌, ◌*◌, ◌/◌, ◌%◌, ◌==◌, ◌&&◌, not, if◌then◌else◌, Bool, false, Option, Some, None}
+use Rattle.std.specs.Prelude.{ℕ, zero, suc, ◌+◌, ◌*◌, ◌/◌, ◌%◌, ◌==◌, ◌&&◌, ◌||◌, nat_le, not, if◌then◌else◌, Bool, false, Option, Some, None}
 
 -- The slot in which a card lies, and its turn there: 2^21 card numbers are a turn, of which each slot has one.
 abbrev pub slot_of : ℕ → ℕ
@@ -6,6 +6,15 @@ slot_of c = c % 2097152
 
 abbrev pub turn_of : ℕ → ℕ
 turn_of c = c / 2097152
+
+-- whether a turn is the first one, or one that child words tell from the first, as they hold its low 20 bits
+abbrev pub has_slots : ℕ → Bool
+has_slots turn = turn == 0 || not (turn % 1048576 == 0)
+
+-- whether a number has a slot in a table with these slots: its slot is one of the table, up to the last one, and its turn
+-- is the first one, or one that child words tell from the first
+abbrev pub has_slot_in : ℕ → ℕ → Bool
+has_slot_in last c = nat_le (slot_of c) last && has_slots (turn_of c)
 
 -- The word of a slot that is in use says which of the three nodes of its card are known to be dead, a bit each, and at
 -- which turn that card is. Once all three are dead, and the slot is set free, the word has all three bits, and the

@@ -14,7 +14,8 @@ use Rattle.ell_cards.specs.Changes.{ledger_keys}
 use Rattle.ell_cards.specs.Depths.{deepest, IsShallow}
 use Rattle.ell_cards.specs.Naming.{IsNamed, IsPlaced}
 use Rattle.ell_cards.specs.Calls.{Exchange, atomic_of, after, May, Tells}
-use Rattle.ell_cards.specs.Shown.{cut_word, shown, shown_call, CanBeShown}
+use Rattle.ell_cards.specs.Apart.{IsApart}
+use Rattle.ell_cards.specs.Shown.{cut_word, cut_by, shown, shown_call, CanBeShown}
 use Rattle.ell_cards.specs.States.{TableState}
 use Rattle.ell_cards.specs.Tied.{HasStoredAll, MayInMemory}
 use Rattle.ell_cards.specs.Turns.{found_by, view_after}
@@ -24,14 +25,15 @@ use Rattle.ell_cards.specs.declared.share.Share.{Share}
 use Rattle.ell_cards.specs.Whole.{IsWhole}
 use Rattle.ell_cards.specs.Inside.{HasShare}
 
--- Wherever turns have led the table, and whatever a pass knows of which this is shown: each call of which that one
--- is shown, if the pass may make it, finds a word, and this holds of what is shown of the word and of what the pass
--- knows after the call.
+-- Wherever turns have led the table, and whatever a pass knows of which this is shown, and which tells nodes apart: each
+-- call of which that one is shown, if the pass may make it, finds a word, and this holds of what is shown of the word
+-- and of what the pass knows after the call.
 abbrev pub MayTell : TablePlan → Call → View → (ℕ → View → Type 0) → Type 0
 MayTell plan c v then =
     (s : TableState) → IsReached plan s → (id : ℕ) (w : View) → get_elem? s.views id ≡ some w → shown w ≡ v
-    → (whole : Call) → shown_call whole ≡ c → May plan whole w → CanBeShown whole (found_by s whole) w
-    → IsPlaced (last_slot plan) (view_after s w whole) → then (cut_word (found_by s whole)) (shown (view_after s w whole))
+    → IsApart plan w → (whole : Call) → shown_call whole ≡ c → May plan whole w → CanBeShown whole (found_by s whole)
+    → IsPlaced (last_slot plan) (view_after s w whole) → IsApart plan (view_after s w whole)
+    → then (cut_by whole (found_by s whole)) (shown (view_after s w whole))
 
 -- a call exchanges an expected word for another one, of which a word of 64 bits has this: without places, all of it
 pub record Exchanges (plan : TablePlan) (c : Call) (expected value : ℕ) : Type 0 where

@@ -13,8 +13,8 @@ use Rattle.ell_cards.specs.declared.view.View.{View}
 use Rattle.ell_cards.specs.Models.{Has}
 use Rattle.ell_cards.specs.Periods.{WholeState}
 use Rattle.ell_cards.specs.Sayings.{says, put_says, delete_says}
-use Rattle.ell_cards.specs.Shown.{cut_word}
-use Rattle.ell_cards.specs.SlotWords.{slot_of}
+use Rattle.ell_cards.specs.Shown.{cut_field}
+use Rattle.ell_cards.specs.SlotWords.{has_slot_in, slot_of}
 use Rattle.ell_cards.specs.States.{TableState}
 
 -- a card lies in its slot, where these lie in the slots of a table
@@ -48,8 +48,8 @@ pub data IsKept (stage : Stages) (views : List Known) (c : ℕ) (f : Field) : Ty
 -- and at each slot, of the card that lies there, what is kept, with tags cut. The card of the root lies in slot 0,
 -- and so does each card in its slot that has won its flag and is not dead; for a pass that is in a period, each
 -- that was not dead when the period began; and the card in hand whose slot the pass has taken. Whichever card has won
--- its flag has a slot. The card for which a pass took a slot last was claimed, and what a pass has stored of its card
--- in hand it stored once it had taken that one's slot.
+-- its flag has a slot. The card for which a pass took a slot last has one, and was claimed, and what a pass has stored of
+-- its card in hand it stored once it had taken that one's slot.
 pub record IsTied (s : Slots) (tree : TableState) (t : WholeState) (stage : Stages) (lie : ℕ → ℕ) (dead : ℕ → Bool)
     (was_dead : ℕ → ℕ → Bool) : Type 0 where
   pub claim : slice_index t.words 0 ≡ slice_index tree.words 0
@@ -57,13 +57,15 @@ pub record IsTied (s : Slots) (tree : TableState) (t : WholeState) (stage : Stag
   pub root : lie 0 ≡ 0
   pub own : (slot : ℕ) → slot ≤ s.last → slot_of (lie slot) ≡ slot
   pub at : (slot : ℕ) (f : Field) → slot ≤ s.last → IsKept stage t.views (lie slot) f
-      → slice_index t.words (address slot f) ≡ cut_word (slice_index tree.words (address (lie slot) f))
+      → slice_index t.words (address slot f) ≡ cut_field f (slice_index tree.words (address (lie slot) f))
   pub alive : (c : ℕ) → HasWon stage c → dead c ≡ false → LiesThere s lie c
   pub lives : (seat q a c : ℕ) (k : Known) → get_elem? t.views seat ≡ some k → k.period.place ≡ Some q
       → k.period.announced ≡ Some a → HasWon stage c → was_dead q c ≡ false → LiesThere s lie c
-  pub fits : (c : ℕ) → HasWon stage c → slot_of c ≤ s.last
+  pub fits : (c : ℕ) → HasWon stage c → has_slot_in s.last c ≡ true
   pub hand : (seat c : ℕ) (k : Known) → get_elem? t.views seat ≡ some k → k.period.slot ≡ Some c → HoldsWaiting k.tree c
       → LiesThere s lie c
+  pub slotted : (seat c : ℕ) (k : Known) → get_elem? t.views seat ≡ some k → k.period.slot ≡ Some c
+      → has_slot_in s.last c ≡ true
   pub past : (seat c : ℕ) (k : Known) → get_elem? t.views seat ≡ some k → k.period.slot ≡ Some c
       → c < slice_index t.words 0
   pub stores : (seat c : ℕ) (f : Field) (k : Known) → get_elem? t.views seat ≡ some k → HoldsWaiting k.tree c

@@ -7,27 +7,30 @@ use Rattle.atomic_table.specs.Table.{opening}
 use Rattle.ell_layout.specs.Start.{words_at_start}
 use Rattle.ell_layout.specs.Words.{put, words_of}
 use Rattle.ell_layout.specs.Layout.{table_size}
-use Rattle.ell_word.specs.Node.{card}
+use Rattle.ell_word.specs.Link.{link_in}
+use Rattle.ell_word.specs.Node.{IsInternal, card}
 use Rattle.ell_core.specs.history.Stages.{Stages}
 use Rattle.ell_cards.specs.declared.call.Call.{Call}
 use Rattle.ell_cards.specs.declared.call.Call.TheVariants as call
 use Rattle.ell_cards.specs.declared.view.Known.{Known}
 use Rattle.ell_cards.specs.declared.view.Period.{Period}
 use Rattle.ell_cards.specs.declared.view.Slots.{Slots}
+use Rattle.ell_cards.specs.declared.view.Told.TheVariants.{Met}
 use Rattle.ell_cards.specs.Ages.{AgesAreSound}
 use Rattle.ell_cards.specs.Changes.{left_view, right_view}
-use Rattle.ell_cards.specs.Calls.{May, place_of, atomic_of, left_by}
-use Rattle.ell_cards.specs.Models.{TablePlan, IsFree, MayPart}
+use Rattle.ell_cards.specs.Apart.{IsApart, IsToldApart}
+use Rattle.ell_cards.specs.Calls.{May, child_address, place_of, atomic_of, left_by}
+use Rattle.ell_cards.specs.Models.{TablePlan, IsFree, IsTold, MayPart}
 use Rattle.ell_cards.specs.PeriodLaws.{IsInPeriod}
 use Rattle.ell_cards.specs.Periods.{WholeState, IsAtRest, slot_word, slots_size, opening_words, after_give, after_taking, given_period}
-use Rattle.ell_cards.specs.Shown.{IsWord, cut_word, IsNear}
-use Rattle.ell_cards.specs.SlotWords.{slot_of, turn_of}
+use Rattle.ell_cards.specs.Shown.{IsWord, cut_by, IsNear}
+use Rattle.ell_cards.specs.SlotWords.{has_slot_in, slot_of, turn_of}
 use Rattle.ell_cards.specs.Starts.{MayStart, IsReached}
 use Rattle.ell_cards.specs.States.{TableState}
 use Rattle.ell_cards.specs.Tied.{LiesThere, HoldsWaiting, IsTied, MayInMemory}
 use Rattle.ell_cards.specs.Touching.{Touched, AtNode, OfCard, AtRoot, touched_by}
 use Rattle.ell_cards.specs.Turns.{found_by, view_after, state_after, state_split, state_joined}
-use Rattle.ell_cards.specs.Whole.{trees_of, first_known, joined_known, spent_known}
+use Rattle.ell_cards.specs.Whole.{IsWhole, trees_of, first_known, joined_known, spent_known}
 
 -- the card whose word a call touches; the claim word is taken for one of card 0
 abbrev pub card_touched : Touched → ℕ
@@ -38,7 +41,7 @@ card_touched AtRoot = 0
 -- a call finds in memory what is cut of what it finds in the tree; a store finds nothing that matters
 abbrev pub FindsTied : List ℕ → TableState → Call → Type 0
 FindsTied words tree (call.Fill c f value) = Unit {0}
-FindsTied words tree c = slice_index words (place_of c) ≡ cut_word (found_by tree c)
+FindsTied words tree c = slice_index words (place_of c) ≡ cut_by c (found_by tree c)
 
 -- the word that a call touches is one of the slots, and the card to which it belongs lies in its slot
 pub record TouchesTied (s : Slots) (lie : ℕ → ℕ) (words : List ℕ) (tree : TableState) (c : Call) : Type 0 where
@@ -50,7 +53,7 @@ pub record TouchesTied (s : Slots) (lie : ℕ → ℕ) (words : List ℕ) (tree 
 -- the tree
 abbrev pub memory_after : TableState → WholeState → List (Maybe (Unit {0})) → ℕ → Known → Call → WholeState
 memory_after tree t homes id k c = record {
-  words = slice_set t.words (place_of c) (cut_word (left_by (atomic_of c) (found_by tree c)));
+  words = slice_set t.words (place_of c) (cut_by c (left_by (atomic_of c) (found_by tree c)));
   homes = homes;
   views = slice_set t.views id (record { tree = view_after tree k.tree c; period = k.period });
 }
@@ -163,7 +166,7 @@ abbrev pub TakesKeepTies : Type 0
 TakesKeepTies = (plan : TablePlan) (s : Slots) (tree : TableState) (t : WholeState) (lie : ℕ → ℕ)
     (dead : ℕ → Bool) (was_dead : ℕ → ℕ → Bool) → s.last < 2097152 → length t.words ≡ slots_size s
     → IsTiedByAges plan s tree t lie dead was_dead → trees_of t.views ≡ tree.views
-    → (id : ℕ) (k : Known) → get_elem? t.views id ≡ some k → (c : ℕ) → HoldsWaiting k.tree c → slot_of c ≤ s.last
+    → (id : ℕ) (k : Known) → get_elem? t.views id ≡ some k → (c : ℕ) → HoldsWaiting k.tree c → has_slot_in s.last c ≡ true
     → dead (lie (slot_of c)) ≡ true
     → ((seat q a : ℕ) (u : Known) → get_elem? t.views seat ≡ some u → u.period.place ≡ Some q
     → u.period.announced ≡ Some a
@@ -176,7 +179,8 @@ abbrev pub OwnSlotsKeepTies : Type 0
 OwnSlotsKeepTies = (plan : TablePlan) (s : Slots) (tree : TableState) (t : WholeState) (lie : ℕ → ℕ)
     (dead : ℕ → Bool) (was_dead : ℕ → ℕ → Bool) → length t.words ≡ slots_size s
     → IsTiedByAges plan s tree t lie dead was_dead → trees_of t.views ≡ tree.views
-    → (id : ℕ) (k : Known) → get_elem? t.views id ≡ some k → (c : ℕ) → HoldsWaiting k.tree c → LiesThere s lie c
+    → (id : ℕ) (k : Known) → get_elem? t.views id ≡ some k → (c : ℕ) → HoldsWaiting k.tree c → has_slot_in s.last c ≡ true
+    → LiesThere s lie c
     → IsTiedByAges plan s tree
     (record {
       words = slice_set t.words (slot_word s (slot_of c)) (slice_index t.words (slot_word s (slot_of c)));
@@ -184,6 +188,22 @@ OwnSlotsKeepTies = (plan : TablePlan) (s : Slots) (tree : TableState) (t : Whole
       views = slice_set t.views id (record { tree = k.tree; period = after_taking c k.period });
     })
     lie dead was_dead
+
+-- the node to which a child word of the tree leads now
+abbrev pub child_now : TableState → ℕ → Bool → ℕ
+child_now s x right = (link_in (slice_index s.words (child_address x right))).node
+
+-- Wherever the steps of its passes have led a table, each pass tells the nodes that it has met apart by what child words
+-- hold of their numbers.
+abbrev pub PassesTellApart : Type 0
+PassesTellApart = (plan : TablePlan) (t : WholeState) → IsWhole plan t → (id : ℕ) (k : Known) → get_elem? t.views id ≡ some k
+    → IsApart plan k.tree
+
+-- So it would with the node to which a child word leads in the tree now, if the word is of an internal node that the pass
+-- has met.
+abbrev pub ChildrenAreApart : Type 0
+ChildrenAreApart = (plan : TablePlan) (t : WholeState) (h : IsWhole plan t) (id : ℕ) (k : Known) → get_elem? t.views id ≡ some k
+    → (x : ℕ) → IsInternal x → IsTold k.tree (Met x) → (right : Bool) → IsToldApart plan k.tree (child_now h.tree x right)
 
 -- Cards that all lie in their slots, none of them twice in a list, are at most as many as there are slots.
 abbrev pub CardsInSlotsAreFew : Type 0

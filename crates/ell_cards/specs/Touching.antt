@@ -14,6 +14,7 @@ use Rattle.ell_cards.specs.declared.call.Call.{Call}
 use Rattle.ell_cards.specs.declared.call.Call.TheVariants as call
 use Rattle.ell_cards.specs.declared.view.View.{View}
 use Rattle.ell_cards.specs.declared.view.Told.TheVariants.{Info}
+use Rattle.ell_cards.specs.Apart.{NamesMet, LeafIsChild}
 use Rattle.ell_cards.specs.Models.{TablePlan, IsTold, Knows}
 use Rattle.ell_cards.specs.Calls.{May, word_of}
 use Rattle.ell_cards.specs.States.{TableState}
@@ -111,3 +112,9 @@ IsTheRoots AtRoot = Unit {0}
 -- a pass at rest, which has nothing in hand and has forgotten what it was told, may touch no other
 abbrev pub RestTouchesTheRoot : Type 0
 RestTouchesTheRoot = (plan : TablePlan) (v : View) → IsAtRest v → (c : Call) → May plan c v → IsTheRoots (touched_by c)
+
+-- Wherever turns have led a table, the nodes that a pass names it has met, but for leaves of cards; and the leaf of a card
+-- that it knows marked is one of the children that the card's parent has for good.
+abbrev pub PassesNameMet : Type 0
+PassesNameMet = (plan : TablePlan) (s : TableState) → IsReached plan s → (seat : ℕ) (v : View)
+    → get_elem? s.views seat ≡ some v → NamesMet v × LeafIsChild v

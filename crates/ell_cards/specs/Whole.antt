@@ -3,6 +3,7 @@ use mathlib.Core.Option.{some}
 use lib.ListN.{get_elem?}
 use Rattle.ell_layout.specs.declared.field.Field.{Field}
 use Rattle.ell_layout.specs.Layout.{address}
+use Rattle.ell_layout.specs.Cards.{stored}
 use Rattle.ell_cards.specs.declared.view.Known.{Known}
 use Rattle.ell_cards.specs.declared.view.Slots.{Slots}
 use Rattle.ell_cards.specs.declared.view.View.{View}
@@ -10,7 +11,7 @@ use Rattle.ell_cards.specs.Models.{TablePlan}
 use Rattle.ell_cards.specs.Changes.{first_of, joined_view, spent_view}
 use Rattle.ell_cards.specs.Periods.{WholeState, slots_size, no_period, first_period, joined_period}
 use Rattle.ell_cards.specs.Ages.{HasPeriods}
-use Rattle.ell_cards.specs.Shown.{FieldIsWhole, StoresAreWhole}
+use Rattle.ell_cards.specs.Shown.{shown_word, FieldIsWhole, StoresAreWhole}
 use Rattle.ell_cards.specs.Starts.{IsReached}
 use Rattle.ell_cards.specs.States.{TableState}
 
@@ -29,7 +30,7 @@ joined_known k l = record { tree = joined_view k.tree l.tree; period = joined_pe
 abbrev pub spent_known : Known
 spent_known = record { tree = spent_view; period = no_period }
 
--- what a tree has in a field of a card that is no child word a word of 64 bits holds
+-- what a tree has in a field of a card that is no node and no child word a word of 64 bits holds
 abbrev pub FieldsAreWhole : List ℕ → Type 0
 FieldsAreWhole words = (c : ℕ) (f : Field) → FieldIsWhole f (slice_index words (address c f))
 
@@ -44,9 +45,15 @@ abbrev pub PeriodsAre : (plan : TablePlan) → Option Slots → TableState → W
 PeriodsAre plan None tree t = Unit {0}
 PeriodsAre plan (Some s) tree t = HasPeriods plan s tree t
 
--- what each pass has stored of the leaf's word of its card in hand is what is planned, if it is that once it is cut
-abbrev pub AllStoresAreWhole : TableState → Type 0
-AllStoresAreWhole tree = (seat : ℕ) (v : View) → get_elem? tree.views seat ≡ some v → StoresAreWhole v
+-- without places nothing that is planned is cut
+abbrev pub PlansFit : Option Slots → View → Type 0
+PlansFit None v = (f : Field) → shown_word f (stored v.planned f 0) ≡ stored v.planned f 0
+PlansFit (Some s) v = Unit {0}
+
+-- what each pass has stored of its card in hand is what is planned, if it is that once it is cut
+abbrev pub AllStoresAreWhole : Option Slots → TableState → Type 0
+AllStoresAreWhole slots tree =
+    (seat : ℕ) (v : View) → get_elem? tree.views seat ≡ some v → StoresAreWhole v × PlansFit slots v
 
 -- The rule of a table: turns of its passes have led its tree where it is, what each of them stored is whole, and its
 -- grace periods are sound, by which its memory is tied to that tree.
@@ -56,5 +63,5 @@ pub record IsWhole (plan : TablePlan) (t : WholeState) : Type 0 where
   pub views : trees_of t.views ≡ tree.views
   pub homes : tree.homes ≡ t.homes
   pub words : WordsAre plan.slots t.words tree.words
-  pub stores : AllStoresAreWhole tree
+  pub stores : AllStoresAreWhole plan.slots tree
   pub periods : PeriodsAre plan plan.slots tree t

@@ -3,7 +3,7 @@
 ghost use Rattle.std.specs.Prelude.{◌≡◌, ◌≢◌, ◌≤◌, ◌<◌, is_ok, IfErr};
 ghost use Rattle.ell_word.specs.Node.{greatest_number};
 ghost use Rattle.ell_word.specs.Word.{packed, unpacked};
-ghost use Rattle.ell_word.specs.Link.{linked};
+ghost use Rattle.ell_word.specs.Link.{linked, IsLink};
 ghost use Rattle.ell_word.specs.declared.link.Link.{Link};
 ghost use Rattle.ell_core.specs.declared.exchange.Exchange.TheVariants as exchange;
 ghost use Rattle.ell_core.specs.declared.fact.Fact.TheVariants.{IChanged, IOver, Marked, Unmarkable, Cut, DOver, Backed};
@@ -51,9 +51,10 @@ impl<A: Allocator + Copy> CardTable<A> {
         requires may { KnowsPlace pass.old.view (Marked card) card P parent }
         // It makes one step and counts it. The pass then knows exactly what this call tells.
         ensures step { Steps pass.old pass.new (after (call.FrozenChild card parent right) (linked result) pass.old.view) }
-        // The child is no deeper than a node of the table may be, and is one of the table.
+        // The child is no deeper than a node of the table may be, and is one of the table; the node and the tag have a word.
         ensures shallow { IsShallow (deepest self.now.plan) pass.new.view result.node }
         ensures there { InTable self.now.plan.last_card result.node }
+        ensures word { IsLink result }
     {
         self.names(pass);
         let call = Call::FrozenChild(card, parent, right);

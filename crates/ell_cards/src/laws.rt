@@ -23,7 +23,7 @@ ghost use Rattle.ell_cards.specs.Placing.{LooksHavePlaces};
 ghost use Rattle.ell_cards.specs.LayingDown.{LaidDownCallsChangeNothing, LaidDownLastChangesNothing};
 ghost use Rattle.ell_cards.specs.Answering.{AnswersHaveTheirPoints};
 ghost use Rattle.ell_cards.specs.Taking.{DeletesTakeWhatTheyTell};
-ghost use Rattle.ell_cards.specs.Touching.{CallsTouchTheirWords, TablesHaveOuts, CallsTouchNothingGone, KnownTakenOutIsGone, RestTouchesTheRoot};
+ghost use Rattle.ell_cards.specs.Touching.{CallsTouchTheirWords, TablesHaveOuts, CallsTouchNothingGone, KnownTakenOutIsGone, RestTouchesTheRoot, PassesNameMet};
 ghost use Rattle.ell_cards.specs.Dead.{TablesHaveUses, TurnsKeepDead, CallsTouchNothingDead, CallsTouchNoDeadCard, KnownNeverComes, KnownDeadIsDead, OneCardTells};
 ghost use Rattle.ell_cards.specs.Sharing.{SharesAddUp};
 ghost use Rattle.ell_cards.specs.Tellings.{NoGreaterNext, NoGreaterUpdate, NoOtherOutcome, NoUntriedClaimLost};
@@ -31,9 +31,9 @@ ghost use Rattle.ell_cards.specs.Laws.{StepsAreEvents, SplitsAreHandovers, Joins
 ghost use Rattle.ell_cards.specs.Runs.{RunsAreLawful, RunsAreSchedules};
 ghost use Rattle.ell_cards.specs.RunLaws.{TableWinsAreInOrder, StartsAreKept, ReachedHasMachine};
 ghost use Rattle.ell_cards.specs.PeriodLaws.{SafeNumbersAreSafe, FreeSlotsAreUntouched};
-ghost use Rattle.ell_cards.specs.Ties.{CallsKeepTies, SplitsKeepTies, JoinsKeepTies, PeriodsKeepTies, TakesKeepTies, OwnSlotsKeepTies, OpeningsAreTied, CardsInSlotsAreFew, ExchangesAreNear};
+ghost use Rattle.ell_cards.specs.Ties.{CallsKeepTies, SplitsKeepTies, JoinsKeepTies, PeriodsKeepTies, TakesKeepTies, OwnSlotsKeepTies, OpeningsAreTied, CardsInSlotsAreFew, ExchangesAreNear, PassesTellApart, ChildrenAreApart};
 ghost use Rattle.ell_cards.specs.ShownTakings.{TakingsAreShown};
-ghost use Rattle.ell_cards.specs.Shown.{StepsAreShown, CallsCanBeShown, GuardsAreLifted, OriginsAreOfTheirKind, StoresStayWhole, TellingsAreShown, CallsActAlike, HandoversAreShown};
+ghost use Rattle.ell_cards.specs.Shown.{StepsAreShown, CallsCanBeShown, GuardsAreLifted, ClaimsAreShown, StoresStayWhole, TellingsAreShown, CallsActAlike, HandoversAreShown};
 
 /// Each step call of a pass that may make it is one atomic step on one word of the table. A table that had a machine
 /// before it has one after it, to which the call's event leads, with the answer that the word found gives; or the same
@@ -354,6 +354,8 @@ pub fn calls_touch_nothing_gone()
     ensures known { DeadIsKnown }
     // Nor do they touch a word of a card that had been laid aside then.
     ensures aside { CallsTouchNoCardAside }
+    // A pass has met each node that it names, but for leaves of cards, and a marked card's leaf is a child of the card's parent.
+    ensures named { PassesNameMet }
 {}
 
 /// Where a table has places, and wherever the steps of its passes have led it: a pass that is in a period, which it announces at
@@ -385,6 +387,10 @@ pub fn ties_are_kept()
     ensures few { CardsInSlotsAreFew }
     // So a child exchange that a pass in a period may make expects a link that is near the one in the tree.
     ensures near { ExchangesAreNear }
+    // Each pass tells the nodes that it has met apart by what child words hold of their numbers.
+    ensures apart { PassesTellApart }
+    // So it would with each node to which a child word of an internal one of them leads in the tree.
+    ensures children { ChildrenAreApart }
 {}
 
 /// Where words have 64 bits, child words have their tags cut, and a pass that reads them knows what is shown of what it
@@ -394,11 +400,11 @@ pub fn ties_are_kept()
 pub fn shown_views_step_alike()
     // What is shown of what a pass knows after a call is what it knows after the call that is shown.
     ensures steps { StepsAreShown }
+    ensures claims { ClaimsAreShown }
     // Each call can be shown whose word 64 bits hold, and an exchange of a child word if the link that it expects is near.
     ensures can { CallsCanBeShown }
     // A call that may be made by what is shown is shown of one that may be made by the whole: the same one, but for tags.
     ensures guards { GuardsAreLifted }
-    ensures origins { OriginsAreOfTheirKind }
     ensures stores { StoresStayWhole }
     // What a call tells of its word, and all that it leaves of a pass, is so of what is shown too.
     ensures tellings { TellingsAreShown }

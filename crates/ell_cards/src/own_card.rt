@@ -4,8 +4,9 @@ ghost use Rattle.ell_core.specs.declared.fact.Fact.TheVariants.{IFlagged, DFlagg
 ghost use Rattle.ell_word.specs.Word.{packed};
 ghost use Rattle.ell_core.specs.declared.exchange.Exchange.TheVariants as exchange;
 ghost use Rattle.ell_cards.specs.Models.{Steps, flat_from};
-ghost use Rattle.ell_cards.specs.Changes.{after_claim, after_fill, after_flag, if_won, exchanged, found_update, found_word};
+ghost use Rattle.ell_cards.specs.Changes.{after_fill, after_flag, if_won, exchanged, found_update, found_word};
 ghost use Rattle.ell_cards.specs.Skipping.{after_claimed_row};
+ghost use Rattle.ell_cards.specs.Shown.{shown_word};
 ghost use Rattle.ell_cards.specs.Sayings.{delete_says, put_says};
 ghost use Rattle.ell_cards.specs.Stepping.{IsWholeIn};
 ghost use Rattle.ell_cards.specs.Guards.{MayClaim, MayFill, MayIFlag, MayDFlag};
@@ -30,10 +31,11 @@ impl<A: Allocator + Copy> CardTable<A> {
         requires may { MayClaim (flat_from self.now.plan) pass.old.view card node_key }
         requires room { card ≤ self.now.plan.last_card }
         // It makes one step and counts it. The pass then knows exactly what this call tells.
-        ensures step { Steps pass.old pass.new (after_claim result card node_key pass.old.view) }
+        ensures step { Steps pass.old pass.new (after_claimed_row result card card node_key pass.old.view) }
     {
         self.names(pass);
-        self.exchange(pass, Call::Claim(card, node_key), 0, card, card + 1) == card
+        let call = Call::Claim(card, node_key);
+        self.exchange_as::<Brand>(pass, call, 0, card, card + 1) == card
     }
 
     /// Takes all numbers from the card that `next` read in this try to a later one at once, if the card is still the next
@@ -54,13 +56,14 @@ impl<A: Allocator + Copy> CardTable<A> {
         self.exchange_claim::<Brand>(pass, first, node_key, last + 1) == first
     }
 
-    /// Stores a word of the card in hand, which is not flagged. If the table has places, the pass has taken the card's
-    /// slot.
+    /// Stores a word of the card in hand, which is not flagged: for the grandparent or the parent the low 43 bits of a
+    /// node, as the pass knows them. If the table has places, the pass has taken the card's slot.
     #[inline(always)]
     pub fn fill(&self, pass: &mut Pass<A>, card: u64, field: Field, value: u64)
         requires own { pass.old.table ≡ self.now.id }
         requires may { MayFill pass.old.view card }
         requires slot { self.now.plan.slots ≢ None → pass.old.slot ≡ Some card }
+        requires fits { shown_word field value ≡ value }
         // It makes one step and counts it. The pass then knows exactly what this call tells.
         ensures step { Steps pass.old pass.new (after_fill field value pass.old.view) }
     {

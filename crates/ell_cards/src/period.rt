@@ -9,6 +9,7 @@ ghost use Rattle.ell_cards.specs.Models.{last_slot_of};
 ghost use Rattle.ell_cards.specs.Inside.{PlaceFits};
 ghost use Rattle.ell_cards.specs.Periods.{IsAtRest, StandsAs, after_announce, after_retract, after_clock, after_give, after_look_at, after_release, after_take, announced_by, clock_word, last_reading, place_word, slots_size};
 ghost use Rattle.ell_cards.specs.Stepping.{MayGoOn};
+ghost use Rattle.ell_cards.specs.Shown.{shown};
 
 use crate::pass::{Pass, Standing};
 use crate::rule::{InPeriod, PeriodTelling};
@@ -192,7 +193,7 @@ impl<A: Allocator + Copy> CardTable<A> {
         requires empty { seat.old.me.1 ≡ [] }
         requires slots { self.now.plan.slots ≡ Some slots }
         requires place { seat.old.me.0.period.place ≡ Some place }
-        requires rest { IsAtRest seat.old.me.0.tree }
+        requires rest { IsAtRest (shown seat.old.me.0.tree) }
         ensures announced { seat.new.me.0.period ≡ after_retract seat.old.me.0.period }
         ensures tree { seat.new.me.0.tree ≡ seat.old.me.0.tree }
         ensures seat { (seat.new.table_id ≡ seat.old.table_id) × (seat.new.me.1 ≡ []) }

@@ -1,17 +1,19 @@
 //! Slots: a card lies in one, at one of the turns there. The word of a slot has the turn of its card, and notes which
 //! of the three nodes of the card are dead. Once all three are, the slot is set free: the word then has a reading of
-//! the clock as its stamp, and a pass takes the slot for another card once that stamp is safe. The steps are not
-//! counted.
+//! the clock as its stamp, and a pass takes the slot for another card once that stamp is safe. The numbers of a later
+//! turn that child words do not tell from the first have no slots. The steps are not counted.
 ghost use Rattle.std.specs.Prelude.{◌≡◌, ◌≢◌, ◌+◌, ◌*◌, ◌<◌, ◌≤◌, ◌%◌, ◌⊎◌, ℕ, IfSome, None, Some, [], true, false};
 ghost use Rattle.ell_word.specs.Node.{greatest_card, greatest_number};
 ghost use Rattle.ell_cards.specs.Ages.{KnowsDeadNode, MayStamp};
-ghost use Rattle.ell_cards.specs.CardNodes.{KnowsDeadNodes};
+ghost use Rattle.ell_cards.specs.CardNodes.{AreTakenOut, KnowsDeadNodes, NeverCome};
+ghost use Rattle.ell_cards.specs.Dead.{HasTakenOut};
 ghost use Rattle.ell_cards.specs.Guards.{MayFill};
 ghost use Rattle.ell_cards.specs.Periods.{StandsAs, after_missing, after_own, after_read, after_seek, after_stamp, after_taking, has_slot, last_reading, slot_word};
 ghost use Rattle.ell_cards.specs.Seeking.{FindsNone, FindsNoneIn, FindsOneFor, may_have, missed_none, missed_one, sought_on};
-ghost use Rattle.ell_cards.specs.SlotWords.{card_by, is_noted, slot_of, stamp_in, turn_in, turn_of};
+ghost use Rattle.ell_cards.specs.SlotWords.{card_by, has_slot_in, has_slots, is_noted, slot_of, stamp_in, turn_in, turn_of};
 ghost use Rattle.ell_cards.specs.Stepping.{MayGoOn};
 ghost use Rattle.ell_cards.specs.Tied.{HoldsWaiting};
+ghost use Rattle.ell_cards.specs.Shown.{shown};
 
 use crate::card_nodes::CardNodes;
 use crate::pass::Pass;
@@ -25,6 +27,9 @@ use std::marker::Brand;
 
 /// How many numbers of cards a turn has. Each slot has one of them.
 const NUMBERS_PER_TURN: u64 = 2_097_152;
+
+/// How many turns child words tell apart: of two turns that are a multiple of this apart, they hold the same.
+const TURNS_TOLD_APART: u64 = 1_048_576;
 
 /// How many slots are left to deletes: the last ones of the table, which a pass takes for no other change.
 const LEFT_TO_DELETES: u64 = 2;
@@ -43,6 +48,14 @@ pub(crate) fn turn_of(card: u64) -> u64
     ensures { result ≡ turn_of card }
 {
     card / NUMBERS_PER_TURN
+}
+
+// Returns whether a turn is the first one, or one that child words tell from the first: only such a turn has slots.
+#[inline(always)]
+fn has_slots(turn: u64) -> bool
+    ensures { result ≡ has_slots turn }
+{
+    turn == 0 || turn % TURNS_TOLD_APART != 0
 }
 
 // Returns the turn of the card in a slot in use, by the slot's word.
@@ -69,19 +82,33 @@ impl Slots {
         (self.last / 8).clamp(1, 64)
     }
 
-    /// Returns the least number of a card that has a slot, from this card on: the first one of the turn behind, if
-    /// the card has none.
+    /// Returns whether a card has a slot: it is one of the table, and the card's turn is the first one, or one that
+    /// child words tell from the first.
+    #[inline(always)]
+    fn has_slot(self, card: u64) -> bool
+        ensures has { result ≡ has_slot_in self.last card }
+        ensures inside { result ≡ true → slot_of card ≤ self.last }
+    {
+        slot_of(card) <= self.last && has_slots(turn_of(card))
+    }
+
+    /// Returns the least number of a card that has a slot, from this card on: the first one of the next turn that has
+    /// slots, if the card has none.
     #[inline(always)]
     fn next_with_slot(self, card: u64) -> u64
         requires { card ≤ greatest_number + 1 }
         ensures from { card ≤ result }
-        ensures slot { slot_of result ≤ self.last }
-        ensures first { (c : ℕ) → card ≤ c → slot_of c ≤ self.last → result ≤ c }
+        ensures slot { has_slot_in self.last result ≡ true }
+        ensures first { (c : ℕ) → card ≤ c → has_slot_in self.last c ≡ true → result ≤ c }
     {
-        if slot_of(card) <= self.last {
-            card
+        if self.has_slot(card) {
+            return card;
+        }
+        let next = turn_of(card) + 1;
+        if has_slots(next) {
+            NUMBERS_PER_TURN * next
         } else {
-            NUMBERS_PER_TURN * (turn_of(card) + 1)
+            NUMBERS_PER_TURN * (next + 1)
         }
     }
 
@@ -189,22 +216,49 @@ impl<A: Allocator + Copy> CardTable<A> {
         self.period_exchange::<Brand>(seat, address, word, 8 * reading + 7) == word
     }
 
-    // Notes nodes of a card that the pass knows to be dead in the word of the card's slot, by one exchange for all,
-    // unless that does so already, or another card lies there by now. Returns whether it set the slot free by that, or
-    // `None` if the word changed meanwhile.
-    fn note_dead(
+    // Reads the word of the slot of nodes that the card in hand has taken out of the tree, of whose numbers the pass knows the
+    // low bits. Unless the slot is free, the card that lies there by that word is theirs.
+    fn read_taken_out(
         &self,
         seat: &mut Seat<(), Known>,
         slots: Slots,
+        slot: u64,
         card: u64,
+        nodes: CardNodes,
+    ) -> u64
+        requires own { seat.old.table_id ≡ self.now.id }
+        requires empty { seat.old.me.1 ≡ [] }
+        requires slots { self.now.plan.slots ≡ Some slots }
+        requires slot { slot ≤ slots.last }
+        requires card { slot_of card ≡ slot }
+        requires taken { AreTakenOut (shown seat.old.me.0.tree) card nodes }
+        ensures read { seat.new.me.0.period ≡ after_read slot result seat.old.me.0.period }
+        ensures dead { result % 8 ≢ 7 → KnowsDeadNodes seat.old.me.0.tree (card_by slot result) nodes }
+        ensures tree { seat.new.me.0.tree ≡ seat.old.me.0.tree }
+        ensures seat { (seat.new.table_id ≡ seat.old.table_id) × (seat.new.me.1 ≡ []) }
+    {
+        let _ = (card, nodes);
+        self.period_load::<Brand>(seat, self.slot_address(slots, slot))
+    }
+
+    // Notes nodes that the pass knows to be dead of the card that lies in a slot by the word that was read there, by one
+    // exchange for all, unless the word does so already. Returns whether it set the slot free by that, or `None` if the word
+    // changed meanwhile.
+    fn note_word(
+        &self,
+        seat: &mut Seat<(), Known>,
+        slots: Slots,
+        slot: u64,
+        word: u64,
         nodes: CardNodes,
     ) -> Option<bool>
         requires own { seat.old.table_id ≡ self.now.id }
         requires empty { seat.old.me.1 ≡ [] }
         requires slots { self.now.plan.slots ≡ Some slots }
-        requires slot { slot_of card ≤ slots.last }
+        requires slot { slot ≤ slots.last }
         requires low { slots.last < 2097152 }
-        requires dead { KnowsDeadNodes seat.old.me.0.tree card nodes }
+        requires read { seat.old.me.0.period.read ≡ Some (record { slot = slot; word = word }) }
+        requires dead { word % 8 ≢ 7 → KnowsDeadNodes seat.old.me.0.tree (card_by slot word) nodes }
         ensures stands { StandsAs seat.old.me.0.period seat.new.me.0.period }
         ensures slot { seat.new.me.0.period.slot ≡ seat.old.me.0.period.slot }
         ensures sought { seat.new.me.0.period.sought ≡ seat.old.me.0.period.sought }
@@ -212,10 +266,8 @@ impl<A: Allocator + Copy> CardTable<A> {
         ensures tree { seat.new.me.0.tree ≡ seat.old.me.0.tree }
         ensures seat { (seat.new.table_id ≡ seat.old.table_id) × (seat.new.me.1 ≡ []) }
     {
-        let slot = slot_of(card);
-        let word = self.read_slot(seat, slots, slot);
         let noted = word | nodes.bits();
-        if turn_in(word) != turn_of(card) || noted == word {
+        if noted == word {
             return Some(false);
         }
         if noted % 8 == 7 {
@@ -226,6 +278,43 @@ impl<A: Allocator + Copy> CardTable<A> {
         }
     }
 
+    // Notes nodes of a card that the pass knows to be dead in the word of the card's slot, unless another card lies there by
+    // now: nodes that the card in hand has taken out, of whose card the low bits are known, or nodes that never come, of a
+    // card of this number. Returns whether it set the slot free by that, or `None` if the word changed meanwhile.
+    fn note_dead(
+        &self,
+        seat: &mut Seat<(), Known>,
+        slots: Slots,
+        card: u64,
+        nodes: CardNodes,
+        taken_out: bool,
+    ) -> Option<bool>
+        requires own { seat.old.table_id ≡ self.now.id }
+        requires empty { seat.old.me.1 ≡ [] }
+        requires slots { self.now.plan.slots ≡ Some slots }
+        requires slot { slot_of card ≤ slots.last }
+        requires low { slots.last < 2097152 }
+        requires taken { taken_out ≡ true → AreTakenOut (shown seat.old.me.0.tree) card nodes }
+        requires never { taken_out ≡ false → NeverCome (shown seat.old.me.0.tree) card nodes }
+        ensures stands { StandsAs seat.old.me.0.period seat.new.me.0.period }
+        ensures slot { seat.new.me.0.period.slot ≡ seat.old.me.0.period.slot }
+        ensures sought { seat.new.me.0.period.sought ≡ seat.old.me.0.period.sought }
+        ensures safe { seat.new.me.0.period.safe ≡ seat.old.me.0.period.safe }
+        ensures tree { seat.new.me.0.tree ≡ seat.old.me.0.tree }
+        ensures seat { (seat.new.table_id ≡ seat.old.table_id) × (seat.new.me.1 ≡ []) }
+    {
+        let slot = slot_of(card);
+        if taken_out {
+            let word = self.read_taken_out(seat, slots, slot, card, nodes);
+            return self.note_word(seat, slots, slot, word, nodes);
+        }
+        let word = self.read_slot(seat, slots, slot);
+        if turn_in(word) != turn_of(card) {
+            return Some(false);
+        }
+        self.note_word(seat, slots, slot, word, nodes)
+    }
+
     // Notes such nodes even if the word changes meanwhile: it does so at most twice, as each change notes another node
     // of the card. Returns whether it set the slot free.
     fn note_surely(
@@ -234,13 +323,15 @@ impl<A: Allocator + Copy> CardTable<A> {
         slots: Slots,
         card: u64,
         nodes: CardNodes,
+        taken_out: bool,
     ) -> bool
         requires own { seat.old.table_id ≡ self.now.id }
         requires empty { seat.old.me.1 ≡ [] }
         requires slots { self.now.plan.slots ≡ Some slots }
         requires slot { slot_of card ≤ slots.last }
         requires low { slots.last < 2097152 }
-        requires dead { KnowsDeadNodes seat.old.me.0.tree card nodes }
+        requires taken { taken_out ≡ true → AreTakenOut (shown seat.old.me.0.tree) card nodes }
+        requires never { taken_out ≡ false → NeverCome (shown seat.old.me.0.tree) card nodes }
         ensures stands { StandsAs seat.old.me.0.period seat.new.me.0.period }
         ensures slot { seat.new.me.0.period.slot ≡ seat.old.me.0.period.slot }
         ensures sought { seat.new.me.0.period.sought ≡ seat.old.me.0.period.sought }
@@ -249,7 +340,7 @@ impl<A: Allocator + Copy> CardTable<A> {
         ensures seat { (seat.new.table_id ≡ seat.old.table_id) × (seat.new.me.1 ≡ []) }
     {
         for _ in 0..3 {
-            if let Some(freed) = self.note_dead(seat, slots, card, nodes) {
+            if let Some(freed) = self.note_dead(seat, slots, card, nodes, taken_out) {
                 return freed;
             }
         }
@@ -273,7 +364,7 @@ impl<A: Allocator + Copy> CardTable<A> {
             return;
         };
         let slot = slot_of(card);
-        if !lost || slot > slots.last {
+        if !lost || !slots.has_slot(card) {
             return;
         }
         let word = self.read_slot(seat, slots, slot);
@@ -282,26 +373,26 @@ impl<A: Allocator + Copy> CardTable<A> {
         }
     }
 
-    /// Notes a node that the pass knows to be dead, as `retire_nodes` notes several of one card. Returns `true` if its
-    /// card's slot became free by this call.
+    /// Notes a node that the card in hand, which is over, has taken out of the tree, as `retire_taken_out` notes several of
+    /// one card. Returns `true` if its card's slot became free by this call.
     pub fn retire(&self, pass: &mut Pass<A>, node: u64) -> bool
         requires own { pass.old.table ≡ self.now.id }
-        requires dead { KnowsDeadNode pass.old.view node }
+        requires taken { HasTakenOut pass.old.view node }
         // What the pass knows of the tree is as it was, and it has made no step that is counted.
         ensures same { pass.new ≡ pass.old }
         // A table without places has no slots that become free.
         ensures none { self.now.plan.slots ≡ None → result ≡ false }
     {
-        self.retire_nodes(pass, card_of(node), CardNodes::only(node))
+        self.retire_taken_out(pass, card_of(node), CardNodes::only(node))
     }
 
-    /// Notes nodes of one card that the pass knows to be dead, all by one exchange: those that a card which is over has
-    /// taken out of the tree, or those of that card which never come into it. Once all three nodes of a card are
-    /// noted, its slot is free. Returns `true` if it became free by this call. It does nothing if the table has no
-    /// places. Its steps are not counted.
-    pub fn retire_nodes(&self, pass: &mut Pass<A>, card: u64, nodes: CardNodes) -> bool
+    /// Notes nodes of one card that the card in hand, which is over, has taken out of the tree, all by one exchange. Of them
+    /// the pass knows the low 43 bits, and so of their card the low 41. Once all three nodes of a card are noted, its slot is
+    /// free. Returns `true` if it became free by this call. It does nothing if the table has no places. Its steps are not
+    /// counted.
+    pub fn retire_taken_out(&self, pass: &mut Pass<A>, card: u64, nodes: CardNodes) -> bool
         requires own { pass.old.table ≡ self.now.id }
-        requires dead { KnowsDeadNodes pass.old.view card nodes }
+        requires taken { AreTakenOut pass.old.view card nodes }
         // What the pass knows of the tree is as it was, and it has made no step that is counted.
         ensures same { pass.new ≡ pass.old }
         // A table without places has no slots that become free.
@@ -310,10 +401,30 @@ impl<A: Allocator + Copy> CardTable<A> {
         let Some(slots) = self.slots else {
             return false;
         };
-        if slot_of(card) > slots.last {
+        if !slots.has_slot(card) {
             return false;
         }
-        self.note_surely(&mut pass.seat, slots, card, nodes)
+        self.note_surely(&mut pass.seat, slots, card, nodes, true)
+    }
+
+    /// Notes nodes of a card that the pass knows never to come into the tree, as the card is over, all by one exchange. Once
+    /// all three nodes of a card are noted, its slot is free. Returns `true` if it became free by this call. It does nothing
+    /// if the table has no places. Its steps are not counted.
+    pub fn retire_nodes(&self, pass: &mut Pass<A>, card: u64, nodes: CardNodes) -> bool
+        requires own { pass.old.table ≡ self.now.id }
+        requires never { NeverCome pass.old.view card nodes }
+        // What the pass knows of the tree is as it was, and it has made no step that is counted.
+        ensures same { pass.new ≡ pass.old }
+        // A table without places has no slots that become free.
+        ensures none { self.now.plan.slots ≡ None → result ≡ false }
+    {
+        let Some(slots) = self.slots else {
+            return false;
+        };
+        if !slots.has_slot(card) {
+            return false;
+        }
+        self.note_surely(&mut pass.seat, slots, card, nodes, false)
     }
 
     // Reads the word of the slot of a card in hand, and so takes the slot if that card lies there already.
@@ -321,7 +432,7 @@ impl<A: Allocator + Copy> CardTable<A> {
         requires own { seat.old.table_id ≡ self.now.id }
         requires empty { seat.old.me.1 ≡ [] }
         requires slots { self.now.plan.slots ≡ Some slots }
-        requires slot { slot_of card ≤ slots.last }
+        requires slot { has_slot_in slots.last card ≡ true }
         requires hand { HoldsWaiting seat.old.me.0.tree card }
         ensures read { seat.new.me.0.period ≡ after_own card result seat.old.me.0.period }
         ensures tree { seat.new.me.0.tree ≡ seat.old.me.0.tree }
@@ -336,7 +447,7 @@ impl<A: Allocator + Copy> CardTable<A> {
         requires own { seat.old.table_id ≡ self.now.id }
         requires empty { seat.old.me.1 ≡ [] }
         requires slots { self.now.plan.slots ≡ Some slots }
-        requires slot { slot_of card ≤ slots.last }
+        requires slot { has_slot_in slots.last card ≡ true }
         requires low { slots.last < 2097152 }
         requires hand { HoldsWaiting seat.old.me.0.tree card }
         requires free { word % 8 ≡ 7 }
@@ -422,7 +533,7 @@ impl<A: Allocator + Copy> CardTable<A> {
     ) -> bool
         requires own { pass.old.table ≡ self.now.id }
         requires slots { self.now.plan.slots ≡ Some slots }
-        requires slot { slot_of card ≤ slots.last }
+        requires slot { has_slot_in slots.last card ≡ true }
         ensures same { pass.new ≡ record (pass.old) {
           sought = sought_on slots begins for_delete card pass.old.view.made result pass.old.sought;
         } }
@@ -450,7 +561,7 @@ impl<A: Allocator + Copy> CardTable<A> {
         requires slots { self.now.plan.slots ≡ Some slots }
         requires room { card ≤ self.now.plan.last_card }
         ensures same { pass.new ≡ record (pass.old) { sought = pass.new.sought } }
-        ensures found { IfSome result (λ c. (card ≤ c) × (c ≤ self.now.plan.last_card) × (slot_of c ≤ slots.last)) }
+        ensures found { IfSome result (λ c. (card ≤ c) × (c ≤ self.now.plan.last_card) × (has_slot_in slots.last c ≡ true)) }
         ensures has { IfSome result (λ c. may_have slots for_delete c ≡ true) }
         ensures none { result ≡ None → FindsNone slots self.now.plan.last_card card for_delete pass.old.view.made
             pass.new.sought }
@@ -533,7 +644,7 @@ impl<A: Allocator + Copy> CardTable<A> {
         let Some(slots) = self.slots else {
             return true;
         };
-        if slot_of(card) > slots.last {
+        if !slots.has_slot(card) {
             return false;
         }
         self.look_now_and_then(pass, slots);

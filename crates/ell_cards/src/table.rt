@@ -7,6 +7,7 @@ ghost use Rattle.ell_word.specs.Node.{greatest_card, greatest_number};
 ghost use Rattle.ell_word.specs.Link.{IsLink, greatest_tag, linked, tag_unit};
 ghost use Rattle.ell_cards.specs.declared.view.Told.TheVariants.{Expects};
 ghost use Rattle.ell_cards.specs.Models.{flat_from, IsTold, Knows, Sees, TableModel, Steps};
+ghost use Rattle.ell_cards.specs.Apart.{NamesLowBits};
 ghost use Rattle.ell_cards.specs.Changes.{after_fill};
 ghost use Rattle.ell_cards.specs.Naming.{IsNamed, IsPlaced};
 ghost use Rattle.ell_cards.specs.Guards.{MayFill};
@@ -17,7 +18,7 @@ ghost use Rattle.ell_cards.specs.declared.view.Period.{Period};
 ghost use Rattle.ell_cards.specs.Periods.{after_flagging, whole_size};
 ghost use Rattle.ell_cards.specs.Tied.{FlagsCard};
 ghost use Rattle.ell_cards.specs.Starts.{SlotsFit};
-ghost use Rattle.ell_cards.specs.Shown.{cut_word};
+ghost use Rattle.ell_cards.specs.Shown.{IsNoClaim, StoresWord, cut_word, shown_word};
 ghost use Rattle.ell_cards.specs.Skipping.{MayStepOn};
 ghost use Rattle.ell_cards.specs.SlotWords.{slot_of};
 ghost use Rattle.ell_cards.specs.Stepping.{Exchanges, IsQuiet, MayInTable, MayTell, KeepsPass, SeesBy, StepsBy};
@@ -79,6 +80,8 @@ impl<A: Allocator + Copy> CardTable<A> {
         // All that the pass knows is of cards of the table.
         ensures cards { (fact : Fact) → Knows pass.now.view fact → card_of_fact fact ≤ self.now.plan.last_card }
         ensures room { self.now.plan.last_card ≤ greatest_number }
+        // Of each node it knows what words hold of the node's number: the low 43 bits.
+        ensures short { NamesLowBits pass.now.view }
         // No internal node of the table is deeper than this.
         ensures deep { deepest self.now.plan ≤ greatest_number + 64 }
         // Without places, the last card is at most `CARD_MAX`, and no internal node is more than 64 deeper than that.
@@ -94,6 +97,7 @@ impl<A: Allocator + Copy> CardTable<A> {
         requires own { pass.now.table ≡ self.now.id }
         ensures named { IsNamed self.now.plan.last_card pass.now.view }
         ensures placed { IsPlaced greatest_card pass.now.view }
+        ensures short { NamesLowBits pass.now.view }
         ensures slot { (c : ℕ) → pass.now.slot ≡ Some c → slot_of c ≤ greatest_card }
         ensures tags { (c tag : ℕ) → IsTold pass.now.view (Expects c tag) → tag ≤ greatest_tag }
         ensures room { self.now.plan.last_card ≤ greatest_number }
@@ -202,6 +206,7 @@ impl<A: Allocator + Copy> CardTable<A> {
         requires word { word ≡ place_of call }
         requires kept { MayInTable self.now.plan pass.old call }
         requires atomic { atomic_of call ≡ Store value }
+        requires stores { StoresWord call }
         requires tells { MayTell self.now.plan call pass.old.view (λ n. J.then value) }
         requires keeps { KeepsPass self.now.plan pass.old.view J.then }
         ensures told { J.then value pass.new.view }
@@ -220,6 +225,7 @@ impl<A: Allocator + Copy> CardTable<A> {
         requires own { pass.old.table ≡ self.now.id }
         requires may { MayFill pass.old.view card }
         requires slot { self.now.plan.slots ≢ None → pass.old.slot ≡ Some card }
+        requires fits { shown_word field value ≡ value }
         requires word { word ≡ slot_address card field }
         ensures step { Steps pass.old pass.new (after_fill field value pass.old.view) }
     {
@@ -228,7 +234,7 @@ impl<A: Allocator + Copy> CardTable<A> {
 
     // Exchanges a word.
     #[inline(always)]
-    fn exchange_as<J: Telling>(
+    pub(crate) fn exchange_as<J: Telling>(
         &self,
         pass: &mut Pass<A>,
         call: Call,
@@ -256,7 +262,8 @@ impl<A: Allocator + Copy> CardTable<A> {
         found
     }
 
-    /// A step call that exchanges its word, if it has the expected value, and returns what it found.
+    /// A step call that exchanges its word, which is not the claim word, if it has the expected value, and returns what it
+    /// found.
     #[inline(always)]
     pub(crate) fn exchange(
         &self,
@@ -268,6 +275,7 @@ impl<A: Allocator + Copy> CardTable<A> {
     ) -> u64
         requires own { pass.old.table ≡ self.now.id }
         requires may { May self.now.plan call pass.old.view }
+        requires plain { IsNoClaim call }
         requires word { word ≡ place_of call }
         requires kept { MayInTable self.now.plan pass.old call }
         requires atomic { atomic_of call ≡ Exchange expected value }
@@ -373,10 +381,11 @@ impl<A: Allocator + Copy> CardTable<A> {
     ) -> u64
         requires own { pass.old.table ≡ self.now.id }
         requires may { May self.now.plan call pass.old.view }
+        requires plain { IsNoClaim call }
         requires word { word ≡ place_of call }
         requires kept { MayInTable self.now.plan pass.old call }
         requires link { IsLink old }
-        requires node { node < tag_unit }
+        requires fits { self.now.plan.slots ≡ None → node < tag_unit }
         requires few { self.now.plan.slots ≡ None → old.tag ≤ greatest_card }
         requires atomic { atomic_of call ≡ Exchange (linked old) (linked (next_link old node)) }
         ensures step { Steps pass.old pass.new (after call result pass.old.view) }
@@ -385,18 +394,20 @@ impl<A: Allocator + Copy> CardTable<A> {
     }
 }
 
+/// How many nodes a child word tells apart.
+const NODES: u64 = 8_796_093_022_208;
+
 /// How many tags a child word tells apart.
 const TAGS: u64 = 2_097_152;
 
-// The word of the child word that follows one: another node, and the next tag, after the last one the first.
+// The word of the child word that follows one: the low bits of another node, and the next tag, after the last one the first.
 #[inline(always)]
 fn next_word(old: Link, node: u64) -> u64
     requires old { IsLink old }
-    requires node { node < tag_unit }
     ensures { result ≡ cut_word (linked (next_link old node)) }
 {
     let next = Link {
-        node,
+        node: node % NODES,
         tag: (old.tag + 1) % TAGS,
     };
     next.word()

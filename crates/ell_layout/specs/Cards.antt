@@ -138,9 +138,11 @@ says_by Left word = (link_in word).node
 says_by Right word = (link_in word).node
 says_by field word = word
 
--- what a table has at a field of which a claim has this: a leaf with the tag that the card expects
+-- what a table has at a field of which a claim has this: a leaf with the tag that the card expects, and a child with tag 0
 abbrev pub tagged_for : Field → ℕ → ℕ → ℕ
 tagged_for L tag node = linked (record { node = node; tag = tag })
+tagged_for Left tag node = linked (record { node = node; tag = 0 })
+tagged_for Right tag node = linked (record { node = node; tag = 0 })
 tagged_for field tag value = value
 
 -- the words after these words of a table were written to the fields of a card

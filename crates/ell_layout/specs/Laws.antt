@@ -1,6 +1,6 @@
 use Rattle.std.specs.Prelude.{◌≡◌, ◌≢◌, ◌%◌, Bool, slice_index, ℕ, ◌<◌, ◌≤◌, List, length, slice_set}
-use Rattle.ell_word.specs.Node.{IsInternal, IsNode, card, greatest_number}
-use Rattle.ell_word.specs.Link.{linked, tag_unit}
+use Rattle.ell_word.specs.Node.{IsInternal, IsNode, card, right_leaf}
+use Rattle.ell_word.specs.Link.{linked, node_bound, tag_unit}
 use Rattle.ell_layout.specs.declared.field.Field.{Field}
 use Rattle.ell_layout.specs.declared.field.Field.TheVariants.{Update}
 use Rattle.ell_layout.specs.Layout.{address, table_size, listed}
@@ -32,9 +32,10 @@ FilledListsAreFilled =
     (words : List ℕ) (cards c : ℕ) (fields : List (Field × ℕ)) → length words ≡ table_size cards → c ≤ cards
     → words_of (filled_list words c fields) ≡ table_filled (words_of words) c fields
 
--- a table whose next card is filled for an insert or a delete, with the tag at the leaf's node, has claimed the card
+-- a table whose next card is filled for an insert or a delete, with the tag at the leaf's node, has claimed the card: the
+-- leaves of an insert's card are their own child words where they fit beside a tag
 pub record FillingsAreClaims (w : Words) (parent leaf tag : ℕ) : Type 0 where
-  pub insert : (key value leaf_key leaf_value : ℕ) → w.next ≤ greatest_number
+  pub insert : (key value leaf_key leaf_value : ℕ) → right_leaf w.next < tag_unit
       → table_claimed w (insert_filling w.next key value parent (linked (record { node = leaf; tag = tag })) leaf_key leaf_value)
       ≡ claimed w tag (insert_filling w.next key value parent leaf leaf_key leaf_value)
   pub delete : (grandparent was : ℕ)
@@ -42,7 +43,7 @@ pub record FillingsAreClaims (w : Words) (parent leaf tag : ℕ) : Type 0 where
       ≡ claimed w tag (delete_filling grandparent parent leaf was)
 
 abbrev pub TablesClaim : Type 0
-TablesClaim = (w : Words) (parent leaf tag : ℕ) → leaf < tag_unit → FillingsAreClaims w parent leaf tag
+TablesClaim = (w : Words) (parent leaf tag : ℕ) → leaf < node_bound → FillingsAreClaims w parent leaf tag
 
 -- each field of a filled card has what was written to it last, or what it had
 abbrev pub FilledCardsSay : Type 0

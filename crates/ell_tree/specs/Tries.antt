@@ -21,6 +21,7 @@ use Rattle.ell_cards.specs.declared.view.View.{View}
 use Rattle.ell_cards.specs.Models.{flat_from, TablePlan, PassModel, Has, IsTold, Knows, Does, StandsAt}
 use Rattle.ell_cards.specs.Changes.{value_told, expected_tag, told_filling, filling_of, tagged, with_stores, tries_hindered}
 use Rattle.ell_cards.specs.Guards.{IsFilled, MayFill}
+use Rattle.ell_cards.specs.Shown.{shown_words}
 use Rattle.ell_tree.specs.declared.searching.Place.{Place}
 use Rattle.ell_tree.specs.declared.trying.Claimed.{Claimed}
 use Rattle.ell_tree.specs.declared.trying.Claimed.TheVariants as claimed
@@ -129,15 +130,15 @@ TryTakesValue t (Insert key value) old new ended = Unit {0}
 TryTakesValue t (Delete key) old new ended = TryTook t key old new ended
 TryTakesValue t (Swap key was value) old new ended = Unit {0}
 
--- a card was taken for an operation whose search ended at a place: it is to say this, and to expect this tag; nothing of
--- it was stored, and what it says that never changes is told
+-- a card was taken for an operation whose search ended at a place: it is to say this, by words of 64 bits, and to expect
+-- this tag; nothing of it was stored, and what it says that never changes is told
 pub record HasCard (op : Op) (place : Place) (tag : ℕ) (filling : List (Field × ℕ)) (v : View) (c : ℕ) : Type 0 where
   pub busy : Does v op
   pub may : MayFill v c
   pub stands : StandsAt v place.node
   pub behind : v.worker.search.parent ≡ Some (seen place.parent)
   pub above : v.worker.search.grandparent ≡ seen_any place.grandparent
-  pub says : v.planned ≡ tagged tag filling
+  pub says : v.planned ≡ shown_words (tagged tag filling)
   pub empty : v.stores ≡ []
   pub told : (e : Told) → Has (told_filling c filling []) e → IsTold v e
   pub expects : IsTold v (Expects c tag)

@@ -49,7 +49,6 @@ impl Cursor {
         ensures begins { BeginsALook pass.old pass.new }
         ensures kept { AreKept table.now.plan.last_card pass.new.view result }
     {
-        table.facts_stay_inside(pass);
         gate.before(pass.label(), Kind::Look);
         let child = table.look(pass);
         pass.count(1);

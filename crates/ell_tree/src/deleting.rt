@@ -2,7 +2,7 @@
 ghost use Rattle.std.specs.Prelude.{[], ◌∷◌, true, ◌≢◌, ◌≡◌, ◌≤◌, ◌+◌, ℕ, Some, None};
 ghost use Rattle.std.specs.Bool.{OnTrue, OnFalse};
 ghost use Rattle.ell_ops.specs.declared.op.Op.TheVariants.{Delete};
-ghost use Rattle.ell_word.specs.Link.{IsLink};
+ghost use Rattle.ell_word.specs.Link.{greatest_tag};
 ghost use Rattle.ell_word.specs.Node.{greatest_number};
 ghost use Rattle.ell_word.specs.Word.{packed};
 ghost use Rattle.ell_core.specs.declared.fact.Fact.TheVariants.{DFlagged, DOver};
@@ -15,7 +15,7 @@ ghost use Rattle.ell_tree.specs.Ends.{try_steps_in, rest_steps_in};
 ghost use Rattle.ell_tree.specs.Helps.{IsBacked, IsParent, help_steps};
 ghost use Rattle.ell_tree.specs.Hindrances.{Meets};
 ghost use Rattle.ell_tree.specs.Keeping.{Keeps, IsInnerMet, KeepsAllButMet};
-ghost use Rattle.ell_tree.specs.Searches.{AtRoot, HasSearched, node_with};
+ghost use Rattle.ell_tree.specs.Searches.{AtRoot, HasSearched};
 ghost use Rattle.ell_tree.specs.Tries.{HasSlotOf, Fills, Flags, HasCard, TryEnds, TryTook, TryTookThis};
 ghost use Rattle.ell_cards.specs.Depths.{deepest};
 ghost use Rattle.ell_cards.specs.Sayings.{delete_says};
@@ -126,7 +126,7 @@ fn flag_delete<A: Allocator + Copy, G: StepGate>(
     requires own { pass.old.table ≡ table.now.id }
     requires above { place.grandparent ≡ Some above }
     requires limit { place.parent.update.card ≤ greatest_number }
-    requires link { IsLink (node_with place above.tag) }
+    requires tag { above.tag ≤ greatest_tag }
     requires slot { HasSlotOf table.now.plan card pass.old }
     requires card { (key : ℕ) × HasCard (Delete key) place above.tag
         (delete_filling above.node place.parent.node place.node (packed place.parent.update)) pass.old.view card }
@@ -151,14 +151,16 @@ fn fill_delete<A: Allocator + Copy, G: StepGate>(
     gate: &G,
 )
     requires own { pass.old.table ≡ table.now.id }
+    requires above { place.grandparent ≡ Some above }
     requires limit { place.parent.update.card ≤ greatest_number }
-    requires link { IsLink (node_with place above.tag) }
+    requires tag { above.tag ≤ greatest_tag }
     requires slot { HasSlotOf table.now.plan card pass.old }
     requires card { (key : ℕ) × HasCard (Delete key) place above.tag
         (delete_filling above.node place.parent.node place.node (packed place.parent.update)) pass.old.view card }
     ensures fills { Fills pass.old pass.new 4 }
     ensures whole { table.now.plan.slots ≢ None → IsWholeIn pass.new card delete_says }
 {
+    table.facts_stay_inside(pass);
     fill(table, pass, card, Field::Gp, above.node, gate);
     fill(table, pass, card, Field::P, place.parent.node, gate);
     let leaf = node_with(place, above.tag).word();

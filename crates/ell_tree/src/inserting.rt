@@ -1,13 +1,13 @@
 //! Inserts (paper of 2010, figure 8: Insert), and swaps, which work the same way.
 ghost use Rattle.std.specs.Prelude.{[], ◌∷◌, true, ◌≢◌, ◌≡◌, ◌≤◌, ◌+◌, Some, None};
-ghost use Rattle.ell_word.specs.Link.{IsLink};
+ghost use Rattle.ell_word.specs.Link.{greatest_tag};
 ghost use Rattle.ell_word.specs.Node.{greatest_number};
 ghost use Rattle.ell_core.specs.acts.Searching.{put_of};
 ghost use Rattle.ell_core.specs.declared.fact.Fact.TheVariants.{IFlagged};
 ghost use Rattle.ell_tree.specs.CardsTaken.{TakesNoCard, TryTakes};
 ghost use Rattle.ell_tree.specs.Ends.{try_steps_in};
 ghost use Rattle.ell_tree.specs.Keeping.{Keeps, IsInnerMet};
-ghost use Rattle.ell_tree.specs.Searches.{AtRoot, node_with};
+ghost use Rattle.ell_tree.specs.Searches.{AtRoot};
 ghost use Rattle.ell_tree.specs.Tries.{HasSlotOf, told_of_put, put_reply, Fills, Flags, HasCardToPut, TryEnds};
 ghost use Rattle.ell_core.specs.tree.Flat.{IsNodeKey};
 ghost use Rattle.ell_cards.specs.Models.{flat_from};
@@ -25,7 +25,7 @@ use ell_cards::{CardTable, Pass};
 use ell_core::{Exchange, Put};
 use ell_layout::{Field, card_children, update_word};
 use ell_ops::{Op, Reply};
-use ell_word::{State, Update};
+use ell_word::{State, Update, child_word};
 use std::alloc::Allocator;
 
 /// One try of an insert or a swap that puts this.
@@ -126,7 +126,7 @@ fn flag_insert<A: Allocator + Copy, G: StepGate>(
     requires own { pass.old.table ≡ table.now.id }
     requires limit { card ≤ greatest_number }
     requires slot { HasSlotOf table.now.plan card pass.old }
-    requires link { IsLink (node_with place place.parent.tag) }
+    requires tag { place.parent.tag ≤ greatest_tag }
     requires card { HasCardToPut what place node_key pass.old.view card }
     requires node { IsInnerMet table.now.plan.last_card pass.old.view place.parent.node }
     ensures keeps { Keeps pass.old pass.new 11 }
@@ -140,7 +140,7 @@ fn flag_insert<A: Allocator + Copy, G: StepGate>(
 
 // Fills the card of an insert or a swap: the node where its search ended, with the tag that was read at the parent; an
 // internal node; and below it the leaf of the key and a copy of the old leaf, or the old node itself, the lesser key
-// left, each with its value.
+// left, each with its value. Of each child it stores the child word with tag 0.
 fn fill_insert<A: Allocator + Copy, G: StepGate>(
     table: &CardTable<A>,
     pass: &mut Pass<A>,
@@ -153,11 +153,12 @@ fn fill_insert<A: Allocator + Copy, G: StepGate>(
     requires own { pass.old.table ≡ table.now.id }
     requires limit { card ≤ greatest_number }
     requires slot { HasSlotOf table.now.plan card pass.old }
-    requires link { IsLink (node_with place place.parent.tag) }
+    requires tag { place.parent.tag ≤ greatest_tag }
     requires card { HasCardToPut what place node_key pass.old.view card }
     ensures fills { Fills pass.old pass.new 10 }
     ensures whole { table.now.plan.slots ≢ None → IsWholeIn pass.new card put_says }
 {
+    table.facts_stay_inside(pass);
     let Put { key, value, was: _ } = what;
     let (lesser, greater) = (key.min(place.key), key.max(place.key));
     let (left, right) = card_children(card, key, place.node, place.key);
@@ -170,8 +171,8 @@ fn fill_insert<A: Allocator + Copy, G: StepGate>(
     let below = node_with(place, place.parent.tag).word();
     fill(table, pass, card, Field::L, below, gate);
     fill(table, pass, card, Field::Key, node_key, gate);
-    fill(table, pass, card, Field::Left, left, gate);
-    fill(table, pass, card, Field::Right, right, gate);
+    fill(table, pass, card, Field::Left, child_word(left), gate);
+    fill(table, pass, card, Field::Right, child_word(right), gate);
     let clean = update_word(State::Clean, 0);
     fill(table, pass, card, Field::Update, clean, gate);
     fill(table, pass, card, Field::LeftLeafKey, lesser, gate);

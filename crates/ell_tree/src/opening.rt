@@ -181,7 +181,7 @@ impl<A: Allocator + Copy> Tree<A> {
     /// slots as keys, and some more, are enough. A slot is held back while a call that began before it became free
     /// goes on, and behind a look or a scan until `end_looks`. A change returns `Spent` if it finds no slot that it
     /// may take, and may be made again. Only deletes take the last two, so in a tree that keys fill they can be taken
-    /// away. A slot serves 1,048,576 cards at most, one after the other, or is passed over instead. Each try of a
+    /// away. A slot serves 2^40 cards at most, one after the other, or is passed over instead. Each try of a
     /// change makes at most `2 * s + 2` steps more than in another flat tree, if `s` is the number of the last slot,
     /// and beside these some that are not counted, by which slots are looked for, set free and taken again. A split
     /// also returns `TooManyPasses` if it finds no place for one more pass; a pass that is released, or joined to

@@ -1,12 +1,11 @@
 //! What the owner of a card notes once the card is over: the nodes that the card took out of the tree, and those of its own
 //! that never come into it, so that the slots of their cards can be used anew. In a table without places this does nothing.
-ghost use Rattle.std.specs.Prelude.{◌≡◌, ◌≤◌};
+ghost use Rattle.std.specs.Prelude.{◌≡◌, ◌≤◌, Some};
 ghost use Rattle.ell_word.specs.Node.{greatest_number};
 ghost use Rattle.ell_core.specs.declared.fact.Fact.TheVariants.{DOver};
 ghost use Rattle.ell_layout.specs.declared.field.Field.TheVariants as field;
 ghost use Rattle.ell_cards.specs.declared.view.Told.TheVariants.{Info};
-ghost use Rattle.ell_cards.specs.Ages.{KnowsDeadNode};
-ghost use Rattle.ell_cards.specs.Dead.{KnowsDeleteEnded};
+ghost use Rattle.ell_cards.specs.Dead.{HasTakenOut, KnowsDeleteEnded};
 ghost use Rattle.ell_cards.specs.Models.{IsTold, Knows};
 ghost use Rattle.ell_tree.specs.Retiring.{HasPut};
 
@@ -37,7 +36,7 @@ pub(crate) fn retire_put<A: Allocator + Copy>(
         } else {
             left_leaf_of(card)
         };
-        table.retire(pass, unused);
+        table.retire_nodes(pass, card, CardNodes::only(unused));
         return;
     }
     table.retire(pass, place.node);
@@ -60,6 +59,7 @@ pub(crate) fn retire_deleted<A: Allocator + Copy>(
     leaf: u64,
 )
     requires own { pass.old.table ≡ table.now.id }
+    requires hand { pass.old.view.worker.card ≡ Some card }
     requires over { Knows pass.old.view (DOver card) }
     requires parent { IsTold pass.old.view (Info card field.P parent) }
     requires leaf { IsTold pass.old.view (Info card field.L leaf) }
@@ -69,17 +69,17 @@ pub(crate) fn retire_deleted<A: Allocator + Copy>(
     retire_own(table, pass, card);
 }
 
-// Notes two nodes that are dead, by one step where they lie on one card.
+// Notes two nodes that the card in hand has taken out, by one step where they lie on one card.
 fn retire_both<A: Allocator + Copy>(table: &CardTable<A>, pass: &mut Pass<A>, one: u64, other: u64)
     requires own { pass.old.table ≡ table.now.id }
-    requires one { KnowsDeadNode pass.old.view one }
-    requires other { KnowsDeadNode pass.old.view other }
+    requires one { HasTakenOut pass.old.view one }
+    requires other { HasTakenOut pass.old.view other }
     ensures same { pass.new ≡ pass.old }
 {
     let card = card_of(one);
     if card_of(other) == card {
         let both = CardNodes::only(one).and(CardNodes::only(other));
-        table.retire_nodes(pass, card, both);
+        table.retire_taken_out(pass, card, both);
     } else {
         table.retire(pass, one);
         table.retire(pass, other);

@@ -185,7 +185,6 @@ pub(crate) fn read_child<A: Allocator + Copy, G: StepGate>(
     ensures met { IsTold pass.new.view (told.Met result) }
 {
     gate.before(pass.label(), Kind::Look);
-    table.facts_stay_inside(pass);
     let child = table.frozen_child(pass, card, parent, right);
     child.node
 }

@@ -5,6 +5,7 @@ ghost use Rattle.ell_word.specs.Node.{greatest_number};
 ghost use Rattle.ell_cards.specs.Models.{Does, Steps, flat_from};
 ghost use Rattle.ell_cards.specs.Guards.{MayClaim, MayFill, Wants};
 ghost use Rattle.ell_cards.specs.Changes.{after_fill};
+ghost use Rattle.ell_cards.specs.Shown.{shown_word};
 ghost use Rattle.ell_cards.specs.Skipping.{after_claimed_row};
 ghost use Rattle.ell_tree.specs.CardsTaken.{NextTakes, AskTakes};
 ghost use Rattle.ell_tree.specs.Keeping.{KeepsIn};
@@ -161,7 +162,7 @@ fn claim_up_to<A: Allocator + Copy>(
     }
 }
 
-/// Stores a word of the card in hand.
+/// Stores a word of the card in hand: where it names a node, the low bits of the node.
 pub(crate) fn fill<A: Allocator + Copy, G: StepGate>(
     table: &CardTable<A>,
     pass: &mut Pass<A>,
@@ -173,6 +174,7 @@ pub(crate) fn fill<A: Allocator + Copy, G: StepGate>(
     requires own { pass.old.table ≡ table.now.id }
     requires may { MayFill pass.old.view card }
     requires slot { HasSlotOf table.now.plan card pass.old }
+    requires fits { shown_word field value ≡ value }
     ensures { Steps pass.old pass.new (after_fill field value pass.old.view) }
 {
     gate.before(pass.label(), Kind::Fill);

@@ -2,7 +2,7 @@ use Rattle.std.specs.Prelude.{◌≡◌, ◌≢◌, ℕ, ◌+◌, ◌-◌, ◌*�
 
 -- the greatest number that a card may have
 abbrev pub greatest_number : ℕ
-greatest_number = 2199023255551
+greatest_number = 2305843009213693951
 
 -- the number of the last card of a table without places, and of the last card that may have words, are at most this
 abbrev pub greatest_card : ℕ

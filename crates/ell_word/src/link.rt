@@ -1,9 +1,9 @@
 //! The child word of an internal node: a node, and a tag that counts how often the word has changed.
-ghost use Rattle.std.specs.Prelude.{◌≡◌, ◌≤◌, ◌<◌};
-ghost use Rattle.ell_word.specs.Link.{IsLink, tag_unit, linked, link_in};
+ghost use Rattle.std.specs.Prelude.{◌≡◌, ◌≤◌, ◌<◌, ◌%◌, ◌^◌};
+ghost use Rattle.ell_word.specs.Link.{IsLink, node_bound, linked, link_in};
 ghost use Rattle.ell_word.specs.declared.link.Link.{Link};
 
-// Node numbers are below this one, so that a mask gives the node, which is asked at each node of a search.
+// The node that a word says is below this one, so that a mask gives it, which is asked at each node of a search.
 const TAG_UNIT: u64 = 8_796_093_022_208;
 
 /// What a child word says. The tag counts the changes of the word, so that no two of its values are the same, even if
@@ -41,7 +41,17 @@ impl Link {
     }
 }
 
-/// Linking and its reading undo each other for nodes below 2^43: each such node has with each tag a word of its own.
+/// Returns the child word of a node with tag 0: the low 43 bits of the node, whichever node it is.
+#[inline(always)]
+pub fn child_word(node: u64) -> u64
+    // Returns the low 64 bits of the number of the node's link with tag 0.
+    ensures { result ≡ linked (record { node = node; tag = 0 }) % 2 ^ 64 }
+{
+    node % TAG_UNIT
+}
+
+/// Reading undoes linking for nodes below 2^63: each such node has with each tag a number of its own, of which a child
+/// word has the low 64 bits.
 pub fn links()
-    ensures back { (link : Link) → link.node < tag_unit → link_in (linked link) ≡ link }
+    ensures back { (link : Link) → link.node < node_bound → link_in (linked link) ≡ link }
 {}

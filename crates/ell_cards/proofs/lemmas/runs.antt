@@ -44,6 +44,8 @@ pub mod Readings
 pub mod Claims
 -- nodes that searches have gone through were met
 pub mod Met
+-- nodes that passes name were met
+pub mod Named
 -- what passes won, counted
 pub mod Won
 -- how often, by the cards' stages and the claim word

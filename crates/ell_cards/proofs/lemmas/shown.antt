@@ -26,3 +26,5 @@ pub mod ShownDead
 pub mod ShownActs
 -- which calls can be shown
 pub mod ShownKinds
+-- the low bits of nodes
+pub mod ShownLow

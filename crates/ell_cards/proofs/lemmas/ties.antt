@@ -27,3 +27,7 @@ pub mod Few
 pub mod Known
 -- child exchanges expect links that are near those in the tree
 pub mod Near
+-- a pass that is ready tells nodes that it has met apart
+pub mod Apart
+-- and from those to which child words lead
+pub mod Found

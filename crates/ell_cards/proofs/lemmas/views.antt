@@ -4,6 +4,8 @@ pub mod Afters
 pub mod Facts
 -- entries that were told, beside more of them
 pub mod Entries
+-- entries that name nodes of which others tell that they were met
+pub mod NamedEntries
 -- the depths that were told of nodes
 pub mod Depths
 -- the view after a step, and what the step has told

@@ -12,6 +12,8 @@ pub mod Lifts
 pub mod Trees
 -- words of fields that are no child words
 pub mod Fields
+-- nodes that a pass tells apart
+pub mod Apart
 -- steps of the tree as those of a whole table
 pub mod Calling
 -- splits and joins

@@ -6,3 +6,5 @@ pub mod Fields
 pub mod Keys
 -- lists of numbers that rise
 pub mod Ascending
+-- which numbers have slots
+pub mod Slotted

@@ -1,14 +1,14 @@
-use Rattle.std.proofs.Common.{◌≡◌, ℕ, ◌+◌, ◌*◌, ◌/◌, ◌%◌, ◌<◌, true, false, List, [], ◌∷◌, drop, refl, ap, ap₂, ◌∙◌, arith}
-use Rattle.ell_word.specs.Link.{linked, tag_unit}
+use Rattle.std.proofs.Common.{◌≡◌, ℕ, ◌+◌, ◌*◌, ◌<◌, true, false, List, [], ◌∷◌, drop, refl, ap, ap₂, ◌∙◌, arith}
+use Rattle.ell_word.specs.Link.{linked, tag_unit, node_bound}
+use Rattle.ell_word.proofs.Numbers.{link_back, bare_says_node, bare_says_tag}
 use Rattle.ell_word.specs.Node.{left_leaf, right_leaf}
 use Rattle.ell_layout.specs.declared.field.Field.{Field}
 use Rattle.ell_layout.specs.declared.field.Field.TheVariants.{Gp, P, L, Was, Left, Right}
 use Rattle.ell_layout.specs.Words.{Words, put, written, table_written, with_child, with_tag}
 use Rattle.ell_layout.specs.Cards.{filled, table_filled, insert_filling}
 use Rattle.ell_layout.specs.Laws.{TablesClaim}
-use Rattle.ell_layout.proofs.lemmas.Writes.{link_back}
 
--- A field whose word in a table is what the field says: a child without a tag, or any other field but the leaf.
+-- A field whose word in a table is what the field says: a child in 43 bits, without a tag, or any other field but the leaf.
 abbrev pub IsPlain : Field × ℕ → Type 0
 IsPlain (L, v) = ⊥
 IsPlain (Left, v) = v < tag_unit
@@ -20,19 +20,11 @@ abbrev pub ArePlain : List (Field × ℕ) → Type 0
 ArePlain [] = Unit {0}
 ArePlain (e ∷ es) = IsPlain e × ArePlain es
 
--- A small word says itself as the node.
-small_node : (v : ℕ) → v < tag_unit → v % 8796093022208 ≡ v
-small_node v small = omega (arith, small)
-
--- A small word says no tag.
-small_tag : (v : ℕ) → v < tag_unit → v / 8796093022208 ≡ 0
-small_tag v small = omega (arith, small)
-
 -- Such a field is the same written as a word of a table.
 pub table_written_plain : (w : Words) (c : ℕ) (e : Field × ℕ) → IsPlain e → table_written w c e.0 e.1 ≡ written w c e.0 e.1
 table_written_plain w c (L, v) h = absurd h
-table_written_plain w c (Left, v) h = ap₂ {C = Words} (λ n t. with_tag (with_child w (4 * c) false n) (4 * c) false t) (small_node v h) (small_tag v h)
-table_written_plain w c (Right, v) h = ap₂ {C = Words} (λ n t. with_tag (with_child w (4 * c) true n) (4 * c) true t) (small_node v h) (small_tag v h)
+table_written_plain w c (Left, v) h = ap₂ {C = Words} (λ n t. with_tag (with_child w (4 * c) false n) (4 * c) false t) (bare_says_node v h) (bare_says_tag v h)
+table_written_plain w c (Right, v) h = ap₂ {C = Words} (λ n t. with_tag (with_child w (4 * c) true n) (4 * c) true t) (bare_says_node v h) (bare_says_tag v h)
 table_written_plain w c (_, v) h = refl
 
 -- Such fields are the same written as words of a table.
@@ -55,12 +47,12 @@ filled_expecting w expects c (e ∷ es) =
     ap (λ k. filled k c es) (written_expecting w expects c e.0 e.1) ∙ filled_expecting (written w c e.0 e.1) expects c es
 
 -- The leaf with its tag is written as the leaf, and the tag as the one that the card expects.
-leaf_written : (w : Words) (c leaf tag : ℕ) → leaf < tag_unit
+leaf_written : (w : Words) (c leaf tag : ℕ) → leaf < node_bound
     → table_written w c L (linked (record { node = leaf; tag = tag })) ≡ record (written w c L leaf) { expects = put w.expects c tag }
 leaf_written w c leaf tag small = λ t. record (written w c L (link_back leaf tag small t).node) { expects = put w.expects c (link_back leaf tag small t).tag }
 
 -- A card whose leaf is written with its tag, and then such fields, is filled and expects the tag.
-table_filled_leaf : (w : Words) (c leaf tag : ℕ) (es : List (Field × ℕ)) → leaf < tag_unit → ArePlain es
+table_filled_leaf : (w : Words) (c leaf tag : ℕ) (es : List (Field × ℕ)) → leaf < node_bound → ArePlain es
     → table_filled (table_written w c L (linked (record { node = leaf; tag = tag }))) c es
     ≡ record (filled (written w c L leaf) c es) { expects = put w.expects c tag }
 table_filled_leaf w c leaf tag es small plain =

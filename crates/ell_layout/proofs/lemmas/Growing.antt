@@ -2,7 +2,7 @@ use Rattle.std.proofs.Common.{◌≡◌, ◌≢◌, ℕ, zero, suc, ◌+◌, ◌
 use Rattle.std.proofs.lemmas.Bool.{cases_lt, cases_eq, lt-ltb, le-ltb}
 use Rattle.std.proofs.lemmas.List.{length-replicate}
 use Rattle.ell_word.specs.Link.{tag_unit}
-use Rattle.ell_word.specs.Node.{greatest_card, greatest_number, internal, left_leaf, right_leaf, infinity1, infinity2}
+use Rattle.ell_word.specs.Node.{greatest_card, internal, left_leaf, right_leaf, infinity1, infinity2}
 use Rattle.ell_layout.specs.declared.field.Field.{Field}
 use Rattle.ell_layout.specs.declared.field.Field.TheVariants.{Gp, P, L, Was, Key, Left, Right, Update, LeftLeafKey, RightLeafKey, LeftValue, RightValue}
 use Rattle.ell_layout.specs.Layout.{address, listed}
@@ -69,21 +69,21 @@ choice_below true a b most low less = low
 choice_below false a b most low less = less
 
 -- the children of a branch are nodes that fit beside a tag
-left_child_small : (b : Branch) → b.card < greatest_number → left_child b < tag_unit
+left_child_small : (b : Branch) → b.card < greatest_card → left_child b < tag_unit
 left_child_small b low = choice_below _ (left_leaf b.card) (internal (b.card + 1)) 8796093022208 (omega (arith, low)) (omega (arith, low))
 
-right_child_small : (b : Branch) → b.card + b.left ≤ greatest_number → right_child b < tag_unit
+right_child_small : (b : Branch) → b.card + b.left ≤ greatest_card → right_child b < tag_unit
 right_child_small b low = choice_below _ (right_leaf b.card) (internal (b.card + b.left)) 8796093022208 (omega (arith, low)) (omega (arith, low))
 
 -- so the fields of the root are plain
 root_plain : (many : ℕ) → ArePlain (root_filling many)
 root_plain many =
-    let low : 0 < greatest_number = omega arith in
+    let low : 0 < greatest_card = omega arith in
     let right : right_leaf 0 < tag_unit = omega arith in
     (tt, (left_child_small (root_branch (many + 1)) low, (right, (tt, (tt, (tt, tt))))))
 
 -- and those of a branch
-branch_plain : (leaf value : ℕ → ℕ) (b : Branch) → b.card < greatest_number → b.card + b.left ≤ greatest_number → ArePlain (branch_filling leaf value b)
+branch_plain : (leaf value : ℕ → ℕ) (b : Branch) → b.card < greatest_card → b.card + b.left ≤ greatest_card → ArePlain (branch_filling leaf value b)
 branch_plain leaf value b card most = (tt, (left_child_small b card, (right_child_small b most, (tt, (tt, (tt, (tt, (tt, tt))))))))
 
 -- words that are made of a function, with the fields of a card, are made of the function with them

@@ -7,7 +7,8 @@ use Rattle.ell_layout.specs.Layout.{address, place, table_size, listed}
 use Rattle.ell_layout.specs.Words.{Words, word, table_word, table_written, table_words, words_of}
 use Rattle.ell_layout.specs.Cards.{filled_list, table_filled, table_claimed, says_by}
 use Rattle.ell_layout.specs.Laws.{SameAfterSameWrite, WordsAreListed, FilledListsAreFilled}
-use Rattle.ell_layout.proofs.lemmas.Writes.{SmallNodes, equal_tables, table_written_here, table_written_elsewhere, table_written_next, table_written_flat, table_written_small, table_written_no_key, table_written_no_value, table_written_inner_value, table_written_leaf_child, table_written_leaf_tag, table_written_leaf_update, made_table_word, made_small, made_no_key, made_no_value, made_inner_value, made_table_leaf_child, made_table_leaf_tag, made_leaf_update, link_back}
+use Rattle.ell_layout.proofs.lemmas.Writes.{SmallNodes, equal_tables, table_written_here, table_written_elsewhere, table_written_next, table_written_flat, table_written_small, table_written_no_key, table_written_no_value, table_written_inner_value, table_written_leaf_child, table_written_leaf_tag, table_written_leaf_update, made_table_word, made_small, made_no_key, made_no_value, made_inner_value, made_table_leaf_child, made_table_leaf_tag, made_leaf_update}
+use Rattle.ell_word.proofs.Numbers.{link_back}
 use Rattle.ell_word.specs.Link.{link_in}
 use Rattle.ell_word.specs.declared.link.Link.{Link}
 use Rattle.ell_word.specs.Node.{internal}
@@ -62,7 +63,7 @@ pub listed_leaf_tag : (words : List ℕ) (x : ℕ) (right : Bool) → x % 4 ≢ 
 unfolding words_of
 listed_leaf_tag words x right h = made_table_leaf_tag (slice_index words 0) (listed words) x right h
 
--- The nodes in the words that a list is fit beside tags.
+-- The nodes in the words that a list is are below the bound.
 pub listed_small : (words : List ℕ) → SmallNodes (words_of words)
 unfolding words_of
 listed_small words = let small = made_small (slice_index words 0) (listed words) in record { l = small.l; child = small.child }

@@ -1,8 +1,9 @@
-use Rattle.std.proofs.Common.{◌≡◌, ◌≢◌, ℕ, zero, suc, ◌+◌, ◌*◌, ◌/◌, ◌%◌, ◌<◌, ◌==◌, eq-eqb, ne_eqb, if◌then◌else◌, Bool, true, false, List, [], ◌∷◌, ◌++◌, length, take, get_or, inl, inr, refl, sym, ap, ap₂, ◌||◌, ◌∙◌, arith, subst}
+use Rattle.std.proofs.Common.{◌≡◌, ◌≢◌, ℕ, zero, suc, ◌+◌, ◌*◌, ◌%◌, ◌<◌, ◌==◌, eq-eqb, ne_eqb, if◌then◌else◌, Bool, true, false, List, [], ◌∷◌, ◌++◌, length, take, get_or, inl, inr, refl, sym, ap, ap₂, ◌||◌, ◌∙◌, arith, subst}
 use Rattle.std.proofs.lemmas.Bool.{cases_eq}
 use Rattle.std.proofs.lemmas.Bool.Decides.{nat_tests}
 use Rattle.std.proofs.lemmas.List.{take_more}
-use Rattle.ell_word.specs.Link.{linked, link_in, tag_unit}
+use Rattle.ell_word.specs.Link.{linked, link_in, node_bound}
+use Rattle.ell_word.proofs.Numbers.{linked_again, node_is_bound, link_back, same_links}
 use Rattle.ell_word.specs.Node.{card, internal, left_leaf, right_leaf, IsNode}
 use Rattle.ell_layout.specs.declared.field.Field.{Field}
 use Rattle.ell_layout.specs.declared.field.Field.TheVariants.{Gp, P, L, Was, Key, Left, Right, Update, LeftLeafKey, RightLeafKey, LeftValue, RightValue}
@@ -222,27 +223,11 @@ pub child_word_at_node : (w : Words) (x : ℕ) (right : Bool) → x % 4 ≡ 0
 child_word_at_node w x true h = ap (λ n. linked (record { node = w.child n true; tag = w.tag n true })) (sym (internal_at_node x h))
 child_word_at_node w x false h = ap (λ n. linked (record { node = w.child n false; tag = w.tag n false })) (sym (internal_at_node x h))
 
--- Linking what a word says gives the word again.
-pub linked_again : (v : ℕ) → linked (link_in v) ≡ v
-linked_again v = omega arith
-
--- A word says the node and the tag that were linked.
-pub link_back : (node tag : ℕ) → node < tag_unit → link_in (linked (record { node = node; tag = tag })) ≡ record { node = node; tag = tag }
-link_back node tag small =
-    let same_node : (8796093022208 * tag + node) % 8796093022208 ≡ node = omega (arith, small) in
-    let same_tag : (8796093022208 * tag + node) / 8796093022208 ≡ tag = omega (arith, small) in
-    λ t. record { node = same_node t; tag = same_tag t }
-
--- Links of the same word have the same node and tag.
-pub same_links : (node tag other another : ℕ) → node < tag_unit → other < tag_unit
-    → linked (record { node = node; tag = tag }) ≡ linked (record { node = other; tag = another }) → (node ≡ other) × (tag ≡ another)
-same_links node tag other another small less e = (omega (arith, small, less, e), omega (arith, small, less, e))
-
 -- What a field says when a table has this word there.
 abbrev pub node_in : Field → ℕ → ℕ
-node_in L v = v % 8796093022208
-node_in Left v = v % 8796093022208
-node_in Right v = v % 8796093022208
+node_in L v = (link_in v).node
+node_in Left v = (link_in v).node
+node_in Right v = (link_in v).node
 node_in _ v = v
 
 -- A write of a table's word writes what the word says, and a tag.
@@ -267,30 +252,30 @@ table_written_word w d other v c field =
 -- The word of a table that was written is the one that is read there.
 pub table_written_here : (w : Words) (c : ℕ) (field : Field) (v : ℕ) → table_word (table_written w c field v) c field ≡ v
 table_written_here w c L v =
-    ap₂ (λ n t. 8796093022208 * t + n) (put_same w.l c (v % 8796093022208)) (put_same w.expects c (v / 8796093022208)) ∙ linked_again v
+    ap₂ (λ n t. linked (record { node = n; tag = t })) (put_same w.l c (link_in v).node) (put_same w.expects c (link_in v).tag) ∙ linked_again v
 table_written_here w c Left v =
-    ap₂ (λ n t. 8796093022208 * t + n) (side_here w.child (internal c) false (v % 8796093022208)) (side_here w.tag (internal c) false (v / 8796093022208)) ∙ linked_again v
+    ap₂ (λ n t. linked (record { node = n; tag = t })) (side_here w.child (internal c) false (link_in v).node) (side_here w.tag (internal c) false (link_in v).tag) ∙ linked_again v
 table_written_here w c Right v =
-    ap₂ (λ n t. 8796093022208 * t + n) (side_here w.child (internal c) true (v % 8796093022208)) (side_here w.tag (internal c) true (v / 8796093022208)) ∙ linked_again v
+    ap₂ (λ n t. linked (record { node = n; tag = t })) (side_here w.child (internal c) true (link_in v).node) (side_here w.tag (internal c) true (link_in v).tag) ∙ linked_again v
 table_written_here w c field v = written_here w c field v
 
 -- A write of a table's word leaves the words at the other addresses.
 pub table_written_elsewhere : (w : Words) (c : ℕ) (field : Field) (d : ℕ) (other : Field) (v : ℕ)
     → address c field ≢ address d other → table_word (table_written w d other v) c field ≡ table_word w c field
 table_written_elsewhere w c L d L v h =
-    ap₂ (λ n t. 8796093022208 * t + n) (put_other w.l d (v % 8796093022208) c (omega arith)) (put_other w.expects d (v / 8796093022208) c (omega arith))
+    ap₂ (λ n t. linked (record { node = n; tag = t })) (put_other w.l d (link_in v).node c (omega arith)) (put_other w.expects d (link_in v).tag c (omega arith))
 table_written_elsewhere w c L d _ v h = refl
 table_written_elsewhere w c Left d Left v h =
-    ap₂ (λ n t. 8796093022208 * t + n) (side_elsewhere w.child (internal d) false (v % 8796093022208) (internal c) false (omega arith))
-    (side_elsewhere w.tag (internal d) false (v / 8796093022208) (internal c) false (omega arith))
+    ap₂ (λ n t. linked (record { node = n; tag = t })) (side_elsewhere w.child (internal d) false (link_in v).node (internal c) false (omega arith))
+    (side_elsewhere w.tag (internal d) false (link_in v).tag (internal c) false (omega arith))
 table_written_elsewhere w c Left d Right v h =
-    ap₂ (λ n t. 8796093022208 * t + n) (side_left w.child (internal d) (internal c) (v % 8796093022208)) (side_left w.tag (internal d) (internal c) (v / 8796093022208))
+    ap₂ (λ n t. linked (record { node = n; tag = t })) (side_left w.child (internal d) (internal c) (link_in v).node) (side_left w.tag (internal d) (internal c) (link_in v).tag)
 table_written_elsewhere w c Left d _ v h = refl
 table_written_elsewhere w c Right d Right v h =
-    ap₂ (λ n t. 8796093022208 * t + n) (side_elsewhere w.child (internal d) true (v % 8796093022208) (internal c) true (omega arith))
-    (side_elsewhere w.tag (internal d) true (v / 8796093022208) (internal c) true (omega arith))
+    ap₂ (λ n t. linked (record { node = n; tag = t })) (side_elsewhere w.child (internal d) true (link_in v).node (internal c) true (omega arith))
+    (side_elsewhere w.tag (internal d) true (link_in v).tag (internal c) true (omega arith))
 table_written_elsewhere w c Right d Left v h =
-    ap₂ (λ n t. 8796093022208 * t + n) (side_right w.child (internal d) (internal c) (v % 8796093022208)) (side_right w.tag (internal d) (internal c) (v / 8796093022208))
+    ap₂ (λ n t. linked (record { node = n; tag = t })) (side_right w.child (internal d) (internal c) (link_in v).node) (side_right w.tag (internal d) (internal c) (link_in v).tag)
 table_written_elsewhere w c Right d _ v h = refl
 table_written_elsewhere w c field d other v h =
     table_written_word w d other v c field ∙ written_elsewhere w c field d other (node_in other v) h
@@ -326,8 +311,8 @@ table_written_leaf_child w c field v x right h =
 -- A write of a table's word leaves the tags that the leaves have.
 pub table_written_leaf_tag : (w : Words) (c : ℕ) (field : Field) (v x : ℕ) (right : Bool) → x % 4 ≢ 0
     → (table_written w c field v).tag x right ≡ w.tag x right
-table_written_leaf_tag w c Left v x right h = side_elsewhere w.tag (internal c) false (v / 8796093022208) x right (omega arith)
-table_written_leaf_tag w c Right v x right h = side_elsewhere w.tag (internal c) true (v / 8796093022208) x right (omega arith)
+table_written_leaf_tag w c Left v x right h = side_elsewhere w.tag (internal c) false (link_in v).tag x right (omega arith)
+table_written_leaf_tag w c Right v x right h = side_elsewhere w.tag (internal c) true (link_in v).tag x right (omega arith)
 table_written_leaf_tag w c _ v x right h = refl
 
 -- A write of a table's word leaves the update words that the leaves have.
@@ -348,28 +333,24 @@ table_filled_next w before after c es i d e h g =
     g ∙ (ap (λ z. table_written z c (get_or es i d).0 (get_or es i d).1) e
     ∙ sym (ap (table_filled w c) (take_more es i d h) ∙ table_filled_more w c (take i es) (get_or es i d)))
 
--- Words whose nodes fit beside a tag.
+-- Words whose nodes are below the bound.
 pub record SmallNodes (w : Words) : Type 0 where
-  pub l : (c : ℕ) → w.l c < tag_unit
-  pub child : (x : ℕ) (right : Bool) → w.child x right < tag_unit
+  pub l : (c : ℕ) → w.l c < node_bound
+  pub child : (x : ℕ) (right : Bool) → w.child x right < node_bound
 
--- The node that a word says fits beside a tag.
-node_is_small : (v : ℕ) → v % 8796093022208 < 8796093022208
-node_is_small v = omega arith
-
--- Nodes fit beside tags after a write of a table's word, if they did before.
+-- Nodes are below the bound after a write of a table's word, if they did before.
 pub table_written_small : (w : Words) (c : ℕ) (field : Field) (v : ℕ) → SmallNodes w → SmallNodes (table_written w c field v)
 table_written_small w c L v h = record {
-  l = λ d. put_cases (λ n. n < 8796093022208) w.l c (v % 8796093022208) d (λ e. node_is_small v) (λ n. h.l d);
+  l = λ d. put_cases (λ n. n < node_bound) w.l c (link_in v).node d (λ e. node_is_bound v) (λ n. h.l d);
   child = h.child;
 }
 table_written_small w c Left v h = record {
   l = h.l;
-  child = λ x right. side_cases (λ n. n < 8796093022208) w.child (internal c) false (v % 8796093022208) x right (node_is_small v) h.child;
+  child = λ x right. side_cases (λ n. n < node_bound) w.child (internal c) false (link_in v).node x right (node_is_bound v) h.child;
 }
 table_written_small w c Right v h = record {
   l = h.l;
-  child = λ x right. side_cases (λ n. n < 8796093022208) w.child (internal c) true (v % 8796093022208) x right (node_is_small v) h.child;
+  child = λ x right. side_cases (λ n. n < node_bound) w.child (internal c) true (link_in v).node x right (node_is_bound v) h.child;
 }
 table_written_small w c _ v h = record { l = h.l; child = h.child }
 
@@ -439,7 +420,7 @@ module _ (a b : Words) (h : SameWords a b) where
     flat_from = h.flat_from t;
   }
 
--- What makes two machines' words equal where nodes fit beside tags: the claim word, the word that says from where on the
+-- What makes two machines' words equal where nodes are below the bound: the claim word, the word that says from where on the
 -- tree is flat, the word that a table has at each field of each card, and what stands in no field.
 pub record SameTables (a b : Words) : Type 0 where
   pub small : SmallNodes a
@@ -561,25 +542,25 @@ made_leaf_update next at x h = at_leaf x _ h
 pub made_table_word : (next : ℕ) (at : ℕ → Field → ℕ) (c : ℕ) (field : Field) → table_word (table_words next at) c field ≡ at c field
 made_table_word next at c L = linked_again (at c L)
 made_table_word next at c Left =
-    ap₂ (λ n t. 8796093022208 * t + n) (at_internal (internal c) _ (is_internal_of c)) (at_internal (internal c) _ (is_internal_of c))
+    ap₂ (λ n t. linked (record { node = n; tag = t })) (at_internal (internal c) _ (is_internal_of c)) (at_internal (internal c) _ (is_internal_of c))
     ∙ (linked_again _ ∙ ap (λ d. at d Left) (card_of_internal c))
 made_table_word next at c Right =
-    ap₂ (λ n t. 8796093022208 * t + n) (at_internal (internal c) _ (is_internal_of c)) (at_internal (internal c) _ (is_internal_of c))
+    ap₂ (λ n t. linked (record { node = n; tag = t })) (at_internal (internal c) _ (is_internal_of c)) (at_internal (internal c) _ (is_internal_of c))
     ∙ (linked_again _ ∙ ap (λ d. at d Right) (card_of_internal c))
 made_table_word next at c field = made_word next at c field
 
 -- What only internal nodes have is small if it is small there.
-small_at : (x v : ℕ) → v < 8796093022208 → (if x % 4 == 0 then v else 0) < 8796093022208
+small_at : (x v : ℕ) → v < node_bound → (if x % 4 == 0 then v else 0) < node_bound
 small_at x v h = elim (cases_eq (x % 4) 0) [
-  | inl e ↦ subst (λ n. n < 8796093022208) (sym (at_internal x v e)) h
-  | inr n ↦ subst (λ n. n < 8796093022208) (sym (at_leaf x v n)) (omega arith)
+  | inl e ↦ subst (λ n. n < node_bound) (sym (at_internal x v e)) h
+  | inr n ↦ subst (λ n. n < node_bound) (sym (at_leaf x v n)) (omega arith)
 ]
 
--- The nodes of the words of a table fit beside tags.
+-- The nodes of the words of a table are below the bound.
 pub made_small : (next : ℕ) (at : ℕ → Field → ℕ) → SmallNodes (table_words next at)
 made_small next at = record {
-  l = λ c. node_is_small (at c L);
-  child = λ x right. small_at x _ (node_is_small (at (card x) (child_field right)));
+  l = λ c. node_is_bound (at c L);
+  child = λ x right. small_at x _ (node_is_bound (at (card x) (child_field right)));
 }
 
 -- The words of a table give a leaf no child.
@@ -599,7 +580,7 @@ pub zeros_are_read : (next : ℕ) → table_words next (λ c field. 0) ≡ words
 zeros_are_read next = λ t. record (words_from next (λ c field. 0)) { tag = λ x right. same_at x 0 t }
 
 -- A write of a child word of an internal node to its card is one of the child and its tag.
-pub child_written : (w : Words) (node : ℕ) (right : Bool) (child tag : ℕ) → child < tag_unit → node % 4 ≡ 0
+pub child_written : (w : Words) (node : ℕ) (right : Bool) (child tag : ℕ) → child < node_bound → node % 4 ≡ 0
     → table_written w (card node) (child_field right) (linked (record { node = child; tag = tag }))
     ≡ with_tag (with_child w node right child) node right tag
 child_written w node true child tag small inner =

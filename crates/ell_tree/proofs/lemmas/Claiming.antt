@@ -17,6 +17,7 @@ use Rattle.ell_cards.specs.Changes.{expected_tag, filling_for, filling_of, tag_o
 use Rattle.ell_cards.specs.Guards.{MayClaim, MayFill, Wants}
 use Rattle.ell_cards.specs.Periods.{most_claims}
 use Rattle.ell_cards.specs.Seeking.{FindsNone, missed_one}
+use Rattle.ell_cards.specs.Shown.{cut_planned}
 use Rattle.ell_cards.specs.Skipping.{after_claimed_row, after_row, IsAfterRow}
 use Rattle.ell_cards.proofs.lemmas.views.Afters.{after_next}
 use Rattle.ell_cards.proofs.lemmas.views.Rows.{rows_keep, wants_same}
@@ -55,7 +56,7 @@ row_keeps first last node_key v w r low up = record {
 -- what a pass knows once it has claimed a row of cards
 claimed_row : (first last node_key : ℕ) (v : View) → first ≤ last → IsAfterRow first last node_key v (after_claimed_row true first last node_key v)
 claimed_row first last node_key v order =
-    subst (λ m. IsAfterRow first m node_key v (after_row (last - first) first node_key v)) (omega arith) (rows_keep (last - first) first node_key v)
+    subst (λ m. IsAfterRow first m node_key v (cut_planned (after_row (last - first) first node_key v))) (omega arith) (rows_keep (last - first) first node_key v)
 
 -- a card that may be laid aside is not flagged
 aside_unflagged : (plan : TablePlan) (p : PassModel) (c : ℕ) → HoldsAside plan p → p.view.worker.card ≡ Some c → p.view.worker.flagged ≡ false

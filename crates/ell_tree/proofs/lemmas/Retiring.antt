@@ -1,4 +1,4 @@
-use Rattle.std.proofs.Common.{◌≡◌, ◌≢◌, ◌⊎◌, false, ℕ, zero, suc, ◌+◌, ◌*◌, ◌<◌, ◌≤◌, Some, inl, inr, refl, ◌∙◌, subst, max, min, true, arith}
+use Rattle.std.proofs.Common.{◌≡◌, ◌≢◌, ◌⊎◌, false, ℕ, zero, suc, ◌+◌, ◌*◌, ◌%◌, ◌<◌, ◌≤◌, Some, inl, inr, refl, ◌∙◌, subst, max, min, true, arith}
 use Rattle.std.proofs.lemmas.Bool.{false≢true}
 use Rattle.ell_ops.specs.declared.op.Op.{Op}
 use Rattle.ell_word.specs.Node.{IsInternal, card, left_leaf, right_leaf}
@@ -10,10 +10,10 @@ use Rattle.ell_layout.specs.declared.field.Field.TheVariants as field
 use Rattle.ell_layout.specs.Words.{IsLeaf}
 use Rattle.ell_cards.specs.declared.view.Told.TheVariants.{Info}
 use Rattle.ell_cards.specs.declared.view.View.{View}
-use Rattle.ell_cards.specs.Ages.{KnowsDeadNode}
-use Rattle.ell_cards.specs.CardNodes.{KnowsDeadNodes, all_nodes}
-use Rattle.ell_cards.specs.Dead.{KnowsDeleteEnded}
+use Rattle.ell_cards.specs.CardNodes.{AllOfCard, NeverCome, all_nodes, node_alone}
+use Rattle.ell_cards.specs.Dead.{HasTakenOut, KnowsDeleteEnded, KnowsNeverComes}
 use Rattle.ell_cards.specs.Models.{IsTold, Knows, Does}
+use Rattle.ell_cards.proofs.lemmas.views.DeadNodes.{so_alone}
 use Rattle.ell_tree.specs.declared.searching.Place.{Place}
 use Rattle.ell_tree.specs.Helps.{IsInsert}
 use Rattle.ell_tree.specs.Keeping.{LosesNothing}
@@ -21,48 +21,42 @@ use Rattle.ell_tree.specs.Retiring.{HasPut}
 use Rattle.ell_tree.specs.Searches.{node_with}
 
 -- none of the nodes of a delete's card that has ended comes
-own_dead : (v : View) (c x : ℕ) → KnowsDeleteEnded v c → card x ≡ c → KnowsDeadNode v x
-own_dead v c x ended on = (c, inr (on, inl ended))
-
-pub own_nodes_dead : (v : View) (c : ℕ) → KnowsDeleteEnded v c → KnowsDeadNodes v c all_nodes
-own_nodes_dead v c ended zero is = own_dead v c (4 * c + 0) ended (omega arith)
-own_nodes_dead v c ended (suc zero) is = own_dead v c (4 * c + 1) ended (omega arith)
-own_nodes_dead v c ended (suc (suc zero)) is = own_dead v c (4 * c + 2) ended (omega arith)
+pub own_nodes_dead : (v : View) (c : ℕ) → KnowsDeleteEnded v c → NeverCome v c all_nodes
+own_nodes_dead v c ended zero is = (omega arith, inl ended)
+own_nodes_dead v c ended (suc zero) is = (omega arith, inl ended)
+own_nodes_dead v c ended (suc (suc zero)) is = (omega arith, inl ended)
 own_nodes_dead v c ended (suc (suc (suc i))) is = absurd (false≢true is)
 
 -- a delete that is over has taken its parent and its leaf out
-pub parent_dead : (v : View) (c x : ℕ) → Knows v (fact.DOver c) → IsTold v (Info c field.P x) → KnowsDeadNode v x
-parent_dead v c x over told = (c, inl (inr (over, inl told)))
+pub parent_dead : (v : View) (c x : ℕ) → v.worker.card ≡ Some c → Knows v (fact.DOver c) → IsTold v (Info c field.P x) → HasTakenOut v x
+parent_dead v c x hand over told = (c, hand, inr (over, inl told))
 
-pub leaf_dead : (v : View) (c x : ℕ) → Knows v (fact.DOver c) → IsTold v (Info c field.L x) → KnowsDeadNode v x
-leaf_dead v c x over told = (c, inl (inr (over, inr told)))
+pub leaf_dead : (v : View) (c x : ℕ) → v.worker.card ≡ Some c → Knows v (fact.DOver c) → IsTold v (Info c field.L x) → HasTakenOut v x
+leaf_dead v c x hand over told = (c, hand, inr (over, inr told))
 
 module _ (what : Put) (place : Place) (v : View) (c : ℕ) (h : HasPut what place v c) where
   -- an insert or a swap has taken out the leaf where it went
-  pub below_dead : IsLeaf place.node → KnowsDeadNode v place.node
-  below_dead outer = (c, inl (inl (h.over, outer, h.below)))
+  pub below_dead : IsLeaf place.node → HasTakenOut v place.node
+  below_dead outer = (c, h.card, inl (h.over, outer, h.below))
 
   -- where that had its key, what is not the card's right leaf never comes
-  replaced_dead : (x : ℕ) → place.key ≡ what.key → card x ≡ c → x ≢ right_leaf c → KnowsDeadNode v x
+  replaced_dead : (x : ℕ) → place.key ≡ what.key → card x ≡ c → x ≢ right_leaf c → KnowsNeverComes v c x
   replaced_dead x same on other =
       let lesser : min what.key place.key ≡ what.key = omega (arith, same) in
       let greater : max what.key place.key ≡ what.key = omega (arith, same) in (
-        c,
+        on,
         inr (
-          on,
-          inr (
-            h.over,
-            inl (record {
-              key = what.key;
-              left = subst (λ k. IsTold v (Info c field.LeftLeafKey k)) lesser h.left_key;
-              right = subst (λ k. IsTold v (Info c field.RightLeafKey k)) greater h.right_key;
-              other = other;
-            }),
-          ),
+          h.over,
+          inl (record {
+            key = what.key;
+            left = subst (λ k. IsTold v (Info c field.LeftLeafKey k)) lesser h.left_key;
+            right = subst (λ k. IsTold v (Info c field.RightLeafKey k)) greater h.right_key;
+            other = other;
+          }),
         ),
       )
 
-  pub replaced_nodes_dead : place.key ≡ what.key → KnowsDeadNodes v c (record { internal = true; left = true; right = false })
+  pub replaced_nodes_dead : place.key ≡ what.key → NeverCome v c (record { internal = true; left = true; right = false })
   replaced_nodes_dead same zero is = replaced_dead (4 * c + 0) same (omega arith) (λ e. omega arith)
   replaced_nodes_dead same (suc zero) is = replaced_dead (4 * c + 1) same (omega arith) (λ e. omega arith)
   replaced_nodes_dead same (suc (suc zero)) is = absurd (false≢true is)
@@ -71,38 +65,41 @@ module _ (what : Put) (place : Place) (v : View) (c : ℕ) (h : HasPut what plac
   -- above an internal node the leaf of that node's key is not used
   unused_dead : (x : ℕ) → IsInternal place.node → card x ≡ c
       → ((x ≡ left_leaf c) × IsTold v (Info c field.LeftLeafKey place.key)) ⊎ ((x ≡ right_leaf c) × IsTold v (Info c field.RightLeafKey place.key))
-      → KnowsDeadNode v x
+      → KnowsNeverComes v c x
   unused_dead x inner on told = (
-    c,
+    on,
     inr (
-      on,
-      inr (
-        h.over,
-        inr (record {
-          op = h.op;
-          below = place.node;
-          key = place.key;
-          busy = h.busy;
-          holds = h.card;
-          flagged = h.flagged;
-          goes = h.below;
-          inner = inner;
-          told = told;
-          other = λ same. h.outer (same ∙ put_key h.op what h.puts) inner;
-        }),
-      ),
+      h.over,
+      inr (record {
+        op = h.op;
+        below = place.node;
+        key = place.key;
+        busy = h.busy;
+        holds = h.card;
+        flagged = h.flagged;
+        goes = h.below;
+        inner = inner;
+        told = told;
+        other = λ same. h.outer (same ∙ put_key h.op what h.puts) inner;
+      }),
     ),
   )
 
-  pub right_dead : IsInternal place.node → what.key < place.key → KnowsDeadNode v (right_leaf c)
+  -- as the one node of the card that is noted
+  one_never : (x : ℕ) → card x ≡ c → KnowsNeverComes v c x → NeverCome v c (node_alone (x % 4))
+  one_never x on never = subst (λ d. AllOfCard (KnowsNeverComes v c) d (node_alone (x % 4))) on (so_alone (KnowsNeverComes v c) x never)
+
+  pub right_dead : IsInternal place.node → what.key < place.key → NeverCome v c (node_alone (right_leaf c % 4))
   right_dead inner less =
       let greater : max what.key place.key ≡ place.key = omega (arith, less) in
-      unused_dead (right_leaf c) inner (omega arith) (inr (refl, subst (λ k. IsTold v (Info c field.RightLeafKey k)) greater h.right_key))
+      one_never (right_leaf c) (omega arith)
+      (unused_dead (right_leaf c) inner (omega arith) (inr (refl, subst (λ k. IsTold v (Info c field.RightLeafKey k)) greater h.right_key)))
 
-  pub left_dead : IsInternal place.node → place.key ≤ what.key → KnowsDeadNode v (left_leaf c)
+  pub left_dead : IsInternal place.node → place.key ≤ what.key → NeverCome v c (node_alone (left_leaf c % 4))
   left_dead inner most =
       let lesser : min what.key place.key ≡ place.key = omega (arith, most) in
-      unused_dead (left_leaf c) inner (omega arith) (inl (refl, subst (λ k. IsTold v (Info c field.LeftLeafKey k)) lesser h.left_key))
+      one_never (left_leaf c) (omega arith)
+      (unused_dead (left_leaf c) inner (omega arith) (inl (refl, subst (λ k. IsTold v (Info c field.LeftLeafKey k)) lesser h.left_key)))
 
 -- what was known of the card of an insert or a swap when its flag stood is known once it is over
 pub has_put : (f m : View) (c : ℕ) (op : Op) (what : Put) (place : Place) → put_of op ≡ Some what → LosesNothing f m → Does f op → m.worker.card ≡ Some c

@@ -36,7 +36,7 @@ use Rattle.ell_core.specs.declared.fact.Fact.{Fact}
 use Rattle.ell_tree.specs.Searches.{AtRoot, seen_any, below, KnowsPassed, EndWasUnknownAt, EndsAbove, MayPass, FitsBelow, Stands, IsAt, there_at, EndsAt, HasSearched}
 use Rattle.ell_tree.specs.Counts.{HasUncounted}
 use Rattle.ell_tree.proofs.lemmas.Counts.{uncounted_one, uncounted_trans}
-use Rattle.ell_tree.proofs.lemmas.Links.{link_same}
+use Rattle.ell_tree.proofs.lemmas.Links.{link_same, word_node}
 use Rattle.ell_tree.proofs.lemmas.Keeping.{keeps_but_search_none, keeps_but_search_unseen, keeps_but_search_trans, upd_keeps, key_of_keeps, value_of_keeps, down_keeps, seen_kept, place_told}
 
 -- an update is read in a step, and so are a key and a value
@@ -85,10 +85,10 @@ module _ (a b e : PassModel) (x : ℕ) (u : Update) (l : Link) (read : Sees a b 
 
   pub descend_search : IsLink l → e.view.worker.search ≡ below l.node (record { node = x; update = u; tag = l.tag }) a.view.worker.search.parent
   descend_search small = ap (λ (v : View). v.worker.search) gone_view
-      ∙ ap (λ (m : Link). below m.node (record { node = x; update = u; tag = m.tag }) a.view.worker.search.parent) (link_same l small.node)
+      ∙ ap (λ (m : Link). below m.node (record { node = x; update = u; tag = m.tag }) a.view.worker.search.parent) (link_same l (word_node l small))
 
   pub descend_met : IsLink l → IsTold e.view (Met l.node)
-  descend_met small = subst (λ (m : Link). IsTold e.view (Met m.node)) (link_same l small.node)
+  descend_met small = subst (λ (m : Link). IsTold e.view (Met m.node)) (link_same l (word_node l small))
       (subst (λ (v : View). IsTold v (Met (link_in (linked l)).node)) (sym gone_view) (latest _ _))
 
   pub descend_deeper : IsLink l → depth_of a.view x < depth_of e.view l.node
@@ -96,7 +96,7 @@ module _ (a b e : PassModel) (x : ℕ) (u : Update) (l : Link) (read : Sees a b 
       let first = after_upd x u a.view in
       let still = depth_more a.view.told first.told (places_more x u.state u.card a.view.told) x in
       let deep = went_deeper first e.view (after_down x (linked l) first) x (link_in (linked l)).node l.node gone_view
-      (ap (λ (m : Link). m.node) (link_same l small.node)) refl in
+      (ap (λ (m : Link). m.node) (link_same l (word_node l small))) refl in
       omega arith
 
   pub descend_passed : (cards : ℕ) → IsLink l → IsInnerMet cards a.view x → u.card ≤ cards → KnowsPassed cards e.view (record { node = x; update = u; tag = l.tag })

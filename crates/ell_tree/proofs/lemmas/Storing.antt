@@ -1,11 +1,13 @@
-use Rattle.std.proofs.Common.{◌≡◌, ℕ, ◌+◌, if◌then◌else◌, nat_lt, min, max, Bool, true, false, true≢false, List, [], ◌∷◌, Some, refl, sym, ◌∙◌, ap, subst, arith}
+use Rattle.std.proofs.Common.{◌≡◌, ℕ, ◌+◌, ◌<◌, ◌%◌, ◌^◌, if◌then◌else◌, nat_lt, min, max, Bool, true, true≢false, List, [], ◌∷◌, Some, refl, sym, ◌∙◌, ap, subst, arith}
 use Rattle.ell_layout.specs.declared.field.Field.{Field}
 use Rattle.ell_layout.specs.declared.field.Field.TheVariants as field
-use Rattle.ell_word.specs.Link.{linked}
+use Rattle.ell_word.specs.declared.link.Link.{Link}
+use Rattle.ell_word.specs.Link.{IsLink, linked, tag_unit}
 use Rattle.ell_layout.specs.Cards.{clean, stored, put_filling, left_of_card, right_of_card, delete_filling}
 use Rattle.ell_cards.specs.declared.view.View.{View}
 use Rattle.ell_cards.specs.Models.{PassModel, Steps, Has, latest, earlier, stored_at}
 use Rattle.ell_cards.specs.Sayings.{put_says, delete_says}
+use Rattle.ell_cards.specs.Shown.{shown_words}
 use Rattle.ell_cards.specs.Stepping.{IsWholeIn}
 use Rattle.ell_cards.specs.Changes.{after_fill, tagged, with_stores}
 use Rattle.ell_cards.proofs.lemmas.views.Steps.{view_after}
@@ -54,23 +56,35 @@ insert_words parent below node_key lesser greater left right update left_value r
     (field.RightValue, right_value) ∷ (field.LeftValue, left_value) ∷ (field.RightLeafKey, greater) ∷ (field.LeftLeafKey, lesser)
     ∷ (field.Update, update) ∷ (field.Right, right) ∷ (field.Left, left) ∷ (field.Key, node_key) ∷ (field.L, below) ∷ (field.P, parent) ∷ []
 
+-- a node in 43 bits is its own low bits
+pub low_node : (x : ℕ) → x < tag_unit → x % 8796093022208 ≡ x
+low_node x small = omega (arith, small)
+
+-- the number of a link that has a word is that word
+pub whole_word : (l : Link) → IsLink l → linked l % 2 ^ 64 ≡ linked l
+whole_word l small = let node = small.node in let tag = small.tag in omega (arith, node, tag)
+
+-- what a child word holds of a node with tag 0
+abbrev pub bare : ℕ → ℕ
+bare node = linked (record { node = node; tag = 0 }) % 2 ^ 64
+
 -- it is what the card is to say
-stored_of_insert : (c k value node_key parent below tag below_key below_value : ℕ) (f : Field)
-    → stored_at (insert_words parent (linked (record { node = below; tag = tag })) node_key (min k below_key) (max k below_key) (left_of_card c k below below_key)
-    (right_of_card c k below below_key) (clean 0) (if nat_lt k below_key then value else below_value) (if nat_lt k below_key then below_value else value)) f
-    ≡ stored (tagged tag (put_filling c k value node_key parent below below_key below_value)) f 0
-stored_of_insert c k value node_key parent below tag below_key below_value field.Gp = refl
-stored_of_insert c k value node_key parent below tag below_key below_value field.P = refl
-stored_of_insert c k value node_key parent below tag below_key below_value field.L = refl
-stored_of_insert c k value node_key parent below tag below_key below_value field.Was = refl
-stored_of_insert c k value node_key parent below tag below_key below_value field.Key = refl
-stored_of_insert c k value node_key parent below tag below_key below_value field.Left = refl
-stored_of_insert c k value node_key parent below tag below_key below_value field.Right = refl
-stored_of_insert c k value node_key parent below tag below_key below_value field.Update = refl
-stored_of_insert c k value node_key parent below tag below_key below_value field.LeftLeafKey = refl
-stored_of_insert c k value node_key parent below tag below_key below_value field.RightLeafKey = refl
-stored_of_insert c k value node_key parent below tag below_key below_value field.LeftValue = refl
-stored_of_insert c k value node_key parent below tag below_key below_value field.RightValue = refl
+stored_of_insert : (c k value node_key parent below tag below_key below_value : ℕ) → parent < tag_unit → IsLink (record { node = below; tag = tag }) → (f : Field)
+    → stored_at (insert_words parent (linked (record { node = below; tag = tag })) node_key (min k below_key) (max k below_key) (bare (left_of_card c k below below_key))
+    (bare (right_of_card c k below below_key)) (clean 0) (if nat_lt k below_key then value else below_value) (if nat_lt k below_key then below_value else value)) f
+    ≡ stored (shown_words (tagged tag (put_filling c k value node_key parent below below_key below_value))) f 0
+stored_of_insert c k value node_key parent below tag below_key below_value small link field.Gp = refl
+stored_of_insert c k value node_key parent below tag below_key below_value small link field.P = sym (low_node parent small)
+stored_of_insert c k value node_key parent below tag below_key below_value small link field.L = sym (whole_word (record { node = below; tag = tag }) link)
+stored_of_insert c k value node_key parent below tag below_key below_value small link field.Was = refl
+stored_of_insert c k value node_key parent below tag below_key below_value small link field.Key = refl
+stored_of_insert c k value node_key parent below tag below_key below_value small link field.Left = refl
+stored_of_insert c k value node_key parent below tag below_key below_value small link field.Right = refl
+stored_of_insert c k value node_key parent below tag below_key below_value small link field.Update = refl
+stored_of_insert c k value node_key parent below tag below_key below_value small link field.LeftLeafKey = refl
+stored_of_insert c k value node_key parent below tag below_key below_value small link field.RightLeafKey = refl
+stored_of_insert c k value node_key parent below tag below_key below_value small link field.LeftValue = refl
+stored_of_insert c k value node_key parent below tag below_key below_value small link field.RightValue = refl
 
 -- a card of which all that it is to say was stored is filled
 fills : (a b : PassModel) (n : ℕ) (stores says : List (Field × ℕ)) → Stores a b stores n → a.view.planned ≡ says
@@ -104,16 +118,16 @@ said_of_insert parent word node_key lesser greater left right update left_value 
 -- an insert's card is filled by ten stores
 module _ (a b : PassModel) (parent word node_key lesser greater left right update left_value right_value : ℕ)
     (h : Stores a b (insert_words parent word node_key lesser greater left right update left_value right_value) 10) where
-  pub fills_insert : (c k value below tag below_key below_value : ℕ)
-      → a.view.planned ≡ tagged tag (put_filling c k value node_key parent below below_key below_value)
+  pub fills_insert : (c k value below tag below_key below_value : ℕ) → parent < tag_unit → IsLink (record { node = below; tag = tag })
+      → a.view.planned ≡ shown_words (tagged tag (put_filling c k value node_key parent below below_key below_value))
       → word ≡ linked (record { node = below; tag = tag })
-      → lesser ≡ min k below_key → greater ≡ max k below_key → left ≡ left_of_card c k below below_key → right ≡ right_of_card c k below below_key → update ≡ clean 0
+      → lesser ≡ min k below_key → greater ≡ max k below_key → left ≡ bare (left_of_card c k below below_key) → right ≡ bare (right_of_card c k below below_key) → update ≡ clean 0
       → left_value ≡ (if nat_lt k below_key then value else below_value) → right_value ≡ (if nat_lt k below_key then below_value else value)
       → Fills a b 10
-  fills_insert c k value below tag below_key below_value says w low high l r u lv rv =
-      fills a b 10 _ (tagged tag (put_filling c k value node_key parent below below_key below_value)) h says
+  fills_insert c k value below tag below_key below_value small link says w low high l r u lv rv =
+      fills a b 10 _ (shown_words (tagged tag (put_filling c k value node_key parent below below_key below_value))) h says
       (λ f. (λ t. stored_at (insert_words parent (w t) node_key (low t) (high t) (l t) (r t) (u t) (lv t) (rv t)) f)
-      ∙ stored_of_insert c k value node_key parent below tag below_key below_value f)
+      ∙ stored_of_insert c k value node_key parent below tag below_key below_value small link f)
 
   -- and then it is whole
   pub whole_insert : (c : ℕ) → a.slot ≡ Some c → IsWholeIn b c put_says
@@ -123,21 +137,21 @@ module _ (a b : PassModel) (parent word node_key lesser greater left right updat
 abbrev pub delete_words : ℕ → ℕ → ℕ → ℕ → List (Field × ℕ)
 delete_words grandparent parent leaf was = (field.Was, was) ∷ (field.L, leaf) ∷ (field.P, parent) ∷ (field.Gp, grandparent) ∷ []
 
-stored_of_delete : (grandparent parent leaf tag was : ℕ) (f : Field)
+stored_of_delete : (grandparent parent leaf tag was : ℕ) → grandparent < tag_unit → parent < tag_unit → IsLink (record { node = leaf; tag = tag }) → (f : Field)
     → stored_at (delete_words grandparent parent (linked (record { node = leaf; tag = tag })) was) f
-    ≡ stored (tagged tag (delete_filling grandparent parent leaf was)) f 0
-stored_of_delete grandparent parent leaf tag was field.Gp = refl
-stored_of_delete grandparent parent leaf tag was field.P = refl
-stored_of_delete grandparent parent leaf tag was field.L = refl
-stored_of_delete grandparent parent leaf tag was field.Was = refl
-stored_of_delete grandparent parent leaf tag was field.Key = refl
-stored_of_delete grandparent parent leaf tag was field.Left = refl
-stored_of_delete grandparent parent leaf tag was field.Right = refl
-stored_of_delete grandparent parent leaf tag was field.Update = refl
-stored_of_delete grandparent parent leaf tag was field.LeftLeafKey = refl
-stored_of_delete grandparent parent leaf tag was field.RightLeafKey = refl
-stored_of_delete grandparent parent leaf tag was field.LeftValue = refl
-stored_of_delete grandparent parent leaf tag was field.RightValue = refl
+    ≡ stored (shown_words (tagged tag (delete_filling grandparent parent leaf was))) f 0
+stored_of_delete grandparent parent leaf tag was high small link field.Gp = sym (low_node grandparent high)
+stored_of_delete grandparent parent leaf tag was high small link field.P = sym (low_node parent small)
+stored_of_delete grandparent parent leaf tag was high small link field.L = sym (whole_word (record { node = leaf; tag = tag }) link)
+stored_of_delete grandparent parent leaf tag was high small link field.Was = refl
+stored_of_delete grandparent parent leaf tag was high small link field.Key = refl
+stored_of_delete grandparent parent leaf tag was high small link field.Left = refl
+stored_of_delete grandparent parent leaf tag was high small link field.Right = refl
+stored_of_delete grandparent parent leaf tag was high small link field.Update = refl
+stored_of_delete grandparent parent leaf tag was high small link field.LeftLeafKey = refl
+stored_of_delete grandparent parent leaf tag was high small link field.RightLeafKey = refl
+stored_of_delete grandparent parent leaf tag was high small link field.LeftValue = refl
+stored_of_delete grandparent parent leaf tag was high small link field.RightValue = refl
 
 -- all that a delete's card says is among it
 said_of_delete : (grandparent parent leaf was : ℕ) (f : Field) → delete_says f ≡ true → (x : ℕ) × Has (delete_words grandparent parent leaf was) (f, x)
@@ -156,11 +170,12 @@ said_of_delete grandparent parent leaf was field.RightValue is = absurd (true≢
 
 -- it is filled by four stores
 module _ (a b : PassModel) (grandparent parent word was : ℕ) (h : Stores a b (delete_words grandparent parent word was) 4) where
-  pub fills_delete : (leaf tag read : ℕ) → a.view.planned ≡ tagged tag (delete_filling grandparent parent leaf read)
+  pub fills_delete : (leaf tag read : ℕ) → grandparent < tag_unit → parent < tag_unit → IsLink (record { node = leaf; tag = tag })
+      → a.view.planned ≡ shown_words (tagged tag (delete_filling grandparent parent leaf read))
       → word ≡ linked (record { node = leaf; tag = tag }) → was ≡ read → Fills a b 4
-  fills_delete leaf tag read says w r =
-      fills a b 4 _ (tagged tag (delete_filling grandparent parent leaf read)) h says
-      (λ f. (λ t. stored_at (delete_words grandparent parent (w t) (r t)) f) ∙ stored_of_delete grandparent parent leaf tag read f)
+  fills_delete leaf tag read high small link says w r =
+      fills a b 4 _ (shown_words (tagged tag (delete_filling grandparent parent leaf read))) h says
+      (λ f. (λ t. stored_at (delete_words grandparent parent (w t) (r t)) f) ∙ stored_of_delete grandparent parent leaf tag read high small link f)
 
   -- and then it is whole
   pub whole_delete : (c : ℕ) → a.slot ≡ Some c → IsWholeIn b c delete_says

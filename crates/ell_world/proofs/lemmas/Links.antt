@@ -1,11 +1,12 @@
 use Rattle.std.proofs.Common.{◌≡◌, ℕ, ◌<◌, Bool, List, sym, ap, ◌∙◌}
-use Rattle.ell_word.specs.Link.{tag_unit, linked, link_in}
+use Rattle.ell_word.specs.Link.{node_bound, linked, link_in}
 use Rattle.ell_word.specs.Node.{IsInternal, card}
 use Rattle.ell_layout.specs.declared.field.Field.{Field}
 use Rattle.ell_layout.specs.declared.field.Field.TheVariants.{L}
 use Rattle.ell_layout.specs.Words.{Words, word, table_word, table_written, with_child, with_tag, child_field, words_of}
 use Rattle.ell_layout.proofs.lemmas.Listed.{listed_small}
-use Rattle.ell_layout.proofs.lemmas.Writes.{child_word_at_node, child_written, link_back}
+use Rattle.ell_layout.proofs.lemmas.Writes.{child_word_at_node, child_written}
+use Rattle.ell_word.proofs.Numbers.{link_back}
 
 -- what a list says at a child of an internal node is the child with its tag
 pub child_link_is : (words : List ℕ) (node : ℕ) (right : Bool) → IsInternal node
@@ -21,7 +22,7 @@ pub leaf_link_is : (words : List ℕ) (c : ℕ)
 leaf_link_is words c = link_back ((words_of words).l c) ((words_of words).expects c) ((listed_small words).l c)
 
 -- the words after a write of a child word
-pub child_is_written : (w after : Words) (node : ℕ) (right : Bool) (child tag c value : ℕ) (field : Field) → IsInternal node → child < tag_unit
+pub child_is_written : (w after : Words) (node : ℕ) (right : Bool) (child tag c value : ℕ) (field : Field) → IsInternal node → child < node_bound
     → after ≡ table_written w c field value → c ≡ card node → field ≡ child_field right → value ≡ linked (record { node = child; tag = tag })
     → after ≡ with_tag (with_child w node right child) node right tag
 child_is_written w after node right child tag c value field inner small is card_is field_is value_is =

@@ -1,6 +1,7 @@
 -- Call by call: what a pass is told since was there then.
 use Rattle.ell_cards.proofs.lemmas.runs.Touching.{calls_touch_their_words, tables_have_outs, calls_touch_nothing_gone, known_taken_out_is_gone}
 use Rattle.ell_cards.proofs.lemmas.runs.Alive.{tables_have_uses, turns_keep_dead, calls_touch_nothing_dead, calls_touch_no_dead_card, known_never_comes, known_dead_is_dead, one_card_tells}
+use Rattle.ell_cards.proofs.lemmas.runs.Named.{passes_name_met}
 use Rattle.ell_cards.proofs.lemmas.runs.SmallRun.{look_begins_when_gone, dead_is_known}
 use Rattle.ell_cards.proofs.lemmas.ties.Touched.{calls_touch_no_card_aside}
 use Rattle.ell_cards.proofs.lemmas.whole.Rests.{rest_touches_the_root}
@@ -23,4 +24,5 @@ returns c = record {
   once = one_card_tells;
   known = dead_is_known;
   aside = calls_touch_no_card_aside;
+  named = passes_name_met;
 }

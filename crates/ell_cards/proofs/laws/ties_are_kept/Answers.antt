@@ -6,6 +6,7 @@ use Rattle.ell_cards.proofs.lemmas.ties.Periods.{periods_keep_ties}
 use Rattle.ell_cards.proofs.lemmas.ties.TakingSlots.{takes_keep_ties}
 use Rattle.ell_cards.proofs.lemmas.ties.Owning.{own_slots_keep_ties}
 use Rattle.ell_cards.proofs.lemmas.ties.Few.{few_in_slots}
+use Rattle.ell_cards.proofs.lemmas.whole.Apart.{passes_tell_apart, children_are_apart}
 use Rattle.ell_cards.proofs.laws.ties_are_kept.Goals as goal
 
 pub returns : goal.returns
@@ -19,4 +20,6 @@ returns c = record {
   opens = openings_are_tied;
   few = few_in_slots;
   near = expected_links_are_near;
+  apart = passes_tell_apart;
+  children = children_are_apart;
 }

@@ -2,6 +2,7 @@ use Rattle.std.proofs.Common.{eqb-true, ◌≡◌, ℕ, ◌<◌, ◌≤◌, ◌�
 use mathlib.Core.Option.{some}
 use lib.ListN.{get_elem?}
 use Rattle.ell_word.specs.Node.{card, internal, left_leaf, right_leaf}
+use Rattle.ell_word.specs.Link.{node_bound}
 use Rattle.ell_word.specs.Word.{unpacked}
 use Rattle.ell_layout.specs.Cards.{card_key, card_value, is_delete_card, is_replace_card}
 use Rattle.ell_layout.specs.declared.field.Field.{Field}
@@ -15,7 +16,7 @@ use Rattle.ell_core.specs.history.Later.{SaysTheSame}
 use Rattle.ell_core.specs.statements.StepLaws.{GoesInTree}
 use Rattle.ell_core.specs.statements.Effects.{SamePairs, op_of_card}
 use Rattle.ell_layout.proofs.lemmas.Listed.{words_are_listed, listed_next, listed_flat, listed_small}
-use Rattle.ell_layout.proofs.lemmas.Writes.{same_links}
+use Rattle.ell_word.proofs.Numbers.{same_links}
 use Rattle.ell_core.proofs.lemmas.following.Reliance.{may_rely}
 use Rattle.ell_core.proofs.lemmas.following.Sound.{sound}
 use Rattle.ell_core.proofs.lemmas.following.waiting.Cards.{flagged_made}
@@ -54,18 +55,18 @@ module _ (plan : TablePlan) (s : TableState) (r : HasMachine plan s) where
   pub same_flat : (own_words s).flat_from ≡ r.words.flat_from
   same_flat = listed_flat s.words ∙ r.flat
 
-  -- a node that came into the tree fits beside a tag
-  node_is_small : (x : ℕ) → Born r.stages x → x < 8796093022208
+  -- the number of a node that came into the tree is below the bound
+  node_is_small : (x : ℕ) → Born r.stages x → x < node_bound
   node_is_small x born =
       let below = born_below r.words r.stages r.invariant.words x born in let most = r.invariant.limit in let limit = r.limit in omega arith
 
   -- so does each node of a claimed card
-  own_is_small : (c x : ℕ) → is_claimed (r.stages c) ≡ true → x ≤ right_leaf c → x < 8796093022208
+  own_is_small : (c x : ℕ) → is_claimed (r.stages c) ≡ true → x ≤ right_leaf c → x < node_bound
   own_is_small c x claimed low =
       let below = (r.invariant.words.cards c).claimed.0 claimed in let most = r.invariant.limit in let limit = r.limit in omega arith
 
   -- so do the children of a card's node that came into the tree
-  born_child_is_small : (c : ℕ) (right : Bool) → is_node_born (r.stages c) 0 ≡ true → r.words.child (internal c) right < 8796093022208
+  born_child_is_small : (c : ℕ) (right : Bool) → is_node_born (r.stages c) 0 ≡ true → r.words.child (internal c) right < node_bound
   born_child_is_small c right born =
       let same : card (internal c) ≡ c = omega arith in
       let inner : internal c % 4 ≡ 0 = omega arith in
@@ -77,27 +78,27 @@ module _ (plan : TablePlan) (s : TableState) (r : HasMachine plan s) where
   filled_cases w c false = one_of_two (w.l c % 4 == 0 && nat_le (w.key (w.l c)) (insert_key w c)) (w.l c) (left_leaf c) (right_leaf c) (omega arith)
   filled_cases w c true = one_of_two (w.l c % 4 == 0 && nat_lt (insert_key w c) (w.key (w.l c))) (w.l c) (right_leaf c) (right_leaf c) (omega arith)
 
-  -- what a card says fits beside a tag
+  -- what a card says is below the bound
   module _ (c : ℕ) where
     -- where it was not claimed, it says 0
-    blank_is_small : is_claimed (r.stages c) ≡ false → (x : ℕ) → x ≡ 0 → x < 8796093022208
+    blank_is_small : is_claimed (r.stages c) ≡ false → (x : ℕ) → x ≡ 0 → x < node_bound
     blank_is_small unclaimed x is = omega (arith, is)
 
     -- the children of an insert's card came into the tree, or are its own leaves
-    insert_child_is_small : is_insert (r.stages c) ≡ true → (right : Bool) → r.words.child (internal c) right < 8796093022208
+    insert_child_is_small : is_insert (r.stages c) ≡ true → (right : Bool) → r.words.child (internal c) right < node_bound
     insert_child_is_small inserts right = by (is_born (r.stages c)) refl right
       where
-        by : (b : Bool) → is_born (r.stages c) ≡ b → (right : Bool) → r.words.child (internal c) right < 8796093022208
+        by : (b : Bool) → is_born (r.stages c) ≡ b → (right : Bool) → r.words.child (internal c) right < node_bound
         by true born right = born_child_is_small c right (all-born (r.stages c) 0 (omega arith) born)
         by false unborn right = elim (filled_cases r.words c right) [
           | inl own ↦ (let is = ((r.invariant.words.cards c).unborn inserts unborn).children right in
               own_is_small c (r.words.child (internal c) right) (insert-claimed (r.stages c) inserts) (omega (arith, is, own)))
-          | inr below ↦ subst (λ x. x < 8796093022208) (sym (((r.invariant.words.cards c).unborn inserts unborn).children right ∙ below))
+          | inr below ↦ subst (λ x. x < node_bound) (sym (((r.invariant.words.cards c).unborn inserts unborn).children right ∙ below))
               (node_is_small (r.words.l c) ((r.invariant.words.cards c).insert inserts).lower)
         ]
 
     -- the leaf where it goes
-    goes_small : r.words.l c < 8796093022208
+    goes_small : r.words.l c < node_bound
     goes_small = elim (stage_kinds (r.stages c)) [
       | inl unclaimed ↦ blank_is_small unclaimed (r.words.l c) (((r.invariant.words.cards c).blank unclaimed).words field.L)
       | inr (inl start) ↦ (let is = (r.invariant.kinds.start c start).leaf in omega (arith, is))
@@ -106,7 +107,7 @@ module _ (plan : TablePlan) (s : TableState) (r : HasMachine plan s) where
     ]
 
     -- the children of its node
-    child_is_small : (right : Bool) → r.words.child (internal c) right < 8796093022208
+    child_is_small : (right : Bool) → r.words.child (internal c) right < node_bound
     child_is_small right = elim (stage_kinds (r.stages c)) [
       | inl unclaimed ↦ by_blank right unclaimed
       | inr (inl start) ↦ born_child_is_small c right (start-born (r.stages c) 0 (omega arith) start)
@@ -114,11 +115,11 @@ module _ (plan : TablePlan) (s : TableState) (r : HasMachine plan s) where
       | inr (inr (inr deletes)) ↦ by_delete right deletes
     ]
       where
-        by_blank : (right : Bool) → is_claimed (r.stages c) ≡ false → r.words.child (internal c) right < 8796093022208
+        by_blank : (right : Bool) → is_claimed (r.stages c) ≡ false → r.words.child (internal c) right < node_bound
         by_blank true unclaimed = blank_is_small unclaimed (r.words.child (internal c) true) (((r.invariant.words.cards c).blank unclaimed).words field.Right)
         by_blank false unclaimed = blank_is_small unclaimed (r.words.child (internal c) false) (((r.invariant.words.cards c).blank unclaimed).words field.Left)
 
-        by_delete : (right : Bool) → is_delete (r.stages c) ≡ true → r.words.child (internal c) right < 8796093022208
+        by_delete : (right : Bool) → is_delete (r.stages c) ≡ true → r.words.child (internal c) right < node_bound
         by_delete true deletes = let is = ((r.invariant.words.cards c).delete deletes).no_right_child in omega (arith, is)
         by_delete false deletes = let is = ((r.invariant.words.cards c).delete deletes).no_left_child in omega (arith, is)
 

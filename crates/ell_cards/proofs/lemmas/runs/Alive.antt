@@ -49,14 +49,14 @@ use Rattle.ell_cards.proofs.lemmas.runs.Starting.{starts_are_kept}
 use Rattle.ell_cards.proofs.lemmas.runs.Touching.{calls_touch_their_words, NodesWere, Touches, touches_on, leads_on, run_comes, handed_over, none_out, known_takes_out, known_taken_out_is_gone, nothing_out}
 
 -- what is used is sound, and what was not dead
-abbrev used : (m : Machine) (stage : Stages) (now : Machine) → ComesFrom m stage now → Type 0
+abbrev pub used : (m : Machine) (stage : Stages) (now : Machine) → ComesFrom m stage now → Type 0
 used m stage now from = UsesAreSound now.words from.stages
 
 -- it is a node
-abbrev was : (m : Machine) (stage : Stages) → ℕ → Type 0
+abbrev pub was : (m : Machine) (stage : Stages) → ℕ → Type 0
 was m stage x = (¬ IsDead m.words stage x) × IsNode x
 
-not_dead : (m : Machine) (stage : Stages) → Invariant m stage → NodesWere m stage (used m stage) (was m stage)
+pub not_dead : (m : Machine) (stage : Stages) → Invariant m stage → NodesWere m stage (used m stage) (was m stage)
 not_dead m stage first = record {
   stays = λ x alive gone. alive.0 (inl gone);
   inner = λ now from kept x inner born stays. (

@@ -179,9 +179,9 @@ stretch_there plan v low high said found s starts turns s' run seat there =
     (λ from kept to call more after on. stretches_of_one_state plan v low high said found from kept seat to call more s' after on there)
 
 pub stretches_are_of_one_state : StretchesAreOfOneState
-stretches_are_of_one_state plan v low high said found s starts turns s' run seat w is there =
+stretches_are_of_one_state plan v low high said found s starts turns s' run seat w is apart there =
     stretch_there plan w low high said
-    (found_between_whole (flat_from plan) w low high said (subst (λ u. HasFoundBetween (flat_from plan) u low high said) (sym is) found))
+    (found_between_whole plan w apart low high said (subst (λ u. HasFoundBetween (flat_from plan) u low high said) (sym is) found))
     s starts turns s' run seat there
 
 -- of two looks, one after the other, the second is of no earlier state
@@ -229,8 +229,8 @@ look_there plan v key said found s starts turns s' run seat there =
     (λ from kept to call more after on. look_of_one_state plan v key said found from kept seat to call more s' after on there)
 
 pub looks_are_of_one_state : LooksAreOfOneState
-looks_are_of_one_state plan v key said found s starts turns s' run seat w is there =
-    look_there plan w key said (found_whole w key said (subst (λ u. HasFound u key said) (sym is) found)) s starts turns s' run seat there
+looks_are_of_one_state plan v key said found s starts turns s' run seat w is apart there =
+    look_there plan w key said (found_whole plan w apart key said (subst (λ u. HasFound u key said) (sym is) found)) s starts turns s' run seat there
 
 -- and with a key that it has found missing
 pub missing_in_one_state : (plan : TablePlan) (v : View) (key : ℕ) → HasMissed (flat_from plan) v key → IsFoundThere plan v (HasThere key None)

@@ -19,7 +19,7 @@ use Rattle.ell_cards.specs.Machines.{HasMachine}
 use Rattle.ell_cards.specs.Turns.{Turn, Makes, TableTurns, TableRun, found_by, view_after, state_after}
 use Rattle.ell_cards.specs.Starts.{MayStart, Starts, IsReached, RunFromStart}
 use Rattle.ell_cards.specs.Looking.{KeysAreFixed, ValuesAreFixed}
-use Rattle.ell_cards.specs.Shown.{cut_word, shown, shown_call}
+use Rattle.ell_cards.specs.Shown.{cut_by, shown, shown_call, IsNoClaim}
 use Rattle.ell_cards.specs.Naming.{IsPlaced}
 use Rattle.ell_cards.specs.Stepping.{MayTell, IsTaken}
 use Rattle.ell_cards.proofs.lemmas.seats.Seats.{set_there}
@@ -110,20 +110,25 @@ module _ (plan : TablePlan) where
         shallow = kept_shallow plan s' (reached_kept s' on) id w there;
       }
 
+  -- a call that claims no card is not shown as one that does
+  plain_whole : (c : Call) → IsNoClaim (shown_call c) → IsNoClaim c
+  plain_whole (call.Claim c node_key) plain = plain
+  plain_whole _ plain = tt
+
   -- so it is of what is shown of the pass
-  pub calls_tell : (c : Call) (v : View) → MayTell plan c v (IsTaken plan c v)
-  calls_tell c v s h id w here is whole same may can placed =
+  pub calls_tell : (c : Call) (v : View) → IsNoClaim c → MayTell plan c v (IsTaken plan c v)
+  calls_tell c v plain s h id w here is apart whole same may can placed later =
       let n = found_by s whole in
       let now = view_after s w whole in
-      subst (λ (d : Call). IsTaken plan d v (cut_word n) (shown now)) same
-      (subst (λ (u : View). IsTaken plan (shown_call whole) u (cut_word n) (shown now)) is
-      (takings_are_shown plan whole w n now can (calls_leave whole w may s h id here placed)))
+      subst (λ (d : Call). IsTaken plan d v (cut_by whole n) (shown now)) same
+      (subst (λ (u : View). IsTaken plan (shown_call whole) u (cut_by whole n) (shown now)) is
+      (takings_are_shown plan whole w n now (plain_whole whole (subst IsNoClaim (sym same) plain)) apart later may can (calls_leave whole w may s h id here placed)))
 
   -- a fill tells nothing of what it found
   pub fill_tells : (c : ℕ) (f : Field) (value : ℕ) (v : View)
       → MayTell plan (call.Fill c f value) v (λ n. IsTaken plan (call.Fill c f value) v value)
-  fill_tells c f value v s h id w here is whole same may can placed =
-      let t = calls_tell (call.Fill c f value) v s h id w here is whole same may can placed in record {
+  fill_tells c f value v s h id w here is apart whole same may can placed later =
+      let t = calls_tell (call.Fill c f value) v tt s h id w here is apart whole same may can placed later in record {
         view = t.view;
         tells = tt;
         own = t.own;

@@ -45,8 +45,8 @@ abbrev pub TellsStory : TablePlan → View → ℕ → View → Type 0
 TellsStory plan v n w = IsTaken plan call.Next v n w × HasStory plan w
 
 pub may_tell : (plan : TablePlan) (v : View) → MayTell plan call.Next v (TellsStory plan v)
-may_tell plan v s h id w here is whole same may can placed = (
-  calls_tell plan call.Next v s h id w here is whole same may can placed,
+may_tell plan v s h id w here is apart whole same may can placed later = (
+  calls_tell plan call.Next v tt s h id w here is apart whole same may can placed later,
   (let now = view_after s w whole in
       story_shown plan now (stories_are_told plan _ (call_on plan s h id whole w here may) id now (set_there s.views id now w here))),
 )

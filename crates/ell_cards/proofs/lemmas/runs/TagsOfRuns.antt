@@ -1,4 +1,4 @@
-use Rattle.std.proofs.Common.{◌≡◌, ℕ, nat_le, Bool, true, false, Option, Some, None, List, [], ◌∷◌, ◌++◌, get_or, inl, inr, refl, sym, ap, ◌∙◌, subst}
+use Rattle.std.proofs.Common.{◌≡◌, ℕ, nat_le, Bool, true, false, Option, Some, None, List, [], ◌∷◌, ◌++◌, get_or, inl, inr, refl, sym, ap, ◌∙◌, subst, arith}
 use Rattle.std.proofs.lemmas.List.{append_assoc}
 use mathlib.Core.Option.{some}
 use lib.ListN.{get_elem?}
@@ -16,11 +16,12 @@ use Rattle.ell_layout.specs.declared.field.Field.TheVariants as field
 use Rattle.ell_layout.specs.Cards.{sibling}
 use Rattle.ell_core.specs.state.Machine.{Machine, Worker}
 use Rattle.ell_core.specs.state.Facts.{card_of_fact}
-use Rattle.ell_core.specs.history.Stages.{Stages, allows}
+use Rattle.ell_core.specs.history.Stages.{Stages, allows, insert_waits, delete_waits}
 use Rattle.ell_core.specs.history.Invariant.{insert_side, delete_side, Invariant}
 use Rattle.ell_core.specs.history.Later.{WordsLater, StagesLater, wins_of}
 use Rattle.ell_core.specs.statements.Since.{has_ended}
 use Rattle.ell_core.proofs.lemmas.keeping.AllEvents.{steps_follow}
+use Rattle.ell_core.proofs.lemmas.stages.Order.{marked_cases, waits_or_changed}
 use Rattle.ell_core.proofs.lemmas.stages.Advances.{stages_same, wins_same}
 use Rattle.ell_core.proofs.lemmas.runs.Chains.{stages_later}
 use Rattle.ell_core.proofs.lemmas.following.Lawful.{splits_lawful, joins_lawful}
@@ -166,11 +167,13 @@ tables_have_tags plan s h =
     let to = ran.1.to in
     (ran.0, record { outs = record { stages = to.stages; invariant = to.invariant; outs = to.outs }; tags = ran.1.tags.sound })
 
--- the child word in the table's place is the machine's, and its tag is a little more than this one
-pub record IsNear (plan : TablePlan) (stage : Stages) (now : TableState) (k : HasMachine plan now) (after : Stages) (x : ℕ) (right : Bool) (expects : ℕ)
+-- the child word in the table's place is the machine's; its tag is a little more than this one, or it is this one, and then its
+-- node is this one too
+pub record IsNear (plan : TablePlan) (stage : Stages) (now : TableState) (k : HasMachine plan now) (after : Stages) (x : ℕ) (right : Bool) (expects node : ℕ)
     : Type 0 where
   pub is : link_in (get_or now.words (child_address x right) 0) ≡ record { node = k.words.child x right; tag = k.words.tag x right }
   pub near : IsLittleMore stage k.words after x right expects
+  pub same : k.words.tag x right ≡ expects → k.words.child x right ≡ node
 
 -- a state that comes from an earlier one, in which each child exchange that the pass in the seat may make expects a tag near the
 -- one that it finds, and in which cards have won this since
@@ -180,16 +183,18 @@ pub record ExchangesAreNear (plan : TablePlan) (m : Machine) (has : HasTags m) (
   pub tags : TagsFrom m has.outs.stages (machine_of_table plan now machine) from
   pub wins : (d : ℕ) → wins_of (from.stages d) ≡ wins_of (has.outs.stages d) ++ won d
   pub insert : (v : View) → get_elem? now.views seat ≡ some v → (c p : ℕ) (l : Link) (replaces right : Bool) → MayIChild v c p l replaces right
-      → IsNear plan has.outs.stages now machine from.stages p right l.tag
+      → IsNear plan has.outs.stages now machine from.stages p right l.tag l.node
   pub delete : (v : View) → get_elem? now.views seat ≡ some v → (c gp : ℕ) (p : Link) (y : ℕ) (right : Bool) → MayDChild v c gp p y right
-      → IsNear plan has.outs.stages now machine from.stages gp right p.tag
+      → IsNear plan has.outs.stages now machine from.stages gp right p.tag p.node
 
 -- what is near at a place that is known by another name is near there
-near_at : (plan : TablePlan) (stage : Stages) (now : TableState) (k : HasMachine plan now) (after : Stages) (x y : ℕ) (right side : Bool) (expects tag : ℕ)
-    → x ≡ y → side ≡ right → expects ≡ tag → IsNear plan stage now k after x side expects → IsNear plan stage now k after y right tag
-near_at plan stage now k after x y right side expects tag node same word near =
-    subst (λ n. IsNear plan stage now k after n right tag) node
-    (subst (λ b. IsNear plan stage now k after x b tag) same (subst (λ n. IsNear plan stage now k after x side n) word near))
+near_at : (plan : TablePlan) (stage : Stages) (now : TableState) (k : HasMachine plan now) (after : Stages) (x y : ℕ) (right side : Bool) (expects tag node other : ℕ)
+    → x ≡ y → side ≡ right → expects ≡ tag → node ≡ other → IsNear plan stage now k after x side expects node → IsNear plan stage now k after y right tag other
+near_at plan stage now k after x y right side expects tag node other place same word below near =
+    subst (λ n. IsNear plan stage now k after n right tag other) place
+    (subst (λ b. IsNear plan stage now k after x b tag other) same
+    (subst (λ n. IsNear plan stage now k after x side n other) word
+    (subst (λ n. IsNear plan stage now k after x side expects n) below near)))
 
 -- From where a pass makes a call by which it forgets, on through any turns of any passes.
 module _ (plan : TablePlan) (s : TableState) (reached : IsReached plan s) (seat : ℕ) (begins : Call) (begun : TableState)
@@ -209,7 +214,7 @@ module _ (plan : TablePlan) (s : TableState) (reached : IsReached plan s) (seat 
 
   insert_near : (k : HasMachine plan now) (to : ComesFrom m has.outs.stages (machine_of_table plan now k)) → TagsFrom m has.outs.stages (machine_of_table plan now k) to
       → (v : View) → get_elem? now.views seat ≡ some v → (c p : ℕ) (l : Link) (replaces right : Bool) → MayIChild v c p l replaces right
-      → IsNear plan has.outs.stages now k to.stages p right l.tag
+      → IsNear plan has.outs.stages now k to.stages p right l.tag l.node
   insert_near k to tags v there c p l replaces right may =
       let w = k.words in
       let said = insert_flagged plan now k seat v there c may.knows in
@@ -218,15 +223,20 @@ module _ (plan : TablePlan) (s : TableState) (reached : IsReached plan s) (seat 
       sym (right_side w k.stages c said) ∙ ((λ t. nat_le ((ap w.key p_is ∙ told_key plan now k seat v there p may.parent_key may.told_parent) t)
       (told_is plan now k seat v there c field.RightLeafKey may.right_key may.told_right t)) ∙ sym may.side) in
       let un = unended v there c (record { knows = inl (may.knows, refl); place = (p, inl may.parent); fixed = refl }) in
-      near_at plan has.outs.stages now k to.stages (w.p c) p right (insert_side w c) (w.expects c) l.tag p_is side
-      (told_tag plan now k seat v there c l.tag may.expects) (record {
+      let l_is : w.l c ≡ l.node = told_is plan now k seat v there c field.L l.node may.leaf in
+      near_at plan has.outs.stages now k to.stages (w.p c) p right (insert_side w c) (w.expects c) l.tag (w.l c) l.node p_is side
+      (told_tag plan now k seat v there c l.tag may.expects) l_is (record {
         is = child_read plan now k seat v there (w.p c) (insert_side w c) said.parent.inner said.parent.born;
         near = (tags_lag_little m has.outs.stages (machine_of_table plan now k) to tags).insert c (allowed k to v there (fact.IFlagged c) may.knows) un;
+        same = λ tag. elim (waits_or_changed (to.stages c) (allowed k to v there (fact.IFlagged c) may.knows)) [
+          | inl waits ↦ (to.invariant.words.inserts c).waits (ap insert_waits waits)
+          | inr changed ↦ (let past = (to.invariant.words.inserts c).changed changed in absurd (omega (arith, past, tag)))
+        ];
       })
 
   delete_near : (k : HasMachine plan now) (to : ComesFrom m has.outs.stages (machine_of_table plan now k)) → TagsFrom m has.outs.stages (machine_of_table plan now k) to
       → (v : View) → get_elem? now.views seat ≡ some v → (c gp : ℕ) (p : Link) (y : ℕ) (right : Bool) → MayDChild v c gp p y right
-      → IsNear plan has.outs.stages now k to.stages gp right p.tag
+      → IsNear plan has.outs.stages now k to.stages gp right p.tag p.node
   delete_near k to tags v there c gp p y right may =
       let w = k.words in
       let said = known_delete plan now k seat v there c (inr may.knows) in
@@ -239,10 +249,14 @@ module _ (plan : TablePlan) (s : TableState) (reached : IsReached plan s) (seat 
       sym ((to.invariant.words.deletes c).marked mark).side ∙ ((λ t. nat_le ((ap w.key gp_is ∙ told_key plan now k seat v there gp may.grandparent_key may.told_grandparent) t)
       ((ap w.key y_is ∙ told_key plan now k seat v there y may.sibling_key may.told_sibling) t)) ∙ sym may.side) in
       let un = unended v there c (record { knows = inr (inr may.knows, refl); place = (gp, inr may.grandparent); fixed = refl }) in
-      near_at plan has.outs.stages now k to.stages (w.gp c) gp right (delete_side w c) (w.expects c) p.tag gp_is side
-      (told_tag plan now k seat v there c p.tag may.expects) (record {
+      near_at plan has.outs.stages now k to.stages (w.gp c) gp right (delete_side w c) (w.expects c) p.tag (w.p c) p.node gp_is side
+      (told_tag plan now k seat v there c p.tag may.expects) p_is (record {
         is = child_read plan now k seat v there (w.gp c) (delete_side w c) said.grandparent.inner said.grandparent.born;
         near = (tags_lag_little m has.outs.stages (machine_of_table plan now k) to tags).delete c mark un;
+        same = λ tag. elim (marked_cases (to.stages c) mark) [
+          | inl waits ↦ (to.invariant.words.deletes c).waits (ap delete_waits waits)
+          | inr cut ↦ (let past = ((to.invariant.words.deletes c).cut cut).past in absurd (omega (arith, past, tag)))
+        ];
       })
 
   -- each child exchange that it may make expects a tag near the one that it finds

@@ -175,7 +175,7 @@ module _ (plan : TablePlan) (m : Machine) (stage : Stages) (first : Invariant m 
   since_on old new later (Frozen c right x) h = tt
 
   -- the root is in the tree
-  root_since : (now : Machine) (from : ComesFrom m stage now) → Kept now from → Since from.stages (Met 0)
+  pub root_since : (now : Machine) (from : ComesFrom m stage now) → Kept now from → Since from.stages (Met 0)
   root_since now from kept =
       let born = root_born now.words from.stages from.invariant.words in (
         born,
@@ -475,7 +475,7 @@ module _ (plan : TablePlan) (m : Machine) (stage : Stages) (first : Invariant m 
     told_anew _ anew e h = absurd (false≢true anew)
 
   -- a state in a run, and what the pass in a seat was told since
-  record Still (seat : ℕ) (s : TableState) : Type 0 where
+  pub record Still (seat : ℕ) (s : TableState) : Type 0 where
     pub reached : IsReached plan s
     pub machine : HasMachine plan s
     pub from : ComesFrom m stage (machine_of_table plan s machine)
@@ -558,15 +558,14 @@ module _ (plan : TablePlan) (m : Machine) (stage : Stages) (first : Invariant m 
   run_still seat s at [] now run = subst (Still seat) (sym run) at
   run_still seat s at (t ∷ ts) now run = run_still seat run.0 (turn_still seat s at t run.0 run.1) ts now run.2
 
-  -- where a pass forgets, whatever it touches from there on was there
-  pub touches_on : (s : TableState) → IsReached plan s → (seat : ℕ) (c : Call) (begun : TableState) → CallIsMade plan s seat c begun → forgets c ≡ true
+  -- where a pass forgets, it has been told since only what is so
+  pub still_from : (s : TableState) → IsReached plan s → (seat : ℕ) (c : Call) (begun : TableState) → CallIsMade plan s seat c begun → forgets c ≡ true
       → (r : HasMachine plan s) (from : ComesFrom m stage (machine_of_table plan s r)) → Kept (machine_of_table plan s r) from
-      → (turns : List Turn) (now : TableState) → TableRun plan begun turns now
-      → (v : View) → get_elem? now.views seat ≡ some v → (next : Call) → May plan next v → Touches (touched_by next)
-  touches_on s reached seat c begun made anew r from kept turns now run v there next may =
+      → (turns : List Turn) (now : TableState) → TableRun plan begun turns now → Still seat now
+  still_from s reached seat c begun made anew r from kept turns now run =
       let lawful = turn_lawful plan s r (Makes seat c) begun made in
       let to = leads_on s r (Makes seat c) begun lawful.0 lawful.1.machine from kept in
-      let at = run_still seat begun (record {
+      run_still seat begun (record {
         reached = reached_on plan s reached (Makes seat c) begun made;
         machine = lawful.0;
         from = to.0;
@@ -574,7 +573,15 @@ module _ (plan : TablePlan) (m : Machine) (stage : Stages) (first : Invariant m 
         told = λ u here e told. since_on from.stages to.0.stages to.1 e
             (told_anew s reached r seat made.view made.there from kept c anew e
             (subst (λ (w : View). IsTold w e) (sym (own_view seat s c begun made u here)) told));
-      }) turns now run in
+      }) turns now run
+
+  -- and whatever it touches from there on was there
+  pub touches_on : (s : TableState) → IsReached plan s → (seat : ℕ) (c : Call) (begun : TableState) → CallIsMade plan s seat c begun → forgets c ≡ true
+      → (r : HasMachine plan s) (from : ComesFrom m stage (machine_of_table plan s r)) → Kept (machine_of_table plan s r) from
+      → (turns : List Turn) (now : TableState) → TableRun plan begun turns now
+      → (v : View) → get_elem? now.views seat ≡ some v → (next : Call) → May plan next v → Touches (touched_by next)
+  touches_on s reached seat c begun made anew r from kept turns now run v there next may =
+      let at = still_from s reached seat c begun made anew r from kept turns now run in
       touches now at.reached at.machine seat v there at.from at.kept (at.told v there) next may
 
   -- turns lead on from where the cards have come so far

@@ -1,7 +1,7 @@
 use Rattle.std.proofs.Common.{◌≡◌, ℕ, ◌+◌, ◌<◌, ◌≤◌, false, Some, ap, ◌∙◌, subst, arith, inl, inr}
 use mathlib.Core.Option.{some}
 use lib.ListN.{get_elem?}
-use Rattle.ell_word.specs.Node.{card, greatest_card}
+use Rattle.ell_word.specs.Node.{card, greatest_card, greatest_number}
 use Rattle.ell_word.specs.Word.{unpacked}
 use Rattle.ell_layout.specs.declared.field.Field.{Field}
 use Rattle.ell_layout.specs.declared.field.Field.TheVariants as field
@@ -16,7 +16,6 @@ use Rattle.ell_cards.specs.declared.view.Told.{Told}
 use Rattle.ell_cards.specs.declared.view.Told.TheVariants.{Met, Depth, Key, Value, Info, Frozen, Expects}
 use Rattle.ell_cards.specs.declared.view.View.{View}
 use Rattle.ell_layout.specs.Cards.{stored}
-use Rattle.ell_cards.specs.Shown.{IsWord}
 use Rattle.ell_cards.specs.Naming.{InfoIsNamed, EntryIsNamed, SeenIsNamed, IsNamed}
 use Rattle.ell_cards.specs.States.{TableState}
 use Rattle.ell_cards.specs.Machines.{EntryHolds, HasMachine}
@@ -83,16 +82,6 @@ module _ (plan : TablePlan) (s : TableState) (r : HasMachine plan s) (id : ℕ) 
         entries = λ e told. entry_fits e ((r.views id v here).entries e told);
         next = let least = (r.views id v here).least in omega arith;
       }
-
-  -- and what its card in hand is to say of the leaf is a word, if there are no more cards than may have words
-  pub planned_leaf : last ≤ greatest_card → (c : ℕ) → v.worker.card ≡ Some c → v.worker.flagged ≡ false → IsWord (stored v.planned field.L 0)
-  planned_leaf few c has unflagged =
-      let low = (relies plan s r id v here).hand c (ap (λ (u : Worker). u.card) (mine_is plan s r id v here) ∙ has) in
-      let says = ((r.views id v here).hand c has unflagged).machine field.L in
-      let node = born_fits (r.words.l c) ((relies plan s r id v here).goes c low).leaf in
-      let tag = expected_fits c low in
-      let most = claimed_fits c low in
-      omega (arith, few, says, node, tag, most)
 
 -- all that it names is in the table, and no depth was told that a node of the table may not have
 module _ (plan : TablePlan) (s : TableState) (r : HasMachine plan s) (id : ℕ) (v : View) (here : get_elem? s.views id ≡ some v) where

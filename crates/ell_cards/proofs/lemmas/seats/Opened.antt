@@ -30,7 +30,8 @@ use Rattle.ell_cards.proofs.lemmas.seats.Named.{named_more}
 use Rattle.ell_cards.proofs.lemmas.seats.Placed.{placed_more, place_fits}
 use Rattle.ell_cards.proofs.lemmas.shown.ShownTold.{was_expected}
 use Rattle.ell_cards.proofs.lemmas.whole.Places.{no_places}
-use Rattle.ell_cards.proofs.lemmas.whole.Calling.{IsFill, Does, Notes, tree_step}
+use Rattle.ell_cards.proofs.lemmas.whole.Calling.{Does, Notes, tree_step}
+use Rattle.ell_cards.proofs.lemmas.whole.Lifts.{IsFill}
 
 -- what the rule of a table allows a seat that holds no slot, of a table that has none
 pub allowed : (plan : TablePlan) (slots id : ℕ) (me : Me (Unit {0}) Known) (word : ℕ) (f : ℕ → ℕ) (told : ℕ → Me (Unit {0}) Known → List (ℕ × Unit {0}) → Type 0)

@@ -1,72 +1,103 @@
--- A node that is dead by what is shown of what a pass knows is dead by that itself.
-use Rattle.std.proofs.Common.{ℕ, ◌+◌, ◌*◌, inl, inr}
+-- Nodes that never come, or that the card in hand has taken out, by what is shown of what a pass knows.
+use Rattle.std.proofs.Common.{◌≡◌, ℕ, ◌+◌, ◌*◌, ◌%◌, inl, inr, sym, ap, ◌∙◌, subst, arith}
+use Rattle.ell_word.specs.Node.{IsInternal}
+use Rattle.ell_layout.specs.Words.{IsLeaf}
 use Rattle.ell_layout.specs.declared.field.Field.TheVariants as field
 use Rattle.ell_cards.specs.declared.card_nodes.CardNodes.{CardNodes}
-use Rattle.ell_cards.specs.declared.view.Told.TheVariants.{Info}
+use Rattle.ell_cards.specs.declared.view.Told.TheVariants.{Info, Met}
 use Rattle.ell_cards.specs.declared.view.View.{View}
 use Rattle.ell_cards.specs.Ages.{KnowsDeadNode}
-use Rattle.ell_cards.specs.CardNodes.{KnowsDeadNodes}
-use Rattle.ell_cards.specs.Dead.{KnowsReplaced, KnowsUnused, KnowsNeverComes, KnowsDead}
+use Rattle.ell_cards.specs.Apart.{cut_node, NamesMet}
+use Rattle.ell_cards.specs.CardNodes.{KnowsDeadNodes, NeverCome}
+use Rattle.ell_cards.specs.Dead.{HasTakenOut, KnowsReplaced, KnowsUnused, KnowsNeverComes}
+use Rattle.ell_cards.specs.Models.{IsTold}
 use Rattle.ell_cards.specs.Shown.{shown}
-use Rattle.ell_cards.specs.Touching.{KnowsTakenOut}
-use Rattle.ell_cards.proofs.lemmas.shown.ShownTold.{itself}
+use Rattle.ell_cards.proofs.lemmas.shown.ShownTold.{was_info}
 
-taken_out_whole : (v : View) (c x : ℕ) → KnowsTakenOut (shown v) c x → KnowsTakenOut v c x
-taken_out_whole v c x (inl h) = inl (h.0, h.1, itself v.told (Info c field.L x) tt h.2)
-taken_out_whole v c x (inr h) = inr (
-  h.0,
-  elim h.1 [
-    | inl told ↦ inl (itself v.told (Info c field.P x) tt told)
-    | inr told ↦ inr (itself v.told (Info c field.L x) tt told)
-  ],
-)
+-- a node's low bits say at which place of its card it stands
+pub place_whole : (y x : ℕ) → cut_node y ≡ x → x % 4 ≡ y % 4
+place_whole y x is = omega arith
 
-replaced_whole : (v : View) (c x : ℕ) → KnowsReplaced (shown v) c x → KnowsReplaced v c x
-replaced_whole v c x h = record {
-  key = h.key;
-  left = itself v.told (Info c field.LeftLeafKey h.key) tt h.left;
-  right = itself v.told (Info c field.RightLeafKey h.key) tt h.right;
-  other = h.other;
-}
+inner_by : (y x : ℕ) → cut_node y ≡ x → IsInternal x → IsInternal y
+inner_by y x is inner = sym (place_whole y x is) ∙ inner
 
-unused_whole : (v : View) (c x : ℕ) → KnowsUnused (shown v) c x → KnowsUnused v c x
-unused_whole v c x h = record {
-  op = h.op;
-  below = h.below;
-  key = h.key;
-  busy = h.busy;
-  holds = h.holds;
-  flagged = h.flagged;
-  goes = itself v.told (Info c field.L h.below) tt h.goes;
-  inner = h.inner;
-  told = elim h.told [
-    | inl left ↦ inl (left.0, itself v.told (Info c field.LeftLeafKey h.key) tt left.1)
-    | inr right ↦ inr (right.0, itself v.told (Info c field.RightLeafKey h.key) tt right.1)
-  ];
-  other = h.other;
-}
+leaf_by : (y x : ℕ) → cut_node y ≡ x → IsLeaf x → IsLeaf y
+leaf_by y x is outer inner = outer (place_whole y x is ∙ inner)
 
-never_comes_whole : (v : View) (c x : ℕ) → KnowsNeverComes (shown v) c x → KnowsNeverComes v c x
-never_comes_whole v c x h = (
-  h.0,
-  elim h.1 [
-    | inl ended ↦ inl ended
-    | inr over ↦ inr (
-      over.0,
-      elim over.1 [
-        | inl replaced ↦ inl (replaced_whole v c x replaced)
-        | inr unused ↦ inr (unused_whole v c x unused)
-      ],
-    )
-  ],
-)
+module _ (v : View) where
+  replaced_whole : (c x : ℕ) → KnowsReplaced (shown v) c x → KnowsReplaced v c x
+  replaced_whole c x h =
+      let left = was_info v.told c field.LeftLeafKey h.key h.left in
+      let right = was_info v.told c field.RightLeafKey h.key h.right in record {
+        key = h.key;
+        left = subst (λ k. IsTold v (Info c field.LeftLeafKey k)) left.is left.has;
+        right = subst (λ k. IsTold v (Info c field.RightLeafKey k)) right.is right.has;
+        other = h.other;
+      }
 
-dead_whole : (v : View) (c x : ℕ) → KnowsDead (shown v) c x → KnowsDead v c x
-dead_whole v c x (inl out) = inl (taken_out_whole v c x out)
-dead_whole v c x (inr never) = inr (never_comes_whole v c x never)
+  unused_whole : (c x : ℕ) → KnowsUnused (shown v) c x → KnowsUnused v c x
+  unused_whole c x h =
+      let goes = was_info v.told c field.L h.below h.goes in record {
+        op = h.op;
+        below = goes.whole;
+        key = h.key;
+        busy = h.busy;
+        holds = h.holds;
+        flagged = h.flagged;
+        goes = goes.has;
+        inner = inner_by goes.whole h.below goes.is h.inner;
+        told = elim h.told [
+          | inl left ↦ inl (left.0, (let was = was_info v.told c field.LeftLeafKey h.key left.1 in subst (λ k. IsTold v (Info c field.LeftLeafKey k)) was.is was.has))
+          | inr right ↦ inr (right.0, (let was = was_info v.told c field.RightLeafKey h.key right.1 in subst (λ k. IsTold v (Info c field.RightLeafKey k)) was.is was.has))
+        ];
+        other = h.other;
+      }
 
-pub dead_node_whole : (v : View) (x : ℕ) → KnowsDeadNode (shown v) x → KnowsDeadNode v x
-dead_node_whole v x h = (h.0, dead_whole v h.0 x h.1)
+  -- what never comes by what is shown never comes by what is known
+  never_comes_whole : (c x : ℕ) → KnowsNeverComes (shown v) c x → KnowsNeverComes v c x
+  never_comes_whole c x h = (
+    h.0,
+    elim h.1 [
+      | inl ended ↦ inl ended
+      | inr over ↦ inr (
+        over.0,
+        elim over.1 [
+          | inl replaced ↦ inl (replaced_whole c x replaced)
+          | inr unused ↦ inr (unused_whole c x unused)
+        ],
+      )
+    ],
+  )
 
-pub dead_nodes_whole : (v : View) (c : ℕ) (nodes : CardNodes) → KnowsDeadNodes (shown v) c nodes → KnowsDeadNodes v c nodes
-dead_nodes_whole v c nodes dead i is = dead_node_whole v (4 * c + i) (dead i is)
+  pub nodes_never_come : (c : ℕ) (nodes : CardNodes) → NeverCome (shown v) c nodes → KnowsDeadNodes v c nodes
+  nodes_never_come c nodes never i is = (c, inr (never_comes_whole c (4 * c + i) (never i is)))
+
+-- a node that was taken out, and met, of which these are the low bits
+pub record WasTakenOut (v : View) (x : ℕ) : Type 0 where
+  pub whole : ℕ
+  pub is : cut_node whole ≡ x
+  pub met : IsTold v (Met whole)
+  pub dead : KnowsDeadNode v whole
+
+pub taken_out_whole : (v : View) → NamesMet v → (x : ℕ) → HasTakenOut (shown v) x → WasTakenOut v x
+taken_out_whole v names x (c, holds, inl h) =
+    let was = was_info v.told c field.L x h.2 in record {
+      whole = was.whole;
+      is = was.is;
+      met = names.leaf c was.whole holds was.has;
+      dead = (c, inl (inl (h.0, leaf_by was.whole x was.is h.1, was.has)));
+    }
+taken_out_whole v names x (c, holds, inr (over, inl told)) =
+    let was = was_info v.told c field.P x told in record {
+      whole = was.whole;
+      is = was.is;
+      met = names.entries (Info c field.P was.whole) was.has;
+      dead = (c, inl (inr (over, inl was.has)));
+    }
+taken_out_whole v names x (c, holds, inr (over, inr told)) =
+    let was = was_info v.told c field.L x told in record {
+      whole = was.whole;
+      is = was.is;
+      met = names.leaf c was.whole holds was.has;
+      dead = (c, inl (inr (over, inr was.has)));
+    }

@@ -1,13 +1,15 @@
 -- A call that may be made by what is shown of what a pass knows is what is shown of one that may be made by that itself.
-use Rattle.std.proofs.Common.{◌≡◌, ℕ, ◌==◌, Bool, true, false, Option, Some, None, refl, sym, ◌∙◌, subst, inl, inr, eqb-true, eq-eqb, true≢false}
+use Rattle.std.proofs.Common.{◌≡◌, ℕ, ◌≤◌, ◌%◌, ◌==◌, map, Bool, true, false, Option, Some, None, List, [], ◌∷◌, refl, sym, ap, ◌∙◌, subst, inl, inr, eqb-true, eq-eqb, true≢false}
 use Rattle.std.specs.Option.{option_map}
 use Rattle.std.proofs.lemmas.Option.{same_Some}
 use Rattle.ell_ops.specs.declared.op.Op.{Op}
 use Rattle.ell_ops.specs.declared.op.Op.TheVariants.{Find, Insert, Delete, Swap}
 use Rattle.ell_ops.specs.declared.reply.Reply.{Reply}
+use Rattle.ell_word.specs.Node.{IsInternal}
 use Rattle.ell_layout.specs.declared.field.Field.{Field}
 use Rattle.ell_layout.specs.declared.field.Field.TheVariants as field
 use Rattle.ell_layout.specs.Cards.{stored}
+use Rattle.ell_layout.specs.Words.{IsLeaf, has_block}
 use Rattle.ell_core.specs.declared.fact.Fact.{Fact}
 use Rattle.ell_core.specs.declared.view.Seen.{Seen}
 use Rattle.ell_core.specs.acts.Searching.{IsClean}
@@ -15,11 +17,13 @@ use Rattle.ell_cards.specs.declared.glance.Glance.{Glance}
 use Rattle.ell_cards.specs.declared.glance.Stretch.{Stretch}
 use Rattle.ell_cards.specs.declared.view.Told.TheVariants.{Met, Key, Value, Info}
 use Rattle.ell_cards.specs.declared.view.View.{View}
-use Rattle.ell_cards.specs.Models.{HasCome, stored_at}
-use Rattle.ell_cards.specs.Guards.{TellsOf, CardIsOver, MayAnswer, KnowsWhere, MayLookDown, KnowsPlace, Wants, MayClaim, IsFilled}
-use Rattle.ell_cards.specs.Shown.{IsWord, cut_word, shown_seen, shown_word, shown, StoresAreWhole, IsWholeFor}
-use Rattle.ell_cards.proofs.lemmas.shown.CutWords.{cut_same}
-use Rattle.ell_cards.proofs.lemmas.shown.ShownTold.{itself}
+use Rattle.ell_cards.specs.Apart.{cut_node, IsApart}
+use Rattle.ell_cards.specs.Models.{TablePlan, Has, latest, earlier, IsTold, HasCome, HasComeWhole, flat_from, stored_at}
+use Rattle.ell_cards.specs.Guards.{TellsOf, CardIsOver, MayAnswer, KnowsWhere, GoOnBy, MayLookDown, KnowsPlace, Wants, MayClaim, IsFilled}
+use Rattle.ell_cards.specs.Shown.{IsWord, cut_word, shown_seen, shown_glance, shown_info, shown_word, shown, StoresAreWhole, IsWholeFor}
+use Rattle.ell_cards.proofs.lemmas.shown.CutWords.{cut_same, node_again, node_place, cut_again}
+use Rattle.ell_cards.proofs.lemmas.shown.ShownChanges.{stored_again}
+use Rattle.ell_cards.proofs.lemmas.shown.ShownTold.{was_met, was_key, was_value, was_info}
 use Rattle.ell_cards.proofs.lemmas.shown.ShownWords.{stored_at_shown, planned_shown}
 
 -- a node that a search has seen is shown of one that it has seen whole
@@ -32,158 +36,201 @@ pub was_seen : (o : Option Seen) (seen : Seen) → option_map shown_seen o ≡ S
 was_seen None seen e = absurd cc
 was_seen (Some whole) seen e = record { whole = whole; has = refl; is = same_Some (shown_seen whole) seen e }
 
--- what was told of a leaf
-pub tells_whole : (v : View) (leaf key k : ℕ) (there : Option ℕ) → TellsOf (shown v) leaf key k there → TellsOf v leaf key k there
-tells_whole v leaf key k None h = h
-tells_whole v leaf key k (Some value) h = (h.0, itself v.told (Value leaf value) tt h.1)
+-- and a node where it stands of one where it stands
+pub record WasStood (o : Option ℕ) (x : ℕ) : Type 0 where
+  pub whole : ℕ
+  pub has : o ≡ Some whole
+  pub is : cut_node whole ≡ x
 
--- a card that is known to be over
-over_whole : (v : View) (op : Op) (c : ℕ) → CardIsOver (shown v) op c → CardIsOver v op c
-over_whole v (Find k) c h = h
-over_whole v (Insert k value) c h = h
-over_whole v (Delete k) c h = h
-over_whole v (Swap k was value) c h = h
+pub was_stood : (o : Option ℕ) (x : ℕ) → option_map cut_node o ≡ Some x → WasStood o x
+was_stood None x e = absurd cc
+was_stood (Some whole) x e = record { whole = whole; has = refl; is = same_Some (cut_node whole) x e }
 
-pub answer_whole : (v : View) (said : Reply) → MayAnswer (shown v) said → MayAnswer v said
-answer_whole v said may = record {
-  op = may.op;
-  busy = may.busy;
-  answers = elim may.answers [
-    | inl h ↦ inl (record {
-      leaf = h.leaf;
-      key = h.key;
-      there = h.there;
-      stands = h.stands;
-      outer = h.outer;
-      told = h.told;
-      tells = tells_whole v h.leaf h.key _ h.there h.tells;
-      says = h.says;
-    })
-    | inr h ↦ inr (record {
-      card = h.card;
-      holds = h.holds;
-      flagged = h.flagged;
-      over = over_whole v may.op h.card h.over;
-      says = h.says;
-    })
-  ];
-}
+-- a node is a leaf, or internal, if it is that once it is cut
+pub outer_whole : (x y : ℕ) → cut_node x ≡ y → IsLeaf y → IsLeaf x
+outer_whole x y is outer inner = outer (sym (ap (λ z. z % 4) is) ∙ (node_place x ∙ inner))
 
-pub where_whole : (v : View) (c : ℕ) → KnowsWhere (shown v) c → KnowsWhere v c
-where_whole v c h = (
-  h.0,
-  elim h.1 [
-    | inl told ↦ inl (itself v.told (Info c field.P h.0) tt told)
-    | inr told ↦ inr (itself v.told (Info c field.Gp h.0) tt told)
-  ],
-)
+pub inner_whole : (x y : ℕ) → cut_node x ≡ y → IsInternal y → IsInternal x
+inner_whole x y is inner = sym (node_place x) ∙ (ap (λ z. z % 4) is ∙ inner)
 
-pub place_whole : (v : View) (known : Fact) (c : ℕ) (f : Field) (x : ℕ) → KnowsPlace (shown v) known c f x → KnowsPlace v known c f x
-place_whole v known c f x h = record { knows = h.knows; place = itself v.told (Info c f x) tt h.place }
+-- it is cut to what it is
+pub inner_cut : (x : ℕ) → IsInternal x → IsInternal (cut_node x)
+inner_cut x inner = node_place x ∙ inner
 
--- where a look has come to
-abbrev pub come_whole : (v : View) (node low high : ℕ) → HasCome (shown v) node low high → HasCome v node low high
-come_whole v node low high h =
-    record { glance = h.glance; among = h.among; there = h.there; from = h.from; upto = h.upto }
+pub outer_cut : (x : ℕ) → IsLeaf x → IsLeaf (cut_node x)
+outer_cut x outer inner = outer (sym (node_place x) ∙ inner)
 
-pub look_down_whole : (from : ℕ) (v : View) (glance : Glance) (keys : Stretch) (right : Bool)
-    → MayLookDown from (shown v) glance keys right → MayLookDown from v glance keys right
-look_down_whole from v glance keys right may = record {
-  come = come_whole v glance.node glance.low glance.high may.come;
-  as_one = λ whole. (let h = may.as_one whole in
-      record { come = come_whole v glance.node glance.low glance.high h.come; whole = h.whole });
-  met = itself v.told (Met glance.node) tt may.met;
-  inner = may.inner;
-  key = may.key;
-  told = itself v.told (Key glance.node may.key) tt may.told;
-  goes = may.goes;
-}
+module _ (plan : TablePlan) (v : View) (apart : IsApart plan v) where
+  -- what was told of a node that was met, by what is shown of both
+  pub met_key : (x y key : ℕ) → cut_node x ≡ y → IsTold v (Met x) → IsTold (shown v) (Key y key) → IsTold v (Key x key)
+  met_key x y key is met told =
+      let old = was_key v.told y key told in
+      subst (λ z. IsTold v (Key z key)) (apart.met old.whole x (apart.names.entries (Key old.whole key) old.has) met (old.is ∙ sym is)) old.has
 
--- what a claim wants
-wants_whole : (from : ℕ) (v : View) (op : Op) (parent x key node_key : ℕ) → Wants from (shown v) op parent x key node_key
-    → Wants from v op parent x key node_key
-wants_whole from v (Find k) parent x key node_key h = h
-wants_whole from v (Insert k value) parent x key node_key h = record {
-  leaf = λ outer. (let at = h.leaf outer in (at.0, (at.1.0, itself v.told (Value x at.1.0) tt at.1.1)));
-  edge = h.edge;
-  fits = λ block. (let at = h.fits block in (at.0, itself v.told (Key parent at.0) tt at.1, at.2));
-  named = h.named;
-}
-wants_whole from v (Swap k was value) parent x key node_key h = record {
-  outer = h.outer;
-  same = h.same;
-  value = itself v.told (Value x was) tt h.value;
-  named = h.named;
-}
-wants_whole from v (Delete k) parent x key node_key h =
-    let up = was_seen v.worker.search.grandparent h.above h.grandparent in
-    record {
-      outer = h.outer;
-      same = h.same;
-      above = up.whole;
-      grandparent = up.has;
-      calm = subst (λ (s : Seen). IsClean s.word) (sym up.is) h.calm;
-    }
+  pub met_value : (x y value : ℕ) → cut_node x ≡ y → IsTold v (Met x) → IsTold (shown v) (Value y value) → IsTold v (Value x value)
+  met_value x y value is met told =
+      let old = was_value v.told y value told in
+      subst (λ z. IsTold v (Value z value)) (apart.met old.whole x (apart.names.entries (Value old.whole value) old.has) met (old.is ∙ sym is)) old.has
 
-pub claim_whole : (from : ℕ) (v : View) (c node_key : ℕ) → MayClaim from (shown v) c node_key → MayClaim from v c node_key
-claim_whole from v c node_key may =
-    let above = was_seen v.worker.search.parent may.parent may.behind in
-    record {
-      op = may.op;
-      below = may.below;
-      key = may.key;
-      parent = above.whole;
-      read = may.read;
-      ready = may.ready;
-      other = may.other;
-      busy = may.busy;
-      stands = may.stands;
-      told = may.told;
-      behind = above.has;
-      calm = subst (λ (s : Seen). IsClean s.word) (sym above.is) may.calm;
-      wants = wants_whole from v may.op above.whole.node may.below may.key node_key
-          (subst (λ (s : Seen). Wants from (shown v) may.op s.node may.below may.key node_key) (sym above.is) may.wants);
-    }
+  -- what was told of a leaf
+  pub tells_whole : (leaf y key k : ℕ) (there : Option ℕ) → cut_node leaf ≡ y → IsTold v (Met leaf) → TellsOf (shown v) y key k there → TellsOf v leaf key k there
+  tells_whole leaf y key k None is met h = h
+  tells_whole leaf y key k (Some value) is met h = (h.0, met_value leaf y value is met h.1)
 
--- a value that is stored: of the leaf's word the planned one, if it is that once it is cut
+  -- a card that is known to be over
+  over_whole : (op : Op) (c : ℕ) → CardIsOver (shown v) op c → CardIsOver v op c
+  over_whole (Find k) c h = h
+  over_whole (Insert k value) c h = h
+  over_whole (Delete k) c h = h
+  over_whole (Swap k was value) c h = h
+
+  pub answer_whole : (said : Reply) → MayAnswer (shown v) said → MayAnswer v said
+  answer_whole said may = record {
+    op = may.op;
+    busy = may.busy;
+    answers = elim may.answers [
+      | inl h ↦
+          let at = was_stood v.worker.search.node h.leaf h.stands in
+          inl (record {
+            leaf = at.whole;
+            key = h.key;
+            there = h.there;
+            stands = at.has;
+            outer = outer_whole at.whole h.leaf at.is h.outer;
+            told = h.told;
+            tells = tells_whole at.whole h.leaf h.key _ h.there at.is (apart.names.node at.whole at.has) h.tells;
+            says = h.says;
+          })
+      | inr h ↦ inr (record {
+        card = h.card;
+        holds = h.holds;
+        flagged = h.flagged;
+        over = over_whole may.op h.card h.over;
+        says = h.says;
+      })
+    ];
+  }
+
+  pub where_whole : (c : ℕ) → KnowsWhere (shown v) c → KnowsWhere v c
+  where_whole c h = elim h.1 [
+    | inl told ↦ (let old = was_info v.told c field.P h.0 told in (old.whole, inl old.has))
+    | inr told ↦ (let old = was_info v.told c field.Gp h.0 told in (old.whole, inr old.has))
+  ]
+
+  -- where a look has come to
+  abbrev glance_was : (l : List Glance) (g : Glance) → Has (map shown_glance l) g → (whole : Glance) × Has l whole × (shown_glance whole ≡ g)
+  glance_was [] g none = elim none [ ]
+  glance_was (d ∷ l) _ (latest _ _) = (d, latest d l, refl)
+  glance_was (d ∷ l) g (earlier _ _ _ h) = (let old = glance_was l g h in (old.0, earlier old.0 d l old.1, old.2))
+
+  abbrev pub come_whole : (node y low high : ℕ) → cut_node node ≡ y → IsTold v (Met node) → HasCome (shown v) y low high → HasCome v node low high
+  come_whole node y low high is met h =
+      let old = glance_was v.glances h.glance h.among in record {
+        glance = old.0;
+        among = old.1;
+        there = apart.met old.0.node node (apart.names.glances old.0 old.1) met (ap (λ (g : Glance). g.node) old.2 ∙ (h.there ∙ sym is));
+        from = subst (λ (g : Glance). g.low ≤ low) (sym old.2) h.from;
+        upto = subst (λ (g : Glance). high ≤ g.high) (sym old.2) h.upto;
+      }
+
+  pub come_all_whole : (node y low high : ℕ) → cut_node node ≡ y → IsTold v (Met node) → HasComeWhole (shown v) y low high → HasComeWhole v node low high
+  come_all_whole node y low high is met h =
+      let old = glance_was v.glances h.come.glance h.come.among in
+      record { come = come_whole node y low high is met h.come; whole = ap (λ (g : Glance). g.whole) old.2 ∙ h.whole }
+
+  -- the glance of a node that was met is shown of one
+  pub look_down_whole : (x : ℕ) (glance : Glance) (keys : Stretch) (right : Bool) → cut_node x ≡ glance.node → IsTold v (Met x)
+      → MayLookDown (flat_from plan) (shown v) glance keys right → MayLookDown (flat_from plan) v (record glance { node = x }) keys right
+  look_down_whole x glance keys right is met may = record {
+    come = come_whole x glance.node glance.low glance.high is met may.come;
+    as_one = λ whole. come_all_whole x glance.node glance.low glance.high is met (may.as_one whole);
+    met = met;
+    inner = inner_whole x glance.node is may.inner;
+    key = may.key;
+    told = met_key x glance.node may.key is met may.told;
+    goes = record {
+      low = may.goes.low;
+      high = may.goes.high;
+      whole = λ whole. (
+        (may.goes.whole whole).0,
+        λ block. (may.goes.whole whole).1 (ap (has_block (flat_from plan)) (sym is) ∙ (apart.blocks x met ∙ block)),
+      );
+    };
+  }
+
+  -- what a claim wants
+  wants_whole : (op : Op) (parent x key node_key : ℕ) → IsTold v (Met parent) → IsTold v (Met x)
+      → Wants (flat_from plan) (shown v) op (cut_node parent) (cut_node x) key node_key → Wants (flat_from plan) v op parent x key node_key
+  wants_whole (Find k) parent x key node_key above met h = h
+  wants_whole (Insert k value) parent x key node_key above met h = record {
+    leaf = λ outer. (let at = h.leaf (outer_cut x outer) in (at.0, (at.1.0, met_value x (cut_node x) at.1.0 refl met at.1.1)));
+    edge = λ inner. (let at = h.edge (inner_cut x inner) in (sym (apart.blocks x met) ∙ at.0, at.1));
+    fits = λ block. (let at = h.fits (apart.blocks parent above ∙ block) in (at.0, met_key parent (cut_node parent) at.0 refl above at.1, at.2));
+    named = h.named;
+  }
+  wants_whole (Swap k was value) parent x key node_key above met h = record {
+    outer = outer_whole x (cut_node x) refl h.outer;
+    same = h.same;
+    value = met_value x (cut_node x) was refl met h.value;
+    named = h.named;
+  }
+  wants_whole (Delete k) parent x key node_key above met h =
+      let up = was_seen v.worker.search.grandparent h.above h.grandparent in
+      record {
+        outer = outer_whole x (cut_node x) refl h.outer;
+        same = h.same;
+        above = up.whole;
+        grandparent = up.has;
+        calm = subst (λ (s : Seen). IsClean s.word) (sym up.is) h.calm;
+      }
+
+  pub claim_whole : (c node_key : ℕ) → MayClaim (flat_from plan) (shown v) c node_key → MayClaim (flat_from plan) v c node_key
+  claim_whole c node_key may =
+      let above = was_seen v.worker.search.parent may.parent may.behind in
+      let at = was_stood v.worker.search.node may.below may.stands in
+      record {
+        op = may.op;
+        below = at.whole;
+        key = may.key;
+        parent = above.whole;
+        read = may.read;
+        ready = may.ready;
+        other = may.other;
+        busy = may.busy;
+        stands = at.has;
+        told = may.told;
+        behind = above.has;
+        calm = subst (λ (s : Seen). IsClean s.word) (sym above.is) may.calm;
+        wants = wants_whole may.op above.whole.node at.whole may.key node_key (apart.names.parent above.whole above.has) (apart.names.node at.whole at.has)
+            (subst (λ x. Wants (flat_from plan) (shown v) may.op (shown_seen above.whole).node x may.key node_key) (sym at.is)
+            (subst (λ (s : Seen). Wants (flat_from plan) (shown v) may.op s.node may.below may.key node_key) (sym above.is) may.wants));
+      }
+
+-- a value that is stored is shown of the planned one, if it is that once that is cut, and else of itself
 pub record WasStored (f : Field) (value : ℕ) (v : View) : Type 0 where
   pub whole : ℕ
   pub is : shown_word f whole ≡ value
   pub fills : IsWholeFor f whole v
 
-leaf_stored : (value : ℕ) (v : View) → IsWord value → WasStored field.L value v
-leaf_stored value v word = by (cut_word (stored v.planned field.L 0) == value) refl
+-- a value that a call stores is one that a field shows
+abbrev pub IsShownFor : Field → ℕ → Type 0
+IsShownFor f value = shown_word f value ≡ value
+
+pub was_stored : (f : Field) (value : ℕ) (v : View) → IsShownFor f value → WasStored f value v
+was_stored f value v shows = by (shown_word f (stored v.planned f 0) == value) refl
   where
-    by : (b : Bool) → (cut_word (stored v.planned field.L 0) == value) ≡ b → WasStored field.L value v
+    by : (b : Bool) → (shown_word f (stored v.planned f 0) == value) ≡ b → WasStored f value v
     by true same = record {
-      whole = stored v.planned field.L 0;
-      is = eqb-true (cut_word (stored v.planned field.L 0)) value same;
+      whole = stored v.planned f 0;
+      is = eqb-true (shown_word f (stored v.planned f 0)) value same;
       fills = λ _. refl;
     }
     by false other = record {
       whole = value;
-      is = cut_same value word;
-      fills = λ e. absurd (true≢false (sym (eq-eqb (cut_word (stored v.planned field.L 0)) value (sym e ∙ cut_same value word)) ∙ other));
+      is = shows;
+      fills = λ e. absurd (true≢false (sym (eq-eqb (shown_word f (stored v.planned f 0)) value (sym e ∙ shows)) ∙ other));
     }
-
-pub was_stored : (f : Field) (value : ℕ) (v : View) → IsWord value → WasStored f value v
-was_stored field.L value v word = leaf_stored value v word
-was_stored _ value v word = record { whole = value; is = refl; fills = tt }
 
 -- the card in hand is filled
 pub filled_whole : (v : View) → StoresAreWhole v → IsFilled (shown v) → IsFilled v
-filled_whole v stores filled f = by f (sym (stored_at_shown v.stores f) ∙ (filled f ∙ planned_shown v.planned f))
-  where
-    by : (g : Field) → shown_word g (stored_at v.stores g) ≡ shown_word g (stored v.planned g 0) → stored_at v.stores g ≡ stored v.planned g 0
-    by field.L same = stores same
-    by field.Gp same = same
-    by field.P same = same
-    by field.Was same = same
-    by field.Key same = same
-    by field.Left same = same
-    by field.Right same = same
-    by field.Update same = same
-    by field.LeftLeafKey same = same
-    by field.RightLeafKey same = same
-    by field.LeftValue same = same
-    by field.RightValue same = same
+filled_whole v stores filled f = stores f (sym (stored_at_shown v.stores f) ∙ (filled f ∙ planned_shown v.planned f))

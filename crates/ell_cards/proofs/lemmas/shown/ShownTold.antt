@@ -1,16 +1,20 @@
--- What is shown of what a pass was told: the same, but for tags.
-use Rattle.std.proofs.Common.{◌≡◌, ℕ, ◌+◌, ◌==◌, if◌then◌else◌, max, map, Option, Some, None, List, [], ◌∷◌, refl, sym, ap, ◌∙◌, subst, ◌%◌}
-use Rattle.std.specs.Option.{option_or, option_and_then}
+-- What is shown of what a pass was told: the same, but for nodes and tags.
+use Rattle.std.proofs.Common.{◌≡◌, ℕ, ◌+◌, ◌%◌, ◌==◌, if◌then◌else◌, max, map, Bool, true, false, eqb-true, Option, Some, None, List, [], ◌∷◌, refl, sym, ap, ◌∙◌, subst}
+use Rattle.std.specs.Option.{option_map, option_or, option_and_then}
 use Rattle.ell_ops.specs.declared.op.Op.{Op}
 use Rattle.ell_ops.specs.declared.op.Op.TheVariants.{Delete}
 use Rattle.ell_ops.specs.declared.reply.Reply.{Reply}
 use Rattle.ell_ops.specs.declared.reply.Reply.TheVariants.{Yes}
+use Rattle.ell_layout.specs.declared.field.Field.{Field}
+use Rattle.ell_layout.specs.declared.field.Field.TheVariants as field
 use Rattle.ell_cards.specs.declared.view.Told.{Told}
 use Rattle.ell_cards.specs.declared.view.Told.TheVariants.{Met, Depth, Key, Value, Info, Expects, Frozen}
+use Rattle.ell_cards.specs.Apart.{cut_node}
 use Rattle.ell_cards.specs.Models.{Has, latest, earlier}
 use Rattle.ell_cards.specs.Depths.{depth_told, depth_below, depth_under, tells_grandparent_of}
 use Rattle.ell_cards.specs.Changes.{last_told, tells_leaf_of, tells_value_of, taken_by, told_value, value_told}
-use Rattle.ell_cards.specs.Shown.{cut_tag, shown_told}
+use Rattle.ell_cards.specs.Shown.{cut_tag, shown_info, shown_told}
+use Rattle.ell_cards.proofs.lemmas.shown.CutWords.{node_place, same_cut}
 
 -- what has an entry has it when each entry is shown
 pub shown_has : (told : List Told) (e : Told) → Has told e → Has (map shown_told told) (shown_told e)
@@ -30,143 +34,284 @@ was_told (d ∷ es) _ (latest _ _) = record { entry = d; has = latest d es; is =
 was_told (d ∷ es) e (earlier _ _ _ h) =
     let old = was_told es e h in record { entry = old.entry; has = earlier old.entry d es old.has; is = old.is }
 
--- an entry without a tag
-abbrev pub HasNoTag : Told → Type 0
-HasNoTag (Expects c tag) = ⊥
-HasNoTag _ = Unit {0}
-
--- it is shown of itself alone
-pub itself : (told : List Told) (e : Told) → HasNoTag e → Has (map shown_told told) e → Has told e
-itself told e plain h = by (was_told told e h).entry (was_told told e h).has (was_told told e h).is
-  where
-    same : (d : Told) → Has told d → d ≡ e → Has told e
-    same d has is = subst (Has told) is has
-
-    by : (d : Told) → Has told d → shown_told d ≡ e → Has told e
-    by (Expects c tag) has is = absurd (subst HasNoTag (sym is) plain)
-    by (Met x) has is = same (Met x) has is
-    by (Depth x n) has is = same (Depth x n) has is
-    by (Key x n) has is = same (Key x n) has is
-    by (Value x n) has is = same (Value x n) has is
-    by (Info c f x) has is = same (Info c f x) has is
-    by (Frozen c right x) has is = same (Frozen c right x) has is
-
--- so it is told exactly if it is shown
-pub alike : (told : List Told) (e : Told) → HasNoTag e → Has told e → Has (map shown_told told) e
-alike told e plain h = subst (Has (map shown_told told)) (same e plain) (shown_has told e h)
-  where
-    same : (e : Told) → HasNoTag e → shown_told e ≡ e
-    same (Expects c tag) plain = absurd plain
-    same (Met x) plain = refl
-    same (Depth x n) plain = refl
-    same (Key x n) plain = refl
-    same (Value x n) plain = refl
-    same (Info c f x) plain = refl
-    same (Frozen c right x) plain = refl
-
--- a tag that a card expects is shown of one that is cut to it
-pub record WasExpected (told : List Told) (c tag : ℕ) : Type 0 where
+-- an entry of a node is shown of one of a node that is cut to it
+pub record WasOf (told : List Told) (entry : ℕ → Told) (cut : ℕ → ℕ) (x : ℕ) : Type 0 where
   pub whole : ℕ
-  pub has : Has told (Expects c whole)
-  pub is : cut_tag whole ≡ tag
+  pub has : Has told (entry whole)
+  pub is : cut whole ≡ x
 
-pub was_expected : (told : List Told) (c tag : ℕ) → Has (map shown_told told) (Expects c tag) → WasExpected told c tag
-was_expected told c tag h =
-    by (was_told told (Expects c tag) h).entry (was_told told (Expects c tag) h).has (was_told told (Expects c tag) h).is
+module _ (told : List Told) where
+  pub was_met : (x : ℕ) → Has (map shown_told told) (Met x) → WasOf told Met cut_node x
+  was_met x h = by (was_told told (Met x) h).entry (was_told told (Met x) h).has (was_told told (Met x) h).is
+    where
+      by : (d : Told) → Has told d → shown_told d ≡ Met x → WasOf told Met cut_node x
+      by (Met y) has is = (let e : cut_node y ≡ x = cc in record { whole = y; has = has; is = e })
+      by (Depth y n) has is = absurd cc
+      by (Key y n) has is = absurd cc
+      by (Value y n) has is = absurd cc
+      by (Info c f y) has is = absurd cc
+      by (Expects c tag) has is = absurd cc
+      by (Frozen c right y) has is = absurd cc
+
+  pub was_depth : (x d : ℕ) → Has (map shown_told told) (Depth x d) → WasOf told (λ y. Depth y d) cut_node x
+  was_depth x d h = by (was_told told (Depth x d) h).entry (was_told told (Depth x d) h).has (was_told told (Depth x d) h).is
+    where
+      by : (e : Told) → Has told e → shown_told e ≡ Depth x d → WasOf told (λ y. Depth y d) cut_node x
+      by (Depth y n) has is =
+          let e : cut_node y ≡ x = cc in
+          let same : n ≡ d = cc in
+          record { whole = y; has = subst (λ m. Has told (Depth y m)) same has; is = e }
+      by (Met y) has is = absurd cc
+      by (Key y n) has is = absurd cc
+      by (Value y n) has is = absurd cc
+      by (Info c f y) has is = absurd cc
+      by (Expects c tag) has is = absurd cc
+      by (Frozen c right y) has is = absurd cc
+
+  pub was_key : (x key : ℕ) → Has (map shown_told told) (Key x key) → WasOf told (λ y. Key y key) cut_node x
+  was_key x key h = by (was_told told (Key x key) h).entry (was_told told (Key x key) h).has (was_told told (Key x key) h).is
+    where
+      by : (d : Told) → Has told d → shown_told d ≡ Key x key → WasOf told (λ y. Key y key) cut_node x
+      by (Key y n) has is =
+          let e : cut_node y ≡ x = cc in
+          let same : n ≡ key = cc in
+          record { whole = y; has = subst (λ m. Has told (Key y m)) same has; is = e }
+      by (Met y) has is = absurd cc
+      by (Depth y n) has is = absurd cc
+      by (Value y n) has is = absurd cc
+      by (Info c f y) has is = absurd cc
+      by (Expects c tag) has is = absurd cc
+      by (Frozen c right y) has is = absurd cc
+
+  pub was_value : (x value : ℕ) → Has (map shown_told told) (Value x value) → WasOf told (λ y. Value y value) cut_node x
+  was_value x value h = by (was_told told (Value x value) h).entry (was_told told (Value x value) h).has (was_told told (Value x value) h).is
+    where
+      by : (d : Told) → Has told d → shown_told d ≡ Value x value → WasOf told (λ y. Value y value) cut_node x
+      by (Value y n) has is =
+          let e : cut_node y ≡ x = cc in
+          let same : n ≡ value = cc in
+          record { whole = y; has = subst (λ m. Has told (Value y m)) same has; is = e }
+      by (Met y) has is = absurd cc
+      by (Depth y n) has is = absurd cc
+      by (Key y n) has is = absurd cc
+      by (Info c f y) has is = absurd cc
+      by (Expects c tag) has is = absurd cc
+      by (Frozen c right y) has is = absurd cc
+
+  pub was_info : (c : ℕ) (f : Field) (x : ℕ) → Has (map shown_told told) (Info c f x) → WasOf told (Info c f) (shown_info f) x
+  was_info c f x h = by (was_told told (Info c f x) h).entry (was_told told (Info c f x) h).has (was_told told (Info c f x) h).is
+    where
+      by : (d : Told) → Has told d → shown_told d ≡ Info c f x → WasOf told (Info c f) (shown_info f) x
+      by (Info d g y) has is =
+          let card : d ≡ c = cc in
+          let same : g ≡ f = cc in
+          let e : shown_info g y ≡ x = cc in
+          record { whole = y; has = subst (Has told) (λ t. Info (card t) (same t) y) has; is = sym (ap (λ i. shown_info i y) same) ∙ e }
+      by (Met y) has is = absurd cc
+      by (Depth y n) has is = absurd cc
+      by (Key y n) has is = absurd cc
+      by (Value y n) has is = absurd cc
+      by (Expects d tag) has is = absurd cc
+      by (Frozen d right y) has is = absurd cc
+
+  pub was_expected : (c tag : ℕ) → Has (map shown_told told) (Expects c tag) → WasOf told (Expects c) cut_tag tag
+  was_expected c tag h = by (was_told told (Expects c tag) h).entry (was_told told (Expects c tag) h).has (was_told told (Expects c tag) h).is
+    where
+      by : (d : Told) → Has told d → shown_told d ≡ Expects c tag → WasOf told (Expects c) cut_tag tag
+      by (Expects d whole) has is =
+          let card : d ≡ c = cc in
+          let tags : cut_tag whole ≡ tag = cc in
+          record { whole = whole; has = subst (λ x. Has told (Expects x whole)) card has; is = tags }
+      by (Met y) has is = absurd cc
+      by (Depth y n) has is = absurd cc
+      by (Key y n) has is = absurd cc
+      by (Value y n) has is = absurd cc
+      by (Info d f y) has is = absurd cc
+      by (Frozen d right y) has is = absurd cc
+
+  pub was_frozen : (c : ℕ) (right : Bool) (x : ℕ) → Has (map shown_told told) (Frozen c right x) → WasOf told (Frozen c right) cut_node x
+  was_frozen c right x h = by (was_told told (Frozen c right x) h).entry (was_told told (Frozen c right x) h).has (was_told told (Frozen c right x) h).is
+    where
+      by : (d : Told) → Has told d → shown_told d ≡ Frozen c right x → WasOf told (Frozen c right) cut_node x
+      by (Frozen d side y) has is =
+          let card : d ≡ c = cc in
+          let same : side ≡ right = cc in
+          let e : cut_node y ≡ x = cc in
+          record { whole = y; has = subst (Has told) (λ t. Frozen (card t) (same t) y) has; is = e }
+      by (Met y) has is = absurd cc
+      by (Depth y n) has is = absurd cc
+      by (Key y n) has is = absurd cc
+      by (Value y n) has is = absurd cc
+      by (Info d f y) has is = absurd cc
+      by (Expects d tag) has is = absurd cc
+
+-- depths that were told of a node are shown as they are, where none was told of another node that is cut to the same
+pub depth_shown : (told : List Told) (x : ℕ) → ((y d : ℕ) → Has told (Depth y d) → cut_node y ≡ cut_node x → y ≡ x)
+    → depth_told (map shown_told told) (cut_node x) ≡ depth_told told x
+depth_shown [] x apart = refl
+depth_shown (Depth y d ∷ told) x apart =
+    let rest = depth_shown told x (λ z n has. apart z n (earlier (Depth z n) (Depth y d) told has)) in
+    λ t. if same_cut y x (apart y d (latest (Depth y d) told)) t then max d (rest t) else rest t
+depth_shown (Met y ∷ told) x apart = depth_shown told x (λ z n has. apart z n (earlier (Depth z n) (Met y) told has))
+depth_shown (Key y k ∷ told) x apart = depth_shown told x (λ z n has. apart z n (earlier (Depth z n) (Key y k) told has))
+depth_shown (Value y k ∷ told) x apart = depth_shown told x (λ z n has. apart z n (earlier (Depth z n) (Value y k) told has))
+depth_shown (Info c f y ∷ told) x apart = depth_shown told x (λ z n has. apart z n (earlier (Depth z n) (Info c f y) told has))
+depth_shown (Expects c tag ∷ told) x apart = depth_shown told x (λ z n has. apart z n (earlier (Depth z n) (Expects c tag) told has))
+depth_shown (Frozen c right y ∷ told) x apart = depth_shown told x (λ z n has. apart z n (earlier (Depth z n) (Frozen c right y) told has))
+
+below_shown : (told : List Told) (o : Option ℕ) → ((above : ℕ) → o ≡ Some above → (y d : ℕ) → Has told (Depth y d) → cut_node y ≡ cut_node above → y ≡ above)
+    → depth_below (map shown_told told) (option_map cut_node o) ≡ depth_below told o
+below_shown told None apart = refl
+below_shown told (Some above) apart = ap (λ n. n + 1) (depth_shown told above (apart above refl))
+
+-- the grandparent that an entry tells of a card is shown of the one that the entry tells
+tells_above : (c : ℕ) (e : Told) → tells_grandparent_of c (shown_told e) ≡ option_map cut_node (tells_grandparent_of c e)
+tells_above c (Info d field.Gp x) = by (d == c)
   where
-    by : (d : Told) → Has told d → shown_told d ≡ Expects c tag → WasExpected told c tag
-    by (Expects d whole) has is =
-        let card : d ≡ c = cc in
-        let tags : cut_tag whole ≡ tag = cc in
-        record { whole = whole; has = subst (λ x. Has told (Expects x whole)) card has; is = tags }
-    by (Met x) has is = absurd cc
-    by (Depth x n) has is = absurd cc
-    by (Key x n) has is = absurd cc
-    by (Value x n) has is = absurd cc
-    by (Info d f x) has is = absurd cc
-    by (Frozen d right x) has is = absurd cc
-
--- depths that were told are shown as they are
-pub depth_shown : (told : List Told) (x : ℕ) → depth_told (map shown_told told) x ≡ depth_told told x
-depth_shown [] x = refl
-depth_shown (Depth y d ∷ told) x = ap (λ n. if y == x then max d n else n) (depth_shown told x)
-depth_shown (Met y ∷ told) x = depth_shown told x
-depth_shown (Key y n ∷ told) x = depth_shown told x
-depth_shown (Value y n ∷ told) x = depth_shown told x
-depth_shown (Info c f n ∷ told) x = depth_shown told x
-depth_shown (Expects c tag ∷ told) x = depth_shown told x
-depth_shown (Frozen c right n ∷ told) x = depth_shown told x
-
-below_shown : (told : List Told) (o : Option ℕ) → depth_below (map shown_told told) o ≡ depth_below told o
-below_shown told None = refl
-below_shown told (Some above) = ap (λ n. n + 1) (depth_shown told above)
+    by : (b : Bool) → (if b then Some (cut_node x) else None) ≡ option_map cut_node (if b then Some x else None)
+    by true = refl
+    by false = refl
+tells_above c (Info d field.P x) = refl
+tells_above c (Info d field.L x) = refl
+tells_above c (Info d field.Left x) = refl
+tells_above c (Info d field.Right x) = refl
+tells_above c (Info d field.Was x) = refl
+tells_above c (Info d field.Key x) = refl
+tells_above c (Info d field.Update x) = refl
+tells_above c (Info d field.LeftLeafKey x) = refl
+tells_above c (Info d field.RightLeafKey x) = refl
+tells_above c (Info d field.LeftValue x) = refl
+tells_above c (Info d field.RightValue x) = refl
+tells_above c (Met x) = refl
+tells_above c (Depth x n) = refl
+tells_above c (Key x n) = refl
+tells_above c (Value x n) = refl
+tells_above c (Expects d tag) = refl
+tells_above c (Frozen d right x) = refl
 
 pub under_shown : (c : ℕ) (told es : List Told)
+    → ((e : Told) → Has es e → (above : ℕ) → tells_grandparent_of c e ≡ Some above → (y d : ℕ) → Has told (Depth y d) → cut_node y ≡ cut_node above → y ≡ above)
     → depth_under (tells_grandparent_of c) (map shown_told told) (map shown_told es) ≡ depth_under (tells_grandparent_of c) told es
-under_shown c told [] = refl
-under_shown c told (e ∷ es) =
-    ap (λ n. max (depth_below (map shown_told told) (tells_grandparent_of c (shown_told e))) n) (under_shown c told es)
-    ∙ ap (λ n. max n (depth_under (tells_grandparent_of c) told es))
-    (ap (depth_below (map shown_told told)) (tells e) ∙ below_shown told (tells_grandparent_of c e))
+under_shown c told [] apart = refl
+under_shown c told (e ∷ es) apart =
+    let rest = under_shown c told es (λ d has. apart d (earlier d e es has)) in
+    λ t. max (first t) (rest t)
   where
-    tells : (e : Told) → tells_grandparent_of c (shown_told e) ≡ tells_grandparent_of c e
-    tells (Expects d tag) = refl
-    tells (Met x) = refl
-    tells (Depth x n) = refl
-    tells (Key x n) = refl
-    tells (Value x n) = refl
-    tells (Info d f x) = refl
-    tells (Frozen d right x) = refl
+    first : depth_below (map shown_told told) (tells_grandparent_of c (shown_told e)) ≡ depth_below told (tells_grandparent_of c e)
+    first = ap (depth_below (map shown_told told)) (tells_above c e) ∙ below_shown told (tells_grandparent_of c e) (apart e (latest e es))
 
--- so is what entries told so the last time, where no tag is told so
-pub last_shown : (tells : Told → Option ℕ) → ((e : Told) → tells (shown_told e) ≡ tells e) → (told : List Told)
-    → last_told tells (map shown_told told) ≡ last_told tells told
-last_shown tells same [] = refl
-last_shown tells same (e ∷ told) =
-    ap (λ o. option_or o (last_told tells (map shown_told told))) (same e) ∙ ap (option_or (tells e)) (last_shown tells same told)
+-- what entries told so the last time is shown of that, where each entry that is shown tells what is shown of what it tells
+pub last_shown : (tells tells' : Told → Option ℕ) (cut : ℕ → ℕ) (told : List Told)
+    → ((e : Told) → Has told e → tells' (shown_told e) ≡ option_map cut (tells e))
+    → last_told tells' (map shown_told told) ≡ option_map cut (last_told tells told)
+last_shown tells tells' cut [] same = refl
+last_shown tells tells' cut (e ∷ told) same =
+    (λ t. option_or (same e (latest e told) t) (last_shown tells tells' cut told (λ d has. same d (earlier d e told has)) t)) ∙ by (tells e)
+  where
+    by : (o : Option ℕ) → option_or (option_map cut o) (option_map cut (last_told tells told)) ≡ option_map cut (option_or o (last_told tells told))
+    by None = refl
+    by (Some x) = refl
 
-tells_leaf : (c : ℕ) (e : Told) → tells_leaf_of c (shown_told e) ≡ tells_leaf_of c e
-tells_leaf c (Expects d tag) = refl
+tells_leaf : (c : ℕ) (e : Told) → tells_leaf_of c (shown_told e) ≡ option_map cut_node (tells_leaf_of c e)
+tells_leaf c (Info d field.L x) = by (d == c)
+  where
+    by : (b : Bool) → (if b then Some (cut_node x) else None) ≡ option_map cut_node (if b then Some x else None)
+    by true = refl
+    by false = refl
+tells_leaf c (Info d field.Gp x) = refl
+tells_leaf c (Info d field.P x) = refl
+tells_leaf c (Info d field.Left x) = refl
+tells_leaf c (Info d field.Right x) = refl
+tells_leaf c (Info d field.Was x) = refl
+tells_leaf c (Info d field.Key x) = refl
+tells_leaf c (Info d field.Update x) = refl
+tells_leaf c (Info d field.LeftLeafKey x) = refl
+tells_leaf c (Info d field.RightLeafKey x) = refl
+tells_leaf c (Info d field.LeftValue x) = refl
+tells_leaf c (Info d field.RightValue x) = refl
 tells_leaf c (Met x) = refl
 tells_leaf c (Depth x n) = refl
 tells_leaf c (Key x n) = refl
 tells_leaf c (Value x n) = refl
-tells_leaf c (Info d f x) = refl
+tells_leaf c (Expects d tag) = refl
 tells_leaf c (Frozen d right x) = refl
 
-tells_value : (leaf : ℕ) (e : Told) → tells_value_of leaf (shown_told e) ≡ tells_value_of leaf e
-tells_value leaf (Expects d tag) = refl
-tells_value leaf (Met x) = refl
-tells_value leaf (Depth x n) = refl
-tells_value leaf (Key x n) = refl
-tells_value leaf (Value x n) = refl
-tells_value leaf (Info d f x) = refl
-tells_value leaf (Frozen d right x) = refl
+-- the value that an entry tells of a leaf stays
+abbrev value_stays : ℕ → ℕ
+value_stays x = x
 
--- and what an operation took
+tells_value : (leaf : ℕ) (e : Told) → ((y value : ℕ) → e ≡ Value y value → cut_node y ≡ cut_node leaf → y ≡ leaf)
+    → tells_value_of (cut_node leaf) (shown_told e) ≡ option_map value_stays (tells_value_of leaf e)
+tells_value leaf (Value x value) apart = ap (λ b. if b then Some value else None) (same_cut x leaf (apart x value refl)) ∙ by (x == leaf)
+  where
+    by : (b : Bool) → (if b then Some value else None) ≡ option_map value_stays (if b then Some value else None)
+    by true = refl
+    by false = refl
+tells_value leaf (Met x) apart = refl
+tells_value leaf (Depth x n) apart = refl
+tells_value leaf (Key x n) apart = refl
+tells_value leaf (Info d f x) apart = refl
+tells_value leaf (Expects d tag) apart = refl
+tells_value leaf (Frozen d right x) apart = refl
+
+stays_so : (o : Option ℕ) → option_map value_stays o ≡ o
+stays_so None = refl
+stays_so (Some x) = refl
+
+-- the leaf that entries told of a card the last time is one that one of them told
+last_leaf : (c : ℕ) (told : List Told) (leaf : ℕ) → last_told (tells_leaf_of c) told ≡ Some leaf → Has told (Info c field.L leaf)
+last_leaf c [] leaf is = absurd cc
+last_leaf c (e ∷ told) leaf is = by (tells_leaf_of c e) refl (last_leaf c told leaf)
+  where
+    told_leaf : (e : Told) (leaf : ℕ) → tells_leaf_of c e ≡ Some leaf → e ≡ Info c field.L leaf
+    told_leaf (Info d field.L x) leaf is = at (d == c) refl is
+      where
+        at : (b : Bool) → (d == c) ≡ b → (if b then Some x else None) ≡ Some leaf → Info d field.L x ≡ Info c field.L leaf
+        at true same is = (let card = eqb-true d c same in let node : x ≡ leaf = cc in λ t. Info (card t) field.L (node t))
+        at false other is = absurd cc
+    told_leaf _ leaf is = absurd cc
+
+    by : (o : Option ℕ) → tells_leaf_of c e ≡ o → (last_told (tells_leaf_of c) told ≡ Some leaf → Has told (Info c field.L leaf)) → Has (e ∷ told) (Info c field.L leaf)
+    by None none rest = earlier (Info c field.L leaf) e told (rest (sym (ap (λ p. option_or p (last_told (tells_leaf_of c) told)) none) ∙ is))
+    by (Some x) some rest =
+        let x_is : Some x ≡ Some leaf = sym (ap (λ p. option_or p (last_told (tells_leaf_of c) told)) some) ∙ is in
+        subst (λ d. Has (d ∷ told) (Info c field.L leaf)) (sym (told_leaf e leaf (some ∙ x_is))) (latest (Info c field.L leaf) told)
+
+-- and what an operation took, where values were told of no other node that is cut to its card's leaf
 pub taken_shown : (op : Option Op) (card : Option ℕ) (said : Reply) (told : List Told)
+    → ((c leaf : ℕ) → card ≡ Some c → Has told (Info c field.L leaf) → (y value : ℕ) → Has told (Value y value) → cut_node y ≡ cut_node leaf → y ≡ leaf)
     → taken_by op card said (map shown_told told) ≡ taken_by op card said told
 unfolding taken_by
-taken_shown (Some (Delete key)) (Some c) Yes told =
-    ap (option_and_then (λ leaf. last_told (tells_value_of leaf) (map shown_told told))) (last_shown (tells_leaf_of c) (tells_leaf c) told)
-    ∙ by (last_told (tells_leaf_of c) told)
+taken_shown (Some (Delete key)) (Some c) Yes told apart =
+    ap (option_and_then (λ leaf. last_told (tells_value_of leaf) (map shown_told told))) (last_shown (tells_leaf_of c) (tells_leaf_of c) cut_node told (λ e has. tells_leaf c e))
+    ∙ by (last_told (tells_leaf_of c) told) refl
   where
-    by : (o : Option ℕ) → option_and_then (λ leaf. last_told (tells_value_of leaf) (map shown_told told)) o
+    by : (o : Option ℕ) → last_told (tells_leaf_of c) told ≡ o
+        → option_and_then (λ leaf. last_told (tells_value_of leaf) (map shown_told told)) (option_map cut_node o)
         ≡ option_and_then (λ leaf. last_told (tells_value_of leaf) told) o
-    by None = refl
-    by (Some leaf) = last_shown (tells_value_of leaf) (tells_value leaf) told
-taken_shown _ _ _ told = refl
+    by None is = refl
+    by (Some leaf) is =
+        last_shown (tells_value_of leaf) (tells_value_of (cut_node leaf)) value_stays told
+        (λ e has. tells_value leaf e (λ y value same. apart c leaf refl (last_leaf c told leaf is) y value (subst (Has told) same has)))
+        ∙ stays_so (last_told (tells_value_of leaf) told)
+taken_shown _ _ _ told apart = refl
 
 -- and the value of a leaf
-told_value_shown : (told : List Told) (x : ℕ) → told_value (map shown_told told) x ≡ told_value told x
-told_value_shown [] x = refl
-told_value_shown (Value y value ∷ told) x = ap (λ n. if y == x then value else n) (told_value_shown told x)
-told_value_shown (Met y ∷ told) x = told_value_shown told x
-told_value_shown (Depth y d ∷ told) x = told_value_shown told x
-told_value_shown (Key y n ∷ told) x = told_value_shown told x
-told_value_shown (Info c f n ∷ told) x = told_value_shown told x
-told_value_shown (Expects c tag ∷ told) x = told_value_shown told x
-told_value_shown (Frozen c right n ∷ told) x = told_value_shown told x
+told_value_shown : (told : List Told) (x : ℕ) → ((y value : ℕ) → Has told (Value y value) → cut_node y ≡ cut_node x → y ≡ x)
+    → told_value (map shown_told told) (cut_node x) ≡ told_value told x
+told_value_shown [] x apart = refl
+told_value_shown (Value y value ∷ told) x apart =
+    λ t. if same_cut y x (apart y value (latest (Value y value) told)) t then value
+    else told_value_shown told x (λ z n has. apart z n (earlier (Value z n) (Value y value) told has)) t
+told_value_shown (Met y ∷ told) x apart = told_value_shown told x (λ z n has. apart z n (earlier (Value z n) (Met y) told has))
+told_value_shown (Depth y d ∷ told) x apart = told_value_shown told x (λ z n has. apart z n (earlier (Value z n) (Depth y d) told has))
+told_value_shown (Key y k ∷ told) x apart = told_value_shown told x (λ z n has. apart z n (earlier (Value z n) (Key y k) told has))
+told_value_shown (Info c f y ∷ told) x apart = told_value_shown told x (λ z n has. apart z n (earlier (Value z n) (Info c f y) told has))
+told_value_shown (Expects c tag ∷ told) x apart = told_value_shown told x (λ z n has. apart z n (earlier (Value z n) (Expects c tag) told has))
+told_value_shown (Frozen c right y ∷ told) x apart = told_value_shown told x (λ z n has. apart z n (earlier (Value z n) (Frozen c right y) told has))
 
-pub value_shown : (told : List Told) (x : ℕ) → value_told (map shown_told told) x ≡ value_told told x
-value_shown told x = ap (λ n. if x % 4 == 0 then 0 else n) (told_value_shown told x)
+pub value_shown : (told : List Told) (x : ℕ) → ((y value : ℕ) → Has told (Value y value) → cut_node y ≡ cut_node x → y ≡ x)
+    → value_told (map shown_told told) (cut_node x) ≡ value_told told x
+value_shown told x apart =
+    (λ t. if node_place x t == 0 then 0 else told_value (map shown_told told) (cut_node x))
+    ∙ ap (λ n. if x % 4 == 0 then 0 else n) (told_value_shown told x apart)

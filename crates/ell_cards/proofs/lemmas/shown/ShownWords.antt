@@ -1,28 +1,34 @@
 -- What is shown of the words that a card in hand has, or is to have.
-use Rattle.std.proofs.Common.{◌≡◌, ℕ, ◌<◌, ◌==◌, if◌then◌else◌, map, Bool, true, false, Option, Some, None, List, [], ◌∷◌, refl, ap, ◌∙◌, eqb-true, unwrap_or}
+use Rattle.std.proofs.Common.{◌≡◌, ℕ, ◌%◌, ◌==◌, ◌&&◌, nat_le, nat_lt, min, max, if◌then◌else◌, map, Bool, true, false, Option, Some, None, List, [], ◌∷◌, refl, sym, ap, ◌∙◌, eqb-true, unwrap_or}
 use Rattle.std.specs.Option.{option_map}
 use Rattle.ell_ops.specs.declared.op.Op.{Op}
-use Rattle.ell_ops.specs.declared.op.Op.TheVariants.{Insert, Delete, Swap}
-use Rattle.ell_word.specs.Link.{tag_unit}
+use Rattle.ell_ops.specs.declared.op.Op.TheVariants.{Find, Insert, Delete, Swap}
+use Rattle.ell_word.specs.Link.{linked}
+use Rattle.ell_word.specs.Node.{left_leaf, right_leaf}
 use Rattle.ell_layout.specs.declared.field.Field.{Field}
 use Rattle.ell_layout.specs.declared.field.Field.TheVariants as field
 use Rattle.ell_layout.specs.Layout.{place}
-use Rattle.ell_layout.specs.Cards.{stored, tagged_for}
+use Rattle.ell_layout.specs.Cards.{clean, stored, tagged_for, left_of_card, right_of_card, put_filling, delete_filling}
 use Rattle.ell_layout.proofs.lemmas.Listed.{same_place-field}
 use Rattle.ell_core.specs.declared.view.Seen.{Seen}
 use Rattle.ell_core.specs.statements.Told.{is_fixed}
 use Rattle.ell_cards.specs.declared.view.Told.{Told}
-use Rattle.ell_cards.specs.declared.view.Told.TheVariants.{Info}
+use Rattle.ell_cards.specs.declared.view.Told.TheVariants.{Value, Info}
 use Rattle.ell_cards.specs.declared.view.View.{View}
-use Rattle.ell_cards.specs.Models.{stored_at}
+use Rattle.ell_cards.specs.Apart.{cut_node, IsApart}
+use Rattle.ell_cards.specs.Models.{TablePlan, Has, stored_at}
 use Rattle.ell_cards.specs.Changes.{filling_for, filling_of, tagged, tag_of_claim, expected_tag, told_filling, value_told}
-use Rattle.ell_cards.specs.Shown.{cut_tag, shown_seen, shown_told, shown_word, shown_words, shown}
-use Rattle.ell_cards.proofs.lemmas.shown.CutWords.{cut_linked}
+use Rattle.ell_cards.specs.Shown.{cut_tag, shown_info, shown_seen, shown_told, shown_word, shown_words, shown}
+use Rattle.ell_cards.proofs.lemmas.shown.CutWords.{cut_linked, node_again, node_place, tag_again}
 use Rattle.ell_cards.proofs.lemmas.shown.ShownTold.{value_shown}
 
 -- no word is shown as no word
 nothing_shown : (f : Field) → 0 ≡ shown_word f 0
+nothing_shown field.Gp = refl
+nothing_shown field.P = refl
 nothing_shown field.L = refl
+nothing_shown field.Left = refl
+nothing_shown field.Right = refl
 nothing_shown _ = refl
 
 -- a word that is shown for a field is shown so for the field of its place
@@ -47,62 +53,90 @@ planned_for (e ∷ es) f old =
 pub planned_shown : (words : List (Field × ℕ)) (f : Field) → stored (shown_words words) f 0 ≡ shown_word f (stored words f 0)
 planned_shown words f = ap (stored (shown_words words) f) (nothing_shown f) ∙ planned_for words f 0
 
--- a child word has room for the leaf of a card
-abbrev pub HasRoom : Field → ℕ → Type 0
-HasRoom field.L node = node < tag_unit
-HasRoom _ node = Unit {0}
+-- the words of what fills a card are shown alike where what fills it has the same nodes once they are cut
+tagged_alike : (f : Field) (tag tag' x y : ℕ) → cut_tag tag ≡ cut_tag tag' → shown_info f x ≡ shown_info f y
+    → shown_word f (tagged_for f tag x) ≡ shown_word f (tagged_for f tag' y)
+tagged_alike field.L tag tag' x y tags same =
+    cut_linked x tag ∙ ((λ t. linked (record { node = same t; tag = tags t })) ∙ sym (cut_linked y tag'))
+tagged_alike field.Left tag tag' x y tags same =
+    cut_linked x 0 ∙ ((λ t. linked (record { node = same t; tag = 0 })) ∙ sym (cut_linked y 0))
+tagged_alike field.Right tag tag' x y tags same =
+    cut_linked x 0 ∙ ((λ t. linked (record { node = same t; tag = 0 })) ∙ sym (cut_linked y 0))
+tagged_alike field.Gp tag tag' x y tags same = same
+tagged_alike field.P tag tag' x y tags same = same
+tagged_alike field.Was tag tag' x y tags same = same
+tagged_alike field.Key tag tag' x y tags same = same
+tagged_alike field.Update tag tag' x y tags same = same
+tagged_alike field.LeftLeafKey tag tag' x y tags same = same
+tagged_alike field.RightLeafKey tag tag' x y tags same = same
+tagged_alike field.LeftValue tag tag' x y tags same = same
+tagged_alike field.RightValue tag tag' x y tags same = same
 
-abbrev pub HaveRoom : List (Field × ℕ) → Type 0
-HaveRoom [] = Unit {0}
-HaveRoom (e ∷ es) = HasRoom e.0 e.1 × HaveRoom es
+-- what fills a card, with its nodes cut
+abbrev pub shown_filling : List (Field × ℕ) → List (Field × ℕ)
+shown_filling es = map (λ e. (e.0, shown_info e.0 e.1)) es
 
--- then its words are shown as those with its tag cut
-tagged_word : (f : Field) (tag x : ℕ) → HasRoom f x → shown_word f (tagged_for f tag x) ≡ tagged_for f (cut_tag tag) x
-tagged_word field.L tag x room = cut_linked x tag room
-tagged_word field.Gp tag x room = refl
-tagged_word field.P tag x room = refl
-tagged_word field.Was tag x room = refl
-tagged_word field.Key tag x room = refl
-tagged_word field.Left tag x room = refl
-tagged_word field.Right tag x room = refl
-tagged_word field.Update tag x room = refl
-tagged_word field.LeftLeafKey tag x room = refl
-tagged_word field.RightLeafKey tag x room = refl
-tagged_word field.LeftValue tag x room = refl
-tagged_word field.RightValue tag x room = refl
+-- the children of a card's node are cut to the same, whether the node below it was cut or not
+left_alike : (c k below key : ℕ) → cut_node (left_of_card c k below key) ≡ cut_node (left_of_card c k (cut_node below) key)
+left_alike c k below key = by (below % 4 == 0 && nat_le key k) ∙ ap (λ p. cut_node (if p == 0 && nat_le key k then cut_node below else left_leaf c)) (sym (node_place below))
+  where
+    by : (b : Bool) → cut_node (if b then below else left_leaf c) ≡ cut_node (if b then cut_node below else left_leaf c)
+    by true = sym (node_again below)
+    by false = refl
 
-pub tagged_shown : (tag : ℕ) (es : List (Field × ℕ)) → HaveRoom es → shown_words (tagged tag es) ≡ tagged (cut_tag tag) es
-tagged_shown tag [] room = refl
-tagged_shown tag (e ∷ es) room = λ t. (e.0, tagged_word e.0 tag e.1 room.0 t) ∷ tagged_shown tag es room.1 t
+right_alike : (c k below key : ℕ) → cut_node (right_of_card c k below key) ≡ cut_node (right_of_card c k (cut_node below) key)
+right_alike c k below key = by (below % 4 == 0 && nat_lt k key) ∙ ap (λ p. cut_node (if p == 0 && nat_lt k key then cut_node below else right_leaf c)) (sym (node_place below))
+  where
+    by : (b : Bool) → cut_node (if b then below else right_leaf c) ≡ cut_node (if b then cut_node below else right_leaf c)
+    by true = sym (node_again below)
+    by false = refl
 
--- so it is where a pass stands at a node that a child word has room for
-pub filling_fits : (c node_key : ℕ) (op : Option Op) (node : Option ℕ) (parent above : Option Seen) (key : ℕ) (value_of : ℕ → ℕ)
-    → ((x : ℕ) → node ≡ Some x → x < tag_unit) → HaveRoom (filling_for c node_key op node parent above key value_of)
-filling_fits c node_key (Some (Insert k value)) (Some below) (Some parent) above key value_of room =
-    (tt, (room below refl, (tt, (tt, (tt, (tt, (tt, (tt, (tt, (tt, tt))))))))))
-filling_fits c node_key (Some (Swap k was value)) (Some below) (Some parent) above key value_of room =
-    (tt, (room below refl, (tt, (tt, (tt, (tt, (tt, (tt, (tt, (tt, tt))))))))))
-filling_fits c node_key (Some (Delete k)) (Some leaf) (Some parent) (Some above) key value_of room =
-    (tt, (tt, (room leaf refl, (tt, tt))))
-filling_fits c node_key _ _ _ _ key value_of room = tt
+-- so the words of an insert's card are shown alike, and those of a delete's
+put_alike : (c k value node_key parent below key there there' tag : ℕ) → there ≡ there'
+    → shown_words (tagged tag (put_filling c k value node_key parent below key there))
+    ≡ shown_words (tagged (cut_tag tag) (put_filling c k value node_key (cut_node parent) (cut_node below) key there'))
+put_alike c k value node_key parent below key there there' tag same = λ t.
+    (field.P, sym (node_again parent) t) ∷ (field.L, leaf t) ∷ (field.Key, node_key) ∷ (field.Left, left t) ∷ (field.Right, right t) ∷ (field.Update, clean 0)
+    ∷ (field.LeftLeafKey, min k key) ∷ (field.RightLeafKey, max k key)
+    ∷ (field.LeftValue, (if nat_lt k key then value else same t)) ∷ (field.RightValue, (if nat_lt k key then same t else value)) ∷ []
+  where
+    leaf : shown_word field.L (tagged_for field.L tag below) ≡ shown_word field.L (tagged_for field.L (cut_tag tag) (cut_node below))
+    leaf = tagged_alike field.L tag (cut_tag tag) below (cut_node below) (sym (tag_again tag)) (sym (node_again below))
 
--- what fills a card is the same by what is shown
-filling_same : (c node_key : ℕ) (op : Option Op) (node : Option ℕ) (parent above : Option Seen) (key : ℕ) (value_of : ℕ → ℕ)
-    → filling_for c node_key op node (option_map shown_seen parent) (option_map shown_seen above) key value_of
-    ≡ filling_for c node_key op node parent above key value_of
-filling_same c node_key (Some (Insert k value)) (Some below) (Some parent) above key value_of = refl
-filling_same c node_key (Some (Swap k was value)) (Some below) (Some parent) above key value_of = refl
-filling_same c node_key (Some (Delete k)) (Some leaf) (Some parent) (Some above) key value_of = refl
-filling_same c node_key _ _ _ _ key value_of = refl
+    left : shown_word field.Left (tagged_for field.Left tag (left_of_card c k below key)) ≡ shown_word field.Left (tagged_for field.Left (cut_tag tag) (left_of_card c k (cut_node below) key))
+    left = tagged_alike field.Left tag (cut_tag tag) (left_of_card c k below key) (left_of_card c k (cut_node below) key) (sym (tag_again tag)) (left_alike c k below key)
 
-pub filling_shown : (c node_key : ℕ) (v : View) → filling_of c node_key (shown v) ≡ filling_of c node_key v
-filling_shown c node_key v =
-    (λ t. filling_for c node_key v.worker.operation v.worker.search.node (option_map shown_seen v.worker.search.parent)
-    (option_map shown_seen v.worker.search.grandparent) (unwrap_or v.here 0) (λ x. value_shown v.told x t))
-    ∙ filling_same c node_key v.worker.operation v.worker.search.node v.worker.search.parent v.worker.search.grandparent
-    (unwrap_or v.here 0) (value_told v.told)
+    right : shown_word field.Right (tagged_for field.Right tag (right_of_card c k below key)) ≡ shown_word field.Right (tagged_for field.Right (cut_tag tag) (right_of_card c k (cut_node below) key))
+    right = tagged_alike field.Right tag (cut_tag tag) (right_of_card c k below key) (right_of_card c k (cut_node below) key) (sym (tag_again tag)) (right_alike c k below key)
 
--- and the tag that it is to expect is cut
+delete_alike : (above parent leaf was tag : ℕ) → shown_words (tagged tag (delete_filling above parent leaf was))
+    ≡ shown_words (tagged (cut_tag tag) (delete_filling (cut_node above) (cut_node parent) (cut_node leaf) was))
+delete_alike above parent leaf was tag = λ t.
+    (field.Gp, sym (node_again above) t) ∷ (field.P, sym (node_again parent) t)
+    ∷ (field.L, tagged_alike field.L tag (cut_tag tag) leaf (cut_node leaf) (sym (tag_again tag)) (sym (node_again leaf)) t) ∷ (field.Was, was) ∷ []
+
+-- what a claim plans
+planned_alike : (c node_key : ℕ) (op : Option Op) (node : Option ℕ) (parent above : Option Seen) (key tag : ℕ) (value_of value_of' : ℕ → ℕ)
+    → ((x : ℕ) → node ≡ Some x → value_of x ≡ value_of' (cut_node x))
+    → shown_words (tagged tag (filling_for c node_key op node parent above key value_of))
+    ≡ shown_words (tagged (cut_tag tag) (filling_for c node_key op (option_map cut_node node) (option_map shown_seen parent) (option_map shown_seen above) key value_of'))
+planned_alike c node_key (Some (Insert k value)) (Some below) (Some parent) above key tag value_of value_of' same =
+    put_alike c k value node_key parent.node below key (value_of below) (value_of' (cut_node below)) tag (same below refl)
+planned_alike c node_key (Some (Swap k was value)) (Some below) (Some parent) above key tag value_of value_of' same =
+    put_alike c k value node_key parent.node below key (value_of below) (value_of' (cut_node below)) tag (same below refl)
+planned_alike c node_key (Some (Delete k)) (Some leaf) (Some parent) (Some above) key tag value_of value_of' same =
+    delete_alike above.node parent.node leaf parent.word tag
+planned_alike c node_key (Some (Delete k)) (Some leaf) (Some parent) None key tag value_of value_of' same = refl
+planned_alike c node_key (Some (Delete k)) (Some leaf) None above key tag value_of value_of' same = refl
+planned_alike c node_key (Some (Delete k)) None parent above key tag value_of value_of' same = refl
+planned_alike c node_key (Some (Insert k value)) (Some below) None above key tag value_of value_of' same = refl
+planned_alike c node_key (Some (Insert k value)) None parent above key tag value_of value_of' same = refl
+planned_alike c node_key (Some (Swap k was value)) (Some below) None above key tag value_of value_of' same = refl
+planned_alike c node_key (Some (Swap k was value)) None parent above key tag value_of value_of' same = refl
+planned_alike c node_key (Some (Find k)) node parent above key tag value_of value_of' same = refl
+planned_alike c node_key None node parent above key tag value_of value_of' same = refl
+
+-- and the tag that a card is to expect is cut
 tag_cut : (op : Option Op) (parent above : Option Seen)
     → tag_of_claim op (option_map shown_seen parent) (option_map shown_seen above) ≡ cut_tag (tag_of_claim op parent above)
 tag_cut (Some (Delete k)) parent (Some above) = refl
@@ -112,13 +146,59 @@ tag_cut _ None above = refl
 pub tag_shown : (v : View) → expected_tag (shown v) ≡ cut_tag (expected_tag v)
 tag_shown v = tag_cut v.worker.operation v.worker.search.parent v.worker.search.grandparent
 
--- what is told of a card when it is claimed is shown as it is, but for its tag
+-- the value that was told of the leaf where a pass stands
+pub value_here : (plan : TablePlan) (v : View) → IsApart plan v → (x : ℕ) → v.worker.search.node ≡ Some x → value_told v.told x ≡ value_told (shown v).told (cut_node x)
+value_here plan v apart x at =
+    sym (value_shown v.told x (λ y value has same. apart.met y x (apart.names.entries (Value y value) has) (apart.names.node x at) same))
+
+pub planned_shown_alike : (plan : TablePlan) (c node_key : ℕ) (v : View) → IsApart plan v
+    → shown_words (tagged (expected_tag v) (filling_of c node_key v)) ≡ shown_words (tagged (expected_tag (shown v)) (filling_of c node_key (shown v)))
+planned_shown_alike plan c node_key v apart =
+    planned_alike c node_key v.worker.operation v.worker.search.node v.worker.search.parent v.worker.search.grandparent (unwrap_or v.here 0) (expected_tag v)
+    (value_told v.told) (value_told (shown v).told) (value_here plan v apart)
+    ∙ ap (λ tag. shown_words (tagged tag (filling_of c node_key (shown v)))) (sym (tag_shown v))
+
+-- what is told of a card when it is claimed
 pub told_filling_shown : (c : ℕ) (es : List (Field × ℕ)) (told : List Told)
-    → map shown_told (told_filling c es told) ≡ told_filling c es (map shown_told told)
+    → map shown_told (told_filling c es told) ≡ told_filling c (shown_filling es) (map shown_told told)
 told_filling_shown c [] told = refl
-told_filling_shown c (e ∷ es) told = by (is_fixed e.0) ∙ ap (λ ts. if is_fixed e.0 then Info c e.0 e.1 ∷ ts else ts) (told_filling_shown c es told)
+told_filling_shown c (e ∷ es) told =
+    by (is_fixed e.0) ∙ ap (λ ts. if is_fixed e.0 then Info c e.0 (shown_info e.0 e.1) ∷ ts else ts) (told_filling_shown c es told)
   where
     by : (b : Bool) → map shown_told (if b then Info c e.0 e.1 ∷ told_filling c es told else told_filling c es told)
-        ≡ (if b then Info c e.0 e.1 ∷ map shown_told (told_filling c es told) else map shown_told (told_filling c es told))
+        ≡ (if b then Info c e.0 (shown_info e.0 e.1) ∷ map shown_told (told_filling c es told) else map shown_told (told_filling c es told))
     by true = refl
     by false = refl
+
+-- that is so of the fields that never change: in them no card's own node stands
+told_put : (c k value node_key parent below key there there' : ℕ) (told : List Told) → there ≡ there'
+    → told_filling c (shown_filling (put_filling c k value node_key parent below key there)) told
+    ≡ told_filling c (put_filling c k value node_key (cut_node parent) (cut_node below) key there') told
+told_put c k value node_key parent below key there there' told same =
+    ap (λ x. told_filling c (put_filling c k value node_key (cut_node parent) (cut_node below) key x) told) same
+
+told_alike : (c node_key : ℕ) (op : Option Op) (node : Option ℕ) (parent above : Option Seen) (key : ℕ) (value_of value_of' : ℕ → ℕ) (told : List Told)
+    → ((x : ℕ) → node ≡ Some x → value_of x ≡ value_of' (cut_node x))
+    → told_filling c (shown_filling (filling_for c node_key op node parent above key value_of)) told
+    ≡ told_filling c (filling_for c node_key op (option_map cut_node node) (option_map shown_seen parent) (option_map shown_seen above) key value_of') told
+told_alike c node_key (Some (Insert k value)) (Some below) (Some parent) above key value_of value_of' told same =
+    told_put c k value node_key parent.node below key (value_of below) (value_of' (cut_node below)) told (same below refl)
+told_alike c node_key (Some (Swap k was value)) (Some below) (Some parent) above key value_of value_of' told same =
+    told_put c k value node_key parent.node below key (value_of below) (value_of' (cut_node below)) told (same below refl)
+told_alike c node_key (Some (Delete k)) (Some leaf) (Some parent) (Some above) key value_of value_of' told same = refl
+told_alike c node_key (Some (Delete k)) (Some leaf) (Some parent) None key value_of value_of' told same = refl
+told_alike c node_key (Some (Delete k)) (Some leaf) None above key value_of value_of' told same = refl
+told_alike c node_key (Some (Delete k)) None parent above key value_of value_of' told same = refl
+told_alike c node_key (Some (Insert k value)) (Some below) None above key value_of value_of' told same = refl
+told_alike c node_key (Some (Insert k value)) None parent above key value_of value_of' told same = refl
+told_alike c node_key (Some (Swap k was value)) (Some below) None above key value_of value_of' told same = refl
+told_alike c node_key (Some (Swap k was value)) None parent above key value_of value_of' told same = refl
+told_alike c node_key (Some (Find k)) node parent above key value_of value_of' told same = refl
+told_alike c node_key None node parent above key value_of value_of' told same = refl
+
+pub told_of_claim : (plan : TablePlan) (c node_key : ℕ) (v : View) → IsApart plan v
+    → map shown_told (told_filling c (filling_of c node_key v) v.told) ≡ told_filling c (filling_of c node_key (shown v)) (shown v).told
+told_of_claim plan c node_key v apart =
+    told_filling_shown c (filling_of c node_key v) v.told
+    ∙ told_alike c node_key v.worker.operation v.worker.search.node v.worker.search.parent v.worker.search.grandparent (unwrap_or v.here 0)
+    (value_told v.told) (value_told (shown v).told) (map shown_told v.told) (value_here plan v apart)

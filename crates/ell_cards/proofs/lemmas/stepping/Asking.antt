@@ -39,7 +39,7 @@ use Rattle.ell_core.specs.tree.Rank.{rank}
 use Rattle.std.proofs.lemmas.Bool.{false≢true}
 use Rattle.ell_word.specs.Link.{link_in}
 use Rattle.ell_word.specs.declared.link.Link.{Link}
-use Rattle.ell_layout.proofs.lemmas.Writes.{link_back}
+use Rattle.ell_word.proofs.Numbers.{link_back}
 use Rattle.ell_layout.specs.Cards.{says_by}
 
 module _ (plan : TablePlan) (s : TableState) (r : HasMachine plan s) (id : ℕ) (v : View) (here : get_elem? s.views id ≡ some v) where

@@ -37,7 +37,7 @@ use Rattle.ell_cards.proofs.lemmas.seats.Frames.{Onward, is_event}
 use Rattle.ell_cards.proofs.lemmas.stepping.Looks.{found_entries, names_card, born_small, child_born}
 use Rattle.ell_cards.proofs.lemmas.stepping.Exchanges.{in_list, told_is, told_key, flags_never, found_at, exchanged_words, learning_on, exchange_leads, teaches, update_exchanged, update_says, child_exchanged, child_says, unflags, told_tag}
 use Rattle.ell_cards.proofs.lemmas.stepping.Known.{known_delete, delete_cut, delete_unmarkable, update_found, child_found}
-use Rattle.ell_word.specs.Link.{linked, tag_unit}
+use Rattle.ell_word.specs.Link.{linked, node_bound}
 use Rattle.ell_word.specs.declared.link.Link.{Link}
 use Rattle.ell_core.specs.history.Invariant.{DeleteCard}
 use Rattle.ell_core.proofs.lemmas.words.Sides.{sibling_cases}
@@ -141,13 +141,13 @@ module _ (plan : TablePlan) (s : TableState) (r : HasMachine plan s) (id : ℕ) 
       (eq-eqb (r.words.child (r.words.p c) true) (r.words.l c) (right_is ∙ sym l_is)) ∙ ((r.views id v here).entries (Frozen c false y) b.1).2
 
   -- its number is small
-  sibling_small : (c : ℕ) → DeleteCard r.words r.stages c → sibling r.words c < tag_unit
+  sibling_small : (c : ℕ) → DeleteCard r.words r.stages c → sibling r.words c < node_bound
   sibling_small c said =
       let child = λ (right : Bool). born_small plan s r id v here (r.words.child (r.words.p c) right)
       (child_born plan s r id v here (r.words.p c) right said.parent.inner said.parent.born) in
       elim (sibling_cases r.words c) [
-        | inl e ↦ subst (λ z. z < tag_unit) (sym e) (child false)
-        | inr e ↦ subst (λ z. z < tag_unit) (sym e) (child true)
+        | inl e ↦ subst (λ z. z < node_bound) (sym e) (child false)
+        | inr e ↦ subst (λ z. z < node_bound) (sym e) (child true)
       ]
 
   -- dchild
@@ -171,8 +171,8 @@ module _ (plan : TablePlan) (s : TableState) (r : HasMachine plan s) (id : ℕ) 
       let inner = said.grandparent.inner in
       let is = child_found plan s r id v here (w.gp c) gp right gp_is inner said.grandparent.born in
       let child_small = born_small plan s r id v here (w.child (w.gp c) right) (child_born plan s r id v here (w.gp c) right inner said.grandparent.born) in
-      let parent_small : p.node < tag_unit = subst (λ z. z < tag_unit) p_is (born_small plan s r id v here (w.p c) said.parent.born) in
-      let new_small : y < tag_unit = subst (λ z. z < tag_unit) y_is (sibling_small c said) in
+      let parent_small : p.node < node_bound = subst (λ z. z < node_bound) p_is (born_small plan s r id v here (w.p c) said.parent.born) in
+      let new_small : y < node_bound = subst (λ z. z < node_bound) y_is (sibling_small c said) in
       let exchanged = child_exchanged w (w.gp c) gp p y n right gp_is inner side is child_small parent_small new_small in
       is_event plan s r id v here (call.DChild c gp p y right) a _ _
       (teaches plan s r id v here a (card gp) g (linked p) (linked (next_link p y)) (Cut c) exchange.DChild c

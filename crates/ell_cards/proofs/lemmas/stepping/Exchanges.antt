@@ -38,9 +38,10 @@ use Rattle.ell_cards.proofs.lemmas.seats.Frames.{Onward, IsReached, looks, waits
 use Rattle.ell_cards.proofs.lemmas.views.Facts.{knows_more}
 use Rattle.ell_cards.proofs.lemmas.stepping.Known.{update_found}
 use Rattle.std.proofs.lemmas.Bool.{cases_eq}
-use Rattle.ell_word.specs.Link.{linked, tag_unit}
+use Rattle.ell_word.specs.Link.{linked, node_bound}
 use Rattle.ell_word.specs.declared.link.Link.{Link}
-use Rattle.ell_layout.proofs.lemmas.Writes.{same_links, child_written}
+use Rattle.ell_layout.proofs.lemmas.Writes.{child_written}
+use Rattle.ell_word.proofs.Numbers.{same_links}
 
 module _ (plan : TablePlan) (s : TableState) (r : HasMachine plan s) (id : ℕ) (v : View) (here : get_elem? s.views id ≡ some v) where
   -- a field of a node that came into the tree has an address in the table
@@ -150,7 +151,7 @@ module _ (w : Words) (x y expected value n : ℕ) (same : x ≡ y) (inner : IsIn
 
 module _ (w : Words) (x y : ℕ) (expected : Link) (q n : ℕ) (right : Bool) (same : x ≡ y) (inner : IsInternal x)
     (side : exchange_side w x q ≡ right) (is : linked (record { node = w.child x right; tag = w.tag x right }) ≡ n)
-    (small : w.child x right < tag_unit) (expected_small : expected.node < tag_unit) (new_small : q < tag_unit) where
+    (small : w.child x right < node_bound) (expected_small : expected.node < node_bound) (new_small : q < node_bound) where
   -- a child word is the expected one if child and tag are
   same_link : n ≡ linked expected → (w.child x right ≡ expected.node) × (w.tag x right ≡ expected.tag)
   same_link e = same_links (w.child x right) (w.tag x right) expected.node expected.tag small expected_small (is ∙ e)

@@ -28,7 +28,7 @@ use Rattle.ell_core.proofs.lemmas.stages.Waiting.{born-settled}
 use Rattle.ell_cards.proofs.lemmas.seats.Frames.{is_event}
 use Rattle.ell_cards.proofs.lemmas.stepping.Exchanges.{in_list, told_is, told_key, found_at, teaches, child_exchanged, child_says, unflags, told_tag}
 use Rattle.ell_cards.proofs.lemmas.stepping.Known.{insert_flagged, insert_changed, child_found}
-use Rattle.ell_word.specs.Link.{linked, tag_unit}
+use Rattle.ell_word.specs.Link.{linked, node_bound}
 use Rattle.ell_word.specs.declared.link.Link.{Link}
 use Rattle.ell_cards.specs.Calls.{next_link}
 use Rattle.ell_cards.proofs.lemmas.stepping.Looks.{born_small, child_born}
@@ -36,7 +36,7 @@ use Rattle.ell_cards.proofs.lemmas.seats.Seats.{mine_sound}
 use Rattle.ell_core.proofs.lemmas.stages.Order.{insert-claimed, insert_won-insert}
 
 -- a node that a card of the table brings is small
-brought_small : (c last : ℕ) (replaces : Bool) → c ≤ last → last ≤ greatest_number → brought_by c replaces < tag_unit
+brought_small : (c last : ℕ) (replaces : Bool) → c ≤ last → last ≤ greatest_number → brought_by c replaces < node_bound
 brought_small c last true low room = omega arith
 brought_small c last false low room = omega arith
 
@@ -71,9 +71,9 @@ module _ (plan : TablePlan) (s : TableState) (r : HasMachine plan s) (id : ℕ) 
       ∙ (ap (nat_le may.parent_key) right_is ∙ sym may.side)))) in
       let is = child_found plan s r id v here (w.p c) p right p_is said.parent.inner said.parent.born in
       let child_small = born_small plan s r id v here (w.child (w.p c) right) (child_born plan s r id v here (w.p c) right said.parent.inner said.parent.born) in
-      let leaf_small : l.node < tag_unit = subst (λ y. y < tag_unit) l_is (born_small plan s r id v here (w.l c) said.lower) in
+      let leaf_small : l.node < node_bound = subst (λ y. y < node_bound) l_is (born_small plan s r id v here (w.l c) said.lower) in
       let claimed = (r.invariant.words.cards c).claimed.0 (insert-claimed (r.stages c) (insert_won-insert (r.stages c) ((mine_sound plan s r id v here).facts (IFlagged c) may.knows))) in
-      let new_small : q < tag_unit = brought_small c plan.last_card replaces (let room = r.invariant.limit in omega arith) r.limit in
+      let new_small : q < node_bound = brought_small c plan.last_card replaces (let room = r.invariant.limit in omega arith) r.limit in
       let exchanged = child_exchanged w (w.p c) p l q n right p_is said.parent.inner side is child_small leaf_small new_small in
       let born = subst (Born r.stages) p_is said.parent.born in
       is_event plan s r id v here (call.IChild c p l replaces right) a _ _

@@ -34,7 +34,8 @@ use Rattle.ell_core.specs.statements.StepLaws.{IsReadable}
 use Rattle.ell_core.specs.statements.Effects.{value_in, contents_in}
 use Rattle.ell_core.proofs.lemmas.outcomes.Decide.{some_not_none}
 use Rattle.ell_core.proofs.lemmas.stages.Order.{born_is_node}
-use Rattle.ell_layout.proofs.lemmas.Writes.{update_at_node, key_at_node, value_at_leaf, child_word_at_node, link_back, key_in_table, value_in_table}
+use Rattle.ell_layout.proofs.lemmas.Writes.{update_at_node, key_at_node, value_at_leaf, child_word_at_node, key_in_table, value_in_table}
+use Rattle.ell_word.proofs.Numbers.{link_back}
 use Rattle.ell_cards.specs.Models.{TablePlan, flat_from}
 use Rattle.ell_block.specs.Blocks.{InBlockOf}
 use Rattle.ell_core.proofs.lemmas.stages.Edges.{found_block, own_block}
@@ -58,7 +59,7 @@ use Rattle.ell_cards.proofs.lemmas.seats.Entries.{with_entry, below_holds, place
 use Rattle.ell_cards.proofs.lemmas.seats.Seats.{mine, becomes, mine_is, mine_sound, relies, stands_born, born_claimed}
 use Rattle.ell_cards.proofs.lemmas.seats.Frames.{looks, kept_told, is_event, is_no_event}
 use Rattle.ell_core.specs.tree.Rank.{rank}
-use Rattle.ell_word.specs.Link.{linked, link_in, tag_unit}
+use Rattle.ell_word.specs.Link.{linked, link_in, node_bound}
 use Rattle.ell_word.specs.declared.link.Link.{Link}
 
 -- an entry that is not present has no value
@@ -107,7 +108,7 @@ module _ (plan : TablePlan) (s : TableState) (r : HasMachine plan s) (id : ℕ) 
       let node = born_is_node r.stages x born in omega (arith, node)
 
   -- so its number is small
-  pub born_small : (x : ℕ) → Born r.stages x → x < tag_unit
+  pub born_small : (x : ℕ) → Born r.stages x → x < node_bound
   born_small x born = let there = born_in_table x born in let room = r.limit in omega arith
 
   -- a child of such a node came into the tree

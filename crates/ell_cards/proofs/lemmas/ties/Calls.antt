@@ -24,7 +24,7 @@ use Rattle.ell_cards.specs.Changes.{after_claim, after_flag, after_mark, is_mark
 use Rattle.ell_cards.specs.Models.{TablePlan, Has, latest, earlier}
 use Rattle.ell_cards.specs.Periods.{WholeState}
 use Rattle.ell_cards.specs.Sayings.{says}
-use Rattle.ell_cards.specs.Shown.{cut_word}
+use Rattle.ell_cards.specs.Shown.{cut_field, cut_by}
 use Rattle.ell_cards.specs.SlotWords.{slot_of}
 use Rattle.ell_cards.specs.States.{TableState}
 use Rattle.ell_cards.specs.Tied.{LiesThere, HasWon, HoldsWaiting, HasStored, HasStoredAll, IsKept, IsTied, MayInMemory, FlagsCard}
@@ -142,7 +142,7 @@ module _ (plan : TablePlan) (s : Slots) (low : s.last < 2097152) (tree : TableSt
     (small : get_or (set tree.words (word_of c) (left_by (atomic_of c) (found_by tree c))) 0 0 < 2 ^ 64)
     (wins : (d : ℕ) → HasWon next d → HasWon stage d ⊎ FlagsCard c d)
     (kinds : (d : ℕ) (f : Field) → HasWon stage d → says (next d) f ≡ true → says (stage d) f ≡ true)
-    (flagged : (d : ℕ) (f : Field) → FlagsCard c d → says (next d) f ≡ true → flag_says c f ≡ true) (n : ℕ) (is : n ≡ cut_word (left_by (atomic_of c) (found_by tree c))) where
+    (flagged : (d : ℕ) (f : Field) → FlagsCard c d → says (next d) f ≡ true → flag_says c f ≡ true) (n : ℕ) (is : n ≡ cut_by c (left_by (atomic_of c) (found_by tree c))) where
   abbrev d : ℕ
   d = card_touched (touched_by c)
 
@@ -169,7 +169,7 @@ module _ (plan : TablePlan) (s : Slots) (low : s.last < 2097152) (tree : TableSt
   claim_on = elim (spots c) [
     | inl at ↦
         let there = read_there tree.words (word_of c) 0 left (sym at.1) fits in
-        read_there t.words (place_of c) 0 n (sym at.2) place_fits ∙ (is ∙ (cut_same left (subst (λ x. x < 2 ^ 64) there small) ∙ sym there))
+        read_there t.words (place_of c) 0 n (sym at.2) place_fits ∙ (is ∙ (at.3 left ∙ (cut_same left (subst (λ x. x < 2 ^ 64) there small) ∙ sym there)))
     | inr at ↦
         get_or-set_other t.words (place_of c) 0 n 0 (λ e. no_claim (slot_of d) at.0 (sym at.2 ∙ sym e))
         ∙ (tied.claim ∙ sym (get_or-set_other tree.words (word_of c) 0 left 0 (λ e. no_claim d at.0 (sym at.1 ∙ sym e))))
@@ -228,7 +228,7 @@ module _ (plan : TablePlan) (s : Slots) (low : s.last < 2097152) (tree : TableSt
 
   -- the words of a card that lies in a slot
   at_card : (slot : ℕ) (f : Field) → slot ≤ s.last → IsKept next views (lie slot) f
-      → get_or words (address slot f) 0 ≡ cut_word (get_or leaves (address (lie slot) f) 0)
+      → get_or words (address slot f) 0 ≡ cut_field f (get_or leaves (address (lie slot) f) 0)
   at_card slot f inside kept = elim (cases_eq (address slot f) (place_of c)) [
     | inl same ↦ touched same
     | inr other ↦ elsewhere other
@@ -240,7 +240,7 @@ module _ (plan : TablePlan) (s : Slots) (low : s.last < 2097152) (tree : TableSt
       there : slot_of e ≡ slot
       there = tied.own slot inside
 
-      touched : address slot f ≡ place_of c → get_or words (address slot f) 0 ≡ cut_word (get_or leaves (address e f) 0)
+      touched : address slot f ≡ place_of c → get_or words (address slot f) 0 ≡ cut_field f (get_or leaves (address e f) 0)
       touched same = elim (spots c) [
         | inl at ↦ absurd (no_claim slot f (same ∙ at.2))
         | inr at ↦
@@ -248,14 +248,14 @@ module _ (plan : TablePlan) (s : Slots) (low : s.last < 2097152) (tree : TableSt
             let lies : e ≡ d = ap lie apart.0 ∙ touch.lies.1 in
             let word : address e f ≡ word_of c = (λ i. address (lies i) (apart.1 i)) ∙ sym at.1 in
             read_there t.words (place_of c) (address slot f) n same place_fits
-            ∙ (is ∙ ap cut_word (sym (read_there tree.words (word_of c) (address e f) left word fits)))
+            ∙ (is ∙ (at.4 left ∙ ((λ i. cut_field (sym apart.1 i) left) ∙ ap (cut_field f) (sym (read_there tree.words (word_of c) (address e f) left word fits)))))
       ]
 
-      elsewhere : address slot f ≢ place_of c → get_or words (address slot f) 0 ≡ cut_word (get_or leaves (address e f) 0)
+      elsewhere : address slot f ≢ place_of c → get_or words (address slot f) 0 ≡ cut_field f (get_or leaves (address e f) 0)
       elsewhere other = elim (kept_before e f kept) [
         | inl had ↦
             get_or-set_other t.words (place_of c) (address slot f) n 0 other
-            ∙ (tied.at slot f inside had ∙ ap cut_word (sym (get_or-set_other tree.words (word_of c) (address e f) left 0 apart)))
+            ∙ (tied.at slot f inside had ∙ ap (cut_field f) (sym (get_or-set_other tree.words (word_of c) (address e f) left 0 apart)))
         | inr stores ↦ absurd (other (ap (λ x. address x f) (sym there) ∙ sym stores))
       ]
         where
@@ -283,10 +283,17 @@ module _ (plan : TablePlan) (s : Slots) (low : s.last < 2097152) (tree : TableSt
           (at_set t.views id seat knows u at)
       | inr flags ↦ hand_lies e flags
     ];
-    fits = λ e has. elim (wins e has) [ inl had ↦ tied.fits e had | inr flags ↦ (hand_lies e flags).0 ];
+    fits = λ e has. elim (wins e has) [
+      | inl had ↦ tied.fits e had
+      | inr flags ↦ tied.slotted id e k here (flag_in_hand plan c k may mem e flags).1
+    ];
     hand = λ seat e u at slot waits. ⊎_elim
         (λ (w : (seat ≡ id) × (knows ≡ u)). mine e (ap (λ (x : Known). x.period.slot) w.1 ∙ slot) (subst (λ (x : Known). HoldsWaiting x.tree e) (sym w.1) waits))
         (λ (w : (seat ≢ id) × (get_elem? t.views seat ≡ some u)). tied.hand seat e u w.1 slot waits)
+        (at_set t.views id seat knows u at);
+    slotted = λ seat e u at slot. ⊎_elim
+        (λ (w : (seat ≡ id) × (knows ≡ u)). tied.slotted id e k here (ap (λ (x : Known). x.period.slot) w.1 ∙ slot))
+        (λ (w : (seat ≢ id) × (get_elem? t.views seat ≡ some u)). tied.slotted seat e u w.1 slot)
         (at_set t.views id seat knows u at);
     past = λ seat e u at slot.
         let was : e < get_or t.words 0 0 = ⊎_elim

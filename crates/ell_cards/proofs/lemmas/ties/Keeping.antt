@@ -8,7 +8,7 @@ use Rattle.ell_cards.specs.Calls.{atomic_of, left_by, place_of, May}
 use Rattle.ell_cards.specs.Models.{TablePlan}
 use Rattle.ell_cards.specs.PeriodLaws.{IsInPeriod}
 use Rattle.ell_cards.specs.Periods.{WholeState, IsAtRest}
-use Rattle.ell_cards.specs.Shown.{cut_word}
+use Rattle.ell_cards.specs.Shown.{cut_by}
 use Rattle.ell_cards.specs.States.{TableState}
 use Rattle.ell_cards.specs.Tied.{IsTied, MayInMemory}
 use Rattle.ell_cards.specs.Ties.{TouchesTied, memory_after, CallsKeepTies, IsTiedByAges}
@@ -47,7 +47,7 @@ module _ (plan : TablePlan) (s : Slots) (tree : TableState) (t : WholeState) (li
   touch = touched_tied plan s tree t h.ages.now.machine lie dead was_dead h.tied id k here there (ready_by plan s tree t lie dead was_dead h.ages id k ready) c may mem
 
   abbrev n : ℕ
-  n = cut_word (left_by (atomic_of c) (found_by tree c))
+  n = cut_by c (left_by (atomic_of c) (found_by tree c))
 
   pub goes : (homes : List (Maybe (Unit {0}))) → AgesOn plan s tree t lie dead was_dead h.ages (Makes id c) after (memory_after tree t homes id k c)
   goes homes = ages_after_call plan s tree reached t id k here there lie dead was_dead c may (set t.words (place_of c) n) homes

@@ -5,7 +5,7 @@ use Rattle.std.proofs.lemmas.List.Elements.{All-head, All-tail}
 use Rattle.std.specs.List.{All, AllByRecursion}
 use mathlib.Core.Option.{some}
 use lib.ListN.{get_elem?}
-use Rattle.ell_word.specs.Link.{link_in, tag_unit, greatest_tag}
+use Rattle.ell_word.specs.Link.{link_in, node_bound, greatest_tag}
 use Rattle.ell_word.specs.declared.link.Link.{Link}
 use Rattle.ell_layout.specs.declared.field.Field.TheVariants as field
 use Rattle.ell_core.specs.declared.exchange.Exchange.{Exchange}
@@ -176,14 +176,18 @@ module _ (plan : TablePlan) (s : Slots) (tree : TableState) (t : WholeState) (li
   )
 
   -- a link is near a child word if its tag is
-  link_near : (x : ℕ) (right : Bool) (l : Link) → IsNearSince plan before tree near.machine near.from.stages x right l.tag → l.node < tag_unit
+  link_near : (x : ℕ) (right : Bool) (l : Link) → IsNearSince plan before tree near.machine near.from.stages x right l.tag l.node → l.node < node_bound
       → IsNear l (get_or tree.words (child_address x right) 0)
   link_near x right l by inside = record {
-    inside = inside;
-    least = λ same. subst (λ n. l.tag ≤ n) (sym tag) by.near.low;
-    most = λ same. subst (λ n. n ≤ l.tag + greatest_tag) (sym tag) most;
+    low = inside;
+    least = subst (λ n. l.tag ≤ n) (sym tag) by.near.low;
+    most = subst (λ n. n ≤ l.tag + greatest_tag) (sym tag) most;
+    same = λ is. node ∙ by.same (sym tag ∙ is);
   }
     where
+      node : (link_in (get_or tree.words (child_address x right) 0)).node ≡ near.machine.words.child x right
+      node = ap (λ (j : Link). j.node) by.is
+
       tag : (link_in (get_or tree.words (child_address x right) 0)).tag ≡ near.machine.words.tag x right
       tag = ap (λ (j : Link). j.tag) by.is
 
@@ -193,8 +197,8 @@ module _ (plan : TablePlan) (s : Slots) (tree : TableState) (t : WholeState) (li
       most : near.machine.words.tag x right ≤ l.tag + greatest_tag
       most = let high = by.near.high in let fits = few in omega arith
 
-  -- a child word has room for a node that came into the tree
-  has_room : (x : ℕ) → Born near.machine.stages x → x < tag_unit
+  -- the number of a link has room for a node that came into the tree
+  has_room : (x : ℕ) → Born near.machine.stages x → x < node_bound
   has_room x born =
       let below = born_below near.machine.words near.machine.stages near.machine.invariant.words x born in
       let next = near.machine.invariant.limit in
@@ -202,14 +206,18 @@ module _ (plan : TablePlan) (s : Slots) (tree : TableState) (t : WholeState) (li
       omega arith
 
   insert_near : (c p : ℕ) (l : Link) (replaces right : Bool) → MayIChild k.tree c p l replaces right → IsNear l (get_or tree.words (child_address p right) 0)
-  insert_near c p l replaces right may = link_near p right l (near.insert k.tree there c p l replaces right may)
-      (subst (λ n. n < tag_unit) (told_is plan tree near.machine id k.tree there c field.L l.node may.leaf)
-      (has_room (near.machine.words.l c) (insert_flagged plan tree near.machine id k.tree there c may.knows).lower))
+  insert_near c p l replaces right may =
+      let said = insert_flagged plan tree near.machine id k.tree there c may.knows in
+      link_near p right l (near.insert k.tree there c p l replaces right may)
+      (subst (λ n. n < node_bound) (told_is plan tree near.machine id k.tree there c field.L l.node may.leaf)
+      (has_room (near.machine.words.l c) said.lower))
 
   delete_near : (c gp : ℕ) (p : Link) (y : ℕ) (right : Bool) → MayDChild k.tree c gp p y right → IsNear p (get_or tree.words (child_address gp right) 0)
-  delete_near c gp p y right may = link_near gp right p (near.delete k.tree there c gp p y right may)
-      (subst (λ n. n < tag_unit) (told_is plan tree near.machine id k.tree there c field.P p.node may.parent)
-      (has_room (near.machine.words.p c) (known_delete plan tree near.machine id k.tree there c (inr may.knows)).parent.born))
+  delete_near c gp p y right may =
+      let said = known_delete plan tree near.machine id k.tree there c (inr may.knows) in
+      link_near gp right p (near.delete k.tree there c gp p y right may)
+      (subst (λ n. n < node_bound) (told_is plan tree near.machine id k.tree there c field.P p.node may.parent)
+      (has_room (near.machine.words.p c) said.parent.born))
 
 pub expected_links_are_near : ExchangesAreNear
 expected_links_are_near plan s tree t lie dead was_dead tied reached low id k here there period made may =

@@ -1,13 +1,15 @@
 -- The memory of a table with places is tied to its tree as it opens.
-use Rattle.std.proofs.Common.{◌≡◌, ◌+◌, ◌-◌, ◌^◌, ◌<◌, ◌≤◌, ℕ, zero, suc, Bool, false, Some, None, List, [], ◌∷◌, ◌++◌, replicate, length, get_or, refl, sym, ap, ◌∙◌, subst, arith}
+use Rattle.std.proofs.Common.{◌≡◌, ◌+◌, ◌-◌, ◌^◌, ◌<◌, ◌≤◌, ℕ, zero, suc, if◌then◌else◌, nat_lt, Bool, true, false, Some, None, List, [], ◌∷◌, ◌++◌, replicate, length, get_or, refl, sym, ap, ◌∙◌, subst, arith}
 use Rattle.std.proofs.lemmas.List.{length-append}
 use mathlib.Core.Option.{some, some-injective, some-ne-none}
 use lib.ListN.{get_elem?}
 use Rattle.atomic_table.specs.Table.{opening}
 use Rattle.ell_layout.specs.Layout.{address, table_size}
-use Rattle.ell_layout.specs.Start.{words_at_start}
+use Rattle.ell_layout.specs.declared.field.Field.{Field}
+use Rattle.ell_layout.specs.declared.field.Field.TheVariants as field
+use Rattle.ell_layout.specs.Start.{start_field, words_at_start}
 use Rattle.ell_layout.specs.Words.{Words, words_of}
-use Rattle.ell_layout.proofs.lemmas.Listed.{listed_next, address_in_table}
+use Rattle.ell_layout.proofs.lemmas.Listed.{listed_next, address_in_table, said_in_list}
 use Rattle.ell_core.proofs.lemmas.outcomes.Decide.{some_not_none}
 use Rattle.ell_cards.specs.declared.view.Known.{Known}
 use Rattle.ell_cards.specs.declared.view.Slots.{Slots}
@@ -16,7 +18,8 @@ use Rattle.ell_cards.specs.Changes.{first_of}
 use Rattle.ell_cards.specs.Machines.{HasMachine}
 use Rattle.ell_cards.specs.Models.{TablePlan}
 use Rattle.ell_cards.specs.Periods.{WholeState, IsAtRest, opening_words, period_by}
-use Rattle.ell_cards.specs.Shown.{IsWord, cut_word}
+use Rattle.ell_cards.specs.Apart.{cut_node}
+use Rattle.ell_cards.specs.Shown.{IsWord, cut_field, cut_word}
 use Rattle.ell_cards.specs.SlotWords.{slot_of}
 use Rattle.ell_cards.specs.Starts.{MayStart, SlotsFit, IsReached}
 use Rattle.ell_cards.specs.States.{TableState}
@@ -27,11 +30,50 @@ use Rattle.ell_cards.proofs.lemmas.runs.Reaching.{reached_first}
 use Rattle.ell_cards.proofs.lemmas.shown.CutWords.{cut_same}
 use Rattle.ell_cards.proofs.lemmas.whole.Opens.{zeros_many, with_zeros, words_same, other_word, slots_empty, first_ages, first_periods}
 use Rattle.ell_cards.proofs.lemmas.whole.Rests.{is_at_rest}
+use Rattle.ell_cards.proofs.lemmas.words.Slotted.{has_slot_by}
+
+-- as a table opens, no card says a grandparent or a parent
+abbrev NoInfo : Field → ℕ → Type 0
+NoInfo field.Gp n = n ≡ 0
+NoInfo field.P n = n ≡ 0
+NoInfo _ n = Unit {0}
+
+-- a word that memory holds whole is what a field has there, if it is no node
+held_whole : (f : Field) (m n : ℕ) → m < 2 ^ 64 → m ≡ n → NoInfo f n → m ≡ cut_field f n
+held_whole field.Gp m n small same none = same ∙ (none ∙ sym (ap cut_node none))
+held_whole field.P m n small same none = same ∙ (none ∙ sym (ap cut_node none))
+held_whole _ m n small same none = sym (cut_same m small) ∙ ap cut_word same
+
+no_field : (start : List (ℕ × ℕ)) (c : ℕ) → (start_field start c field.Gp ≡ 0) × (start_field start c field.P ≡ 0)
+no_field start zero = (refl, refl)
+no_field start (suc c) = by (nat_lt c (length start))
+  where
+    nothing : ℕ
+    nothing = 0
+
+    by : (b : Bool) → ((if b then nothing else 0) ≡ nothing) × ((if b then nothing else 0) ≡ nothing)
+    by true = (refl, refl)
+    by false = (refl, refl)
+
+-- so it is of the words of a table as it opens
+no_info : (flat : Bool) (start : List (ℕ × ℕ)) (words : List ℕ) → words_of words ≡ words_at_start flat start
+    → (c : ℕ) (f : Field) → NoInfo f (get_or words (address c f) 0)
+no_info flat start words are c field.Gp = by flat are
+  where
+    by : (flat : Bool) → words_of words ≡ words_at_start flat start → get_or words (address c field.Gp) 0 ≡ 0
+    by true are = sym (said_in_list words c field.Gp) ∙ (ap (λ (w : Words). w.gp c) are ∙ (no_field start c).0)
+    by false are = sym (said_in_list words c field.Gp) ∙ (ap (λ (w : Words). w.gp c) are ∙ (no_field start c).0)
+no_info flat start words are c field.P = by flat are
+  where
+    by : (flat : Bool) → words_of words ≡ words_at_start flat start → get_or words (address c field.P) 0 ≡ 0
+    by true are = sym (said_in_list words c field.P) ∙ (ap (λ (w : Words). w.p c) are ∙ (no_field start c).1)
+    by false are = sym (said_in_list words c field.P) ∙ (ap (λ (w : Words). w.p c) are ∙ (no_field start c).1)
+no_info flat start words are c _ = tt
 
 -- memory that has the tree's words in slots, whose words are 0, where each card that was claimed has a slot
 module _ (plan : TablePlan) (s : Slots) (low : s.last < 2097152) (tree : TableState) (r : HasMachine plan tree) (words : List ℕ)
     (same : (i : ℕ) → i < table_size s.last → get_or words i 0 ≡ get_or tree.words i 0) (small : (i : ℕ) → i < table_size s.last → get_or words i 0 < 2 ^ 64)
-    (few : get_or tree.words 0 0 ≤ s.last + 1)
+    (few : get_or tree.words 0 0 ≤ s.last + 1) (none_said : (c : ℕ) (f : Field) → NoInfo f (get_or tree.words (address c f) 0))
     (first : Known) (none : first.tree.worker.card ≡ None) (unslotted : first.period.slot ≡ None) (dead : ℕ → Bool) (was_dead : ℕ → ℕ → Bool) where
   lies : (c : ℕ) → HasWon r.stages c → LiesThere s (λ slot. slot) c
   lies c has =
@@ -53,12 +95,13 @@ module _ (plan : TablePlan) (s : Slots) (low : s.last < 2097152) (tree : TableSt
     own = λ slot inside. omega arith;
     at = λ slot f inside kept.
         let there = (address_in_table s.last slot f inside).1 in
-        sym (cut_same (get_or words (address slot f) 0) (small (address slot f) there))
-        ∙ ap cut_word (same (address slot f) there);
+        held_whole f (get_or words (address slot f) 0) (get_or tree.words (address slot f) 0) (small (address slot f) there) (same (address slot f) there)
+        (none_said slot f);
     alive = λ c has lives. lies c has;
     lives = λ seat q a c u at placed an has alive. lies c has;
-    fits = λ c has. (lies c has).0;
+    fits = λ c has. has_slot_by s.last c (lies c has).0 (λ none. (let is = (lies c has).1 in omega arith));
     hand = λ seat c u at slot. absurd (some_not_none slot (alone (λ j x. x.period.slot ≡ None) unslotted seat u at));
+    slotted = λ seat c u at slot. absurd (some_not_none slot (alone (λ j x. x.period.slot ≡ None) unslotted seat u at));
     past = λ seat c u at slot. absurd (some_not_none slot (alone (λ j x. x.period.slot ≡ None) unslotted seat u at));
     stores = λ seat c f u at waits has. absurd (some_not_none waits.0 (alone (λ j x. x.tree.worker.card ≡ None) none seat u at));
   }
@@ -110,6 +153,7 @@ module _ (plan : TablePlan) (s : Slots) (cards : List ℕ) (may : MayStart plan)
         (λ i inside. there i inside ∙ sym (with_zeros cards long i))
         (λ i inside. subst (λ n. n < 2 ^ 64) (sym (there i inside)) (small i))
         (let room = fit.3 in let word = next in omega arith)
+        (no_info plan.flat plan.start (cards ++ replicate long 0) (words_same (cards ++ replicate long 0) cards (with_zeros cards long) ∙ are))
         (record { tree = first_of plan; period = period_by (Some s) }) refl refl (λ x. false) (λ q x. false);
   }
 

@@ -14,7 +14,7 @@ use Rattle.ell_cards.specs.declared.view.Slots.{Slots}
 use Rattle.ell_cards.specs.Ages.{IsOut}
 use Rattle.ell_cards.specs.Machines.{HasMachine}
 use Rattle.ell_cards.specs.Periods.{WholeState, slot_word, after_taking}
-use Rattle.ell_cards.specs.SlotWords.{slot_of, is_noted}
+use Rattle.ell_cards.specs.SlotWords.{has_slot_in, slot_of, is_noted}
 use Rattle.ell_cards.specs.States.{TableState}
 use Rattle.ell_cards.specs.Tied.{LiesThere, HoldsWaiting, IsTied}
 use Rattle.ell_cards.specs.Ties.{OwnSlotsKeepTies}
@@ -27,7 +27,7 @@ use Rattle.ell_cards.proofs.lemmas.ties.TakingSlots.{hand_is_waiting}
 
 module _ (s : Slots) (tree : TableState) (t : WholeState) (stage : Stages) (lie : ℕ → ℕ) (dead : ℕ → Bool) (was_dead : ℕ → ℕ → Bool)
     (tied : IsTied s tree t stage lie dead was_dead) (id : ℕ) (k : Known) (here : get_elem? t.views id ≡ some k)
-    (c : ℕ) (hand : HoldsWaiting k.tree c) (there : LiesThere s lie c) (claimed : c < get_or t.words 0 0)
+    (c : ℕ) (hand : HoldsWaiting k.tree c) (numbered : has_slot_in s.last c ≡ true) (there : LiesThere s lie c) (claimed : c < get_or t.words 0 0)
     (p : Period) (place : p.place ≡ k.period.place) (announced : p.announced ≡ k.period.announced) (taken : p.slot ≡ Some c)
     (words : List ℕ) (same : (i : ℕ) → get_or words i 0 ≡ get_or t.words i 0) where
   abbrev now : Known
@@ -52,6 +52,10 @@ module _ (s : Slots) (tree : TableState) (t : WholeState) (stage : Stages) (lie 
         (λ (e : (seat ≡ id) × (now ≡ u)). subst (LiesThere s lie) (some_same (sym taken ∙ (ap (λ (x : Known). x.period.slot) e.1 ∙ slot))) there)
         (λ (e : (seat ≢ id) × (get_elem? t.views seat ≡ some u)). tied.hand seat d u e.1 slot waits)
         (at_set t.views id seat now u at);
+    slotted = λ seat d u at slot. ⊎_elim
+        (λ (e : (seat ≡ id) × (now ≡ u)). subst (λ x. has_slot_in s.last x ≡ true) (some_same (sym taken ∙ (ap (λ (x : Known). x.period.slot) e.1 ∙ slot))) numbered)
+        (λ (e : (seat ≢ id) × (get_elem? t.views seat ≡ some u)). tied.slotted seat d u e.1 slot)
+        (at_set t.views id seat now u at);
     past = λ seat d u at slot. subst (λ n. d < n) (sym (same 0)) (⊎_elim
         (λ (e : (seat ≡ id) × (now ≡ u)). subst (λ x. x < get_or t.words 0 0) (some_same (sym taken ∙ (ap (λ (x : Known). x.period.slot) e.1 ∙ slot))) claimed)
         (λ (e : (seat ≢ id) × (get_elem? t.views seat ≡ some u)). tied.past seat d u e.1 slot)
@@ -64,11 +68,11 @@ module _ (s : Slots) (tree : TableState) (t : WholeState) (stage : Stages) (lie 
   }
 
 pub own_slots_keep_ties : OwnSlotsKeepTies
-own_slots_keep_ties plan s tree t lie dead was_dead size h trees id k here c hand there = record {
+own_slots_keep_ties plan s tree t lie dead was_dead size h trees id k here c hand numbered there = record {
   ages = ages_of_period plan s tree t id k here (record { tree = k.tree; period = p }) refl words lie lie dead dead was_dead was_dead h.ages
       h.ages.now.each h.ages.still (λ q a at an. h.ages.since id q a k here at an) (λ j q a u other at placed an. refl)
       noted (λ r has. absurd (some_not_none has refl)) (λ d has. h.ages.lost id d k here has);
-  tied = tie_of_own s tree t h.ages.now.machine.stages lie dead was_dead h.tied id k here c hand there claimed p refl refl refl words same t.homes;
+  tied = tie_of_own s tree t h.ages.now.machine.stages lie dead was_dead h.tied id k here c hand numbered there claimed p refl refl refl words same t.homes;
 }
   where
     r : HasMachine plan tree

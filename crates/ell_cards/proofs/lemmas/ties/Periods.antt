@@ -65,6 +65,10 @@ module _ (s : Slots) (tree : TableState) (t : WholeState) (stage : Stages) (lie 
         (λ (e : (seat ≡ id) × (now ≡ u)). tied.hand id c k here (sym taken ∙ (ap (λ (x : Known). x.period.slot) e.1 ∙ slot)) (subst (λ (x : Known). HoldsWaiting x.tree c) (sym e.1) waits))
         (λ (e : (seat ≢ id) × (get_elem? t.views seat ≡ some u)). tied.hand seat c u e.1 slot waits)
         (at_set t.views id seat now u at);
+    slotted = λ seat c u at slot. ⊎_elim
+        (λ (e : (seat ≡ id) × (now ≡ u)). tied.slotted id c k here (sym taken ∙ (ap (λ (x : Known). x.period.slot) e.1 ∙ slot)))
+        (λ (e : (seat ≢ id) × (get_elem? t.views seat ≡ some u)). tied.slotted seat c u e.1 slot)
+        (at_set t.views id seat now u at);
     past = λ seat c u at slot. subst (λ n. c < n) (sym (slots 0 (omega arith))) (⊎_elim
         (λ (e : (seat ≡ id) × (now ≡ u)). tied.past id c k here (sym taken ∙ (ap (λ (x : Known). x.period.slot) e.1 ∙ slot)))
         (λ (e : (seat ≢ id) × (get_elem? t.views seat ≡ some u)). tied.past seat c u e.1 slot)

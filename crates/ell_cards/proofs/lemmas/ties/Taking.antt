@@ -16,8 +16,8 @@ use Rattle.ell_cards.specs.declared.view.Known.{Known}
 use Rattle.ell_cards.specs.declared.view.Period.{Period}
 use Rattle.ell_cards.specs.declared.view.Slots.{Slots}
 use Rattle.ell_cards.specs.Periods.{WholeState, slot_word}
-use Rattle.ell_cards.specs.Shown.{cut_word}
-use Rattle.ell_cards.specs.SlotWords.{slot_of, turn_of}
+use Rattle.ell_cards.specs.Shown.{cut_field}
+use Rattle.ell_cards.specs.SlotWords.{has_slot_in, slot_of, turn_of}
 use Rattle.ell_cards.specs.States.{TableState}
 use Rattle.ell_cards.specs.Tied.{LiesThere, HasWon, HoldsWaiting, HasStored, IsKept, IsTied}
 use Rattle.ell_cards.specs.Tied.IsKept.{won, stored}
@@ -27,7 +27,7 @@ use Rattle.ell_cards.proofs.lemmas.ties.Periods.{kept_of_period}
 
 module _ (s : Slots) (low : s.last < 2097152) (tree : TableState) (t : WholeState) (stage : Stages) (lie : ℕ → ℕ) (dead : ℕ → Bool) (was_dead : ℕ → ℕ → Bool)
     (tied : IsTied s tree t stage lie dead was_dead) (id : ℕ) (k : Known) (here : get_elem? t.views id ≡ some k)
-    (c : ℕ) (inside : slot_of c ≤ s.last) (waits : HoldsWaiting k.tree c) (unwon : ¬ HasWon stage c) (claimed : c < get_or t.words 0 0)
+    (c : ℕ) (inside : slot_of c ≤ s.last) (numbered : has_slot_in s.last c ≡ true) (waits : HoldsWaiting k.tree c) (unwon : ¬ HasWon stage c) (claimed : c < get_or t.words 0 0)
     (p : Period) (place : p.place ≡ k.period.place) (announced : p.announced ≡ k.period.announced) (taken : p.slot ≡ Some c)
     (room : slot_word s (slot_of c) < length t.words) (gone : dead (lie (slot_of c)) ≡ true)
     (was_gone : (seat q a : ℕ) (u : Known) → get_elem? t.views seat ≡ some u → u.period.place ≡ Some q → u.period.announced ≡ Some a
@@ -85,14 +85,14 @@ module _ (s : Slots) (low : s.last < 2097152) (tree : TableState) (t : WholeStat
           own u at waits' has = tied.stores id c f k here waits (subst (λ (x : Known). HasStored x.tree f) (some-injective u k (sym at ∙ here)) has)
 
   at_slot : (other : ℕ) (f : Field) → other ≤ s.last → IsKept stage (set t.views id now) (lie' other) f
-      → get_or words (address other f) 0 ≡ cut_word (get_or tree.words (address (lie' other) f) 0)
+      → get_or words (address other f) 0 ≡ cut_field f (get_or tree.words (address (lie' other) f) 0)
   at_slot other f below kept = elim (cases_eq other slot) [
     | inl same ↦ absurd (none_kept f (subst (λ e. IsKept stage (set t.views id now) e f) (ap lie' same ∙ card_now) kept))
     | inr apart ↦
         let is = card_else other apart in
         slots_stay (address other f) (address_in_table s.last other f below).1
         ∙ (tied.at other f below (subst (λ e. IsKept stage t.views e f) is (kept_of_period stage t.views id k here p (lie' other) f kept))
-        ∙ ap (λ e. cut_word (get_or tree.words (address e f) 0)) (sym is))
+        ∙ ap (λ e. cut_field f (get_or tree.words (address e f) 0)) (sym is))
   ]
 
   lives_not : (seat q a d : ℕ) (u : Known) → get_elem? t.views seat ≡ some u → u.period.place ≡ Some q → u.period.announced ≡ Some a → was_dead q d ≡ false → d ≢ old
@@ -124,6 +124,10 @@ module _ (s : Slots) (low : s.last < 2097152) (tree : TableState) (t : WholeStat
     hand = λ seat d u at slot waits. ⊎_elim
         (λ (e : (seat ≡ id) × (now ≡ u)). subst (LiesThere s lie') (some_same (sym taken ∙ (ap (λ (x : Known). x.period.slot) e.1 ∙ slot))) lies_now)
         (λ (e : (seat ≢ id) × (get_elem? t.views seat ≡ some u)). lies_on d (alive_not d (hands seat d u e.1 waits)) (tied.hand seat d u e.1 slot waits))
+        (at_set t.views id seat now u at);
+    slotted = λ seat d u at slot. ⊎_elim
+        (λ (e : (seat ≡ id) × (now ≡ u)). subst (λ x. has_slot_in s.last x ≡ true) (some_same (sym taken ∙ (ap (λ (x : Known). x.period.slot) e.1 ∙ slot))) numbered)
+        (λ (e : (seat ≢ id) × (get_elem? t.views seat ≡ some u)). tied.slotted seat d u e.1 slot)
         (at_set t.views id seat now u at);
     past = λ seat d u at slot. subst (λ n. d < n) (sym (slots_stay 0 (omega arith))) (⊎_elim
         (λ (e : (seat ≡ id) × (now ≡ u)). subst (λ x. x < get_or t.words 0 0) (some_same (sym taken ∙ (ap (λ (x : Known). x.period.slot) e.1 ∙ slot))) claimed)

@@ -1,5 +1,5 @@
 -- A pass that takes a slot for its card in hand keeps memory tied: that card waits, so it is not dead, and nobody else has it in hand.
-use Rattle.std.proofs.Common.{◌≡◌, ◌+◌, ◌*◌, ◌<◌, ◌≤◌, ℕ, zero, suc, inl, inr, Bool, true, false, Some, List, get_or, set, refl, sym, ap, ◌∙◌, subst, arith, true≢false, get_or-set_same, get_or-set_other}
+use Rattle.std.proofs.Common.{◌≡◌, ◌+◌, ◌*◌, ◌<◌, ◌≤◌, ℕ, zero, suc, inl, inr, Bool, true, false, Some, List, length, get_or, set, refl, sym, ap, ◌∙◌, subst, arith, true≢false, get_or-set_same, get_or-set_other}
 use Rattle.std.proofs.lemmas.Bool.{cases_eq, false≢true}
 use mathlib.Core.Option.{some}
 use lib.ListN.{get_elem?}
@@ -32,6 +32,7 @@ use Rattle.ell_cards.proofs.lemmas.whole.Ages.{ages_of_period}
 use Rattle.ell_cards.proofs.lemmas.whole.Trees.{tree_at}
 use Rattle.ell_cards.proofs.lemmas.whole.Untouched.{root_lives}
 use Rattle.ell_cards.proofs.lemmas.ties.Taking.{tie_of_taken}
+use Rattle.ell_cards.proofs.lemmas.words.Slotted.{slot_inside}
 
 waits_unended : (s : Stage) → waits s ≡ true → has_ended s ≡ false
 waits_unended s h = grind arith
@@ -79,16 +80,22 @@ module _ (plan : TablePlan) (tree : TableState) (dead : ℕ → Bool) (now : Are
       ]
 
 pub takes_keep_ties : TakesKeepTies
-takes_keep_ties plan s tree t lie dead was_dead low size h same id k here c hand inside gone was_gone = record {
+takes_keep_ties plan s tree t lie dead was_dead low size h same id k here c hand numbered gone was_gone = record {
   ages = ages_of_period plan s tree t id k here (record { tree = k.tree; period = p }) refl words lie (put lie (slot_of c) c) dead dead was_dead was_dead h.ages
       h.ages.now.each h.ages.still (λ q a at an. h.ages.since id q a k here at an) (λ j q a u other at placed an. refl)
       noted (λ r has. absurd (some_not_none has refl)) (λ d has. h.ages.lost id d k here has);
-  tied = tie_of_taken s low tree t r.stages lie dead was_dead h.tied id k here c inside hand
+  tied = tie_of_taken s low tree t r.stages lie dead was_dead h.tied id k here c inside numbered hand
       (λ won. true≢false (sym (hand_is_waiting plan tree dead h.ages.now id k.tree (sits id k here) c hand) ∙ won.1)) claimed p refl refl refl
-      (omega arith) gone was_gone (false_where_not (dead 0) (root_lives plan tree dead h.ages.now))
+      room gone was_gone (false_where_not (dead 0) (root_lives plan tree dead h.ages.now))
       (λ seat d u at holds. hand_is_alive plan tree dead h.ages.now seat u.tree (sits seat u at) d holds) one t.homes;
 }
   where
+    inside : slot_of c ≤ s.last
+    inside = slot_inside s.last c numbered
+
+    room : slot_word s (slot_of c) < length t.words
+    room = (let low_slot = inside in omega arith)
+
     r : HasMachine plan tree
     r = h.ages.now.machine
 
@@ -125,7 +132,7 @@ takes_keep_ties plan s tree t lie dead was_dead low size h same id k here c hand
         → IsOut plan tree r h.ages.now.uses (4 * put lie (slot_of c) c slot + i)
     noted slot i low is = elim (cases_eq slot (slot_of c)) [
       | inl e ↦ absurd (none_noted (turn_of c) i (subst (λ n. is_noted n i ≡ true)
-          (ap (λ x. get_or words (slot_word s x) 0) e ∙ get_or-set_same t.words (slot_word s (slot_of c)) (8 * turn_of c) 0 (omega arith)) is))
+          (ap (λ x. get_or words (slot_word s x) 0) e ∙ get_or-set_same t.words (slot_word s (slot_of c)) (8 * turn_of c) 0 room) is))
       | inr apart ↦
           let stays = get_or-set_other t.words (slot_word s (slot_of c)) (slot_word s slot) (8 * turn_of c) 0 (λ e. apart (omega arith)) in
           subst (λ d. IsOut plan tree r h.ages.now.uses (4 * d + i)) (sym (put_other lie (slot_of c) c slot apart))

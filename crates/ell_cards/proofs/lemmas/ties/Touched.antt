@@ -29,7 +29,7 @@ use Rattle.ell_cards.specs.Machines.{HasMachine}
 use Rattle.ell_cards.specs.Models.{TablePlan, IsTold, KnowsCard}
 use Rattle.ell_cards.specs.Periods.{WholeState, IsAtRest}
 use Rattle.ell_cards.specs.Sayings.{says, put_says}
-use Rattle.ell_cards.specs.Shown.{cut_word}
+use Rattle.ell_cards.specs.Shown.{cut_word, cut_field, cut_by}
 use Rattle.ell_cards.specs.SlotWords.{slot_of}
 use Rattle.ell_cards.specs.Starts.{IsReached}
 use Rattle.ell_cards.specs.States.{TableState}
@@ -56,8 +56,9 @@ IsField c f = put_says f ≡ true
 -- the word of a call in the tree, and in memory: the claim word, or a field of the card that it touches
 abbrev pub IsSpot : Call → Type 0
 IsSpot c =
-    ((card_touched (touched_by c) ≡ 0) × (word_of c ≡ 0) × (place_of c ≡ 0))
-    ⊎ ((f : Field) × (word_of c ≡ address (card_touched (touched_by c)) f) × (place_of c ≡ slot_address (card_touched (touched_by c)) f) × IsField c f)
+    ((card_touched (touched_by c) ≡ 0) × (word_of c ≡ 0) × (place_of c ≡ 0) × ((n : ℕ) → cut_by c n ≡ cut_word n))
+    ⊎ ((f : Field) × (word_of c ≡ address (card_touched (touched_by c)) f) × (place_of c ≡ slot_address (card_touched (touched_by c)) f) × IsField c f
+    × ((n : ℕ) → cut_by c n ≡ cut_field f n))
 
 -- keys, values and children are said
 said_key : (k : ℕ) → put_says (key_field k) ≡ true
@@ -74,31 +75,46 @@ said_child : (right : Bool) → put_says (child_field right) ≡ true
 said_child true = refl
 said_child false = refl
 
+-- and memory has 64 bits of them
+cut_key : (k n : ℕ) → cut_word n ≡ cut_field (key_field k) n
+cut_key zero n = refl
+cut_key (suc zero) n = refl
+cut_key (suc (suc k)) n = refl
+
+cut_value : (k n : ℕ) → cut_word n ≡ cut_field (value_field k) n
+cut_value zero n = refl
+cut_value (suc zero) n = refl
+cut_value (suc (suc k)) n = refl
+
+cut_child : (right : Bool) (n : ℕ) → cut_word n ≡ cut_field (child_field right) n
+cut_child true n = refl
+cut_child false n = refl
+
 pub spots : (c : Call) → IsSpot c
-spots (call.Upd x) = inr (field.Update, refl, refl, refl)
-spots (call.Down x right) = inr (child_field right, refl, refl, said_child right)
-spots (call.KeyOf x) = inr (key_field (x % 4), refl, refl, said_key (x % 4))
-spots (call.ValueOf x) = inr (value_field (x % 4), refl, refl, said_value (x % 4))
-spots (call.Info c f) = inr (f, refl, refl, refl)
-spots (call.FrozenChild c p right) = inr (child_field right, refl, refl, said_child right)
-spots (call.LookDown from to right) = inr (child_field right, refl, refl, said_child right)
-spots (call.Fill c f value) = inr (f, refl, refl, tt)
-spots (call.IFlag c p from) = inr (field.Update, refl, refl, refl)
-spots (call.IChild c p l replaces right) = inr (child_field right, refl, refl, said_child right)
-spots (call.IUnflag c p) = inr (field.Update, refl, refl, refl)
-spots (call.DFlag c gp from) = inr (field.Update, refl, refl, refl)
-spots (call.Mark c p was) = inr (field.Update, refl, refl, refl)
-spots (call.DChild c gp p s right) = inr (child_field right, refl, refl, said_child right)
-spots (call.DUnflag c gp) = inr (field.Update, refl, refl, refl)
-spots (call.Backtrack c gp) = inr (field.Update, refl, refl, refl)
-spots call.Next = inl (refl, refl, refl)
-spots (call.Claim c q) = inl (refl, refl, refl)
-spots call.Look = inr (child_field false, refl, refl, said_child false)
-spots call.Rest = inr (key_field 0, refl, refl, said_key 0)
-spots (call.Begin op) = inr (key_field 0, refl, refl, said_key 0)
-spots call.Again = inr (key_field 0, refl, refl, said_key 0)
-spots call.Leave = inr (key_field 0, refl, refl, said_key 0)
-spots (call.Answer said) = inr (key_field 0, refl, refl, said_key 0)
+spots (call.Upd x) = inr (field.Update, refl, refl, refl, λ n. refl)
+spots (call.Down x right) = inr (child_field right, refl, refl, said_child right, cut_child right)
+spots (call.KeyOf x) = inr (key_field (x % 4), refl, refl, said_key (x % 4), cut_key (x % 4))
+spots (call.ValueOf x) = inr (value_field (x % 4), refl, refl, said_value (x % 4), cut_value (x % 4))
+spots (call.Info c f) = inr (f, refl, refl, refl, λ n. refl)
+spots (call.FrozenChild c p right) = inr (child_field right, refl, refl, said_child right, cut_child right)
+spots (call.LookDown from to right) = inr (child_field right, refl, refl, said_child right, cut_child right)
+spots (call.Fill c f value) = inr (f, refl, refl, tt, λ n. refl)
+spots (call.IFlag c p from) = inr (field.Update, refl, refl, refl, λ n. refl)
+spots (call.IChild c p l replaces right) = inr (child_field right, refl, refl, said_child right, cut_child right)
+spots (call.IUnflag c p) = inr (field.Update, refl, refl, refl, λ n. refl)
+spots (call.DFlag c gp from) = inr (field.Update, refl, refl, refl, λ n. refl)
+spots (call.Mark c p was) = inr (field.Update, refl, refl, refl, λ n. refl)
+spots (call.DChild c gp p s right) = inr (child_field right, refl, refl, said_child right, cut_child right)
+spots (call.DUnflag c gp) = inr (field.Update, refl, refl, refl, λ n. refl)
+spots (call.Backtrack c gp) = inr (field.Update, refl, refl, refl, λ n. refl)
+spots call.Next = inl (refl, refl, refl, λ n. refl)
+spots (call.Claim c q) = inl (refl, refl, refl, λ n. refl)
+spots call.Look = inr (child_field false, refl, refl, said_child false, cut_child false)
+spots call.Rest = inr (key_field 0, refl, refl, said_key 0, cut_key 0)
+spots (call.Begin op) = inr (key_field 0, refl, refl, said_key 0, cut_key 0)
+spots call.Again = inr (key_field 0, refl, refl, said_key 0, cut_key 0)
+spots call.Leave = inr (key_field 0, refl, refl, said_key 0, cut_key 0)
+spots (call.Answer said) = inr (key_field 0, refl, refl, said_key 0, cut_key 0)
 
 -- no field has the address of the claim word, nor of the one behind it
 pub no_claim : (c : ℕ) (f : Field) → address c f ≢ 0
@@ -274,15 +290,16 @@ module _ (plan : TablePlan) (s : Slots) (tree : TableState) (t : WholeState) (r 
   ]
 
   -- and what it says is there
-  finds_won : HasWon r.stages d → ((f : Field) → IsField c f → says (r.stages d) f ≡ true) → get_or t.words (place_of c) 0 ≡ cut_word (found_by tree c)
+  finds_won : HasWon r.stages d → ((f : Field) → IsField c f → says (r.stages d) f ≡ true) → get_or t.words (place_of c) 0 ≡ cut_by c (found_by tree c)
   finds_won has said = elim (spots c) [
     | inl claim ↦ ap (λ i. get_or t.words i 0) claim.2 ∙ (tied.claim ∙ (sym (cut_same (get_or tree.words 0 0) (claim_is_word plan tree r))
-        ∙ ap (λ i. cut_word (get_or tree.words i 0)) (sym claim.1)))
+        ∙ (ap (λ i. cut_word (get_or tree.words i 0)) (sym claim.1) ∙ sym (claim.3 (found_by tree c)))))
     | inr spot ↦
         let lies = lies_won has in
         ap (λ i. get_or t.words i 0) spot.2
         ∙ (tied.at (slot_of d) spot.0 lies.0 (won (subst (HasWon r.stages) (sym lies.1) has) (ap (λ e. says (r.stages e) spot.0) lies.1 ∙ said spot.0 spot.3))
-        ∙ (ap (λ e. cut_word (get_or tree.words (address e spot.0) 0)) lies.1 ∙ ap (λ i. cut_word (get_or tree.words i 0)) (sym spot.1)))
+        ∙ (ap (λ e. cut_field spot.0 (get_or tree.words (address e spot.0) 0)) lies.1
+        ∙ (ap (λ i. cut_field spot.0 (get_or tree.words i 0)) (sym spot.1) ∙ sym (spot.4 (found_by tree c)))))
   ]
 
   inside : LiesThere s lie d → place_of c < table_size s.last

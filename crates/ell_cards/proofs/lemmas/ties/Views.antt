@@ -12,7 +12,8 @@ use Rattle.ell_cards.specs.declared.view.Known.{Known}
 use Rattle.ell_cards.specs.declared.view.Slots.{Slots}
 use Rattle.ell_cards.specs.Periods.{WholeState}
 use Rattle.ell_cards.specs.Sayings.{says}
-use Rattle.ell_cards.specs.Shown.{cut_word}
+use Rattle.ell_cards.specs.Shown.{cut_field}
+use Rattle.ell_cards.specs.SlotWords.{has_slot_in}
 use Rattle.ell_cards.specs.States.{TableState}
 use Rattle.ell_cards.specs.Tied.{LiesThere, HasWon, HoldsWaiting, HasStored, IsKept, IsTied}
 use Rattle.ell_cards.specs.Tied.IsKept.{won, stored}
@@ -42,10 +43,10 @@ module _ (s : Slots) (low : s.last < 2097152) (tree tree' : TableState) (t : Who
   ]
 
   at_slot : (slot : ℕ) (f : Field) → slot ≤ s.last → IsKept next views (lie slot) f
-      → get_or words (address slot f) 0 ≡ cut_word (get_or tree'.words (address (lie slot) f) 0)
+      → get_or words (address slot f) 0 ≡ cut_field f (get_or tree'.words (address (lie slot) f) 0)
   at_slot slot f inside kept =
       slots (address slot f) (address_in_table s.last slot f inside).1
-      ∙ (tied.at slot f inside (kept_before (lie slot) f kept) ∙ ap (λ l. cut_word (get_or l (address (lie slot) f) 0)) (sym cards))
+      ∙ (tied.at slot f inside (kept_before (lie slot) f kept) ∙ ap (λ l. cut_field f (get_or l (address (lie slot) f) 0)) (sym cards))
 
   first_words : (i : ℕ) → i < 2 → get_or t.words i 0 ≡ get_or tree.words i 0 → get_or words i 0 ≡ get_or tree'.words i 0
   first_words i few is = slots i (omega arith) ∙ (is ∙ ap (λ l. get_or l i 0) (sym cards))
@@ -75,6 +76,14 @@ module _ (s : Slots) (low : s.last < 2097152) (tree tree' : TableState) (t : Who
     | blank none says taken ↦ absurd (some_not_none slot taken)
   ]
 
+  slotted_on : (seat c : ℕ) (u : Known) → get_elem? views seat ≡ some u → u.period.slot ≡ Some c → has_slot_in s.last c ≡ true
+  slotted_on seat c u at slot = elim (stays seat u at) [
+    | same there ↦ tied.slotted seat c u there slot
+    | goes_on k there is place says taken ↦ tied.slotted seat c k there (sym taken ∙ slot)
+    | idle none other k there place says taken ↦ tied.slotted other c k there (sym taken ∙ slot)
+    | blank none says taken ↦ absurd (some_not_none slot taken)
+  ]
+
   stores_on : (seat c : ℕ) (f : Field) (u : Known) → get_elem? views seat ≡ some u → HoldsWaiting u.tree c → HasStored u.tree f → u.period.slot ≡ Some c
   stores_on seat c f u at waits has = elim (stays seat u at) [
     | same there ↦ tied.stores seat c f u there waits has
@@ -94,6 +103,7 @@ module _ (s : Slots) (low : s.last < 2097152) (tree tree' : TableState) (t : Who
     lives = lives_on;
     fits = λ c has. tied.fits c (wins c has);
     hand = hand_on;
+    slotted = slotted_on;
     past = λ seat c u at slot. subst (λ n. c < n) (sym (slots 0 (omega arith))) (past_on seat c u at slot);
     stores = stores_on;
   }

@@ -3,9 +3,7 @@ use Rattle.std.proofs.lemmas.Bool.{false≢true}
 use Rattle.std.proofs.lemmas.Bool.Decides.{nat_tests}
 use Rattle.ell_word.specs.Node.{card}
 use Rattle.ell_cards.specs.declared.card_nodes.CardNodes.{CardNodes}
-use Rattle.ell_cards.specs.declared.view.View.{View}
-use Rattle.ell_cards.specs.Ages.{KnowsDeadNode}
-use Rattle.ell_cards.specs.CardNodes.{has_node, node_alone, nodes_of_both, KnowsDeadNodes}
+use Rattle.ell_cards.specs.CardNodes.{has_node, node_alone, nodes_of_both, AllOfCard}
 
 -- a node alone is the one at its place
 alone : (place i : ℕ) → has_node (node_alone place) i ≡ true → place ≡ i
@@ -14,10 +12,10 @@ alone place (suc zero) is = grind (arith, nat_tests)
 alone place (suc (suc zero)) is = grind (arith, nat_tests)
 alone place (suc (suc (suc i))) is = absurd (false≢true is)
 
-pub dead_alone : (v : View) (x : ℕ) → KnowsDeadNode v x → KnowsDeadNodes v (card x) (node_alone (x % 4))
-dead_alone v x dead i is =
+pub so_alone : (P : ℕ → Type 0) (x : ℕ) → P x → AllOfCard P (card x) (node_alone (x % 4))
+so_alone P x so i is =
     let at = alone (x % 4) i is in
-    subst (KnowsDeadNode v) (omega arith) dead
+    subst P (omega arith) so
 
 -- what is one of both is one of either
 of_either : (b b' : Bool) → (b || b') ≡ true → (b ≡ true) ⊎ (b' ≡ true)
@@ -30,8 +28,8 @@ both nodes others (suc zero) is = of_either nodes.left others.left is
 both nodes others (suc (suc zero)) is = of_either nodes.right others.right is
 both nodes others (suc (suc (suc i))) is = absurd (false≢true is)
 
-pub dead_both : (v : View) (c : ℕ) (nodes others : CardNodes) → KnowsDeadNodes v c nodes → KnowsDeadNodes v c others → KnowsDeadNodes v c (nodes_of_both nodes others)
-dead_both v c nodes others dead others_dead i is = elim (both nodes others i is) [
-  | inl one ↦ dead i one
-  | inr other ↦ others_dead i other
+pub so_both : (P : ℕ → Type 0) (c : ℕ) (nodes others : CardNodes) → AllOfCard P c nodes → AllOfCard P c others → AllOfCard P c (nodes_of_both nodes others)
+so_both P c nodes others so others_so i is = elim (both nodes others i is) [
+  | inl one ↦ so i one
+  | inr other ↦ others_so i other
 ]

@@ -24,6 +24,7 @@ use Rattle.ell_cards.specs.Guards.{Wants, MayClaim}
 use Rattle.ell_cards.specs.Models.{Has, latest, earlier, IsTold, KnowsCard}
 use Rattle.ell_cards.specs.Naming.{EntryIsNamed, EntryIsPlaced, IsNamed, IsPlaced}
 use Rattle.ell_cards.specs.Skipping.{after_one, after_row, told_of_claim, IsAfterRow}
+use Rattle.ell_cards.specs.Shown.{cut_planned, shown_words}
 use Rattle.ell_cards.specs.SlotWords.{slot_of}
 use Rattle.ell_cards.specs.Stepping.{SameShare}
 use Rattle.ell_cards.proofs.lemmas.views.Entries.{filling_more}
@@ -95,8 +96,8 @@ claim_only c tag es told e (earlier _ _ _ h) = elim (filling_only c es told e h)
 ]
 
 -- what a pass knows after a row of claims
-pub rows_keep : (n c node_key : ℕ) (v : View) → IsAfterRow c (c + n) node_key v (after_row n c node_key v)
-rows_keep zero c node_key v = subst (λ m. IsAfterRow c m node_key v (after_row zero c node_key v)) (omega arith) (record {
+pub rows_keep : (n c node_key : ℕ) (v : View) → IsAfterRow c (c + n) node_key v (cut_planned (after_row n c node_key v))
+rows_keep zero c node_key v = subst (λ m. IsAfterRow c m node_key v (cut_planned (after_row zero c node_key v))) (omega arith) (record {
   operation = refl;
   search = refl;
   knows = refl;
@@ -135,7 +136,7 @@ rows_keep (suc n) c node_key v =
     let h = rows_keep n (c + 1) node_key (after_one c node_key v) in
     let same : (d : ℕ) → told_of_claim d node_key (after_one c node_key v) ≡ told_of_claim d node_key v =
     λ d. ap (λ es. Expects d (expected_tag v) ∷ told_filling d es []) (filling_on c d node_key v) in
-    subst (λ m. IsAfterRow c m node_key v (after_row (suc n) c node_key v)) (omega arith) (record {
+    subst (λ m. IsAfterRow c m node_key v (cut_planned (after_row (suc n) c node_key v))) (omega arith) (record {
       operation = h.operation;
       search = h.search;
       knows = h.knows;
@@ -143,7 +144,7 @@ rows_keep (suc n) c node_key v =
       shared = h.shared;
       card = h.card;
       unflagged = h.unflagged;
-      planned = h.planned ∙ ap (tagged (expected_tag v)) (filling_on c (c + 1 + n) node_key v);
+      planned = h.planned ∙ ap (λ es. shown_words (tagged (expected_tag v) es)) (filling_on c (c + 1 + n) node_key v);
       stores = h.stores;
       here = h.here;
       next = λ at. h.next refl;
@@ -187,7 +188,7 @@ rows_keep (suc n) c node_key v =
 pub row_keys : (n c node_key : ℕ) (v : View) → ledger_keys (after_row n c node_key v).worker.ledger ≡ ledger_keys v.worker.ledger
 row_keys n c node_key v = ap ledger_keys (rows_keep n c node_key v).ledger
 
-pub row_share : (n c node_key : ℕ) (v : View) → SameShare v (after_row n c node_key v)
+pub row_share : (n c node_key : ℕ) (v : View) → SameShare v (cut_planned (after_row n c node_key v))
 row_share n c node_key v = let h = rows_keep n c node_key v in record { share = h.share; ownable = h.shared }
 
 -- a pass that was told what it was told before, and whose search stands where it stood, wants the same
@@ -320,7 +321,7 @@ row_named from last n c node_key v may room h = record {
   next = let same = keeps.least in omega arith;
 }
   where
-    keeps : IsAfterRow c (c + n) node_key v (after_row n c node_key v)
+    keeps : IsAfterRow c (c + n) node_key v (cut_planned (after_row n c node_key v))
     keeps = rows_keep n c node_key v
 
     named : (d : ℕ) → d ≤ last → (f : Field) (x : ℕ) → Stood v.worker.search.node v.worker.search.parent v.worker.search.grandparent f x
@@ -344,7 +345,7 @@ row_placed last n c node_key v h = record {
   ];
 }
   where
-    keeps : IsAfterRow c (c + n) node_key v (after_row n c node_key v)
+    keeps : IsAfterRow c (c + n) node_key v (cut_planned (after_row n c node_key v))
     keeps = rows_keep n c node_key v
 
     fact : (f : Fact) → known_of (after_row n c node_key v).worker.knows f ≡ true → known_of v.worker.knows f ≡ true

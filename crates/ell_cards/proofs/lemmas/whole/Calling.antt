@@ -28,7 +28,8 @@ use Rattle.ell_cards.specs.Models.{Has, latest, earlier, TablePlan, last_slot, l
 use Rattle.ell_cards.specs.Naming.{IsNamed, IsPlaced}
 use Rattle.ell_cards.specs.PeriodLaws.{IsInPeriod}
 use Rattle.ell_cards.specs.Periods.{WholeState, IsAtRest, slots_size, after_flagging}
-use Rattle.ell_cards.specs.Shown.{IsWord, cut_word, shown_word, shown_words, shown, shown_call, FieldIsWhole, FillIsWhole, StandsInside, CanBeShown, StoresAreWhole, StoresWord}
+use Rattle.ell_cards.specs.Apart.{IsApart}
+use Rattle.ell_cards.specs.Shown.{IsWord, cut_word, cut_by, shown_word, shown_words, shown, shown_call, FieldIsWhole, FillIsWhole, CanBeShown, StoresAreWhole, StoresWord}
 use Rattle.ell_cards.specs.SlotWords.{slot_of}
 use Rattle.ell_cards.specs.Starts.{SlotsFit}
 use Rattle.ell_cards.specs.States.{TableState}
@@ -37,9 +38,9 @@ use Rattle.ell_cards.specs.Tied.{HasWon, MayInMemory, IsTied, FlagsCard}
 use Rattle.ell_cards.specs.Ties.{card_touched, ExpectsNear, FindsTied, IsTiedByAges, TouchesTied, memory_after}
 use Rattle.ell_cards.specs.Touching.{touched_by}
 use Rattle.ell_cards.specs.Turns.{Makes, found_by, view_after, state_after}
-use Rattle.ell_cards.specs.Whole.{FieldsAreWhole, WordsAre, PeriodsAre, AllStoresAreWhole, IsWhole}
+use Rattle.ell_cards.specs.Whole.{FieldsAreWhole, WordsAre, PeriodsAre, AllStoresAreWhole, IsWhole, PlansFit}
 use Rattle.ell_cards.proofs.lemmas.runs.Reaching.{reached_kept, call_on}
-use Rattle.ell_cards.proofs.lemmas.seats.Named.{kept_named, named_more, planned_leaf}
+use Rattle.ell_cards.proofs.lemmas.seats.Named.{kept_named, named_more}
 use Rattle.ell_cards.proofs.lemmas.seats.Placed.{named_placed}
 use Rattle.ell_cards.proofs.lemmas.seats.Seats.{set_there}
 use Rattle.ell_cards.proofs.lemmas.shown.CutWords.{cut_same}
@@ -53,10 +54,13 @@ use Rattle.ell_cards.proofs.lemmas.ties.Touched.{spots, touched_won, claim_is_wo
 use Rattle.ell_cards.proofs.lemmas.whole.Ages.{AgesOn}
 use Rattle.ell_cards.proofs.lemmas.whole.Fields.{FillsWhole, fields_after, field_can}
 use Rattle.ell_cards.proofs.lemmas.whole.Losing.{aside_in_ages, lost_now}
-use Rattle.ell_cards.proofs.lemmas.whole.Lifts.{is_its_own, stands_inside, can_be_shown}
+use Rattle.ell_cards.proofs.lemmas.ties.Apart.{tells_apart, tells_apart_plain}
+use Rattle.ell_cards.proofs.lemmas.whole.Apart.{passes_tell_apart, ready_there}
+use Rattle.ell_cards.proofs.lemmas.whole.Lifts.{IsFill, is_its_own, can_be_shown, told_plain, plan_fits}
 use Rattle.ell_cards.proofs.lemmas.whole.Rests.{stays_at_rest}
 use Rattle.ell_cards.proofs.lemmas.whole.Seats.{lie_same}
 use Rattle.ell_cards.proofs.lemmas.whole.Trees.{tree_at, slots_stay, tree_periods}
+use Rattle.ell_cards.proofs.lemmas.words.Slotted.{slot_inside}
 
 -- a card that is no later than the last one that may have a slot of its own has that
 own_slot : (c : ℕ) → c ≤ greatest_card → slot_of c ≡ c
@@ -94,9 +98,9 @@ module _ (plan : TablePlan) (s : WholeState) (h : IsWhole plan s) (id : ℕ) (k 
   pub rest_here : plan.slots ≢ None → k.period.announced ≡ None → IsAtRest k.tree
   rest_here = rest_by plan.slots h.periods
 
-  -- if it claims a card, it stands at a node that a child word has room for
-  inside_whole : (c : Call) → StandsInside c k.tree
-  inside_whole = stands_inside k.tree (named_more plan.last_card greatest_number h.reached.starts.may.limit k.tree tree_named)
+  -- and it tells nodes apart
+  pub apart_here : IsApart plan k.tree
+  apart_here = passes_tell_apart plan s h id k here
 
   -- without places there are no more cards than slots
   pub few_plain : plan.slots ≡ None → plan.last_card ≤ greatest_card
@@ -116,11 +120,18 @@ module _ (plan : TablePlan) (s : WholeState) (h : IsWhole plan s) (id : ℕ) (k 
     abbrev left : ℕ
     left = left_by (atomic_of c) (found_by h.tree c)
 
+    -- without places nothing that it plans is cut
+    plans_after : (o : Option Slots) → plan.slots ≡ o → PlansFit o k.tree → PlansFit o (view_after h.tree k.tree c)
+    plans_after None none fits = plan_fits plan k.tree plan.last_card (few_plain none) tree_named refl c (found_by h.tree c) may fits
+    plans_after (Some sl) placed fits = tt
+
     -- what each pass has stored after the step
-    stores_after : AllStoresAreWhole after
+    stores_after : AllStoresAreWhole plan.slots after
     stores_after j v at = ⊎_elim
-        (λ (t : (j ≡ id) × (view_after h.tree k.tree c ≡ v)). subst StoresAreWhole t.1
-        (stores_stay_whole plan c (found_by h.tree c) k.tree may (inside_whole c) fills (h.stores id k.tree tree_here)))
+        (λ (t : (j ≡ id) × (view_after h.tree k.tree c ≡ v)). subst (λ u. StoresAreWhole u × PlansFit plan.slots u) t.1 (
+          stores_stay_whole plan c (found_by h.tree c) k.tree apart_here may fills (h.stores id k.tree tree_here).0,
+          plans_after plan.slots refl (h.stores id k.tree tree_here).1,
+        ))
         (λ (t : (j ≢ id) × (get_elem? h.tree.views j ≡ some v)). h.stores j v t.1)
         (at_set h.tree.views id j (view_after h.tree k.tree c) v at)
 
@@ -168,10 +179,16 @@ module _ (plan : TablePlan) (s : WholeState) (h : IsWhole plan s) (id : ℕ) (k 
           (subst (λ o. WordsAre o (set s.words (place_of c) left) after.words) (sym none) (λ i. set (same_words i) (word_at c may i) left))
           (subst (λ o. PeriodsAre plan o after (record { words = set s.words (place_of c) left; homes = homes_after s.homes [] keeps; views = set s.views id (noting p) })) (sym none) tt)
 
+      pub plain_named : IsNamed plan.last_card (view_after h.tree k.tree c)
+      plain_named = kept_named plan after (reached_kept plan after (call_on plan h.tree h.reached id c k.tree tree_here may)) id (view_after h.tree k.tree c) tree_there
+
       pub plain_placed : IsPlaced (last_slot plan) (view_after h.tree k.tree c)
       plain_placed = subst (λ o. IsPlaced (last_slot_of o plan.last_card) (view_after h.tree k.tree c)) (sym none)
-          (named_placed plan.last_card (view_after h.tree k.tree c)
-          (kept_named plan after (reached_kept plan after (call_on plan h.tree h.reached id c k.tree tree_here may)) id (view_after h.tree k.tree c) tree_there))
+          (named_placed plan.last_card (view_after h.tree k.tree c) plain_named)
+
+      -- and it tells nodes apart after the call too
+      pub plain_apart : IsApart plan (view_after h.tree k.tree c)
+      plain_apart = tells_apart_plain plan none after (call_on plan h.tree h.reached id c k.tree tree_here may) id (view_after h.tree k.tree c) tree_there
 
     -- with places
     module _ (sl : Slots) (placed : plan.slots ≡ Some sl) (mem : MayInMemory k.period.slot k.tree c) (whole_fill : FillsWhole c)
@@ -221,11 +238,11 @@ module _ (plan : TablePlan) (s : WholeState) (h : IsWhole plan s) (id : ℕ) (k 
           rest_near (call.DChild e gp p y right) rest may = absurd (rest.forgot (Info e field.Gp gp) may.grandparent)
           rest_near _ rest may = tt
 
-      pub tied_can : CanBeShown c (found_by h.tree c) k.tree
-      tied_can = field_can h.tree (claim_is_word plan h.tree tree_kept) has_words.1 c k.tree near (inside_whole c)
+      pub tied_can : CanBeShown c (found_by h.tree c)
+      tied_can = field_can h.tree (claim_is_word plan h.tree tree_kept) has_words.1 c near
 
       abbrev cut : ℕ
-      cut = cut_word left
+      cut = cut_by c left
 
       abbrev pub homes : List (Maybe (Unit {0}))
       homes = homes_after s.homes [] keeps
@@ -271,9 +288,16 @@ module _ (plan : TablePlan) (s : WholeState) (h : IsWhole plan s) (id : ℕ) (k 
           ))
           (subst (λ o. PeriodsAre plan o after (record { words = set s.words (place_of c) cut; homes = homes; views = set s.views id (noting p) })) (sym placed) (noted_periods p notes))
 
+      pub tied_apart : IsApart plan (view_after h.tree k.tree c)
+      tied_apart =
+          let at : get_elem? (set s.views id knows) id ≡ some knows = set_there s.views id knows k here in
+          tells_apart plan sl after (memory_after h.tree s homes id k c) tied_ages.ages.now.machine has.lie has.dead has.was_dead still_tied placed
+          (call_on plan h.tree h.reached id c k.tree tree_here may) id knows at tree_there
+          (ready_there plan sl after (memory_after h.tree s homes id k c) tied_periods id knows at)
+
       pub tied_placed : IsPlaced (last_slot plan) (view_after h.tree k.tree c)
       tied_placed = subst (λ o. IsPlaced (last_slot_of o plan.last_card) (view_after h.tree k.tree c)) (sym placed)
-          (placed_to plan after tied_ages.ages.now.machine id (view_after h.tree k.tree c) tree_there sl.last still_tied.fits)
+          (placed_to plan after tied_ages.ages.now.machine id (view_after h.tree k.tree c) tree_there sl.last (λ e has. slot_inside sl.last e (still_tied.fits e has)))
 
 -- what a pass has stored of its card in hand, by what is shown
 was_stored : (es : List (Field × ℕ)) (f : Field) (x : ℕ) → Has (shown_words es) (f, x) → (y : ℕ) × Has es (f, y)
@@ -288,13 +312,6 @@ asks_whole slot v (call.IFlag e p from) asks = (asks.0, λ f said. was_stored v.
 asks_whole slot v (call.DFlag e gp from) asks = (asks.0, λ f said. was_stored v.stores f (asks.1 f said).0 (asks.1 f said).1)
 asks_whole slot v _ asks = tt
 
--- it touches the word that the call touches
-place_shown : (c : Call) → place_of (shown_call c) ≡ place_of c
-place_shown (call.Fill e f value) = refl
-place_shown (call.IChild e p l replaces right) = refl
-place_shown (call.DChild e gp p y right) = refl
-place_shown _ = refl
-
 -- begins nothing that the call does not begin
 quiet_whole : (c : Call) → IsQuiet (shown_call c) → IsQuiet c
 quiet_whole (call.Begin op) quiet = quiet
@@ -303,40 +320,37 @@ quiet_whole _ quiet = tt
 
 -- and stores a word where the call stores what a field holds whole
 word_filled : (f : Field) (value : ℕ) → IsWord (shown_word f value) → FieldIsWhole f value
+word_filled field.Gp value word = tt
+word_filled field.P value word = tt
 word_filled field.L value word = tt
 word_filled field.Left value word = tt
 word_filled field.Right value word = tt
 word_filled _ value word = word
 
 fills_whole : (c : Call) → StoresWord (shown_call c) → FillsWhole c
-fills_whole (call.Fill e f value) word = word_filled f value word
+fills_whole (call.Fill e f value) word = word_filled f value word.0
 fills_whole _ word = tt
-
--- a call stores a word
-abbrev pub IsFill : Call → Type 0
-IsFill (call.Fill e f value) = Unit {0}
-IsFill _ = ⊥
 
 -- what a call leaves by what it found in memory it leaves by what is there of the tree, and so is what it tells
 left_tied : (words : List ℕ) (tree : TableState) (c : Call) → FindsTied words tree c
-    → left_by (atomic_of (shown_call c)) (get_or words (place_of c) 0) ≡ left_by (atomic_of (shown_call c)) (cut_word (found_by tree c))
+    → left_by (atomic_of (shown_call c)) (get_or words (place_of c) 0) ≡ left_by (atomic_of (shown_call c)) (cut_by c (found_by tree c))
 left_tied words tree (call.Fill e f value) finds = refl
 left_tied words tree c finds = ap (left_by (atomic_of (shown_call c))) finds
 
 told_tied : (words : List ℕ) (tree : TableState) (c : Call) (told : ℕ → View → Type 0) (w : View) → FindsTied words tree c
-    → (IsFill (shown_call c) → (n m : ℕ) → told n w → told m w) → told (cut_word (found_by tree c)) w → told (get_or words (place_of c) 0) w
-told_tied words tree (call.Fill e f value) told w finds same says = same tt (cut_word (found_by tree (call.Fill e f value))) (get_or words (place_of (call.Fill e f value)) 0) says
+    → (IsFill (shown_call c) → (n m : ℕ) → told n w → told m w) → told (cut_by c (found_by tree c)) w → told (get_or words (place_of c) 0) w
+told_tied words tree (call.Fill e f value) told w finds same says = same tt (cut_by (call.Fill e f value) (found_by tree (call.Fill e f value))) (get_or words (place_of (call.Fill e f value)) 0) says
 told_tied words tree c told w finds same says = subst (λ n. told n w) (sym finds) says
 
 -- and what the pass notes by the call that is shown it notes by the call
-notes_whole : (words : List ℕ) (tree : TableState) (c : Call) (v : View) → FindsTied words tree c → CanBeShown c (found_by tree c) v → (old new : Period)
+notes_whole : (words : List ℕ) (tree : TableState) (c : Call) → FindsTied words tree c → CanBeShown c (found_by tree c) → (old new : Period)
     → Notes (shown_call c) (get_or words (place_of c) 0) old new → Notes c (found_by tree c) old new
-notes_whole words tree c v finds can old new (nothing is) = nothing is
-notes_whole words tree (call.IFlag e p from) v finds can old new (loses d is flags unwon) =
+notes_whole words tree c finds can old new (nothing is) = nothing is
+notes_whole words tree (call.IFlag e p from) finds can old new (loses d is flags unwon) =
     loses d is flags (sym can.wins ∙ (ap (is_won (atomic_of (call.IFlag e p from))) (sym finds) ∙ unwon))
-notes_whole words tree (call.DFlag e gp from) v finds can old new (loses d is flags unwon) =
+notes_whole words tree (call.DFlag e gp from) finds can old new (loses d is flags unwon) =
     loses d is flags (sym can.wins ∙ (ap (is_won (atomic_of (call.DFlag e gp from))) (sym finds) ∙ unwon))
-notes_whole words tree _ v finds can old new (loses d is flags unwon) = absurd flags
+notes_whole words tree _ finds can old new (loses d is flags unwon) = absurd flags
 
 -- what a step call does to the word that it finds: it leaves what is cut of what the call leaves, and without places all of that
 abbrev pub Does : (plan : TablePlan) → Call → (ℕ → ℕ) → Type 0
@@ -358,19 +372,19 @@ module _ (plan : TablePlan) (k : Known) (c : Call) (f : ℕ → ℕ) (told : ℕ
   there = tree_here plan s h id k here
 
   stores : StoresAreWhole k.tree
-  stores = h.stores id k.tree there
+  stores = (h.stores id k.tree there).0
+
+  apart : IsApart plan k.tree
+  apart = apart_here plan s h id k here
 
   plainly : plan.slots ≡ None → Goes
   plainly none =
       let few = few_plain plan s h id k here none in
       let named = tree_named plan s h id k here in
-      let own = is_its_own plan k.tree plan.last_card few named stores
-      (λ x may. planned_leaf plan h.tree (tree_kept plan s h id k here) id k.tree there plan.last_card (tree_kept plan s h id k here).invariant.limit few x may.holds may.unflagged)
-      c word by_shown in
+      let own = is_its_own plan k.tree plan.last_card few named apart stores (subst (λ o. PlansFit o k.tree) none (h.stores id k.tree there).1) c word by_shown in
       let at = plain_found plan s h id k here c own.may own.fills none in
       let found : IsWord (found_by h.tree c) = subst IsWord at small in
-      let inside = inside_whole plan s h id k here c in
-      let can = can_be_shown plan k.tree plan.last_card few named c (found_by h.tree c) own.same found inside in
+      let can = can_be_shown plan k.tree plan.last_card few named c (found_by h.tree c) own.same found in
       let w = view_after h.tree k.tree c in (
         record { tree = w; period = notes n },
         keeps,
@@ -378,8 +392,10 @@ module _ (plan : TablePlan) (k : Known) (c : Call) (f : ℕ → ℕ) (told : ℕ
         subst (λ m. IsWhole plan (stepped s (place_of c) m id [] (record { tree = w; period = notes n }) keeps))
             (sym ((does n small).1 none ∙ ap (left_by (atomic_of c)) at)) (plain_whole plan s h id k here c own.may own.fills none (notes n)),
         (
-          subst (λ m. told m (shown w)) (cut_same (found_by h.tree c) found ∙ sym at)
-              (tells h.tree h.reached id k.tree there refl c own.same own.may can (plain_placed plan s h id k here c own.may own.fills none)),
+          told_plain plan k.tree plan.last_card few named c (found_by h.tree c) n told (shown w) (plain_named plan s h id k here c own.may own.fills none) found (sym at)
+              (λ fill a b. same fill a b (shown w))
+              (tells h.tree h.reached id k.tree there refl apart c own.same own.may can (plain_placed plan s h id k here c own.may own.fills none)
+              (plain_apart plan s h id k here c own.may own.fills none)),
           refl,
           refl,
         ),
@@ -388,32 +404,34 @@ module _ (plan : TablePlan) (k : Known) (c : Call) (f : ℕ → ℕ) (told : ℕ
   by_slots : (sl : Slots) → plan.slots ≡ Some sl → Goes
   by_slots sl placed =
       let some : plan.slots ≢ None = λ none. some_not_none placed none in
-      let lift = guards_are_lifted plan c k.tree stores word by_shown in
+      let lift = guards_are_lifted plan c k.tree apart stores word by_shown in
       let whole = lift.origin in
       let asks = asks_whole k.period.slot k.tree whole (subst (MayInMemory k.period.slot (shown k.tree)) (sym lift.is) (mem some)) in
       let fills = fills_whole whole (subst StoresWord (sym lift.is) word) in
       let calm : k.period.announced ≡ None → IsQuiet whole = λ none. quiet_whole whole (subst IsQuiet (sym lift.is) (quiet some none)) in
       let touch = tied_touch plan s h id k here whole lift.may lift.fills sl placed asks fills calm in
       let can = tied_can plan s h id k here whole lift.may lift.fills sl placed asks fills calm in
-      let place : place_of whole ≡ place_of c = sym (place_shown whole) ∙ ap place_of lift.is in
+      let acts = calls_act_alike whole (found_by h.tree whole) can in
+      let place : place_of whole ≡ place_of c = sym acts.word ∙ ap place_of lift.is in
       let w = view_after h.tree k.tree whole in
-      let leaves : f n ≡ cut_word (left_by (atomic_of whole) (found_by h.tree whole)) =
+      let leaves : f n ≡ cut_by whole (left_by (atomic_of whole) (found_by h.tree whole)) =
       (does n small).0
       ∙ (ap cut_word ((λ i. left_by (atomic_of (sym lift.is i)) (get_or s.words (sym place i) 0)) ∙ left_tied s.words h.tree whole touch.finds)
-      ∙ (calls_act_alike whole (found_by h.tree whole) k.tree can).leaves) in (
+      ∙ acts.leaves) in (
         record { tree = w; period = notes n },
         keeps,
         tt,
         subst (λ i. IsWhole plan (stepped s i (f n) id [] (record { tree = w; period = notes n }) keeps)) place
             (subst (λ m. IsWhole plan (stepped s (place_of whole) m id [] (record { tree = w; period = notes n }) keeps)) (sym leaves)
             (tied_whole plan s h id k here whole lift.may lift.fills sl placed asks fills calm (notes n)
-            (notes_whole s.words h.tree whole k.tree touch.finds can k.period (notes n)
+            (notes_whole s.words h.tree whole touch.finds can k.period (notes n)
             (subst (λ i. Notes (shown_call whole) (get_or s.words i 0) k.period (notes n)) (sym place) (subst (λ d. Notes d n k.period (notes n)) (sym lift.is) (noted n small)))))),
         (
           subst (λ i. told (get_or s.words i 0) (shown w)) place
               (told_tied s.words h.tree whole told (shown w) touch.finds (λ fill a b. same (subst IsFill lift.is fill) a b (shown w))
-              (tells h.tree h.reached id k.tree there refl whole lift.is lift.may can
-              (tied_placed plan s h id k here whole lift.may lift.fills sl placed asks fills calm))),
+              (tells h.tree h.reached id k.tree there refl apart whole lift.is lift.may can
+              (tied_placed plan s h id k here whole lift.may lift.fills sl placed asks fills calm)
+              (tied_apart plan s h id k here whole lift.may lift.fills sl placed asks fills calm))),
           refl,
           refl,
         ),
@@ -470,12 +488,12 @@ exchange_stores _ expected value is fill = fill
 
 -- the exchange of a child word, in words of 64 bits
 pub child_exchanges : (plan : TablePlan) (c : Call) (old : Link) (node expected value : ℕ) → expected ≡ linked old → value ≡ cut_word (linked (next_link old node))
-    → atomic_of c ≡ Exchange (linked old) (linked (next_link old node)) → node < tag_unit → (plan.slots ≡ None → old.tag ≤ greatest_card) → Exchanges plan c expected value
+    → atomic_of c ≡ Exchange (linked old) (linked (next_link old node)) → (plan.slots ≡ None → node < tag_unit) → (plan.slots ≡ None → old.tag ≤ greatest_card) → Exchanges plan c expected value
 child_exchanges plan c old node expected value at cut is inside few = record {
   whole = linked (next_link old node);
   is = is ∙ ap (λ x. Exchange x (linked (next_link old node))) (sym at);
   cut = cut;
-  all = λ none. (let low = few none in cut ∙ cut_same (linked (next_link old node)) (omega arith));
+  all = λ none. (let low = few none in let small = inside none in cut ∙ cut_same (linked (next_link old node)) (omega arith));
 }
 
 -- what a pass notes where it is to set a flag

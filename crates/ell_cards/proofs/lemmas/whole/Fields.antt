@@ -16,7 +16,7 @@ use Rattle.ell_cards.specs.declared.view.View.{View}
 use Rattle.ell_cards.specs.Calls.{May, word_of, atomic_of, left_by}
 use Rattle.ell_cards.specs.Models.{TablePlan}
 use Rattle.ell_cards.specs.Naming.{IsNamed}
-use Rattle.ell_cards.specs.Shown.{IsWord, FieldIsWhole, StandsInside, CanBeShown}
+use Rattle.ell_cards.specs.Shown.{IsWord, FieldIsWhole, CanBeShown}
 use Rattle.ell_cards.specs.States.{TableState}
 use Rattle.ell_cards.specs.Ties.{ExpectsNear}
 use Rattle.ell_cards.specs.Turns.{found_by}
@@ -110,22 +110,21 @@ fields_after plan tree v (call.DChild c gp p y right) may named fills whole = pu
 fields_after plan tree v c may named fills whole = put_again tree.words whole (word_of c)
 
 -- a call that finds such words can be shown, if the link that it expects is near
-pub field_can : (tree : TableState) → IsWord (get_or tree.words 0 0) → FieldsAreWhole tree.words → (c : Call) (v : View) → ExpectsNear c (found_by tree c) → StandsInside c v
-    → CanBeShown c (found_by tree c) v
-field_can tree claim whole call.Next v near inside = record { wins = refl; whole = claim; inside = tt }
-field_can tree claim whole (call.Claim c q) v near inside = record { wins = compares_alike _ c claim; whole = tt; inside = inside }
-field_can tree claim whole (call.Upd x) v near inside = record { wins = refl; whole = whole (card x) field.Update; inside = tt }
-field_can tree claim whole (call.KeyOf x) v near inside = record { wins = refl; whole = key_whole (x % 4) _ (whole (card x) (key_field (x % 4))); inside = tt }
-field_can tree claim whole (call.ValueOf x) v near inside = record { wins = refl; whole = value_whole (x % 4) _ (whole (card x) (value_field (x % 4))); inside = tt }
-field_can tree claim whole (call.Info c f) v near inside = record { wins = refl; whole = whole c f; inside = tt }
-field_can tree claim whole (call.IFlag c p from) v near inside =
-    calls_can_be_shown.word (call.IFlag c p from) _ v tt (whole (card p) field.Update) tt
-field_can tree claim whole (call.IUnflag c p) v near inside = calls_can_be_shown.word (call.IUnflag c p) _ v tt (whole (card p) field.Update) tt
-field_can tree claim whole (call.DFlag c gp from) v near inside = calls_can_be_shown.word (call.DFlag c gp from) _ v tt (whole (card gp) field.Update) tt
-field_can tree claim whole (call.Mark c p was) v near inside = calls_can_be_shown.word (call.Mark c p was) _ v tt (whole (card p) field.Update) tt
-field_can tree claim whole (call.DUnflag c gp) v near inside = calls_can_be_shown.word (call.DUnflag c gp) _ v tt (whole (card gp) field.Update) tt
-field_can tree claim whole (call.Backtrack c gp) v near inside = calls_can_be_shown.word (call.Backtrack c gp) _ v tt (whole (card gp) field.Update) tt
-field_can tree claim whole (call.IChild c p l replaces right) v near inside = calls_can_be_shown.ichild c p l replaces right _ v near
-field_can tree claim whole (call.DChild c gp p y right) v near inside = calls_can_be_shown.dchild c gp p y right _ v near
-field_can tree claim whole (call.Fill c f value) v near inside = calls_can_be_shown.fill c f value _ v
-field_can tree claim whole _ v near inside = record { wins = refl; whole = tt; inside = tt }
+pub field_can : (tree : TableState) → IsWord (get_or tree.words 0 0) → FieldsAreWhole tree.words → (c : Call) → ExpectsNear c (found_by tree c)
+    → CanBeShown c (found_by tree c)
+field_can tree claim whole call.Next near = record { wins = refl; whole = claim }
+field_can tree claim whole (call.Claim c q) near = record { wins = compares_alike _ c claim; whole = tt }
+field_can tree claim whole (call.Upd x) near = record { wins = refl; whole = whole (card x) field.Update }
+field_can tree claim whole (call.KeyOf x) near = record { wins = refl; whole = key_whole (x % 4) _ (whole (card x) (key_field (x % 4))) }
+field_can tree claim whole (call.ValueOf x) near = record { wins = refl; whole = value_whole (x % 4) _ (whole (card x) (value_field (x % 4))) }
+field_can tree claim whole (call.Info c f) near = record { wins = refl; whole = whole c f }
+field_can tree claim whole (call.IFlag c p from) near = calls_can_be_shown.word (call.IFlag c p from) _ tt (whole (card p) field.Update)
+field_can tree claim whole (call.IUnflag c p) near = calls_can_be_shown.word (call.IUnflag c p) _ tt (whole (card p) field.Update)
+field_can tree claim whole (call.DFlag c gp from) near = calls_can_be_shown.word (call.DFlag c gp from) _ tt (whole (card gp) field.Update)
+field_can tree claim whole (call.Mark c p was) near = calls_can_be_shown.word (call.Mark c p was) _ tt (whole (card p) field.Update)
+field_can tree claim whole (call.DUnflag c gp) near = calls_can_be_shown.word (call.DUnflag c gp) _ tt (whole (card gp) field.Update)
+field_can tree claim whole (call.Backtrack c gp) near = calls_can_be_shown.word (call.Backtrack c gp) _ tt (whole (card gp) field.Update)
+field_can tree claim whole (call.IChild c p l replaces right) near = calls_can_be_shown.ichild c p l replaces right _ near
+field_can tree claim whole (call.DChild c gp p y right) near = calls_can_be_shown.dchild c gp p y right _ near
+field_can tree claim whole (call.Fill c f value) near = calls_can_be_shown.fill c f value _
+field_can tree claim whole _ near = record { wins = refl; whole = tt }

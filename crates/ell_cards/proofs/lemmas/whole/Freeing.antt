@@ -9,6 +9,7 @@ use lib.ListN.{get_elem?}
 use prog.Atomic.{either}
 use Rattle.ell_layout.specs.Words.{put}
 use Rattle.ell_layout.proofs.lemmas.Writes.{put_same, put_other}
+use Rattle.ell_word.specs.Node.{card}
 use Rattle.ell_cards.specs.declared.card_nodes.CardNodes.{CardNodes}
 use Rattle.ell_cards.specs.declared.view.Known.{Known}
 use Rattle.ell_cards.specs.declared.view.Period.{Period}
@@ -18,15 +19,23 @@ use Rattle.ell_cards.specs.declared.view.Slots.{Slots}
 use Rattle.ell_cards.specs.declared.view.View.{View}
 use Rattle.ell_cards.specs.Ages.{IsOut, HasPeriods, KnowsDeadNode, KnowsDeadCard, MayStamp}
 use Rattle.ell_cards.specs.Aside.{IsAside}
-use Rattle.ell_cards.specs.CardNodes.{has_node, KnowsDeadNodes}
+use Rattle.ell_cards.specs.Apart.{cut_node}
+use Rattle.ell_cards.specs.CardNodes.{has_node, AreTakenOut, KnowsDeadNodes}
+use Rattle.ell_cards.specs.Dead.{HasTakenOut}
 use Rattle.ell_cards.specs.Models.{TablePlan}
 use Rattle.ell_cards.specs.Periods.{WholeState, clock_word, slot_word, slots_size, last_reading, LieInSlots, pending_by, after_read, after_seek, after_stamp, PeriodsAreSound}
 use Rattle.ell_cards.specs.Seeking.{could_have, sought_on}
+use Rattle.ell_cards.specs.Shown.{shown}
 use Rattle.ell_cards.specs.SlotWords.{card_by, slot_of, turn_of, turn_in, free_word, is_noted}
+use Rattle.ell_cards.specs.Starts.{IsReached}
 use Rattle.ell_cards.specs.States.{TableState}
 use Rattle.ell_cards.specs.Stepping.{MayGoOn}
 use Rattle.ell_cards.proofs.lemmas.runs.Alive.{known_dead_is_dead}
+use Rattle.ell_cards.proofs.lemmas.runs.Named.{passes_name_met}
+use Rattle.ell_cards.proofs.lemmas.shown.ShownDead.{place_whole, taken_out_whole}
+use Rattle.ell_cards.proofs.lemmas.ties.Apart.{met_lies}
 use Rattle.ell_cards.proofs.lemmas.whole.Ages.{ages_of_period}
+use Rattle.ell_cards.proofs.lemmas.whole.Apart.{ready_there}
 use Rattle.ell_cards.proofs.lemmas.ties.Periods.{tie_of_period}
 use Rattle.ell_cards.proofs.lemmas.whole.Going.{turned_to, behind, same_noted, same_again, stays, goes_on_there}
 use Rattle.ell_cards.proofs.lemmas.whole.Steps.{word_again}
@@ -68,11 +77,11 @@ pub lies_by : (c slot n : ℕ) → slot ≡ slot_of c → turn_in n ≡ turn_of 
 lies_by c slot n at turn = omega arith
 
 -- so it is dead, if these are
-pub noted_dead : (v : View) (c slot n m : ℕ) (nodes : CardNodes) → card_by slot n ≡ c → ((i : ℕ) → is_noted m i ≡ has_node nodes i) → KnowsDeadNodes v c nodes
+pub noted_dead : (v : View) (slot n m : ℕ) (nodes : CardNodes) → ((i : ℕ) → is_noted m i ≡ has_node nodes i) → KnowsDeadNodes v (card_by slot n) nodes
     → (i : ℕ) → is_noted (bit_or n m) i ≡ true → (is_noted n i ≡ true) ⊎ KnowsDeadNode v (4 * card_by slot n + i)
-noted_dead v c slot n m nodes lies bits dead i is = elim (noted_or n m i is) [
+noted_dead v slot n m nodes bits dead i is = elim (noted_or n m i is) [
   | inl was ↦ inl was
-  | inr new ↦ inr (subst (λ d. KnowsDeadNode v (4 * d + i)) (sym lies) (dead i (sym (bits i) ∙ new)))
+  | inr new ↦ inr (dead i (sym (bits i) ∙ new))
 ]
 
 -- a word with all three bits notes all three nodes, and no more can be noted in it
@@ -93,13 +102,28 @@ full_stays n m low all =
 
 -- the steps of a pass on the words of slots, as those of a whole table
 module _ (plan : TablePlan) (s : Slots) (tree : TableState) (t : WholeState) (id : ℕ) (k : Known) (here : get_elem? t.views id ≡ some k)
-    (there : get_elem? tree.views id ≡ some k.tree) (h : HasPeriods plan s tree t) (size : length t.words ≡ slots_size s) where
+    (there : get_elem? tree.views id ≡ some k.tree) (h : HasPeriods plan s tree t) (size : length t.words ≡ slots_size s) (reached : IsReached plan tree) where
   abbrev OutNow : ℕ → Type 0
   OutNow x = IsOut plan tree h.ages.now.machine h.ages.now.uses x
 
   -- what the pass knows to be dead is out
   dead_by : (x : ℕ) → KnowsDeadNode k.tree x → OutNow x
   dead_by x knows = inl (known_dead_is_dead plan tree id k.tree there knows.0 x knows.1 h.ages.now.machine h.ages.now.uses.outs)
+
+  -- a node's low bits say in which slot its card lies
+  low_slot : (y x : ℕ) → cut_node y ≡ x → slot_of (card y) ≡ slot_of (card x)
+  low_slot y x is = omega arith
+
+  -- a node that the card in hand has taken out, of which the pass knows the low bits, is one of the card that lies in its slot
+  pub taken_lies : plan.slots ≡ Some s → (slot : ℕ) → slot ≤ s.last → get_or t.words (slot_word s slot) 0 % 8 ≢ 7 → (x : ℕ) → slot_of (card x) ≡ slot
+      → HasTakenOut (shown k.tree) x → KnowsDeadNode k.tree (4 * card_by slot (get_or t.words (slot_word s slot) 0) + x % 4)
+  taken_lies placed slot inside used x at taken =
+      let was = taken_out_whole k.tree (passes_name_met plan tree reached id k.tree there).0 x taken in
+      let lies = met_lies plan s tree t h.ages.now.machine h.lie h.dead h.was_dead h.tied id k here there (ready_there plan s tree t h id k here) was.whole was.met in
+      let one : slot_of (card was.whole) ≡ slot = low_slot was.whole x was.is ∙ at in
+      let found : card was.whole ≡ card_by slot (get_or t.words (slot_word s slot) 0) = sym lies.1 ∙ (ap h.lie one ∙ h.lies slot inside used) in
+      let place = place_whole was.whole x was.is in
+      subst (KnowsDeadNode k.tree) (omega (arith, found, place)) was.dead
 
   -- it reads the word of a slot, whatever its search has read then
   pub reads_now : (slot : ℕ) → slot ≤ s.last → (sought : Seek)
@@ -258,7 +282,7 @@ module _ (plan : TablePlan) (s : Slots) (placed : plan.slots ≡ Some s) (slot :
   pub reads_slot : (k : Known) → MayGoOn plan k (slot_word s slot) (λ n. n) (λ n p. p ≡ after_read slot n k.period)
   reads_slot k =
       goes_on_there plan s placed k (slot_word s slot) (λ n. n) (λ n p. p ≡ after_read slot n k.period) (λ t. after_read slot (get_or t.words (slot_word s slot) 0) k.period)
-      (λ tree t id here there h size. (reads_now plan s tree t id k here there h size slot inside k.period.sought, refl))
+      (λ tree t id reached here there h size. (reads_now plan s tree t id k here there h size reached slot inside k.period.sought, refl))
 
   -- whatever slot a word is of
   pub reads_any : (k : Known) (word : ℕ) → word ≡ slot_word s slot
@@ -274,15 +298,69 @@ module _ (plan : TablePlan) (s : Slots) (placed : plan.slots ≡ Some s) (slot :
           let word : slot_word o r ≡ slot_word s r = ap (λ x. slot_word x r) same in
           omega arith
 
+  -- where its card in hand has taken nodes out whose slot this is, they are those of the card that lies there
+  abbrev TellsTaken : Known → ℕ → Type 0
+  TellsTaken k n = (c : ℕ) (nodes : CardNodes) → slot_of c ≡ slot → AreTakenOut (shown k.tree) c nodes → n % 8 ≢ 7 → KnowsDeadNodes k.tree (card_by slot n) nodes
+
+  three : (nodes : CardNodes) (i : ℕ) → has_node nodes i ≡ true → i < 3
+  three nodes zero is = omega arith
+  three nodes (suc zero) is = omega arith
+  three nodes (suc (suc zero)) is = omega arith
+  three nodes (suc (suc (suc i))) is = absurd (false≢true is)
+
+  reads_taken : (k : Known) → MayGoOn plan k (slot_word s slot) (λ n. n) (λ n p. (p ≡ after_read slot n k.period) × TellsTaken k n)
+  reads_taken k =
+      goes_on_there plan s placed k (slot_word s slot) (λ n. n) (λ n p. (p ≡ after_read slot n k.period) × TellsTaken k n)
+      (λ t. after_read slot (get_or t.words (slot_word s slot) 0) k.period)
+      (λ tree t id reached here there h size. (
+        reads_now plan s tree t id k here there h size reached slot inside k.period.sought,
+        (
+          refl,
+          λ c nodes at taken used i has. by c i (three nodes i has) _ (taken_lies plan s tree t id k here there h size reached placed slot inside used (4 * c + i)
+              (slot_there c i (three nodes i has) ∙ at) (taken i has)),
+        ),
+      ))
+    where
+      slot_there : (c i : ℕ) → i < 3 → slot_of (card (4 * c + i)) ≡ slot_of c
+      slot_there c i few = omega (arith, few)
+
+      by : (c i : ℕ) → i < 3 → (x : ℕ) → KnowsDeadNode k.tree (4 * x + (4 * c + i) % 4) → KnowsDeadNode k.tree (4 * x + i)
+      by c i few x dead = subst (KnowsDeadNode k.tree) (omega (arith, few)) dead
+
+  one_slot : (o : Slots) (r : ℕ) → plan.slots ≡ Some o → (word : ℕ) → word ≡ slot_word o r → word ≡ slot_word s slot → slot ≡ r
+  one_slot o r slots word at is =
+      let same : o ≡ s = same_Some o s (sym slots ∙ placed) in
+      let words : slot_word o r ≡ slot_word s r = ap (λ x. slot_word x r) same in
+      omega arith
+
+  pub reads_any_taken : (k : Known) (word : ℕ) → word ≡ slot_word s slot
+      → MayGoOn plan k word (λ n. n) (λ n p. (o : Slots) (r : ℕ) → plan.slots ≡ Some o → word ≡ slot_word o r → (p ≡ after_read r n k.period)
+      × ((c : ℕ) (nodes : CardNodes) → slot_of c ≡ r → AreTakenOut (shown k.tree) c nodes → n % 8 ≢ 7 → KnowsDeadNodes k.tree (card_by r n) nodes))
+  reads_any_taken k word is id t h homes here small =
+      let may = subst (λ i. MayGoOn plan k i (λ n. n) (λ n p. (p ≡ after_read slot n k.period) × TellsTaken k n)) (sym is) (reads_taken k) in
+      let x = may id t h homes here small in (
+        x.0,
+        x.1,
+        x.2,
+        x.3,
+        (
+          λ o r slots at. subst (λ (y : ℕ). (x.0.period ≡ after_read y (get_or t.words word 0) k.period)
+              × ((c : ℕ) (nodes : CardNodes) → slot_of c ≡ y → AreTakenOut (shown k.tree) c nodes → get_or t.words word 0 % 8 ≢ 7
+              → KnowsDeadNodes k.tree (card_by y (get_or t.words word 0)) nodes)) (one_slot o r slots word at is) x.4.0,
+          x.4.1,
+          x.4.2,
+        ),
+      )
+
   -- it reads the word of the slot of a card by its search
   pub seeks : (begins for_delete : Bool) (c made : ℕ) → slot_of c ≡ slot → (k : Known) (word : ℕ) → word ≡ slot_word s slot
       → MayGoOn plan k word (λ n. n) (λ n p. p ≡ after_seek s begins for_delete c made n k.period)
   seeks begins for_delete c made lies k word is =
       subst (λ i. MayGoOn plan k i (λ n. n) (λ n p. p ≡ after_seek s begins for_delete c made n k.period)) (sym is)
       (goes_on_there plan s placed k (slot_word s slot) (λ n. n) (λ n p. p ≡ after_seek s begins for_delete c made n k.period) (λ t. after_seek s begins for_delete c made (get_or t.words (slot_word s slot) 0) k.period)
-      (λ tree t id here there h size. (
+      (λ tree t id reached here there h size. (
         subst (λ x. HasPeriods plan s tree (turned_to t id k (record (after_read x (get_or t.words (slot_word s slot) 0) k.period) { sought = now t }) (slot_word s slot) (get_or t.words (slot_word s slot) 0))) (sym lies)
-            (reads_now plan s tree t id k here there h size slot inside (now t)),
+            (reads_now plan s tree t id k here there h size reached slot inside (now t)),
         refl,
       )))
     where
@@ -295,16 +373,16 @@ module _ (plan : TablePlan) (s : Slots) (placed : plan.slots ≡ Some s) (slot :
       → MayGoOn plan k (slot_word s slot) (λ x. either (x == n) m x) (λ x p. p ≡ k.period)
   notes_nodes k n m turn some_bit some_bit' knows =
       goes_on_there plan s placed k (slot_word s slot) (λ x. either (x == n) m x) (λ x p. p ≡ k.period) (λ t. k.period)
-      (λ tree t id here there h size. (by tree t id here there h size (cases_eq (get_or t.words (slot_word s slot) 0) n), refl))
+      (λ tree t id reached here there h size. (by tree t id reached here there h size (cases_eq (get_or t.words (slot_word s slot) 0) n), refl))
     where
-      by : (tree : TableState) (t : WholeState) (id : ℕ) → get_elem? t.views id ≡ some k → get_elem? tree.views id ≡ some k.tree → HasPeriods plan s tree t → length t.words ≡ slots_size s
+      by : (tree : TableState) (t : WholeState) (id : ℕ) → IsReached plan tree → get_elem? t.views id ≡ some k → get_elem? tree.views id ≡ some k.tree → HasPeriods plan s tree t → length t.words ≡ slots_size s
           → (get_or t.words (slot_word s slot) 0 ≡ n) ⊎ (get_or t.words (slot_word s slot) 0 ≢ n)
           → HasPeriods plan s tree (turned_to t id k k.period (slot_word s slot) (either (get_or t.words (slot_word s slot) 0 == n) m (get_or t.words (slot_word s slot) 0)))
-      by tree t id here there h size (inl is) =
+      by tree t id reached here there h size (inl is) =
           subst (λ x. HasPeriods plan s tree (turned_to t id k k.period (slot_word s slot) x))
           (sym (ap (λ b. either b m (get_or t.words (slot_word s slot) 0)) (eq-eqb (get_or t.words (slot_word s slot) 0) n is)))
-          (notes_now plan s tree t id k here there h size slot n m inside is turn some_bit some_bit' knows)
-      by tree t id here there h size (inr other) =
+          (notes_now plan s tree t id k here there h size reached slot n m inside is turn some_bit some_bit' knows)
+      by tree t id reached here there h size (inr other) =
           subst (λ x. HasPeriods plan s tree (turned_to t id k k.period (slot_word s slot) x))
           (sym (ap (λ b. either b m (get_or t.words (slot_word s slot) 0)) (ne_eqb (get_or t.words (slot_word s slot) 0) n other)))
           (stays plan s tree t id k here h size (slot_word s slot) (omega arith))
@@ -314,16 +392,16 @@ module _ (plan : TablePlan) (s : Slots) (placed : plan.slots ≡ Some s) (slot :
       → MayGoOn plan k (slot_word s slot) (λ m. either (m == n) (free_word reading) m) (λ m p. p ≡ k.period)
   frees_slot k reading n some_bit has =
       goes_on_there plan s placed k (slot_word s slot) (λ m. either (m == n) (free_word reading) m) (λ m p. p ≡ k.period) (λ t. k.period)
-      (λ tree t id here there h size. (by tree t id here there h size (cases_eq (get_or t.words (slot_word s slot) 0) n), refl))
+      (λ tree t id reached here there h size. (by tree t id reached here there h size (cases_eq (get_or t.words (slot_word s slot) 0) n), refl))
     where
-      by : (tree : TableState) (t : WholeState) (id : ℕ) → get_elem? t.views id ≡ some k → get_elem? tree.views id ≡ some k.tree → HasPeriods plan s tree t → length t.words ≡ slots_size s
+      by : (tree : TableState) (t : WholeState) (id : ℕ) → IsReached plan tree → get_elem? t.views id ≡ some k → get_elem? tree.views id ≡ some k.tree → HasPeriods plan s tree t → length t.words ≡ slots_size s
           → (get_or t.words (slot_word s slot) 0 ≡ n) ⊎ (get_or t.words (slot_word s slot) 0 ≢ n)
           → HasPeriods plan s tree (turned_to t id k k.period (slot_word s slot) (either (get_or t.words (slot_word s slot) 0 == n) (free_word reading) (get_or t.words (slot_word s slot) 0)))
-      by tree t id here there h size (inl is) =
+      by tree t id reached here there h size (inl is) =
           subst (λ m. HasPeriods plan s tree (turned_to t id k k.period (slot_word s slot) m))
           (sym (ap (λ b. either b (free_word reading) (get_or t.words (slot_word s slot) 0)) (eq-eqb (get_or t.words (slot_word s slot) 0) n is)))
-          (frees_now plan s tree t id k here there h size slot reading inside n is some_bit has)
-      by tree t id here there h size (inr other) =
+          (frees_now plan s tree t id k here there h size reached slot reading inside n is some_bit has)
+      by tree t id reached here there h size (inr other) =
           subst (λ m. HasPeriods plan s tree (turned_to t id k k.period (slot_word s slot) m))
           (sym (ap (λ b. either b (free_word reading) (get_or t.words (slot_word s slot) 0)) (ne_eqb (get_or t.words (slot_word s slot) 0) n other)))
           (stays plan s tree t id k here h size (slot_word s slot) (omega arith))
@@ -333,4 +411,4 @@ pub stamps_card : (plan : TablePlan) (s : Slots) → plan.slots ≡ Some s → (
     → MayGoOn plan k (clock_word s) (λ n. n) (λ n p. (p ≡ after_stamp c n k.period) × (n ≤ last_reading))
 stamps_card plan s placed k c may =
     goes_on_there plan s placed k (clock_word s) (λ n. n) (λ n p. (p ≡ after_stamp c n k.period) × (n ≤ last_reading)) (λ t. after_stamp c (get_or t.words (clock_word s) 0) k.period)
-    (λ tree t id here there h size. (stamps_now plan s tree t id k here there h size c may, (refl, h.periods.low)))
+    (λ tree t id reached here there h size. (stamps_now plan s tree t id k here there h size reached c may, (refl, h.periods.low)))

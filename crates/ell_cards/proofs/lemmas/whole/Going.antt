@@ -17,12 +17,17 @@ use Rattle.ell_cards.specs.declared.view.Slots.{Slots}
 use Rattle.ell_cards.specs.Ages.{IsOut, HasPeriods}
 use Rattle.ell_cards.specs.Models.{TablePlan}
 use Rattle.ell_cards.specs.Periods.{WholeState, clock_word, place_word, slot_word, slots_size, last_reading, after_clock, after_announce, after_retract, after_look_at, after_take, after_give, after_release, own, IsAtRest, PeriodsAreSound}
+use Rattle.ell_cards.specs.Shown.{shown}
 use Rattle.ell_cards.specs.SlotWords.{is_noted}
+use Rattle.ell_cards.specs.Starts.{IsReached}
 use Rattle.ell_cards.specs.States.{TableState}
 use Rattle.ell_cards.specs.Stepping.{MayGoOn}
 use Rattle.ell_cards.specs.Whole.{trees_of, WordsAre, PeriodsAre}
+use Rattle.ell_cards.proofs.lemmas.shown.ShownViews.{rests_whole}
+use Rattle.ell_cards.proofs.lemmas.ties.Apart.{tells_apart}
 use Rattle.ell_cards.proofs.lemmas.ties.Periods.{tie_of_period}
 use Rattle.ell_cards.proofs.lemmas.whole.Ages.{ages_of_period}
+use Rattle.ell_cards.proofs.lemmas.whole.Apart.{ready_there}
 use Rattle.ell_cards.proofs.lemmas.whole.Seats.{before_clock, lie_same}
 use Rattle.ell_cards.proofs.lemmas.whole.Steps.{word_again, periods_stay, periods_read, periods_ticked, periods_seen, periods_announced, periods_retracted, periods_taken, periods_given, periods_released}
 use Rattle.ell_cards.proofs.lemmas.whole.Trees.{tree_at}
@@ -117,14 +122,14 @@ module _ (plan : TablePlan) (s : Slots) (tree : TableState) (t : WholeState) (id
 -- a step on the words of the periods is one of the table
 module _ (plan : TablePlan) (s : Slots) (placed : plan.slots ≡ Some s) where
   pub goes_on_whole : (k : Known) (i : ℕ) (f : ℕ → ℕ) (told : ℕ → Period → Type 0) (p : WholeState → Period)
-      → ((tree : TableState) (t : WholeState) (id : ℕ) → get_elem? t.views id ≡ some k → trees_of t.views ≡ tree.views → HasPeriods plan s tree t → length t.words ≡ slots_size s
+      → ((tree : TableState) (t : WholeState) (id : ℕ) → IsReached plan tree → get_elem? t.views id ≡ some k → trees_of t.views ≡ tree.views → HasPeriods plan s tree t → length t.words ≡ slots_size s
       → HasPeriods plan s tree (turned_to t id k (p t) i (f (get_or t.words i 0))) × told (get_or t.words i 0) (p t))
       → MayGoOn plan k i f told
   goes_on_whole k i f told p step id t h homes here small =
       let has = subst (λ o. WordsAre o t.words h.tree.words) placed h.words in
       let n = get_or t.words i 0 in
       let now : Known = record { tree = k.tree; period = p t } in
-      let x = step h.tree t id here h.views (subst (λ o. PeriodsAre plan o h.tree t) placed h.periods) has.0 in (
+      let x = step h.tree t id h.reached here h.views (subst (λ o. PeriodsAre plan o h.tree t) placed h.periods) has.0 in (
         now,
         keeps,
         tt,
@@ -142,17 +147,17 @@ module _ (plan : TablePlan) (s : Slots) (placed : plan.slots ≡ Some s) where
 
   -- where only the pass's own view of the tree is asked for
   pub goes_on_there : (k : Known) (i : ℕ) (f : ℕ → ℕ) (told : ℕ → Period → Type 0) (p : WholeState → Period)
-      → ((tree : TableState) (t : WholeState) (id : ℕ) → get_elem? t.views id ≡ some k → get_elem? tree.views id ≡ some k.tree → HasPeriods plan s tree t → length t.words ≡ slots_size s
+      → ((tree : TableState) (t : WholeState) (id : ℕ) → IsReached plan tree → get_elem? t.views id ≡ some k → get_elem? tree.views id ≡ some k.tree → HasPeriods plan s tree t → length t.words ≡ slots_size s
       → HasPeriods plan s tree (turned_to t id k (p t) i (f (get_or t.words i 0))) × told (get_or t.words i 0) (p t))
       → MayGoOn plan k i f told
-  goes_on_there k i f told p step = goes_on_whole k i f told p (λ tree t id here same. step tree t id here (ap (λ l. get_elem? l id) (sym same) ∙ tree_at t.views id k here))
+  goes_on_there k i f told p step = goes_on_whole k i f told p (λ tree t id reached here same. step tree t id reached here (ap (λ l. get_elem? l id) (sym same) ∙ tree_at t.views id k here))
 
   -- where nothing is asked of the tree
   goes_on : (k : Known) (i : ℕ) (f : ℕ → ℕ) (told : ℕ → Period → Type 0) (p : WholeState → Period)
       → ((tree : TableState) (t : WholeState) (id : ℕ) → get_elem? t.views id ≡ some k → HasPeriods plan s tree t → length t.words ≡ slots_size s
       → HasPeriods plan s tree (turned_to t id k (p t) i (f (get_or t.words i 0))) × told (get_or t.words i 0) (p t))
       → MayGoOn plan k i f told
-  goes_on k i f told p step = goes_on_there k i f told p (λ tree t id here there. step tree t id here)
+  goes_on k i f told p step = goes_on_there k i f told p (λ tree t id reached here there. step tree t id here)
 
   -- a pass reads the clock
   pub read_clock_goes_on : (k : Known) → MayGoOn plan k (clock_word s) (λ n. n) (λ n p. (p ≡ after_clock n k.period) × (n ≤ last_reading))
@@ -172,11 +177,11 @@ module _ (plan : TablePlan) (s : Slots) (placed : plan.slots ≡ Some s) where
       ))
 
   -- it takes its announcement away
-  pub retracts : (k : Known) (q : ℕ) → k.period.place ≡ Some q → IsAtRest k.tree
+  pub retracts : (k : Known) (q : ℕ) → k.period.place ≡ Some q → IsAtRest (shown k.tree)
       → MayGoOn plan k (place_word s q) (λ n. 1) (λ n p. p ≡ after_retract k.period)
   retracts k q has rest =
-      goes_on k (place_word s q) (λ n. 1) (λ n p. p ≡ after_retract k.period) (λ t. after_retract k.period)
-      (λ tree t id here h size. (going plan s tree t id k here h (after_retract k.period) (place_word s q) 1 (λ r a at an. absurd (some_not_none an refl)) refl refl refl (behind plan s tree t id k here h (place_word s q) 1 (omega arith)) (λ slot. get_or-set_other t.words (place_word s q) (slot_word s slot) 1 0 (λ e. omega arith)) (periods_retracted s t id k here h.lie h.dead h.began h.was_dead h.periods size q has rest), refl))
+      goes_on_there k (place_word s q) (λ n. 1) (λ n p. p ≡ after_retract k.period) (λ t. after_retract k.period)
+      (λ tree t id reached here there h size. (going plan s tree t id k here h (after_retract k.period) (place_word s q) 1 (λ r a at an. absurd (some_not_none an refl)) refl refl refl (behind plan s tree t id k here h (place_word s q) 1 (omega arith)) (λ slot. get_or-set_other t.words (place_word s q) (slot_word s slot) 1 0 (λ e. omega arith)) (periods_retracted s t id k here h.lie h.dead h.began h.was_dead h.periods size q has (rests_whole plan k.tree (tells_apart plan s tree t h.ages.now.machine h.lie h.dead h.was_dead h.tied placed reached id k here there (ready_there plan s tree t h id k here)) rest)), refl))
 
   -- it takes a place, if no pass has it
   pub takes : (k : Known) (q : ℕ) → q < s.places → MayGoOn plan k (place_word s q) (λ n. either (n == 0) 1 n) (λ n p. p ≡ after_take q n k.period)

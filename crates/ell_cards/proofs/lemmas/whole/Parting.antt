@@ -17,12 +17,13 @@ use Rattle.ell_cards.specs.Starts.{SlotsFit}
 use Rattle.ell_cards.specs.Turns.{TableTurns, Splits as SplitsInto, Joins as JoinsWith, state_split, state_joined}
 use Rattle.ell_cards.proofs.lemmas.ties.Handovers.{splits_keep_ties, joins_keep_ties}
 use Rattle.ell_cards.proofs.lemmas.whole.Handovers.{split_periods, join_periods}
-use Rattle.ell_cards.specs.Whole.{trees_of, joined_known, spent_known, PeriodsAre, IsWhole}
+use Rattle.ell_cards.specs.Whole.{trees_of, joined_known, spent_known, PeriodsAre, IsWhole, PlansFit}
 use Rattle.ell_cards.proofs.lemmas.lifetimes.Joins.{each_joined as each_view_joined}
 use Rattle.ell_cards.proofs.lemmas.lifetimes.Splits.{each_split as each_view_split}
 use Rattle.ell_cards.proofs.lemmas.shown.ShownViews.{unfilled_whole}
 use Rattle.ell_cards.proofs.lemmas.runs.Reaching.{reached_on}
 use Rattle.ell_cards.proofs.lemmas.whole.Rests.{is_at_rest}
+use Rattle.ell_cards.proofs.lemmas.whole.Lifts.{unplanned_fits}
 use Rattle.ell_cards.proofs.lemmas.whole.Trees.{tree_at}
 
 -- the trees of a list with one more at its end
@@ -51,8 +52,9 @@ whole_splits plan k keys quiet may id s h here =
       views = trees_more (set s.views id l) r ∙ (ap (λ v. v ++ (right_view keys k.tree) ∷ []) (map-set (λ (x : Known). x.tree) s.views id l) ∙ ap (λ v. set v id (left_view keys k.tree) ++ (right_view keys k.tree) ∷ []) h.views);
       homes = h.homes;
       words = h.words;
-      stores = each_view_split h.tree.views id k.tree there (left_view keys k.tree) (right_view keys k.tree) StoresAreWhole
-          (unfilled_whole (left_view keys k.tree) refl refl) (unfilled_whole (right_view keys k.tree) refl refl) h.stores;
+      stores = each_view_split h.tree.views id k.tree there (left_view keys k.tree) (right_view keys k.tree) (λ v. StoresAreWhole v × PlansFit plan.slots v)
+          (unfilled_whole (left_view keys k.tree) refl refl, unplanned_fits plan.slots (left_view keys k.tree) refl)
+          (unfilled_whole (right_view keys k.tree) refl refl, unplanned_fits plan.slots (right_view keys k.tree) refl) h.stores;
       periods = by h.tree there plan.slots h.reached.starts.may.slots h.periods;
     }
   where
@@ -103,8 +105,9 @@ whole_joins plan k l free other_free id other s h here aside there =
           ∙ ap (λ v. set (set v id (joined_view k.tree l.tree)) other spent_view) h.views);
       homes = h.homes;
       words = h.words;
-      stores = each_view_joined h.tree.views id other k.tree l.tree ours turn.there' aside (joined_view k.tree l.tree) StoresAreWhole
-          (unfilled_whole (joined_view k.tree l.tree) refl refl) (unfilled_whole spent_view refl refl) h.stores;
+      stores = each_view_joined h.tree.views id other k.tree l.tree ours turn.there' aside (joined_view k.tree l.tree) (λ v. StoresAreWhole v × PlansFit plan.slots v)
+          (unfilled_whole (joined_view k.tree l.tree) refl refl, unplanned_fits plan.slots (joined_view k.tree l.tree) refl)
+          (unfilled_whole spent_view refl refl, unplanned_fits plan.slots spent_view refl) h.stores;
       periods = by h.tree ours turn.there' plan.slots h.reached.starts.may.slots h.periods theirs;
     }
   where

@@ -8,10 +8,12 @@ use Rattle.ell_cards.specs.declared.view.Told.TheVariants.{Met, Key, Info}
 use Rattle.ell_cards.specs.declared.view.View.{View}
 use Rattle.ell_cards.specs.Models.{TablePlan, Has, latest, earlier}
 use Rattle.ell_cards.specs.Changes.{forgotten}
-use Rattle.ell_cards.specs.Calls.{Exchange, atomic_of, after, May}
+use Rattle.ell_cards.specs.Calls.{Load, Exchange, atomic_of, after, May}
 use Rattle.ell_cards.specs.Periods.{IsOfRoot, IsAtRest}
 use Rattle.ell_cards.specs.Touching.{RestTouchesTheRoot}
+use Rattle.ell_cards.specs.Shown.{IsNoClaim}
 use Rattle.ell_cards.specs.Stepping.{IsQuiet}
+use Rattle.ell_cards.specs.Tied.{FlagsCard}
 use Rattle.ell_cards.proofs.lemmas.lifetimes.Idle.{root_alone}
 
 -- a pass that has forgotten what it was told, has nothing in hand, and stands nowhere
@@ -89,6 +91,15 @@ pub exchange_is_quiet : (c : Call) (expected value : ℕ) → atomic_of c ≡ Ex
 exchange_is_quiet (call.Begin op) expected value is = cc
 exchange_is_quiet call.Look expected value is = cc
 exchange_is_quiet _ expected value is = tt
+
+-- no load claims a card, and no call that sets a flag
+pub load_claims_none : (c : Call) → atomic_of c ≡ Load → IsNoClaim c
+load_claims_none (call.Claim c node_key) is = absurd cc
+load_claims_none _ is = tt
+
+pub flag_claims_none : (c : Call) (d : ℕ) → FlagsCard c d → IsNoClaim c
+flag_claims_none (call.Claim c node_key) d flags = flags
+flag_claims_none _ d flags = tt
 
 -- a pass at rest may touch nothing but the root and the claim word
 pub rest_touches_the_root : RestTouchesTheRoot

@@ -4,8 +4,6 @@ use mathlib.Core.Option.{some}
 use lib.ListN.{get_elem?}
 use prog.Atomic.{either}
 use Rattle.atomic_table.specs.Table.{Allows, Act, Valid, carried_after, keeps, stepped}
-use Rattle.ell_word.specs.Link.{tag_unit}
-use Rattle.ell_word.specs.Node.{greatest_number}
 use Rattle.ell_cards.specs.declared.call.Call.TheVariants as call
 use Rattle.ell_cards.specs.declared.view.Known.{Known}
 use Rattle.ell_cards.specs.declared.view.Period.{Period}
@@ -15,29 +13,31 @@ use Rattle.ell_cards.specs.Ages.{HasPeriods}
 use Rattle.ell_cards.specs.Calls.{after, May}
 use Rattle.ell_cards.specs.Changes.{ledger_keys, after_claim}
 use Rattle.ell_cards.specs.Guards.{MayClaim}
-use Rattle.ell_cards.specs.Models.{TablePlan, TableModel, PassModel, StandsAt, flat_from, last_slot_of}
+use Rattle.ell_cards.specs.Models.{TablePlan, TableModel, PassModel, flat_from, last_slot_of}
 use Rattle.ell_cards.specs.Naming.{IsPlaced}
 use Rattle.ell_cards.specs.Periods.{whole_size, WholeState}
-use Rattle.ell_cards.specs.Shown.{IsWord, cut_word, shown}
+use Rattle.ell_cards.specs.Apart.{IsApart}
+use Rattle.ell_cards.specs.Shown.{IsWord, cut_word, cut_planned, shown}
 use Rattle.ell_cards.specs.Skipping.{after_one, after_row, after_claimed_row, MayStepOn, RowTells}
 use Rattle.ell_cards.specs.Starts.{SlotsFit}
-use Rattle.ell_cards.specs.Stepping.{IsInside, KeepsPass, SameShare}
-use Rattle.ell_cards.specs.Turns.{found_by}
+use Rattle.ell_cards.specs.Stepping.{IsInside, KeepsPass, SameShare, MayTell}
+use Rattle.ell_cards.specs.Turns.{found_by, state_after, view_after}
 use Rattle.ell_cards.specs.Whole.{WordsAre, PeriodsAre, IsWhole}
-use Rattle.ell_cards.proofs.lemmas.runs.Reaching.{reached_kept}
-use Rattle.ell_cards.proofs.lemmas.seats.Named.{kept_named, named_more}
+use Rattle.ell_cards.proofs.lemmas.runs.Reaching.{reached_kept, call_on}
+use Rattle.ell_cards.proofs.lemmas.seats.Named.{kept_named}
 use Rattle.ell_cards.proofs.lemmas.seats.Opened.{allowed, of_table}
 use Rattle.ell_cards.proofs.lemmas.seats.Seats.{set_there}
 use Rattle.ell_cards.proofs.lemmas.shown.CutWords.{cut_same}
-use Rattle.ell_cards.proofs.lemmas.shown.ShownChanges.{claimed_shown}
+use Rattle.ell_cards.proofs.lemmas.shown.ShownChanges.{claims_are_shown}
 use Rattle.ell_cards.proofs.lemmas.shown.ShownGuards.{claim_whole}
 use Rattle.ell_cards.proofs.lemmas.shown.ShownViews.{named_shown, placed_shown}
 use Rattle.ell_cards.proofs.lemmas.ties.Placed.{placed_to}
 use Rattle.ell_cards.proofs.lemmas.views.Rows.{one_claims_on, row_keys, row_share}
 use Rattle.ell_cards.proofs.lemmas.whole.Calling.{set_twice, tree_here, tied_whole}
 use Rattle.ell_cards.proofs.lemmas.whole.Calling.Notes.{nothing}
-use Rattle.ell_cards.proofs.lemmas.whole.Lifts.{stands_inside}
+use Rattle.ell_cards.proofs.lemmas.whole.Apart.{passes_tell_apart}
 use Rattle.ell_cards.proofs.lemmas.whole.Places.{size_some}
+use Rattle.ell_cards.proofs.lemmas.words.Slotted.{slot_inside}
 
 -- a flat tree is flat from some card on
 pub from_some : (plan : TablePlan) → plan.flat ≡ true → 0 < flat_from plan
@@ -54,7 +54,7 @@ claimed_to t id k v n = record { words = set t.words 0 n; homes = t.homes; views
 
 module _ (plan : TablePlan) (s : Slots) (placed : plan.slots ≡ Some s) where
   -- such a table has a claim word
-  has_words : (t : WholeState) → IsWhole plan t → 0 < length t.words
+  pub has_words : (t : WholeState) → IsWhole plan t → 0 < length t.words
   has_words t h = let all = (subst (λ o. WordsAre o t.words h.tree.words) placed h.words).0 in omega arith
 
   has_periods : (t : WholeState) (h : IsWhole plan t) → HasPeriods plan s h.tree t
@@ -67,13 +67,12 @@ module _ (plan : TablePlan) (s : Slots) (placed : plan.slots ≡ Some s) where
       let periods = has_periods t h in (
         kept_named plan h.tree (reached_kept plan h.tree h.reached) id k.tree there,
         subst (λ o. IsPlaced (last_slot_of o plan.last_card) k.tree) (sym placed)
-            (placed_to plan h.tree periods.ages.now.machine id k.tree there s.last periods.tied.fits),
+            (placed_to plan h.tree periods.ages.now.machine id k.tree there s.last (λ c has. slot_inside s.last c (periods.tied.fits c has))),
       )
 
-  -- and stands at a node that a child word has room for
-  pub whole_stands : (t : WholeState) → IsWhole plan t → (id : ℕ) (k : Known) → get_elem? t.views id ≡ some k → (x : ℕ) → StandsAt k.tree x → x < tag_unit
-  whole_stands t h id k here =
-      stands_inside k.tree (named_more plan.last_card greatest_number h.reached.starts.may.limit k.tree (whole_inside t h id k here).0) (call.Claim 0 0)
+  -- and tells nodes apart
+  pub whole_apart : (t : WholeState) → IsWhole plan t → (id : ℕ) (k : Known) → get_elem? t.views id ≡ some k → IsApart plan k.tree
+  whole_apart t h id k here = passes_tell_apart plan t h id k here
 
   module _ (t : WholeState) (h : IsWhole plan t) (id : ℕ) (k : Known) (here : get_elem? t.views id ≡ some k) where
     -- the claim word of the tree is that of the table
@@ -120,7 +119,7 @@ module _ (plan : TablePlan) (s : Slots) (placed : plan.slots ≡ Some s) where
 
   module _ (flat : plan.flat ≡ true) where
     -- after a claim that was won, and the claim word read
-    one_on : (c node_key : ℕ) (t : WholeState) (h : IsWhole plan t) (id : ℕ) (k : Known) → get_elem? t.views id ≡ some k
+    pub one_on : (c node_key : ℕ) (t : WholeState) (h : IsWhole plan t) (id : ℕ) (k : Known) → get_elem? t.views id ≡ some k
         → May plan (call.Claim c node_key) k.tree → get_or t.words 0 0 ≡ c → IsWhole plan (claimed_to t id k (after_one c node_key k.tree) (c + 1))
     one_on c node_key t h id k here may is =
         let low = may.1 in
@@ -145,13 +144,25 @@ module _ (plan : TablePlan) (s : Slots) (placed : plan.slots ≡ Some s) where
         (set_there t.views id now k here) (claims_on plan flat c node_key k.tree (omega arith) may)
         (get_or-set_same t.words 0 (c + 1) 0 (has_words t h)) (omega arith)))
 
+-- what was planned before a row of claims is gone after it
+planned_anew : (n c node_key : ℕ) (v : View) → after_row n c node_key (cut_planned v) ≡ after_row n c node_key v
+planned_anew zero c node_key v = refl
+planned_anew (suc n) c node_key v = refl
+
 -- what is shown of what a pass knows after a row of claims
-pub row_shown : (n c node_key : ℕ) (v : View) → ((x : ℕ) → StandsAt v x → x < tag_unit)
-    → shown (after_row n c node_key v) ≡ after_row n c node_key (shown v)
-row_shown zero c node_key v inside = claimed_shown c node_key v true inside
-row_shown (suc n) c node_key v inside =
-    row_shown n (c + 1) node_key (after_one c node_key v) inside
-    ∙ ap (λ w. after_row n (c + 1) node_key (after call.Next (c + 1) w)) (claimed_shown c node_key v true inside)
+module _ (plan : TablePlan) (s : Slots) (placed : plan.slots ≡ Some s) (flat : plan.flat ≡ true) where
+  row_shown : (n c node_key : ℕ) (t : WholeState) (h : IsWhole plan t) (id : ℕ) (k : Known) → get_elem? t.views id ≡ some k
+      → May plan (call.Claim c node_key) k.tree → get_or t.words 0 0 ≡ c → c + n ≤ plan.last_card
+      → shown (after_row n c node_key k.tree) ≡ cut_planned (after_row n c node_key (shown k.tree))
+  row_shown zero c node_key t h id k here may is room = claims_are_shown plan c node_key k.tree (whole_apart plan s placed t h id k here)
+  row_shown (suc n) c node_key t h id k here may is room =
+      let now : Known = record { tree = after_one c node_key k.tree; period = k.period } in
+      let first : shown (after_one c node_key k.tree) ≡ cut_planned (after_one c node_key (shown k.tree)) =
+      ap (after call.Next (c + 1)) (claims_are_shown plan c node_key k.tree (whole_apart plan s placed t h id k here)) in
+      row_shown n (c + 1) node_key (claimed_to t id k (after_one c node_key k.tree) (c + 1)) (one_on plan s placed flat c node_key t h id k here may is) id now
+      (set_there t.views id now k here) (claims_on plan flat c node_key k.tree (omega arith) may)
+      (get_or-set_same t.words 0 (c + 1) 0 (has_words plan s placed t h)) (omega arith)
+      ∙ ap cut_planned (ap (after_row n (c + 1) node_key) first ∙ planned_anew n (c + 1) node_key (after_one c node_key (shown k.tree)))
 
 -- a pass takes all numbers from its next one to a last one, or loses the claim
 module _ (plan : TablePlan) (s : Slots) (placed : plan.slots ≡ Some s) (flat : plan.flat ≡ true) (v : View) (first last node_key : ℕ) (order : first ≤ last) (room : last ≤ plan.last_card) (may : MayClaim (flat_from plan) v first node_key) where
@@ -164,10 +175,7 @@ module _ (plan : TablePlan) (s : Slots) (placed : plan.slots ≡ Some s) (flat :
         × (((shown w.tree ≡ after_claimed_row b first last node_key v) × IsInside plan (shown w.tree)) × (w.period ≡ k.period) × (carried_after {S = Unit {0}} [] a ≡ []))
 
     by_tree : May plan (call.Claim first node_key) k.tree
-    by_tree = (claim_whole (flat_from plan) k.tree first node_key (subst (λ u. MayClaim (flat_from plan) u first node_key) (sym is) may), omega arith)
-
-    inside : (x : ℕ) → StandsAt k.tree x → x < tag_unit
-    inside = whole_stands plan s placed t h id k here
+    by_tree = (claim_whole plan k.tree (whole_apart plan s placed t h id k here) first node_key (subst (λ u. MayClaim (flat_from plan) u first node_key) (sym is) may), omega arith)
 
     goes : (b : Bool) (w : View) → IsWhole plan (claimed_to t id k w (either b (last + 1) n)) → shown w ≡ after_claimed_row b first last node_key v → Goes b
     goes b w whole shows =
@@ -180,10 +188,11 @@ module _ (plan : TablePlan) (s : Slots) (placed : plan.slots ≡ Some s) (flat :
         goes true (after_row (last - first) first node_key k.tree)
         (subst (λ m. IsWhole plan (claimed_to t id k (after_row (last - first) first node_key k.tree) m)) (omega arith)
         (row_whole plan s placed flat (last - first) first node_key t h id k here by_tree (eqb-true n first won) (omega arith)))
-        (row_shown (last - first) first node_key k.tree inside ∙ ap (after_row (last - first) first node_key) is)
+        (row_shown plan s placed flat (last - first) first node_key t h id k here by_tree (eqb-true n first won) (omega arith)
+        ∙ ap (λ u. cut_planned (after_row (last - first) first node_key u)) is)
     by false lost =
         goes false (after_claim false first node_key k.tree) (claim_lost plan s placed t h id k here first node_key by_tree lost small)
-        (claimed_shown first node_key k.tree false inside ∙ ap (after_claim false first node_key) is)
+        (ap (after_claim false first node_key) is)
 
   pub row_goes : MayStepOn plan v 0 (λ n. either (n == first) (last + 1) n) (RowTells plan first last node_key v)
   row_goes k is id t h homes here small = by k is id t h here small (get_or t.words 0 0 == first) refl
@@ -209,6 +218,30 @@ row_keeps_pass plan v first last node_key n w h = by (n == first) h.0
     )
     by false is =
         (ap (λ (u : View). ledger_keys u.worker.ledger) is, subst (SameShare v) (sym is) (record { share = refl; ownable = refl }), h.1)
+
+-- a claim of one card tells what such a row does
+pub claim_tells : (plan : TablePlan) (c node_key : ℕ) (v : View) → MayTell plan (call.Claim c node_key) v (RowTells plan c c node_key v)
+claim_tells plan c node_key v s h id w here is apart (call.Claim d key) same may can placed later =
+    let card : d ≡ c = cc in
+    let node : key ≡ node_key = cc in
+    let n = found_by s (call.Claim d key) in
+    let now = view_after s w (call.Claim d key) in
+    let there = set_there s.views id now w here in
+    let names = kept_named plan (state_after s id w (call.Claim d key)) (reached_kept plan (state_after s id w (call.Claim d key)) (call_on plan s h id (call.Claim d key) w here may)) id now there in (
+      (won (n == d) (cut_word n == d) can.wins ∙ ((λ i. after_claimed_row (cut_word n == card i) (card i) (card i) (node i) (shown w)) ∙ ap (after_claimed_row (cut_word n == c) c c node_key) is)),
+      (named_shown plan.last_card now names, placed_shown _ now placed),
+    )
+  where
+    none : d - d ≡ 0
+    none = omega arith
+
+    by : (b : Bool) → shown (after_claim b d key w) ≡ after_claimed_row b d d key (shown w)
+    by true = claims_are_shown plan d key w apart ∙ ap (λ k. cut_planned (after_row k d key (shown w))) (sym none)
+    by false = refl
+
+    won : (whole cut : Bool) → cut ≡ whole → shown (after_claim whole d key w) ≡ after_claimed_row cut d d key (shown w)
+    won whole cut same = by whole ∙ ap (λ b. after_claimed_row b d d key (shown w)) (sym same)
+claim_tells plan c node_key v s h id w here is apart _ same may can placed later = absurd cc
 
 -- what a step on the claim word owes that the rule allows, by what its caller says of the table and the pass
 module _ (t u : TableModel) (p q : PassModel) (same_table : t ≡ u) (same_pass : p ≡ q) (own : q.table ≡ u.id) (size : t.id.words ≡ whole_size t.plan) (fit : SlotsFit t.plan t.plan.slots) where

@@ -11,12 +11,13 @@ use Rattle.ell_cards.specs.Models.{TablePlan, last_slot, last_slot_of}
 use Rattle.ell_cards.specs.Periods.{opening_words, whole_words, slots_size, period_by}
 use Rattle.ell_cards.specs.Shown.{IsWord, FieldIsWhole, StoresAreWhole}
 use Rattle.ell_cards.specs.Starts.{MayStart, SlotsFit}
-use Rattle.ell_cards.specs.Whole.{first_known, WordsAre, PeriodsAre, IsWhole}
+use Rattle.ell_cards.specs.Whole.{first_known, WordsAre, PeriodsAre, IsWhole, PlansFit}
 use Rattle.ell_cards.proofs.lemmas.lifetimes.Openings.{each_first}
 use Rattle.ell_cards.proofs.lemmas.runs.Reaching.{reached_first}
 use Rattle.ell_cards.proofs.lemmas.shown.ShownKinds.{field_is_whole}
 use Rattle.ell_cards.proofs.lemmas.shown.ShownViews.{unfilled_whole}
 use Rattle.ell_cards.proofs.lemmas.ties.Opens.{tree_opened, reached_opened, periods_opened}
+use Rattle.ell_cards.proofs.lemmas.whole.Lifts.{unplanned_fits}
 use Rattle.ell_cards.proofs.lemmas.whole.Opens.{all_size, with_zeros}
 
 -- a table starts so
@@ -33,7 +34,7 @@ whole_first plan may cards words small size are is = by plan.slots refl may.slot
           reached = reached_first plan cards may all are;
           views = refl;
           homes = refl;
-          stores = each_first (first_of plan) StoresAreWhole (unfilled_whole (first_of plan) refl refl);
+          stores = each_first (first_of plan) (λ v. StoresAreWhole v × PlansFit plan.slots v) (unfilled_whole (first_of plan) refl refl, unplanned_fits plan.slots (first_of plan) refl);
           words = subst (λ o. WordsAre o words cards) (sym none) same;
           periods = subst (λ o. PeriodsAre plan o (opening cards [] (first_of plan)) (opening words [] (first_known plan))) (sym none) tt;
         }
@@ -46,7 +47,7 @@ whole_first plan may cards words small size are is = by plan.slots refl may.slot
           reached = reached_opened plan s cards may fit all are small;
           views = refl;
           homes = refl;
-          stores = each_first (first_of plan) StoresAreWhole (unfilled_whole (first_of plan) refl refl);
+          stores = each_first (first_of plan) (λ v. StoresAreWhole v × PlansFit plan.slots v) (unfilled_whole (first_of plan) refl refl, unplanned_fits plan.slots (first_of plan) refl);
           words = subst (λ o. WordsAre o words tree.words) (sym placed) (
             subst (λ l. length l ≡ slots_size s) (sym same) (all_size s cards all),
             λ c f. subst (FieldIsWhole f) (sym (with_zeros cards (table_size plan.last_card - length cards) (address c f)))

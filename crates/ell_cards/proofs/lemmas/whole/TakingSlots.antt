@@ -15,7 +15,8 @@ use Rattle.ell_cards.specs.Ages.{HasPeriods}
 use Rattle.ell_cards.specs.Models.{TablePlan}
 use Rattle.ell_cards.specs.Periods.{WholeState, slot_word, slots_size, after_missing, after_own, after_read, after_taking}
 use Rattle.ell_cards.specs.Seeking.{could_take, missed_one}
-use Rattle.ell_cards.specs.SlotWords.{slot_of, turn_of, turn_in, stamp_in, is_used_for}
+use Rattle.ell_cards.specs.SlotWords.{has_slot_in, slot_of, turn_of, turn_in, stamp_in, is_used_for}
+use Rattle.ell_cards.specs.Starts.{IsReached}
 use Rattle.ell_cards.specs.States.{TableState}
 use Rattle.ell_cards.specs.Stepping.{MayGoOn}
 use Rattle.ell_cards.specs.Tied.{HoldsWaiting}
@@ -49,7 +50,7 @@ card_of_turn c n turn = omega arith
 
 -- the periods of a table where a pass takes the slot of its card in hand
 module _ (plan : TablePlan) (s : Slots) (tree : TableState) (t : WholeState) (id : ℕ) (k : Known) (here : get_elem? t.views id ≡ some k) (same : trees_of t.views ≡ tree.views)
-    (h : HasPeriods plan s tree t) (size : length t.words ≡ slots_size s) (c : ℕ) (hand : HoldsWaiting k.tree c) (inside : slot_of c ≤ s.last) where
+    (h : HasPeriods plan s tree t) (size : length t.words ≡ slots_size s) (c : ℕ) (hand : HoldsWaiting k.tree c) (inside : slot_of c ≤ s.last) (numbered : has_slot_in s.last c ≡ true) (reached : IsReached plan tree) where
   abbrev at : ℕ
   at = slot_word s (slot_of c)
 
@@ -60,7 +61,7 @@ module _ (plan : TablePlan) (s : Slots) (tree : TableState) (t : WholeState) (id
   own_now : get_or t.words (slot_word s (slot_of c)) 0 % 8 ≢ 7 → turn_in (get_or t.words (slot_word s (slot_of c)) 0) ≡ turn_of c
       → HasPeriods plan s tree (turned_to t id k (after_taking c k.period) (slot_word s (slot_of c)) (get_or t.words (slot_word s (slot_of c)) 0))
   own_now used turn =
-      let tied = own_slots_keep_ties plan s tree t h.lie h.dead h.was_dead size (record { ages = h.ages; tied = h.tied }) same id k here c hand (inside, h.lies (slot_of c) inside used ∙ card_of_turn c found turn) in record {
+      let tied = own_slots_keep_ties plan s tree t h.lie h.dead h.was_dead size (record { ages = h.ages; tied = h.tied }) same id k here c hand numbered (inside, h.lies (slot_of c) inside used ∙ card_of_turn c found turn) in record {
         lie = h.lie;
         lies = lie_same s h.lie t.words (set t.words at found) (λ slot low. word_again t.words at (omega arith) (slot_word s slot)) h.lies;
         dead = h.dead;
@@ -73,7 +74,7 @@ module _ (plan : TablePlan) (s : Slots) (tree : TableState) (t : WholeState) (id
 
   -- it reads the slot's word
   pub reads_so : (sought : Seek) → HasPeriods plan s tree (turned_to t id k (record (after_read (slot_of c) (get_or t.words (slot_word s (slot_of c)) 0) k.period) { sought = sought }) (slot_word s (slot_of c)) (get_or t.words (slot_word s (slot_of c)) 0))
-  reads_so sought = reads_now plan s tree t id k here (ap (λ l. get_elem? l id) (sym same) ∙ tree_at t.views id k here) h size (slot_of c) inside sought
+  reads_so sought = reads_now plan s tree t id k here (ap (λ l. get_elem? l id) (sym same) ∙ tree_at t.views id k here) h size reached (slot_of c) inside sought
 
   -- so the pass reads the slot's word, and has taken the slot if that is so
   pub owns_now : HasPeriods plan s tree (turned_to t id k (after_own c (get_or t.words (slot_word s (slot_of c)) 0) k.period) (slot_word s (slot_of c)) (get_or t.words (slot_word s (slot_of c)) 0))
@@ -95,7 +96,7 @@ module _ (plan : TablePlan) (s : Slots) (tree : TableState) (t : WholeState) (id
       let full : found % 8 ≡ 7 = ap (λ m. m % 8) is ∙ free in
       let past : stamp_in found < k.period.safe = subst (λ m. stamp_in m < k.period.safe) (sym is) safe in
       let own = h.tied.own (slot_of c) inside in
-      let tied = takes_keep_ties plan s tree t h.lie h.dead h.was_dead low size (record { ages = h.ages; tied = h.tied }) same id k here c hand inside
+      let tied = takes_keep_ties plan s tree t h.lie h.dead h.was_dead low size (record { ages = h.ages; tied = h.tied }) same id k here c hand numbered
       (taken_is_dead s t id k here h.lie h.dead h.began h.was_dead h.periods size (slot_of c) inside own full past)
       (taken_was_dead_for s t id k here h.lie h.dead h.began h.was_dead h.periods size (slot_of c) inside own full past) in record {
         lie = put h.lie (slot_of c) c;
@@ -109,12 +110,12 @@ module _ (plan : TablePlan) (s : Slots) (tree : TableState) (t : WholeState) (id
       }
 
 -- these steps are steps of the table
-module _ (plan : TablePlan) (s : Slots) (placed : plan.slots ≡ Some s) (k : Known) (c : ℕ) (hand : HoldsWaiting k.tree c) (inside : slot_of c ≤ s.last) where
+module _ (plan : TablePlan) (s : Slots) (placed : plan.slots ≡ Some s) (k : Known) (c : ℕ) (hand : HoldsWaiting k.tree c) (inside : slot_of c ≤ s.last) (numbered : has_slot_in s.last c ≡ true) where
   -- a pass reads the word of the slot, and has taken it if its card lies there already
   pub owns_slot : MayGoOn plan k (slot_word s (slot_of c)) (λ n. n) (λ n p. p ≡ after_own c n k.period)
   owns_slot =
       goes_on_whole plan s placed k (slot_word s (slot_of c)) (λ n. n) (λ n p. p ≡ after_own c n k.period) (λ t. after_own c (get_or t.words (slot_word s (slot_of c)) 0) k.period)
-      (λ tree t id here same h size. (owns_now plan s tree t id k here same h size c hand inside, refl))
+      (λ tree t id reached here same h size. (owns_now plan s tree t id k here same h size c hand inside numbered reached, refl))
 
   -- it takes the slot, if the word is as it was
   pub takes_slot : s.last < 2097152 → (n : ℕ) → n % 8 ≡ 7 → stamp_in n < k.period.safe
@@ -122,21 +123,21 @@ module _ (plan : TablePlan) (s : Slots) (placed : plan.slots ≡ Some s) (k : Kn
   takes_slot low n free safe =
       goes_on_whole plan s placed k (slot_word s (slot_of c)) (λ m. either (m == n) (8 * turn_of c) m) (λ m p. p ≡ (if m == n then after_taking c k.period else after_missing c m k.period))
       (λ t. if get_or t.words (slot_word s (slot_of c)) 0 == n then after_taking c k.period else after_missing c (get_or t.words (slot_word s (slot_of c)) 0) k.period)
-      (λ tree t id here same h size. (by tree t id here same h size (cases_eq (get_or t.words (slot_word s (slot_of c)) 0) n), refl))
+      (λ tree t id reached here same h size. (by tree t id reached here same h size (cases_eq (get_or t.words (slot_word s (slot_of c)) 0) n), refl))
     where
       after : WholeState → TableState → ℕ → ℕ → Bool → Type 0
       after t tree id m b = HasPeriods plan s tree (turned_to t id k (if b then after_taking c k.period else after_missing c m k.period) (slot_word s (slot_of c)) (either b (8 * turn_of c) m))
 
-      by : (tree : TableState) (t : WholeState) (id : ℕ) → get_elem? t.views id ≡ some k → trees_of t.views ≡ tree.views → HasPeriods plan s tree t → length t.words ≡ slots_size s
+      by : (tree : TableState) (t : WholeState) (id : ℕ) → IsReached plan tree → get_elem? t.views id ≡ some k → trees_of t.views ≡ tree.views → HasPeriods plan s tree t → length t.words ≡ slots_size s
           → (get_or t.words (slot_word s (slot_of c)) 0 ≡ n) ⊎ (get_or t.words (slot_word s (slot_of c)) 0 ≢ n)
           → HasPeriods plan s tree (turned_to t id k (if get_or t.words (slot_word s (slot_of c)) 0 == n then after_taking c k.period else after_missing c (get_or t.words (slot_word s (slot_of c)) 0) k.period) (slot_word s (slot_of c))
           (either (get_or t.words (slot_word s (slot_of c)) 0 == n) (8 * turn_of c) (get_or t.words (slot_word s (slot_of c)) 0)))
-      by tree t id here same h size (inl is) =
+      by tree t id reached here same h size (inl is) =
           subst (after t tree id (get_or t.words (slot_word s (slot_of c)) 0)) (sym (eq-eqb (get_or t.words (slot_word s (slot_of c)) 0) n is))
-          (takes_now plan s tree t id k here same h size c hand inside low n is free safe)
-      by tree t id here same h size (inr other) =
+          (takes_now plan s tree t id k here same h size c hand inside numbered reached low n is free safe)
+      by tree t id reached here same h size (inr other) =
           subst (after t tree id (get_or t.words (slot_word s (slot_of c)) 0)) (sym (ne_eqb (get_or t.words (slot_word s (slot_of c)) 0) n other))
-          (reads_so plan s tree t id k here same h size c hand inside (missed_one k.period.sought))
+          (reads_so plan s tree t id k here same h size c hand inside numbered reached (missed_one k.period.sought))
 
   -- whichever card the pass has in hand, and whatever slot's word this is
   one : (d : ℕ) → k.tree.worker.card ≡ Some d → c ≡ d

@@ -9,14 +9,13 @@ use Rattle.ell_tree.specs.CardsTaken.{cards_taken, TakesNoCard}
 use Rattle.ell_tree.specs.Helps.{help_steps}
 use Rattle.ell_tree.specs.Hindrances.{Meets, way_of}
 use Rattle.ell_tree.specs.Keeping.{KeepsAllButMet}
-use Rattle.ell_tree.specs.Searches.{seen_any, below, node_with}
+use Rattle.ell_tree.specs.Searches.{seen_any, below}
 use Rattle.ell_tree.proofs.lemmas.Called.{answered_taking, takes_told}
 use Rattle.ell_tree.proofs.lemmas.Keeping.{inner_kept, share_trans}
 use Rattle.ell_tree.proofs.lemmas.Owning.{keeps_answers, keeps_in_answers, had_value, would_delete}
 use Rattle.ell_tree.proofs.lemmas.Meeting.{meets_trans, meets_more, above_way, parent_way, nowhere_way, way_over, way_free, no_way}
 use Rattle.ell_tree.proofs.lemmas.Halting.{keeps_meets, keeps_in_meets, said_meets, flag_lost}
 use Rattle.ell_tree.proofs.lemmas.Filling.{delete_card, delete_wants, told_grandparent, told_leaf, told_parent, told_was}
-use Rattle.ell_tree.proofs.lemmas.Links.{has_word}
 use Rattle.ell_tree.proofs.lemmas.Milestones.{sees_end, gives_out}
 use Rattle.ell_tree.proofs.lemmas.Searches.{unknown_above, named_above, passed_above, searched_in_try}
 use Rattle.ell_tree.proofs.deleting.delete_at.Goals as goal
@@ -26,13 +25,9 @@ take_card-requires-clause-wants g c =
     let calm : c.in-Some.above.update.state ≡ Clean = search rules in
     delete_wants (flat_from c.args.table.now.plan) 0 c.args.pass.now.view c.args.key c.args.place c.in-Some.above c.requires.searched.ends.at (c.requires.searched.ends.outer c.requires.key) c.requires.key c.in-Some.is calm
 
-pub flag_delete-requires-clause-link : goal.flag_delete-requires-clause-link
-flag_delete-requires-clause-link g c =
-    let cards = c.args.table.now.plan.last_card in
-    let place = c.args.place in
-    let above = c.in-Some.above in
-    let ends = c.requires.searched.ends in
-    has_word cards (node_with place above.tag) ends.node c.take_card.ensures.limit (passed_above cards c.args.pass.now.view place.grandparent above c.in-Some.is ends.passed_above).tag
+pub flag_delete-requires-clause-tag : goal.flag_delete-requires-clause-tag
+flag_delete-requires-clause-tag g c =
+    (passed_above c.args.table.now.plan.last_card c.args.pass.now.view c.args.place.grandparent c.in-Some.above c.in-Some.is c.requires.searched.ends.passed_above).tag
 
 pub flag_delete-requires-clause-card : goal.flag_delete-requires-clause-card
 flag_delete-requires-clause-card g c =
@@ -64,6 +59,10 @@ finish_own-requires-clause-read g c =
     let card = delete_card a.view c.take_card.new.pass.view c.in-Card.card 0 c.args.key c.args.place c.in-Some.above c.in-Some.is c.requires.searched.busy
     c.requires.searched.ends.at c.in-Card.ensures.claims.0 in
     told_was c.take_card.new.pass.view c.flag_delete.new.pass.view c.in-Card.card c.args.place c.flag_delete.ensures.keeps.view c.args.key c.in-Some.above card
+
+-- its card is in hand still
+pub retire_deleted-requires-clause-hand : goal.retire_deleted-requires-clause-hand
+retire_deleted-requires-clause-hand g c = c.finish_own.ensures.keeps_but_met.card ∙ c.in_default-flag_delete.ensures.flags.card
 
 -- what its card told of the parent and the leaf is known once it is over
 pub retire_deleted-requires-clause-parent : goal.retire_deleted-requires-clause-parent

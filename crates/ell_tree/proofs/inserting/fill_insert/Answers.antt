@@ -1,10 +1,20 @@
-use Rattle.std.proofs.Common.{◌≡◌, ℕ, ◌<◌, ◌≤◌, if◌then◌else◌, nat_lt, sym, ap, ◌∙◌, arith}
+use Rattle.std.proofs.Common.{◌≡◌, ℕ, ◌<◌, ◌≤◌, if◌then◌else◌, nat_lt, sym, ap, ◌∙◌, subst, arith}
 use Rattle.std.proofs.lemmas.Bool.{lt-ltb, le-ltb}
-use Rattle.ell_word.specs.Link.{linked}
+use Rattle.ell_word.specs.Link.{IsLink, linked}
 use Rattle.ell_layout.specs.declared.field.Field.TheVariants as field
-use Rattle.ell_tree.proofs.lemmas.Storing.{stores_none, stores_more, fills_insert, whole_insert}
+use Rattle.ell_tree.proofs.lemmas.Links.{parent_low, place_link}
+use Rattle.ell_tree.proofs.lemmas.Storing.{bare, low_node, stores_none, stores_more, fills_insert, whole_insert}
 use Rattle.ell_tree.proofs.inserting.fill_insert.Goals as goal
 use Rattle.ell_tree.proofs.inserting.fill_insert.Goals.{then-key-place, else-key-place}
+
+pub word-below-requires : goal.word-below-requires
+word-below-requires g c =
+    subst IsLink (sym c.node_with.ensures)
+    (place_link c.args.place c.args.place.parent.tag c.args.pass.now.view c.requires.card.card.stands c.requires.tag c.facts_stay_inside.ensures.short)
+
+pub fill-requires-clause-fits : goal.fill-requires-clause-fits
+fill-requires-clause-fits g c =
+    low_node c.args.place.parent.node (parent_low c.args.place c.args.pass.now.view c.requires.card.card.behind c.facts_stay_inside.ensures.short)
 
 pub returns : goal.returns
 returns g c =
@@ -12,8 +22,10 @@ returns g c =
     let place = c.args.place in
     let lesser = c.min-lesser.result in
     let greater = c.max-greater.result in
-    let left = c.card_children-left.result.0 in
-    let right = c.card_children-left.result.1 in
+    let left = c.child_word.result in
+    let right = c.child_word-2.result in
+    let short = c.facts_stay_inside.ensures.short in
+    let card = c.requires.card.card in
     let update = c.update_word-clean.result in
     let word = c.word-below.result in
     let values = c.if-key-place.left_value in
@@ -29,8 +41,10 @@ returns g c =
     let s10 = stores_more a c.fill-9.new.pass c.fill-10.new.pass _ 9 field.RightValue values.1 s9 c.fill-10.ensures in
     record {
       fills = fills_insert a c.fill-10.new.pass place.parent.node word c.args.node_key lesser greater left right update values.0 values.1 s10
-          c.args.card c.args.what.key c.args.what.value place.node place.parent.tag place.key place.value c.requires.card.card.says
-          (c.word-below.ensures ∙ ap linked c.node_with.ensures) c.min-lesser.ensures c.max-greater.ensures c.card_children-left.ensures.left c.card_children-left.ensures.right
+          c.args.card c.args.what.key c.args.what.value place.node place.parent.tag place.key place.value (parent_low place a.view card.behind short)
+          (place_link place place.parent.tag a.view card.stands c.requires.tag short) card.says
+          (c.word-below.ensures ∙ ap linked c.node_with.ensures) c.min-lesser.ensures c.max-greater.ensures
+          (c.child_word.ensures ∙ ap bare c.card_children-left.ensures.left) (c.child_word-2.ensures ∙ ap bare c.card_children-left.ensures.right)
           c.update_word-clean.ensures sides.0 sides.1;
       whole = λ some. whole_insert a c.fill-10.new.pass place.parent.node word c.args.node_key lesser greater left right update values.0 values.1 s10
           c.args.card (c.requires.slot some);

@@ -10,10 +10,8 @@ use Rattle.ell_tree.specs.CardsTaken.{cards_taken, TakesNoCard, TakesOneCard, Ta
 use Rattle.ell_tree.specs.Ends.{Answers, changes_by, reply_by}
 use Rattle.ell_tree.specs.Hindrances.{way_of}
 use Rattle.ell_tree.specs.Keeping.{KeepsAll}
-use Rattle.ell_tree.specs.Searches.{node_with}
 use Rattle.ell_tree.proofs.lemmas.Searches.{may_answer}
 use Rattle.ell_tree.proofs.lemmas.Filling.{put_card, is_insert}
-use Rattle.ell_tree.proofs.lemmas.Links.{has_word}
 use Rattle.ell_tree.proofs.lemmas.Keeping.{share_trans}
 use Rattle.ell_tree.proofs.lemmas.Owning.{keeps_answers, keeps_in_answers, would_put}
 use Rattle.ell_tree.proofs.lemmas.Meeting.{meets_trans, meets_more, put_way, nowhere_way, way_over, way_free, no_way}
@@ -39,11 +37,8 @@ answer-requires-clause-may g c =
     (λ takes. false≢true (sym c.if-not-may_replace.true ∙ c.may_replace.ensures.1 takes))) s.ensures.ends.at
     (refused.says ∙ ap Some (sym (c.found.ensures ∙ ap found c.told_of_put-found.ensures)))
 
-pub flag_insert-requires-clause-link : goal.flag_insert-requires-clause-link
-flag_insert-requires-clause-link g c =
-    let place = c.search-place.result in
-    let ends = c.search-place.ensures.ends in
-    has_word c.args.table.now.plan.last_card (node_with place place.parent.tag) ends.node c.take_card.ensures.limit ends.passed.tag
+pub flag_insert-requires-clause-tag : goal.flag_insert-requires-clause-tag
+flag_insert-requires-clause-tag g c = c.search-place.ensures.ends.passed.tag
 
 pub flag_insert-requires-clause-card : goal.flag_insert-requires-clause-card
 flag_insert-requires-clause-card g c =

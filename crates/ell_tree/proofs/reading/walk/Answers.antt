@@ -5,7 +5,7 @@ use Rattle.ell_layout.specs.Words.{IsLeaf}
 use Rattle.ell_cards.proofs.lemmas.views.Afters.{after_look, after_key_of, after_value_of}
 use Rattle.ell_tree.proofs.lemmas.Counts.{uncounted_one, uncounted_trans}
 use Rattle.ell_tree.proofs.lemmas.Looks.{comes_alone, comes_first, met_still, may_down, comes_down, down_deeper, found_none, only_none, found_some, only_some, one_none, one_some, key_only, reads_mine}
-use Rattle.ell_tree.proofs.lemmas.Links.{child_same}
+use Rattle.ell_tree.proofs.lemmas.Links.{node_same}
 use Rattle.ell_ops.specs.Meaning.{greatest_key}
 use Rattle.ell_cards.specs.declared.glance.Glance.{Glance}
 use Rattle.ell_cards.specs.declared.glance.Stretch.{Stretch}
@@ -36,7 +36,7 @@ loop-pass-init g c =
     record {
       comes = comes_alone c.args.table.now.plan c.args.pass.now f.new.pass c.args.key f.result.node 0 (greatest_key + 1) true
           (comes_first c.args.table.now.plan c.args.pass.now f.new.pass c.args.key (linked f.result) f.result.node
-          (child_same c.args.table.now.plan.last_card f.result f.ensures.there c.facts_stay_inside.ensures.room) c.requires.real f.ensures.step f.ensures.shallow f.ensures.there);
+          (node_same f.result f.ensures.word) c.requires.real f.ensures.step f.ensures.shallow f.ensures.there);
       uncounted = uncounted_one c.args.pass.now f.new.pass (after_look (linked f.result) c.args.pass.now.view) f.ensures.step refl;
     }
 
@@ -68,7 +68,7 @@ loop-pass-smaller g c =
     let k = c.key_of-node_key in
     let inner : IsInternal l.node = search rules in
     let room = l.invariant.comes.shallow.inner inner in
-    let says = child_same c.args.table.now.plan.last_card d.result d.ensures.there c.facts_stay_inside.ensures.room in
+    let says = node_same d.result d.ensures.word in
     let deeper = down_deeper c.args.table.now.plan c.args.pass.now l.pass k.new.pass c.args.key (glance l.node c.args.key) k.result l.invariant.comes k.ensures.step
     d.new.pass (alone c.args.key) (nat_le k.result c.args.key) (linked d.result) d.result.node says
     (subst (λ h. Sees k.new.pass d.new.pass (after_look_down h (alone c.args.key) (nat_le k.result c.args.key) (linked d.result) k.new.pass.view)) c.at.ensures d.ensures.step) in
@@ -82,7 +82,7 @@ loop-pass-preserved g c =
     let inner : IsInternal l.node = search rules in
     record {
       comes = comes_down c.args.table.now.plan c.args.pass.now l.pass k.new.pass c.args.key (glance l.node c.args.key) k.result l.invariant.comes k.ensures.step
-          d.new.pass (alone c.args.key) (nat_le k.result c.args.key) (linked d.result) d.result.node (child_same c.args.table.now.plan.last_card d.result d.ensures.there c.facts_stay_inside.ensures.room)
+          d.new.pass (alone c.args.key) (nat_le k.result c.args.key) (linked d.result) d.result.node (node_same d.result d.ensures.word)
           (subst (λ h. Sees k.new.pass d.new.pass (after_look_down h (alone c.args.key) (nat_le k.result c.args.key) (linked d.result) k.new.pass.view)) c.at.ensures d.ensures.step)
           inner d.ensures.shallow d.ensures.there (omega arith) (omega arith) (let real = c.requires.real in omega arith);
       uncounted = uncounted_trans c.args.pass.now l.pass d.new.pass l.steps 2 l.invariant.uncounted

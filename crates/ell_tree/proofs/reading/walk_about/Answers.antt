@@ -8,7 +8,7 @@ use Rattle.ell_cards.specs.Models.{flat_from}
 use Rattle.ell_cards.specs.Looking.{HasFoundBetween}
 use Rattle.ell_cards.proofs.lemmas.views.Afters.{after_look, after_key_of}
 use Rattle.ell_tree.proofs.lemmas.Counts.{uncounted_one, uncounted_trans}
-use Rattle.ell_tree.proofs.lemmas.Links.{child_same}
+use Rattle.ell_tree.proofs.lemmas.Links.{node_same}
 use Rattle.ell_tree.proofs.lemmas.Cursors.{come_on, found_between}
 use Rattle.ell_tree.proofs.lemmas.Looks.{Comes, comes_first, comes_down, found_beside, may_down, only_none}
 use Rattle.ell_tree.proofs.reading.walk_about.Goals as goal
@@ -19,7 +19,7 @@ loop-pass-init g c =
     let f = c.look-first in
     record {
       comes = comes_first c.args.table.now.plan c.args.pass.now f.new.pass c.args.key (linked f.result) f.result.node
-          (child_same c.args.table.now.plan.last_card f.result f.ensures.there c.facts_stay_inside.ensures.room) c.requires.real f.ensures.step f.ensures.shallow f.ensures.there;
+          (node_same f.result f.ensures.word) c.requires.real f.ensures.step f.ensures.shallow f.ensures.there;
       whole = refl;
       uncounted = uncounted_one c.args.pass.now f.new.pass (after_look (linked f.result) c.args.pass.now.view) f.ensures.step refl;
     }
@@ -67,7 +67,7 @@ loop-pass-preserved g c =
     record {
       comes = subst (Comes plan c.args.pass.now d.new.pass c.args.key) (sym c.at-here.ensures)
           (comes_down plan c.args.pass.now l.pass k.new.pass c.args.key l.here k.result l.invariant.comes k.ensures.step d.new.pass keys.result (nat_le k.result c.args.key)
-          (linked d.result) d.result.node (child_same plan.last_card d.result d.ensures.there c.facts_stay_inside.ensures.room) d.ensures.step inner d.ensures.shallow d.ensures.there
+          (linked d.result) d.result.node (node_same d.result d.ensures.word) d.ensures.step inner d.ensures.shallow d.ensures.there
           within.0 within.1 (omega (arith, keys.ensures.high, real)));
       whole = ap (λ (h : Glance). h.whole) c.at-here.ensures ∙ keys.ensures.whole;
       uncounted = uncounted_trans c.args.pass.now l.pass d.new.pass l.steps 2 l.invariant.uncounted

@@ -1,7 +1,7 @@
 use Rattle.ell_tree.proofs.lemmas.Retiring.{own_nodes_dead}
 use Rattle.ell_tree.proofs.retiring.retire_own.Goals as goal
 
-pub retire_nodes-requires-clause-dead : goal.retire_nodes-requires-clause-dead
-retire_nodes-requires-clause-dead g c =
+pub retire_nodes-requires-clause-never : goal.retire_nodes-requires-clause-never
+retire_nodes-requires-clause-never g c =
     rw c.all.ensures
     (own_nodes_dead c.args.pass.now.view c.args.card c.requires.ended)

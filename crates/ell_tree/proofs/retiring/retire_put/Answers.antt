@@ -5,11 +5,12 @@ use Rattle.ell_tree.proofs.retiring.retire_put.Goals.{then-what-place, else-what
 use Rattle.ell_tree.proofs.retiring.retire_put.Goals as goal
 
 -- above an internal node
-pub retire-requires-clause-dead : goal.retire-requires-clause-dead
-retire-requires-clause-dead g c =
+pub retire_nodes-requires-clause-never : goal.retire_nodes-requires-clause-never
+retire_nodes-requires-clause-never g c =
     let v = c.args.pass.now.view in
     let inner : IsInternal c.args.place.node = c.is_internal.ensures.0 c.if-is_internal.true in
-    elim c.if-what-place.branch [
+    rw c.only.ensures
+    (elim c.if-what-place.branch [
       | then-what-place w ↦
           rw w.unused-is
           rw w.right_leaf_of-unused.ensures
@@ -18,10 +19,4 @@ retire-requires-clause-dead g c =
           rw w.unused-is
           rw w.left_leaf_of-unused.ensures
           (left_dead c.args.what c.args.place v c.args.card c.requires.put inner (search rules))
-    ]
-
--- at a leaf of the operation's key
-pub retire_nodes-requires-clause-dead : goal.retire_nodes-requires-clause-dead
-retire_nodes-requires-clause-dead g c =
-    rw c.retire-2.ensures.same
-    (replaced_nodes_dead c.args.what c.args.place c.args.pass.now.view c.args.card c.requires.put (search rules))
+    ])

@@ -1,8 +1,8 @@
 use Rattle.std.proofs.Common.{arith, rules, ◌<◌, ◌≤◌, ap, ◌∙◌, refl, inl, false, Some}
 use Rattle.ell_core.specs.declared.event.Stepped.TheVariants.{Moved}
 use Rattle.ell_layout.specs.Cards.{table_claimed, insert_filling}
-use Rattle.ell_word.specs.Link.{tag_unit}
-use Rattle.ell_word.specs.Node.{greatest_number}
+use Rattle.ell_word.specs.Link.{node_bound, tag_unit}
+use Rattle.ell_word.specs.Node.{right_leaf}
 use Rattle.ell_layout.proofs.lemmas.Claims.{tables_claim}
 use Rattle.ell_world.specs.Inside.{words_in, worker_in, scene_in}
 use Rattle.ell_world.proofs.lemmas.Puts.{claims_at_leaf}
@@ -33,8 +33,8 @@ returns g c =
     let what = c.args.what in
     let at = c.args.at in
     let room : w.next ≤ c.args.memory.now.last_card = omega arith in
-    let low : w.next ≤ greatest_number = omega (arith, c.requires.ready.sized.limit) in
-    let small : at.leaf < tag_unit = omega (arith, c.requires.ready.sized.limit, (c.requires.ready.fits.worker.node at.leaf c.requires.at.at.stands).0) in
+    let low : right_leaf w.next < tag_unit = omega (arith, c.requires.ready.sized.limit) in
+    let small : at.leaf < node_bound = omega (arith, c.requires.ready.sized.limit, (c.requires.ready.fits.worker.node at.leaf c.requires.at.at.stands).0) in
     let filling = c.insert_filling.ensures
     ∙ (λ t. insert_filling (c.next-card.ensures t) what.key what.value at.parent.node (c.word.ensures t) (c.key-leaf_key.ensures t) (c.value-leaf_value.ensures t)) in
     let claim = (tables_claim w at.parent.node at.leaf at.parent.tag small).insert what.key what.value (w.key at.leaf) (w.value at.leaf) low in

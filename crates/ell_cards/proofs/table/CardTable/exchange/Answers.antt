@@ -9,7 +9,7 @@ pub exchange_as-requires-clause-quiet : goal.exchange_as-requires-clause-quiet
 exchange_as-requires-clause-quiet g c = exchange_is_quiet c.args.call c.args.expected c.args.value c.requires.atomic
 
 pub exchange_as-requires-clause-tells : goal.exchange_as-requires-clause-tells
-exchange_as-requires-clause-tells g c = calls_tell c.args.self.now.plan c.args.call c.args.pass.now.view
+exchange_as-requires-clause-tells g c = calls_tell c.args.self.now.plan c.args.call c.args.pass.now.view c.requires.plain
 
 pub exchange_as-requires-clause-keeps : goal.exchange_as-requires-clause-keeps
 exchange_as-requires-clause-keeps g c = taken_keeps c.args.self.now.plan c.args.call c.args.pass.now.view

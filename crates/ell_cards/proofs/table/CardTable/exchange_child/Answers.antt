@@ -12,10 +12,10 @@ exchange_as-requires-clause-quiet g c =
 
 pub exchange_as-requires-clause-exchanges : goal.exchange_as-requires-clause-exchanges
 exchange_as-requires-clause-exchanges g c =
-    child_exchanges c.args.self.now.plan c.args.call c.args.old c.args.node _ _ c.word.ensures c.next_word.ensures c.requires.atomic c.requires.node c.requires.few
+    child_exchanges c.args.self.now.plan c.args.call c.args.old c.args.node _ _ c.word.ensures c.next_word.ensures c.requires.atomic c.requires.fits c.requires.few
 
 pub exchange_as-requires-clause-tells : goal.exchange_as-requires-clause-tells
-exchange_as-requires-clause-tells g c = calls_tell c.args.self.now.plan c.args.call c.args.pass.now.view
+exchange_as-requires-clause-tells g c = calls_tell c.args.self.now.plan c.args.call c.args.pass.now.view c.requires.plain
 
 pub exchange_as-requires-clause-keeps : goal.exchange_as-requires-clause-keeps
 exchange_as-requires-clause-keeps g c = taken_keeps c.args.self.now.plan c.args.call c.args.pass.now.view

@@ -1,5 +1,5 @@
 use Rattle.ell_cards.proofs.lemmas.seats.Taken.{taken_keeps, steps_by}
-use Rattle.ell_cards.proofs.lemmas.whole.Rests.{exchange_is_quiet}
+use Rattle.ell_cards.proofs.lemmas.whole.Rests.{exchange_is_quiet, flag_claims_none}
 use Rattle.ell_cards.proofs.lemmas.runs.Reaching.{calls_tell}
 use Rattle.ell_cards.proofs.table.CardTable.flag.Goals as goal
 
@@ -7,7 +7,7 @@ pub flag_as-requires-clause-quiet : goal.flag_as-requires-clause-quiet
 flag_as-requires-clause-quiet g c = exchange_is_quiet c.args.call c.args.expected c.args.value c.requires.atomic
 
 pub flag_as-requires-clause-tells : goal.flag_as-requires-clause-tells
-flag_as-requires-clause-tells g c = calls_tell c.args.self.now.plan c.args.call c.args.pass.now.view
+flag_as-requires-clause-tells g c = calls_tell c.args.self.now.plan c.args.call c.args.pass.now.view (flag_claims_none c.args.call c.args.card c.requires.flags)
 
 pub flag_as-requires-clause-keeps : goal.flag_as-requires-clause-keeps
 flag_as-requires-clause-keeps g c = taken_keeps c.args.self.now.plan c.args.call c.args.pass.now.view

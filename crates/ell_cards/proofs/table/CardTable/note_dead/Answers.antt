@@ -1,39 +1,26 @@
-use Rattle.std.proofs.Common.{refl, sym, ap, ◌∙◌, inl, subst, bit_or}
+use Rattle.std.proofs.Common.{sym, ap, ◌∙◌, subst, rules}
 use Rattle.ell_cards.specs.declared.view.Period.{Period}
+use Rattle.ell_cards.specs.SlotWords.{card_by}
 use Rattle.ell_cards.specs.CardNodes.{KnowsDeadNodes}
-use Rattle.ell_cards.proofs.lemmas.whole.Freeing.{noted_turn, noted_dead, lies_by, all_noted, full_stays}
+use Rattle.ell_cards.proofs.lemmas.shown.ShownDead.{nodes_never_come}
+use Rattle.ell_cards.proofs.lemmas.whole.Freeing.{lies_by}
 use Rattle.ell_cards.proofs.table.CardTable.note_dead.Goals as goal
 
--- a word that sets its slot free notes all nodes already
-pub set_free-requires-clause-taken : goal.set_free-requires-clause-taken
-set_free-requires-clause-taken g c full = c.if-noted-word.false (full_stays c.read_slot-word.result c.bits.result c.bits.ensures.low full)
+-- nodes that the card in hand has taken out
+pub note_word-requires-clause-read : goal.note_word-requires-clause-read
+note_word-requires-clause-read g c = ap (λ (p : Period). p.read) c.read_taken_out-word.ensures.read
 
-pub note_more-requires-clause-taken : goal.note_more-requires-clause-taken
-note_more-requires-clause-taken g c full = c.if-noted-word.false (full_stays c.read_slot-word.result c.bits.result c.bits.ensures.low full)
+pub note_word-requires-clause-dead : goal.note_word-requires-clause-dead
+note_word-requires-clause-dead g c used =
+    subst (λ v. KnowsDeadNodes v (card_by c.slot_of-slot.result c.read_taken_out-word.result) c.args.nodes) (sym c.read_taken_out-word.ensures.tree)
+    (c.read_taken_out-word.ensures.dead used)
 
--- what is noted then was noted, or is known to be dead
-pub set_free-requires-clause-may : goal.set_free-requires-clause-may
-set_free-requires-clause-may g c =
+-- nodes that never come
+pub note_word-requires-2-clause-dead : goal.note_word-requires-2-clause-dead
+note_word-requires-2-clause-dead g c used =
     let slot = c.slot_of-slot.result in
     let word = c.read_slot-word.result in
     let lies = lies_by c.args.card slot word c.slot_of-slot.ensures (sym c.turn_in.ensures ∙ (c.if-turn_in-turn_of.false ∙ c.turn_of.ensures)) in
-    let dead = subst (λ v. KnowsDeadNodes v c.args.card c.args.nodes) (sym c.read_slot-word.ensures.tree) c.requires.dead in
-    inl record {
-      read = record { slot = slot; word = word };
-      has = ap (λ (p : Period). p.read) c.read_slot-word.ensures.read;
-      used = λ full. c.if-noted-word.false (full_stays word c.bits.result c.bits.ensures.low full);
-      lies = refl;
-      each = λ i few. noted_dead c.read_slot-word.new.seat.me.0.tree c.args.card slot word c.bits.result c.args.nodes lies c.bits.ensures.each dead
-          i (all_noted (bit_or word c.bits.result) i few c.if-noted-eq7.true);
-    }
-
-pub note_more-requires-clause-dead : goal.note_more-requires-clause-dead
-note_more-requires-clause-dead g c =
-    let slot = c.slot_of-slot.result in
-    let word = c.read_slot-word.result in
-    let lies = lies_by c.args.card slot word c.slot_of-slot.ensures (sym c.turn_in.ensures ∙ (c.if-turn_in-turn_of.false ∙ c.turn_of.ensures)) in
-    let dead = subst (λ v. KnowsDeadNodes v c.args.card c.args.nodes) (sym c.read_slot-word.ensures.tree) c.requires.dead in
-    noted_dead c.read_slot-word.new.seat.me.0.tree c.args.card slot word c.bits.result c.args.nodes lies c.bits.ensures.each dead
-
-pub note_more-requires-clause-turn : goal.note_more-requires-clause-turn
-note_more-requires-clause-turn g c = noted_turn c.read_slot-word.result c.bits.result c.bits.ensures.low
+    let never = nodes_never_come c.args.seat.now.me.0.tree c.args.card c.args.nodes (c.requires.never (search rules)) in
+    subst (λ v. KnowsDeadNodes v (card_by slot word) c.args.nodes) (sym c.read_slot-word.ensures.tree)
+    (subst (λ d. KnowsDeadNodes c.args.seat.now.me.0.tree d c.args.nodes) (sym lies) never)

@@ -1,10 +1,8 @@
-use Rattle.std.proofs.Common.{sym, subst}
-use Rattle.ell_cards.specs.CardNodes.{KnowsDeadNodes}
+use Rattle.std.proofs.Common.{true≢false, sym, subst}
+use Rattle.ell_cards.specs.CardNodes.{NeverCome}
 use Rattle.ell_cards.specs.Models.{PassModel}
-use Rattle.ell_cards.proofs.lemmas.shown.ShownDead.{dead_nodes_whole}
 use Rattle.ell_cards.proofs.table.CardTable.retire_nodes.Goals as goal
 
-pub note_surely-requires-clause-dead : goal.note_surely-requires-clause-dead
-note_surely-requires-clause-dead g c =
-    dead_nodes_whole c.pass.inside.seat.me.0.tree c.args.card c.args.nodes
-    (subst (λ (m : PassModel). KnowsDeadNodes m.view c.args.card c.args.nodes) (sym c.pass.view_is) c.requires.dead)
+pub note_surely-requires-clause-never : goal.note_surely-requires-clause-never
+note_surely-requires-clause-never g c none =
+    subst (λ (m : PassModel). NeverCome m.view c.args.card c.args.nodes) (sym c.pass.view_is) c.requires.never

@@ -1,9 +1,10 @@
 use Rattle.ell_cards.proofs.lemmas.seats.Taken.{taken_keeps, sees_by}
 use Rattle.ell_cards.proofs.lemmas.runs.Reaching.{calls_tell}
+use Rattle.ell_cards.proofs.lemmas.whole.Rests.{load_claims_none}
 use Rattle.ell_cards.proofs.table.CardTable.see_entered.Goals as goal
 
 pub load_entered_as-requires-clause-tells : goal.load_entered_as-requires-clause-tells
-load_entered_as-requires-clause-tells g c = calls_tell c.args.self.now.plan c.args.call c.args.pass.now.view
+load_entered_as-requires-clause-tells g c = calls_tell c.args.self.now.plan c.args.call c.args.pass.now.view (load_claims_none c.args.call c.requires.atomic)
 
 pub load_entered_as-requires-clause-keeps : goal.load_entered_as-requires-clause-keeps
 load_entered_as-requires-clause-keeps g c = taken_keeps c.args.self.now.plan c.args.call c.args.pass.now.view

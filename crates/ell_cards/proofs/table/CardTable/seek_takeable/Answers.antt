@@ -1,8 +1,8 @@
 use Rattle.std.proofs.Common.{ℕ, ◌+◌, ◌==◌, Bool, ap, sym, ◌∙◌, subst, arith}
-use Rattle.ell_cards.specs.Models.{PassModel}
+use Rattle.ell_cards.specs.Models.{PassModel, TableModel}
 use Rattle.ell_cards.specs.declared.view.Seek.{Seek}
 use Rattle.ell_cards.specs.Seeking.{sought_on}
-use Rattle.ell_cards.proofs.lemmas.whole.Seeking.{RowSoFar, row_goes_on, sought_misses_none}
+use Rattle.ell_cards.proofs.lemmas.whole.Seeking.{RowSoFar, row_at_end, row_goes_on, sought_misses_none}
 use Rattle.ell_cards.proofs.lemmas.whole.Words.{last_fits}
 use Rattle.ell_cards.proofs.table.CardTable.seek_takeable.Goals as goal
 
@@ -28,3 +28,13 @@ loop-read-preserved g c =
           (row_goes_on c.args.slots c.args.card c.args.for_delete c.args.pass.now.view.made c.loop-read.next c.loop-read.read next.result c.loop-read.pass.sought
           (omega arith) was.from was.slot next.ensures.slot next.ensures.from next.ensures.first was.row);
     }
+
+-- the numbers of the table are at an end
+pub returns-then-self-next-clause-none : goal.returns-then-self-next-clause-none
+returns-then-self-next-clause-none g c = λ none.
+    let was = c.loop-read.invariant in
+    let kept = c.self.invariant.3 in
+    let same = ap (λ (m : TableModel). m.plan.last_card) c.self.view_is in
+    let past = c.if-self-next.true in
+    row_at_end c.args.slots c.args.self.now.plan.last_card c.args.card c.args.for_delete c.args.pass.now.view.made c.loop-read.next c.loop-read.read
+    c.loop-read.pass.sought (omega arith) was.slot was.row

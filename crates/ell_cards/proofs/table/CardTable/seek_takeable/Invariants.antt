@@ -1,5 +1,5 @@
-use Rattle.std.specs.Prelude.{◌≡◌, ◌≤◌}
-use Rattle.ell_cards.specs.SlotWords.{slot_of}
+use Rattle.std.specs.Prelude.{◌≡◌, ◌≤◌, true}
+use Rattle.ell_cards.specs.SlotWords.{has_slot_in}
 use Rattle.ell_cards.proofs.lemmas.whole.Seeking.{RowSoFar}
 use Rattle.ell_cards.proofs.table.CardTable.seek_takeable.Given as goal
 
@@ -9,6 +9,6 @@ invariant-loop-read g l = record {
   pass : l.pass ≡ record l.fn.pass { sought = l.pass.sought };
   missed : l.pass.sought.missed ≡ l.fn.pass.sought.missed;
   from : l.fn.card ≤ l.next;
-  slot : slot_of l.next ≤ l.slots.last;
+  slot : has_slot_in l.slots.last l.next ≡ true;
   row : RowSoFar l.slots l.fn.card l.fn.for_delete l.fn.pass.view.made l.next l.read l.pass.sought;
 }

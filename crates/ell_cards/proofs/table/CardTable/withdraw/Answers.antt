@@ -1,9 +1,8 @@
 use Rattle.std.proofs.Common.{sym, subst}
 use Rattle.ell_cards.specs.Models.{PassModel}
 use Rattle.ell_cards.specs.Periods.{IsAtRest}
-use Rattle.ell_cards.proofs.lemmas.shown.ShownViews.{rests_whole}
 use Rattle.ell_cards.proofs.table.CardTable.withdraw.Goals as goal
 
 pub retract-requires-clause-rest : goal.retract-requires-clause-rest
 retract-requires-clause-rest g c =
-    rests_whole c.pass.inside.seat.me.0.tree (subst (λ (m : PassModel). IsAtRest m.view) (sym c.pass.view_is) c.requires.rest)
+    subst (λ (m : PassModel). IsAtRest m.view) (sym c.pass.view_is) c.requires.rest

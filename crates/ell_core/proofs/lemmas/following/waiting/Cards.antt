@@ -98,8 +98,8 @@ stages_tell_waiting m stage invariant = record {
 table_says : (w : Words) (c tag value : ℕ) (field : Field) → w.expects c ≡ tag → ((right : Bool) → w.tag (internal c) right ≡ 0)
     → word w c field ≡ value → table_word w c field ≡ tagged_for field tag value
 table_says w c tag value L expects tags is = λ t. linked (record { node = is t; tag = expects t })
-table_says w c tag value Left expects tags is = let none = tags false in omega arith
-table_says w c tag value Right expects tags is = let none = tags true in omega arith
+table_says w c tag value Left expects tags is = λ t. linked (record { node = is t; tag = tags false t })
+table_says w c tag value Right expects tags is = λ t. linked (record { node = is t; tag = tags true t })
 table_says w c tag value Gp expects tags is = is
 table_says w c tag value P expects tags is = is
 table_says w c tag value Was expects tags is = is

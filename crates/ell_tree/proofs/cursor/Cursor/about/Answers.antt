@@ -9,7 +9,7 @@ use Rattle.ell_tree.specs.Cursors.{AreKept, FindsAbout}
 use Rattle.ell_tree.specs.Looks.{stretch_steps}
 use Rattle.ell_tree.proofs.lemmas.Counts.{counted_all, uncounted_none, uncounted_one, uncounted_trans}
 use Rattle.ell_tree.proofs.lemmas.Cursors.{GoesDown, all_on, asked_shallow, finds_about, keeps_first, kept_on, goes_down, child_deeper, keeps_found, on_counted, key_on, kept_still, may_go_down, one_kept, stands_still}
-use Rattle.ell_tree.proofs.lemmas.Links.{child_same}
+use Rattle.ell_tree.proofs.lemmas.Links.{node_same}
 use Rattle.ell_tree.proofs.cursor.Cursor.about.Goals as goal
 use Rattle.ell_tree.proofs.cursor.Cursor.about.Goals.{then-not-right, else-not-right}
 use Rattle.ell_cards.specs.Depths.{deepest, depth_of}
@@ -51,7 +51,7 @@ loop-pass-preserved g c =
     record {
       keeps = subst (λ h. GoesDown cards c.args.pass.now d.new.pass c.args.key h c.if-not-right.self) (sym c.at-here.ensures)
           (goes_down cards c.args.pass.now l.pass k.new.pass c.args.key l.here l.self k.result l.invariant.keeps k.ensures.step d.new.pass keys.result (nat_le k.result c.args.key)
-          (linked d.result) d.result.node c.if-not-right.self (child_same cards d.result d.ensures.there c.facts_stay_inside.ensures.room) d.ensures.step inner d.ensures.below d.ensures.there refl
+          (linked d.result) d.result.node c.if-not-right.self (node_same d.result d.ensures.word) d.ensures.step inner d.ensures.below d.ensures.there refl
           keys.ensures.low keys.ensures.high keys.ensures.apart kept);
       uncounted = uncounted_trans c.args.pass.now l.pass d.new.pass l.steps 2 l.invariant.uncounted
           (uncounted_trans l.pass k.new.pass d.new.pass 1 1 (uncounted_one l.pass k.new.pass _ k.ensures.step refl) (uncounted_one k.new.pass d.new.pass _ d.ensures.step refl));
@@ -66,7 +66,7 @@ loop-pass-smaller g c =
     let inner : IsInternal l.here.node = search rules in
     let room = (asked_shallow (deepest c.args.table.now.plan) l.pass k.new.pass l.here.node k.result k.ensures.step (k.ensures.shallow l.here.node)).inner inner in
     let deeper = child_deeper cards c.args.pass.now l.pass k.new.pass c.args.key l.here l.self k.result l.invariant.keeps k.ensures.step d.new.pass c.on_side-keys.result (nat_le k.result c.args.key)
-    (linked d.result) d.result.node (child_same cards d.result d.ensures.there c.facts_stay_inside.ensures.room) d.ensures.step in
+    (linked d.result) d.result.node (node_same d.result d.ensures.word) d.ensures.step in
     let is = ap (λ (h : Glance). depth_of d.new.pass.view h.node) c.at-here.ensures in
     omega arith
 

@@ -5,7 +5,7 @@ use Rattle.ell_cards.specs.Models.{PassModel}
 use Rattle.ell_cards.specs.declared.view.View.{View}
 use Rattle.ell_tree.specs.Cursors.{MayGoOnFrom}
 use Rattle.ell_tree.proofs.lemmas.Cursors.{begins_look, begin_kept, first_kept}
-use Rattle.ell_tree.proofs.lemmas.Links.{child_same}
+use Rattle.ell_tree.proofs.lemmas.Links.{node_same}
 use Rattle.ell_tree.proofs.cursor.Cursor.begin.Goals as goal
 
 pub returns-clause-begins : goal.returns-clause-begins
@@ -18,5 +18,5 @@ returns-clause-kept g c =
     let cards = c.args.table.now.plan.last_card in
     begin_kept cards c.count.new.self.view _ _ refl refl refl refl
     (subst (λ (v : View). MayGoOnFrom cards v (record { node = l.result.node; low = 0; high = greatest_key + 1; whole = false })) (sym (ap (λ (m : PassModel). m.view) c.count.ensures))
-    (first_kept cards c.args.pass.now l.new.pass (linked l.result) l.result.node (child_same cards l.result l.ensures.there c.facts_stay_inside.ensures.room)
+    (first_kept cards c.args.pass.now l.new.pass (linked l.result) l.result.node (node_same l.result l.ensures.word)
     l.ensures.step l.ensures.below l.ensures.there))

@@ -1,0 +1,32 @@
+use Rattle.std.proofs.Common.{◌≢◌, ◌%◌, refl, inl}
+use Rattle.std.specs.Int.Bits.{bit_or}
+use Rattle.ell_cards.proofs.lemmas.whole.Freeing.{noted_turn, noted_dead, all_noted, full_stays}
+use Rattle.ell_cards.proofs.table.CardTable.note_word.Goals as goal
+
+-- a word that sets its slot free notes all nodes already
+pub set_free-requires-clause-taken : goal.set_free-requires-clause-taken
+set_free-requires-clause-taken g c full = c.if-noted-word.false (full_stays c.args.word c.bits.result c.bits.ensures.low full)
+
+pub note_more-requires-clause-taken : goal.note_more-requires-clause-taken
+note_more-requires-clause-taken g c full = c.if-noted-word.false (full_stays c.args.word c.bits.result c.bits.ensures.low full)
+
+-- what is noted then was noted, or is known to be dead
+pub set_free-requires-clause-may : goal.set_free-requires-clause-may
+set_free-requires-clause-may g c =
+    let used : c.args.word % 8 ≢ 7 = λ full. c.if-noted-word.false (full_stays c.args.word c.bits.result c.bits.ensures.low full) in
+    inl record {
+      read = record { slot = c.args.slot; word = c.args.word };
+      has = c.requires.read;
+      used = used;
+      lies = refl;
+      each = λ i few. noted_dead c.args.seat.now.me.0.tree c.args.slot c.args.word c.bits.result c.args.nodes c.bits.ensures.each (c.requires.dead used)
+          i (all_noted (bit_or c.args.word c.bits.result) i few c.if-noted-eq7.true);
+    }
+
+pub note_more-requires-clause-dead : goal.note_more-requires-clause-dead
+note_more-requires-clause-dead g c =
+    let used : c.args.word % 8 ≢ 7 = λ full. c.if-noted-word.false (full_stays c.args.word c.bits.result c.bits.ensures.low full) in
+    noted_dead c.args.seat.now.me.0.tree c.args.slot c.args.word c.bits.result c.args.nodes c.bits.ensures.each (c.requires.dead used)
+
+pub note_more-requires-clause-turn : goal.note_more-requires-clause-turn
+note_more-requires-clause-turn g c = noted_turn c.args.word c.bits.result c.bits.ensures.low
