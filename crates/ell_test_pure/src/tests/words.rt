@@ -1,16 +1,21 @@
 //! Words that were packed by hand, the nodes of a card, and where its words are.
 use ell_layout::{Field, table_size};
 use ell_word::{
-    INF1, INF2, Link, NUMBER_MAX, State, Update, card_of, internal_of, is_internal, left_leaf_of,
-    pack, right_leaf_of, unpack,
+    INF1, INF2, Link, NUMBER_MAX, State, Update, card_of, child_word, internal_of, is_internal,
+    left_leaf_of, pack, right_leaf_of, unpack,
 };
 
-const WORDS: [(u64, State, u64); 5] = [
+const WORDS: [(u64, State, u64); 6] = [
     (3, State::Clean, 0),
     (4, State::IFlag, 1),
     (10, State::Mark, 2),
     (13, State::DFlag, 3),
     (8_796_093_022_207, State::Clean, 2_199_023_255_551),
+    (
+        9_223_372_036_854_775_807,
+        State::Clean,
+        2_305_843_009_213_693_951,
+    ),
 ];
 
 #[test]
@@ -34,6 +39,14 @@ fn child_words_are_linked(rt: HostRuntime) {
     };
     assert!(rt; least.word() == 8_796_093_022_208 && Link::of(8_796_093_022_208) == least);
     assert!(rt; greatest.word() == u64::MAX && Link::of(u64::MAX) == greatest);
+}
+
+#[test]
+fn a_child_word_has_the_low_bits_of_its_node(rt: HostRuntime) {
+    let greatest = right_leaf_of(NUMBER_MAX);
+    assert!(rt; child_word(0) == 0 && child_word(18) == 18);
+    assert!(rt; child_word(8_796_093_022_208) == 0 && child_word(8_796_093_022_226) == 18);
+    assert!(rt; greatest == 9_223_372_036_854_775_806 && child_word(greatest) == 8_796_093_022_206);
 }
 
 #[test]
