@@ -1,4 +1,5 @@
-/* Trees whose cards come back. One handle changes keys long after each card was taken, and is answered as a map, and never refused. Four threads do
+/* Trees whose cards come back. One handle changes keys long after each card was taken, and is answered as a map, and never refused, also where a tree
+   of few slots has given out numbers of cards above 2^41, of which words of children have not all bits. Four threads do
    so, each on keys of its own, and add to one that all share, which loses nothing; a call is made again where each card was in use. A thread is
    stopped in the middle of changes, by a signal whose handler waits: meanwhile calls that read are answered, and changes until the cards run out,
    and once it goes on so are all. A handle that has looked, and rests, holds no card back. And a tree has as many handles as were asked for, and
@@ -11,19 +12,32 @@
 #include <stdio.h>
 #include <time.h>
 
-enum { KEYS = 8, CHANGES = 200000, THREADS = 4, ADDITIONS = 20000, WANTED = 30, MOST = 20000, MANY = 3000, MADE = 200, FEW = 3, TRIES = 1000 };
+enum {
+    KEYS = 8,
+    CHANGES = 200000,
+    CHANGES_BEYOND = 30000000,
+    THREADS = 4,
+    ADDITIONS = 20000,
+    WANTED = 30,
+    MOST = 20000,
+    MANY = 3000,
+    MADE = 200,
+    FEW = 3,
+    TRIES = 1000
+};
 #define COUNTER UINT64_C(1000000)
+#define NUMBERS (UINT64_C(1) << 61)
 
 static uint64_t next(uint64_t *seed) { return *seed ^= *seed << 13, *seed ^= *seed >> 7, *seed ^= *seed << 17; }
 
-/* One handle alone: as many changes as it makes, each answered as a map answers it. */
-static long alone(uint64_t cards) {
+/* One handle alone: as many changes of a few keys as it is to make, each answered as a map answers it. */
+static long alone(uint64_t cards, uint64_t keys, uint64_t changes) {
     struct elltree_handle one = ELLTREE_EMPTY;
     uint64_t seed = 88172645463325252u, value[KEYS] = {0}, told = 0;
     int there[KEYS] = {0};
     long wrong = elltree_open_reusing(&one, NULL, 0, cards, 1) != ELLTREE_YES;
-    for (uint64_t i = 0; i < CHANGES; i++) {
-        const uint64_t random = next(&seed), key = (random >> 20) % KEYS;
+    for (uint64_t i = 0; i < changes; i++) {
+        const uint64_t random = next(&seed), key = (random >> 20) % keys;
         if (random & 1) {
             wrong += elltree_insert(&one, key, i, TRIES) != (there[key] ? ELLTREE_NO : ELLTREE_YES);
             value[key] = there[key] ? value[key] : i;
@@ -35,6 +49,7 @@ static long alone(uint64_t cards) {
     }
     for (uint64_t key = 0; key < KEYS; key++)
         wrong += elltree_find(&one, key, &told) != (there[key] ? ELLTREE_YES : ELLTREE_NO);
+    wrong += elltree_cards_left(&one, &told) != ELLTREE_YES || (changes == CHANGES_BEYOND && told > NUMBERS - (UINT64_C(1) << 41));
     return wrong + (elltree_free(&one) != ELLTREE_YES);
 }
 
@@ -272,8 +287,8 @@ static long made_and_freed(uint64_t cards) {
 }
 
 int main(void) {
-    const long wrong = as_many_as_asked_for() + alone(30) + alone(1000) + together(64) + together(1000) + made_and_freed(64) +
-                       beside_one_that_is_stopped(100) + beside_one_that_rests();
+    const long wrong = as_many_as_asked_for() + alone(30, KEYS, CHANGES) + alone(1000, KEYS, CHANGES) + alone(9, 2, CHANGES_BEYOND) + together(64) +
+                       together(1000) + made_and_freed(64) + beside_one_that_is_stopped(100) + beside_one_that_rests();
     printf("%ld wrong\n", wrong);
     return wrong != 0;
 }

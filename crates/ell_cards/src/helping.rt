@@ -1,7 +1,6 @@
 //! The step calls by which a pass finishes an operation, its own or another's, of whose card it knows how far it has come. Each
 //! is one atomic step.
 ghost use Rattle.std.specs.Prelude.{◌≡◌, ◌≢◌, ◌≤◌, ◌<◌, is_ok, IfErr};
-ghost use Rattle.ell_word.specs.Node.{greatest_number};
 ghost use Rattle.ell_word.specs.Word.{packed, unpacked};
 ghost use Rattle.ell_word.specs.Link.{linked, IsLink};
 ghost use Rattle.ell_word.specs.declared.link.Link.{Link};
@@ -9,7 +8,7 @@ ghost use Rattle.ell_core.specs.declared.exchange.Exchange.TheVariants as exchan
 ghost use Rattle.ell_core.specs.declared.fact.Fact.TheVariants.{IChanged, IOver, Marked, Unmarkable, Cut, DOver, Backed};
 ghost use Rattle.ell_cards.specs.Depths.{IsShallow, deepest};
 ghost use Rattle.ell_layout.specs.declared.field.Field.TheVariants.{Gp, P};
-ghost use Rattle.ell_layout.specs.Cards.{iflag, dflag, says_by, brought_by};
+ghost use Rattle.ell_layout.specs.Cards.{iflag, dflag, says_by};
 ghost use Rattle.ell_cards.specs.Models.{Steps, InTable};
 ghost use Rattle.ell_cards.specs.Changes.{after_mark, with_fact, if_won, exchanged, found_update, found_word, child_found};
 ghost use Rattle.ell_cards.specs.declared.call.Call.TheVariants as call;
@@ -21,8 +20,8 @@ use crate::outcomes::{child_outcome, update_outcome};
 use crate::pass::Pass;
 use crate::places::{child_address, field_address, update_address};
 use crate::table::CardTable;
-use ell_layout::{Field, update_word};
-use ell_word::{Link, State, Update, internal_of, right_leaf_of};
+use ell_layout::{Field, brought_node, update_word};
+use ell_word::{Link, State, Update};
 use std::alloc::Allocator;
 
 impl<A: Allocator + Copy> CardTable<A> {
@@ -86,7 +85,7 @@ impl<A: Allocator + Copy> CardTable<A> {
         self.names(pass);
         let call = Call::IChild(card, parent, leaf, replaces, right);
         let word = child_address(parent, right);
-        let node = node_brought(card, replaces);
+        let node = brought_node(card, replaces);
         let found = self.exchange_child(pass, call, word, leaf, node);
         child_outcome(leaf.word(), found)
     }
@@ -199,18 +198,5 @@ impl<A: Allocator + Copy> CardTable<A> {
         let call = Call::Backtrack(card, grandparent);
         let found = self.exchange(pass, call, update_address(grandparent), flag, clean);
         update_outcome(flag, found)
-    }
-}
-
-// The node that an insert's card brings to its parent: its right leaf if it replaces a leaf, else its internal node.
-#[inline(always)]
-fn node_brought(card: u64, replaces: bool) -> u64
-    requires { card ≤ greatest_number }
-    ensures { result ≡ brought_by card replaces }
-{
-    if replaces {
-        right_leaf_of(card)
-    } else {
-        internal_of(card)
     }
 }

@@ -1,5 +1,5 @@
 //! What fills a card when it is claimed.
-ghost use Rattle.std.specs.Prelude.{◌≡◌, ◌≤◌, ◌==◌};
+ghost use Rattle.std.specs.Prelude.{◌≡◌, ◌≤◌};
 ghost use Rattle.ell_word.specs.Node.{greatest_number};
 ghost use Rattle.ell_layout.specs.Cards.{brought_by, insert_filling, delete_filling, left_of_card, right_of_card};
 
@@ -58,16 +58,15 @@ pub fn card_children(card: u64, key: u64, below: u64, below_key: u64) -> (u64, u
     }
 }
 
-/// Returns the node that an insert's card brings to the parent, by the keys of its two leaves. If they are the same,
-/// the card replaces a leaf of that key by its right leaf; else it brings its internal node. Condition: the card is at
-/// most `NUMBER_MAX`.
-pub fn brought_node(card: u64, left_leaf_key: u64, right_leaf_key: u64) -> u64
+/// Returns the node that an insert's card brings to the parent: its right leaf if it replaces a leaf by that, as a card
+/// does whose leaves have the same key, else its internal node. Condition: the card is at most `NUMBER_MAX`.
+#[inline(always)]
+pub fn brought_node(card: u64, replaces: bool) -> u64
     requires { card ≤ greatest_number }
-    // Returns the node that the card brings into the tree: its right leaf if both leaf keys are the same, as a swap's
-    // are, else its internal node.
-    ensures { result ≡ brought_by card (left_leaf_key == right_leaf_key) }
+    // Returns the node that the card brings into the tree: its right leaf if it replaces a leaf, else its internal node.
+    ensures { result ≡ brought_by card replaces }
 {
-    if left_leaf_key == right_leaf_key {
+    if replaces {
         right_leaf_of(card)
     } else {
         internal_of(card)

@@ -125,7 +125,8 @@ pub(crate) fn ichild<A: Allocator + Copy>(
     let parent = memory.read(card, Field::P);
     let leaf = memory.leaf_link(card);
     let left_key = memory.read(card, Field::LeftLeafKey);
-    let node = brought_node(card, left_key, memory.read(card, Field::RightLeafKey));
+    let replaces = left_key == memory.read(card, Field::RightLeafKey);
+    let node = brought_node(card, replaces);
     Ok(won_or_lost(memory.exchange_child(parent, leaf, node)))
 }
 

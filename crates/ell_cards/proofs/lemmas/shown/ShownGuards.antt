@@ -10,20 +10,18 @@ use Rattle.ell_layout.specs.declared.field.Field.{Field}
 use Rattle.ell_layout.specs.declared.field.Field.TheVariants as field
 use Rattle.ell_layout.specs.Cards.{stored}
 use Rattle.ell_layout.specs.Words.{IsLeaf, has_block}
-use Rattle.ell_core.specs.declared.fact.Fact.{Fact}
 use Rattle.ell_core.specs.declared.view.Seen.{Seen}
 use Rattle.ell_core.specs.acts.Searching.{IsClean}
 use Rattle.ell_cards.specs.declared.glance.Glance.{Glance}
 use Rattle.ell_cards.specs.declared.glance.Stretch.{Stretch}
-use Rattle.ell_cards.specs.declared.view.Told.TheVariants.{Met, Key, Value, Info}
+use Rattle.ell_cards.specs.declared.view.Told.TheVariants.{Met, Key, Value}
 use Rattle.ell_cards.specs.declared.view.View.{View}
 use Rattle.ell_cards.specs.Apart.{cut_node, IsApart}
-use Rattle.ell_cards.specs.Models.{TablePlan, Has, latest, earlier, IsTold, HasCome, HasComeWhole, flat_from, stored_at}
-use Rattle.ell_cards.specs.Guards.{TellsOf, CardIsOver, MayAnswer, KnowsWhere, GoOnBy, MayLookDown, KnowsPlace, Wants, MayClaim, IsFilled}
-use Rattle.ell_cards.specs.Shown.{IsWord, cut_word, shown_seen, shown_glance, shown_info, shown_word, shown, StoresAreWhole, IsWholeFor}
-use Rattle.ell_cards.proofs.lemmas.shown.CutWords.{cut_same, node_again, node_place, cut_again}
-use Rattle.ell_cards.proofs.lemmas.shown.ShownChanges.{stored_again}
-use Rattle.ell_cards.proofs.lemmas.shown.ShownTold.{was_met, was_key, was_value, was_info}
+use Rattle.ell_cards.specs.Models.{TablePlan, Has, latest, earlier, IsTold, HasCome, HasComeWhole, flat_from}
+use Rattle.ell_cards.specs.Guards.{TellsOf, CardIsOver, MayAnswer, KnowsWhere, MayLookDown, Wants, MayClaim, IsFilled}
+use Rattle.ell_cards.specs.Shown.{shown_seen, shown_glance, shown_word, shown, StoresAreWhole, IsWholeFor}
+use Rattle.ell_cards.proofs.lemmas.shown.CutWords.{node_place}
+use Rattle.ell_cards.proofs.lemmas.shown.ShownTold.{was_key, was_value, was_info}
 use Rattle.ell_cards.proofs.lemmas.shown.ShownWords.{stored_at_shown, planned_shown}
 
 -- a node that a search has seen is shown of one that it has seen whole

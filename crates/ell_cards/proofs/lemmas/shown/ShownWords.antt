@@ -16,7 +16,7 @@ use Rattle.ell_cards.specs.declared.view.Told.{Told}
 use Rattle.ell_cards.specs.declared.view.Told.TheVariants.{Value, Info}
 use Rattle.ell_cards.specs.declared.view.View.{View}
 use Rattle.ell_cards.specs.Apart.{cut_node, IsApart}
-use Rattle.ell_cards.specs.Models.{TablePlan, Has, stored_at}
+use Rattle.ell_cards.specs.Models.{TablePlan, stored_at}
 use Rattle.ell_cards.specs.Changes.{filling_for, filling_of, tagged, tag_of_claim, expected_tag, told_filling, value_told}
 use Rattle.ell_cards.specs.Shown.{cut_tag, shown_info, shown_seen, shown_told, shown_word, shown_words, shown}
 use Rattle.ell_cards.proofs.lemmas.shown.CutWords.{cut_linked, node_again, node_place, tag_again}

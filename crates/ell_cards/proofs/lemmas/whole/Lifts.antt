@@ -1,6 +1,6 @@
 -- A call that a pass may make by what is shown of what it knows is one that it may make by that itself, where all that it
 -- names, and the word that the call finds, are so small that nothing is cut.
-use Rattle.std.proofs.Common.{◌≡◌, ℕ, ◌+◌, ◌*◌, ◌%◌, ◌<◌, ◌≤◌, ◌==◌, ◌&&◌, nat_le, nat_lt, if◌then◌else◌, Bool, true, false, Option, Some, None, List, [], ◌⊎◌, inl, inr, refl, sym, ap, ◌∙◌, subst, arith, unwrap_or}
+use Rattle.std.proofs.Common.{◌≡◌, ℕ, ◌%◌, ◌≤◌, ◌==◌, ◌&&◌, nat_le, nat_lt, if◌then◌else◌, Bool, true, false, Option, Some, None, [], ◌⊎◌, inl, inr, refl, sym, ap, ◌∙◌, subst, arith, unwrap_or}
 use Rattle.ell_ops.specs.declared.op.Op.{Op}
 use Rattle.ell_ops.specs.declared.op.Op.TheVariants.{Find, Insert, Delete, Swap}
 use Rattle.ell_word.specs.Link.{linked}
@@ -20,12 +20,12 @@ use Rattle.ell_cards.specs.declared.view.Slots.{Slots}
 use Rattle.ell_cards.specs.declared.view.View.{View}
 use Rattle.ell_cards.specs.Apart.{cut_node, IsApart}
 use Rattle.ell_cards.specs.Changes.{after_claim, after_flag, after_mark, filling_for, expected_tag, is_mark_of, tag_of_claim, tagged, unmarking, value_told, with_fact}
-use Rattle.ell_cards.specs.Guards.{MayFill, MayClaim, IsSibling}
-use Rattle.ell_cards.specs.Models.{TablePlan, IsTold, latest, flat_from}
+use Rattle.ell_cards.specs.Guards.{MayClaim, IsSibling}
+use Rattle.ell_cards.specs.Models.{TablePlan, latest, flat_from}
 use Rattle.ell_cards.specs.Naming.{IsNamed}
 use Rattle.ell_cards.specs.Calls.{Atomic, Store, after, atomic_of, is_won, May}
 use Rattle.ell_cards.specs.Whole.{PlansFit}
-use Rattle.ell_cards.specs.Shown.{IsWord, cut_word, cut_tag, cut_field, cut_by, shown_word, shown_link, shown, shown_call, CanBeShown, StoresAreWhole, FillIsWhole, StoresWord, IsLifted}
+use Rattle.ell_cards.specs.Shown.{IsWord, cut_word, cut_tag, cut_by, shown_word, shown, shown_call, CanBeShown, StoresAreWhole, FillIsWhole, StoresWord, IsLifted}
 use Rattle.ell_cards.proofs.lemmas.shown.CutWords.{cut_same, node_small}
 use Rattle.ell_cards.proofs.lemmas.shown.ShownCalls.{guards_are_lifted}
 use Rattle.ell_cards.proofs.lemmas.shown.ShownKinds.{calls_can_be_shown}

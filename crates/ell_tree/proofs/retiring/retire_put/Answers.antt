@@ -1,6 +1,6 @@
 use Rattle.std.proofs.Common.{rules}
 use Rattle.ell_word.specs.Node.{IsInternal}
-use Rattle.ell_tree.proofs.lemmas.Retiring.{left_dead, replaced_nodes_dead, right_dead}
+use Rattle.ell_tree.proofs.lemmas.Retiring.{left_dead, right_dead}
 use Rattle.ell_tree.proofs.retiring.retire_put.Goals.{then-what-place, else-what-place}
 use Rattle.ell_tree.proofs.retiring.retire_put.Goals as goal
 

@@ -1,4 +1,4 @@
-use Rattle.std.proofs.Common.{true≢false, sym, subst}
+use Rattle.std.proofs.Common.{sym, subst}
 use Rattle.ell_cards.specs.CardNodes.{NeverCome}
 use Rattle.ell_cards.specs.Models.{PassModel}
 use Rattle.ell_cards.proofs.table.CardTable.retire_nodes.Goals as goal
