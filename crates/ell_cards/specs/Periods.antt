@@ -31,14 +31,19 @@ clock_word s = 774 + 768 * (s.last / 64)
 abbrev pub place_word : Slots → ℕ → ℕ
 place_word s q = clock_word s + 1 + 8 * (s.places - q)
 
+-- Where a slot has its word among those of the slots: in each 64 words, those of slots that come one after the other
+-- stand eight words apart, so that no two of them are in one line of the cache.
+abbrev pub spread : ℕ → ℕ
+spread slot = 64 * (slot / 64) + 8 * (slot % 8) + slot / 8 % 8
+
 -- behind the places stand the words of the slots, one each
 abbrev pub slot_word : Slots → ℕ → ℕ
-slot_word s slot = clock_word s + 9 + 8 * s.places + slot
+slot_word s slot = clock_word s + 9 + 8 * s.places + spread slot
 
 -- How many words such a table has. A table without places never has so many, since this number is odd: there are
--- words for four slots, or eight, and so on.
+-- words for 64 slots, or 128, and so on.
 abbrev pub slots_size : Slots → ℕ
-slots_size s = clock_word s + 9 + 8 * s.places + 4 * (s.last / 4 + 1)
+slots_size s = clock_word s + 9 + 8 * s.places + 64 * (s.last / 64 + 1)
 
 -- These cards lie in the slots of a table, one each, by the words of those that are in use.
 abbrev pub LieInSlots : Slots → List ℕ → (ℕ → ℕ) → Type 0

@@ -60,7 +60,7 @@ impl Slots {
         requires few { self.places ≤ greatest_card }
         ensures { result ≡ slots_size self }
     {
-        self.clock_word() + 9 + 8 * self.places as usize + 4 * (self.last / 4 + 1) as usize
+        self.clock_word() + 9 + 8 * self.places as usize + 64 * (self.last / 64 + 1) as usize
     }
 }
 

@@ -8,7 +8,7 @@ ghost use Rattle.ell_cards.specs.Ages.{KnowsDeadNode, MayStamp};
 ghost use Rattle.ell_cards.specs.CardNodes.{AreTakenOut, KnowsDeadNodes, NeverCome};
 ghost use Rattle.ell_cards.specs.Dead.{HasTakenOut};
 ghost use Rattle.ell_cards.specs.Guards.{MayFill};
-ghost use Rattle.ell_cards.specs.Periods.{StandsAs, after_missing, after_own, after_read, after_seek, after_stamp, after_taking, has_slot, last_reading, slot_word};
+ghost use Rattle.ell_cards.specs.Periods.{StandsAs, after_missing, after_own, after_read, after_seek, after_stamp, after_taking, has_slot, last_reading, slot_word, spread};
 ghost use Rattle.ell_cards.specs.Seeking.{FindsNone, FindsNoneIn, FindsOneFor, may_have, missed_none, missed_one, sought_on};
 ghost use Rattle.ell_cards.specs.SlotWords.{card_by, has_slot_in, has_slots, is_noted, slot_of, stamp_in, turn_in, turn_of};
 ghost use Rattle.ell_cards.specs.Stepping.{MayGoOn};
@@ -74,6 +74,15 @@ fn stamp_in(word: u64) -> u64
     word / 8
 }
 
+// Returns where a slot has its word among those of the slots. Passes that claim cards one after the other take slots
+// that come one after the other, whose words stand eight words apart, so that they are not in one line of the cache.
+#[inline(always)]
+fn spread(slot: u64) -> u64
+    ensures { result ≡ spread slot }
+{
+    64 * (slot / 64) + 8 * (slot % 8) + slot / 8 % 8
+}
+
 impl Slots {
     /// Returns how many slots a pass takes until it looks at all places again: few enough that the clock goes on
     /// several times while all slots are taken once, and at most 64, so that a look at a place is seldom.
@@ -120,7 +129,7 @@ impl Slots {
         requires slot { slot ≤ self.last }
         ensures { result ≡ slot_word self slot }
     {
-        self.clock_word() + 9 + 8 * self.places as usize + slot as usize
+        self.clock_word() + 9 + 8 * self.places as usize + spread(slot) as usize
     }
 }
 
