@@ -3,6 +3,7 @@
    its nodes don't stand in two lines of the cache. They call malloc, realloc and free alone, and keep the size of a block in front of it, so that
    a program may replace these three. */
 #define _GNU_SOURCE
+#include "../../map/order.h"
 #include <stdatomic.h>
 #include <stdint.h>
 #include <stdlib.h>
@@ -43,11 +44,24 @@ static int is_placed(size_t size) { return size >= PLACED_LEAST; }
 /* The block of memory that the library has got. */
 static struct block *block_of(void *at) { return (struct block *)((unsigned char *)at - sizeof(struct block)); }
 
+/* Whether this thread has the blocks that are kept, and sees what was done to them. */
+static int take_them(void) {
+    if (atomic_flag_test_and_set(&is_busy))
+        return 0;
+    seen(&is_busy);
+    return 1;
+}
+
+static void give_them_back(void) {
+    shown(&is_busy);
+    atomic_flag_clear(&is_busy);
+}
+
 /* The smallest block that was kept and is large enough, but not more than a quarter larger, or null. */
 static struct block *take_kept(size_t size) {
     struct block *block = NULL;
     int best = KEPT;
-    if (atomic_flag_test_and_set(&is_busy))
+    if (!take_them())
         return NULL;
     for (int i = 0; i < KEPT; i++)
         if (kept[i] && kept[i]->size >= size && kept[i]->size / 5 * 4 <= size && (best == KEPT || kept[i]->size < kept[best]->size))
@@ -56,7 +70,7 @@ static struct block *take_kept(size_t size) {
         block = kept[best];
         kept[best] = NULL;
     }
-    atomic_flag_clear(&is_busy);
+    give_them_back();
     return block;
 }
 
@@ -64,12 +78,12 @@ static struct block *take_kept(size_t size) {
 static struct block *keep(struct block *block) {
     static int next;
     struct block *other = block;
-    if (atomic_flag_test_and_set(&is_busy))
+    if (!take_them())
         return other;
     other = kept[next];
     kept[next] = block;
     next = (next + 1) % KEPT;
-    atomic_flag_clear(&is_busy);
+    give_them_back();
     return other;
 }
 
