@@ -29,8 +29,8 @@ nodes_of_both nodes others = record {
 abbrev pub AllOfCard : (ℕ → Type 0) → ℕ → CardNodes → Type 0
 AllOfCard P c nodes = (i : ℕ) → has_node nodes i ≡ true → P (4 * c + i)
 
--- by what a pass knows, each of these nodes of a card is dead; or never comes into the tree; or its card in hand has taken
--- each of them out
+-- by what a pass knows, each of these nodes of a card is dead; or never comes into the tree; or its card in hand has
+-- taken each of them out
 abbrev pub KnowsDeadNodes : View → ℕ → CardNodes → Type 0
 KnowsDeadNodes v = AllOfCard (KnowsDeadNode v)
 

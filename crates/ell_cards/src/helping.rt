@@ -50,7 +50,8 @@ impl<A: Allocator + Copy> CardTable<A> {
         requires may { KnowsPlace pass.old.view (Marked card) card P parent }
         // It makes one step and counts it. The pass then knows exactly what this call tells.
         ensures step { Steps pass.old pass.new (after (call.FrozenChild card parent right) (linked result) pass.old.view) }
-        // The child is no deeper than a node of the table may be, and is one of the table; the node and the tag have a word.
+        // The child is no deeper than a node of the table may be, and is one of the table; the node and the tag have a
+        // word.
         ensures shallow { IsShallow (deepest self.now.plan) pass.new.view result.node }
         ensures there { InTable self.now.plan.last_card result.node }
         ensures word { IsLink result }

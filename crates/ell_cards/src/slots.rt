@@ -225,8 +225,8 @@ impl<A: Allocator + Copy> CardTable<A> {
         self.period_exchange::<Brand>(seat, address, word, 8 * reading + 7) == word
     }
 
-    // Reads the word of the slot of nodes that the card in hand has taken out of the tree, of whose numbers the pass knows the
-    // low bits. Unless the slot is free, the card that lies there by that word is theirs.
+    // Reads the word of the slot of nodes that the card in hand has taken out of the tree, of whose numbers the pass
+    // knows the low bits. Unless the slot is free, the card that lies there by that word is theirs.
     fn read_taken_out(
         &self,
         seat: &mut Seat<(), Known>,
@@ -250,9 +250,9 @@ impl<A: Allocator + Copy> CardTable<A> {
         self.period_load::<Brand>(seat, self.slot_address(slots, slot))
     }
 
-    // Notes nodes that the pass knows to be dead of the card that lies in a slot by the word that was read there, by one
-    // exchange for all, unless the word does so already. Returns whether it set the slot free by that, or `None` if the word
-    // changed meanwhile.
+    // Notes nodes that the pass knows to be dead of the card that lies in a slot by the word that was read there, by
+    // one exchange for all, unless the word does so already. Returns whether it set the slot free by that, or `None` if
+    // the word changed meanwhile.
     fn note_word(
         &self,
         seat: &mut Seat<(), Known>,
@@ -287,9 +287,10 @@ impl<A: Allocator + Copy> CardTable<A> {
         }
     }
 
-    // Notes nodes of a card that the pass knows to be dead in the word of the card's slot, unless another card lies there by
-    // now: nodes that the card in hand has taken out, of whose card the low bits are known, or nodes that never come, of a
-    // card of this number. Returns whether it set the slot free by that, or `None` if the word changed meanwhile.
+    // Notes nodes of a card that the pass knows to be dead in the word of the card's slot, unless another card lies
+    // there by now: nodes that the card in hand has taken out, of whose card the low bits are known, or nodes that
+    // never come, of a card of this number. Returns whether it set the slot free by that, or `None` if the word changed
+    // meanwhile.
     fn note_dead(
         &self,
         seat: &mut Seat<(), Known>,
@@ -382,8 +383,8 @@ impl<A: Allocator + Copy> CardTable<A> {
         }
     }
 
-    /// Notes a node that the card in hand, which is over, has taken out of the tree, as `retire_taken_out` notes several of
-    /// one card. Returns `true` if its card's slot became free by this call.
+    /// Notes a node that the card in hand, which is over, has taken out of the tree, as `retire_taken_out` notes
+    /// several of one card. Returns `true` if its card's slot became free by this call.
     pub fn retire(&self, pass: &mut Pass<A>, node: u64) -> bool
         requires own { pass.old.table ≡ self.now.id }
         requires taken { HasTakenOut pass.old.view node }
@@ -395,10 +396,10 @@ impl<A: Allocator + Copy> CardTable<A> {
         self.retire_taken_out(pass, card_of(node), CardNodes::only(node))
     }
 
-    /// Notes nodes of one card that the card in hand, which is over, has taken out of the tree, all by one exchange. Of them
-    /// the pass knows the low 43 bits, and so of their card the low 41. Once all three nodes of a card are noted, its slot is
-    /// free. Returns `true` if it became free by this call. It does nothing if the table has no places. Its steps are not
-    /// counted.
+    /// Notes nodes of one card that the card in hand, which is over, has taken out of the tree, all by one exchange. Of
+    /// them the pass knows the low 43 bits, and so of their card the low 41. Once all three nodes of a card are noted,
+    /// its slot is free. Returns `true` if it became free by this call. It does nothing if the table has no places. Its
+    /// steps are not counted.
     pub fn retire_taken_out(&self, pass: &mut Pass<A>, card: u64, nodes: CardNodes) -> bool
         requires own { pass.old.table ≡ self.now.id }
         requires taken { AreTakenOut pass.old.view card nodes }
@@ -416,9 +417,9 @@ impl<A: Allocator + Copy> CardTable<A> {
         self.note_surely(&mut pass.seat, slots, card, nodes, true)
     }
 
-    /// Notes nodes of a card that the pass knows never to come into the tree, as the card is over, all by one exchange. Once
-    /// all three nodes of a card are noted, its slot is free. Returns `true` if it became free by this call. It does nothing
-    /// if the table has no places. Its steps are not counted.
+    /// Notes nodes of a card that the pass knows never to come into the tree, as the card is over, all by one exchange.
+    /// Once all three nodes of a card are noted, its slot is free. Returns `true` if it became free by this call. It
+    /// does nothing if the table has no places. Its steps are not counted.
     pub fn retire_nodes(&self, pass: &mut Pass<A>, card: u64, nodes: CardNodes) -> bool
         requires own { pass.old.table ≡ self.now.id }
         requires never { NeverCome pass.old.view card nodes }

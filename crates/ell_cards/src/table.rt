@@ -29,7 +29,7 @@ use crate::rule::{By, CardRule, Noted, Noting, Telling};
 use crate::view::{Known, Plan, Slots};
 use atomic_table::Table;
 use ell_layout::Field;
-use ell_word::Link;
+use ell_word::{Link, child_word};
 use std::alloc::Allocator;
 use std::marker::{Brand, Model};
 
@@ -394,20 +394,18 @@ impl<A: Allocator + Copy> CardTable<A> {
     }
 }
 
-/// How many nodes a child word tells apart.
-const NODES: u64 = 8_796_093_022_208;
-
 /// How many tags a child word tells apart.
 const TAGS: u64 = 2_097_152;
 
-// The word of the child word that follows one: the low bits of another node, and the next tag, after the last one the first.
+// The word of the child word that follows one: the low bits of another node, and the next tag, after the last one the
+// first.
 #[inline(always)]
 fn next_word(old: Link, node: u64) -> u64
     requires old { IsLink old }
     ensures { result ≡ cut_word (linked (next_link old node)) }
 {
     let next = Link {
-        node: node % NODES,
+        node: child_word(node),
         tag: (old.tag + 1) % TAGS,
     };
     next.word()

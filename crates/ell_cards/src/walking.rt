@@ -137,8 +137,8 @@ impl<A: Allocator + Copy> CardTable<A> {
         requires free { IsFree pass.old.view }
         // It makes one step, which the caller has to count. The pass then knows exactly what this call tells.
         ensures step { Sees pass.old pass.new (after call.Look (linked result) pass.old.view) }
-        // The child is below the root, no deeper than a node of the table may be, and is one of the table; the node and the
-        // tag have a word.
+        // The child is below the root, no deeper than a node of the table may be, and is one of the table; the node and
+        // the tag have a word.
         ensures below { 0 < result.node }
         ensures shallow { IsShallow (deepest self.now.plan) pass.new.view result.node }
         ensures there { InTable self.now.plan.last_card result.node }
@@ -156,8 +156,8 @@ impl<A: Allocator + Copy> CardTable<A> {
         requires may { MayLookDown (flat_from self.now.plan) pass.old.view from keys right }
         // It makes one step, which the caller has to count. The pass then knows exactly what this call tells.
         ensures step { Sees pass.old pass.new (after (call.LookDown from keys right) (linked result) pass.old.view) }
-        // The child is below the root, no deeper than a node of the table may be, and is one of the table; the node and the
-        // tag have a word.
+        // The child is below the root, no deeper than a node of the table may be, and is one of the table; the node and
+        // the tag have a word.
         ensures below { 0 < result.node }
         ensures shallow { IsShallow (deepest self.now.plan) pass.new.view result.node }
         ensures there { InTable self.now.plan.last_card result.node }

@@ -45,8 +45,8 @@ impl Handle {
     /// for another card: so the tree goes on for as long as its keys fit into the slots, for which twice as many slots
     /// as keys, and some more, are enough. A slot is held back while a call that began before it became free goes on. A
     /// change returns `Spent` if it finds no slot that it may take, and may be made again. Only deletes take the last
-    /// two, so in a tree that keys fill they can be taken away. Numbers of cards are 2^61 (`cards_left`). `another`
-    /// returns `TooManyHandles` if the tree has as many handles as asked for; one that is released makes room for
+    /// two, so in a tree that keys fill they can be taken away. A change returns `Spent` for good once each slot was
+    /// taken, or passed over as it was in use, 2^40 times (`cards_left`). `another` returns `TooManyHandles` if the tree has as many handles as asked for; one that is released makes room for
     /// another. Errors are as for `open`.
     pub fn open_reusing(
         alloc: Global,
