@@ -1,8 +1,8 @@
 /* Trees whose cards come back. One handle changes keys long after each card was taken, and is answered as a map, and never refused, also where a tree
-   of few slots has given out numbers of cards above 2^41, of which words of children have not all bits. Four threads do
-   so, each on keys of its own, and add to one that all share, which loses nothing; a call is made again where each card was in use. A thread is
-   stopped in the middle of changes, by a signal whose handler waits: meanwhile calls that read are answered, and changes until the cards run out,
-   and once it goes on so are all. A handle that has looked, and rests, holds no card back. And a tree has as many handles as were asked for, and
+   of few slots has given out numbers of cards above 2^41, of which words of children have not all bits. Deletes can empty a tree that inserts have
+   filled. Four threads change keys of their own, and add to one that all share, which loses nothing; a call is made again where each card was in use. A
+   thread is stopped in the middle of changes, by a signal whose handler waits: meanwhile calls that read are answered, and changes until the cards run
+   out, and once it goes on so are all. A handle that has looked, and rests, holds no card back. And a tree has as many handles as were asked for, and
    no more at a time: one that is freed makes room for another, also where threads make a handle for a few changes and free it. */
 #include "elltree.h"
 #include <pthread.h>
@@ -51,6 +51,31 @@ static long alone(uint64_t cards, uint64_t keys, uint64_t changes) {
         wrong += elltree_find(&one, key, &told) != (there[key] ? ELLTREE_YES : ELLTREE_NO);
     wrong += elltree_cards_left(&one, &told) != ELLTREE_YES || (changes == CHANGES_BEYOND && told > NUMBERS - (UINT64_C(1) << 41));
     return wrong + (elltree_free(&one) != ELLTREE_YES);
+}
+
+/* Deletes can empty each tree that inserts have filled, also where the changes before, beside so many keys that stay, have passed by all cards once. */
+static long filled_and_emptied(uint64_t cards, uint64_t kept) {
+    struct elltree_handle one = ELLTREE_EMPTY;
+    uint64_t told, filled = kept;
+    long wrong = elltree_open_reusing(&one, NULL, 0, cards, 1) != ELLTREE_YES;
+    for (uint64_t key = 0; key < kept; key++)
+        wrong += elltree_insert(&one, key, key, TRIES) != ELLTREE_YES;
+    for (uint64_t i = 0; i < 3 * cards; i++)
+        wrong += elltree_insert(&one, kept, i, TRIES) != ELLTREE_YES || elltree_take(&one, kept, TRIES, &told) != ELLTREE_YES || told != i;
+    while (elltree_insert(&one, filled, filled, TRIES) == ELLTREE_YES)
+        filled++;
+    for (uint64_t key = 0; key < filled; key++)
+        wrong += elltree_take(&one, key, TRIES, &told) != ELLTREE_YES || told != key;
+    wrong += filled + 2 < cards - kept || elltree_insert(&one, kept, 7, TRIES) != ELLTREE_YES;
+    return wrong + (elltree_free(&one) != ELLTREE_YES);
+}
+
+static long all_filled_and_emptied(void) {
+    long wrong = 0;
+    for (uint64_t cards = 8; cards < 80; cards++)
+        for (uint64_t kept = 0; kept < 3; kept++)
+            wrong += filled_and_emptied(cards, kept);
+    return wrong;
 }
 
 struct worker {
@@ -287,7 +312,7 @@ static long made_and_freed(uint64_t cards) {
 }
 
 int main(void) {
-    const long wrong = as_many_as_asked_for() + alone(30, KEYS, CHANGES) + alone(1000, KEYS, CHANGES) + alone(9, 2, CHANGES_BEYOND) + together(64) +
+    const long wrong = as_many_as_asked_for() + all_filled_and_emptied() + alone(30, KEYS, CHANGES) + alone(1000, KEYS, CHANGES) + alone(9, 2, CHANGES_BEYOND) + together(64) +
                        together(1000) + made_and_freed(64) + beside_one_that_is_stopped(100) + beside_one_that_rests();
     printf("%ld wrong\n", wrong);
     return wrong != 0;

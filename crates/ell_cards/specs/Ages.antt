@@ -21,10 +21,12 @@ use Rattle.ell_cards.specs.Tied.{IsTied}
 use Rattle.ell_cards.specs.Touching.{forgets}
 use Rattle.ell_cards.specs.Turns.{Turn, CallIsMade, TableRun}
 
--- A node is out: it is dead, or its card was laid aside.
-abbrev pub IsOut : (plan : TablePlan) (tree : TableState) (machine : HasMachine plan tree)
-    → HasUses (machine_of_table plan tree machine) → ℕ → Type 0
-IsOut plan tree machine uses x = IsDead machine.words uses.outs.stages x ⊎ IsAside machine.stages tree.views (card x)
+-- A node is out: it is dead, or its card was laid aside, or no card of the table has its number.
+pub data IsOut (plan : TablePlan) (tree : TableState) (machine : HasMachine plan tree)
+    (uses : HasUses (machine_of_table plan tree machine)) (x : ℕ) : Type 0 where
+  is_dead : IsDead machine.words uses.outs.stages x → IsOut plan tree machine uses x
+  is_aside : IsAside machine.stages tree.views (card x) → IsOut plan tree machine uses x
+  is_beyond : plan.last_card < card x → IsOut plan tree machine uses x
 
 -- all three nodes of these cards are out in a state of a table's tree
 pub record AreDead (plan : TablePlan) (tree : TableState) (dead : ℕ → Bool) : Type 0 where

@@ -16,7 +16,7 @@ use Rattle.ell_cards.specs.declared.view.Told.TheVariants.{Met, Key}
 use Rattle.ell_cards.specs.declared.view.View.{View}
 use Rattle.ell_cards.specs.Models.{TablePlan, IsFree, IsTold}
 use Rattle.ell_cards.specs.Seeking.{could_have, could_take, missed_none, missed_one, no_seek, sought_on}
-use Rattle.ell_cards.specs.SlotWords.{slot_of, card_by, freed_by, has_slot_in, is_used_for}
+use Rattle.ell_cards.specs.SlotWords.{slot_of, card_by, free_word, freed_by, has_slot_in, is_used_for}
 
 -- the state of a table, with all that its passes know
 abbrev pub WholeState : Type 0
@@ -62,13 +62,27 @@ abbrev pub pending_by : Option Stamp → Option (ℕ × ℕ)
 pending_by None = None
 pending_by (Some stamp) = Some (stamp.card, stamp.reading)
 
--- the words of cards, and behind them those of the periods at the start: nobody has a place but the first pass
-abbrev pub opening_words : Slots → List ℕ → List ℕ
-opening_words s words = slice_set (words ++ replicate (slots_size s - length words) 0) (place_word s 0) 1
+-- As a table opens, the last two slots are free, with the stamp 0, unless a card of the start keys lies there. They are for
+-- deletes alone, so other changes leave out their numbers, of the first turn as of any other.
+abbrev pub opens_free : Slots → ℕ → ℕ → Bool
+opens_free s given slot = nat_lt given slot && nat_lt s.last (slot + 2)
 
-abbrev pub whole_words : Option Slots → List ℕ → List ℕ
-whole_words None words = words
-whole_words (Some s) words = opening_words s words
+-- the word of a slot as a table opens with so many start keys
+abbrev pub opening_word : Slots → ℕ → ℕ → ℕ
+opening_word s given slot = if opens_free s given slot then free_word 0 else 0
+
+-- the words of cards, and behind them those of the periods at the start: nobody has a place but the first pass, and the
+-- last two slots are free
+abbrev pub opening_words : Slots → ℕ → List ℕ → List ℕ
+opening_words s given words =
+    slice_set
+    (slice_set (slice_set (words ++ replicate (slots_size s - length words) 0) (place_word s 0) 1)
+    (slot_word s (s.last - 1)) (opening_word s given (s.last - 1)))
+    (slot_word s s.last) (opening_word s given s.last)
+
+abbrev pub whole_words : Option Slots → ℕ → List ℕ → List ℕ
+whole_words None given words = words
+whole_words (Some s) given words = opening_words s given words
 
 -- the cards and the places of a table of cards up to a last one, none for no places, and the number of the last
 -- card to which its claims may come, if each card could have words

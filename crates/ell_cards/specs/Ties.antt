@@ -120,7 +120,7 @@ pub record OpensTied (plan : TablePlan) (s : Slots) (cards : List ℕ) : Type 0 
   pub lie : ℕ → ℕ
   pub dead : ℕ → Bool
   pub was_dead : ℕ → ℕ → Bool
-  pub tied : IsTiedByAges plan s tree (opening (opening_words s cards) [] (first_known plan)) lie dead was_dead
+  pub tied : IsTiedByAges plan s tree (opening (opening_words s (length plan.start) cards) [] (first_known plan)) lie dead was_dead
 
 abbrev pub OpeningsAreTied : Type 0
 OpeningsAreTied = (plan : TablePlan) (s : Slots) (cards : List ℕ) → plan.slots ≡ Some s → MayStart plan

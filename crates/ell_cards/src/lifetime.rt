@@ -393,6 +393,13 @@ fn first_block<A: Allocator + Copy>(plan: &Plan<A>) -> u64
     }
 }
 
+// How many start keys there are.
+fn start_count<A: Allocator + Copy>(plan: &Plan<A>) -> u64
+    ensures { result ≡ length plan.now.start }
+{
+    plan.start.len() as u64
+}
+
 // The cards and the places of a table with places, of cards up to this one; none for no places.
 fn slots_for(last: u64, places: u64) -> Option<Slots>
     ensures { result ≡ slots_of last places }
@@ -437,7 +444,7 @@ fn first_words<A: Allocator + Copy>(alloc: A, plan: &Plan<A>) -> Result<Vec<u64,
     };
     let cards = card_words(alloc, plan, last, room)?;
     are_words(cards.as_slice());
-    let words = with_places(cards, plan.slots)?;
+    let words = with_places(cards, plan.slots, start_count(plan))?;
     Ok(words)
 }
 
@@ -469,13 +476,15 @@ fn card_words<A: Allocator + Copy>(
     Ok(words)
 }
 
-// These words, and behind them those of the periods, if there are places: nobody has one but the first pass.
+// These words, and behind them those of the periods, if there are places: nobody has one but the first pass, and of the
+// slots those that are for deletes alone are free, unless a card of so many start keys lies there.
 fn with_places<A: Allocator + Copy>(
     words: Vec<u64, A>,
     slots: Option<Slots>,
+    given: u64,
 ) -> Result<Vec<u64, A>, AllocError>
     requires fit { IfSome slots (λ s. (s.last ≤ greatest_card) × (s.places ≤ greatest_card) × (length words.items ≡ table_size s.last)) }
-    ensures { IfOk result (λ all. all.items ≡ whole_words slots words.items) }
+    ensures { IfOk result (λ all. all.items ≡ whole_words slots given words.items) }
 {
     let Some(slots) = slots else {
         return Ok(words);
@@ -483,6 +492,10 @@ fn with_places<A: Allocator + Copy>(
     let mut words = words;
     words.resize(slots.size(), 0)?;
     words[slots.place_word(0)] = 1;
+    let last = slots.last;
+    let last_but_one = last.saturating_sub(1);
+    words[slots.slot_word(last_but_one)] = slots.opening_word(given, last_but_one);
+    words[slots.slot_word(last)] = slots.opening_word(given, last);
     Ok(words)
 }
 

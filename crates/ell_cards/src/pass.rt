@@ -33,21 +33,21 @@ pub(crate) struct Standing {
     pub found: u64,
     /// The safe number that it has found last, at first 0.
     pub safe: u64,
-    /// How many slots it was to take since it looked at all places. It may be any number.
-    pub takings: u64,
+    /// How many numbers that have slots it went by for which it has not looked at all places. It may be any number.
+    pub numbers: u64,
 }
 
 impl Standing {
     /// Returns where the first pass of a table stands: at the first place, if there is one.
     pub(crate) fn first(slots: Option<Slots>) -> Standing
-        ensures { result ≡ record { place = (period_by slots).place; announces = false; found = 0; safe = 0; takings = 0 } }
+        ensures { result ≡ record { place = (period_by slots).place; announces = false; found = 0; safe = 0; numbers = 0 } }
     {
         Standing {
             place: slots.map(|_| 0),
             announces: false,
             found: 0,
             safe: 0,
-            takings: 0,
+            numbers: 0,
         }
     }
 
@@ -64,7 +64,7 @@ impl Standing {
             announces: false,
             found,
             safe: 0,
-            takings: 0,
+            numbers: 0,
         }
     }
 }

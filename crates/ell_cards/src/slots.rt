@@ -2,13 +2,13 @@
 //! of the three nodes of the card are dead. Once all three are, the slot is set free: the word then has a reading of
 //! the clock as its stamp, and a pass takes the slot for another card once that stamp is safe. The numbers of a later
 //! turn that child words do not tell from the first have no slots. The steps are not counted.
-ghost use Rattle.std.specs.Prelude.{◌≡◌, ◌≢◌, ◌+◌, ◌*◌, ◌<◌, ◌≤◌, ◌%◌, ◌⊎◌, ℕ, IfSome, None, Some, [], true, false};
+ghost use Rattle.std.specs.Prelude.{◌≡◌, ◌≢◌, ◌+◌, ◌*◌, ◌<◌, ◌≤◌, ◌%◌, ◌⊎◌, nat_le, ℕ, IfSome, None, Some, [], true, false};
 ghost use Rattle.ell_word.specs.Node.{greatest_card, greatest_number};
 ghost use Rattle.ell_cards.specs.Ages.{KnowsDeadNode, MayStamp};
 ghost use Rattle.ell_cards.specs.CardNodes.{AreTakenOut, KnowsDeadNodes, NeverCome};
 ghost use Rattle.ell_cards.specs.Dead.{HasTakenOut};
 ghost use Rattle.ell_cards.specs.Guards.{MayFill};
-ghost use Rattle.ell_cards.specs.Periods.{StandsAs, after_missing, after_own, after_read, after_seek, after_stamp, after_taking, has_slot, last_reading, slot_word, spread};
+ghost use Rattle.ell_cards.specs.Periods.{StandsAs, after_missing, after_own, after_read, after_seek, after_stamp, after_taking, has_slot, last_reading, opening_word, slot_word, spread};
 ghost use Rattle.ell_cards.specs.Seeking.{FindsNone, FindsNoneIn, FindsOneFor, may_have, missed_none, missed_one, sought_on};
 ghost use Rattle.ell_cards.specs.SlotWords.{card_by, has_slot_in, has_slots, is_noted, slot_of, stamp_in, turn_in, turn_of};
 ghost use Rattle.ell_cards.specs.Stepping.{MayGoOn};
@@ -33,6 +33,9 @@ const TURNS_TOLD_APART: u64 = 1_048_576;
 
 /// How many slots are left to deletes: the last ones of the table, which a pass takes for no other change.
 const LEFT_TO_DELETES: u64 = 2;
+
+/// The word of a slot that was set free with the stamp 0.
+const FREE_FROM_START: u64 = 7;
 
 /// Returns the slot in which a card lies.
 #[inline(always)]
@@ -84,11 +87,20 @@ fn spread(slot: u64) -> u64
 }
 
 impl Slots {
-    /// Returns how many slots a pass takes until it looks at all places again: few enough that the clock goes on
-    /// several times while all slots are taken once, and at most 64, so that a look at a place is seldom.
+    /// Returns how many numbers that have slots a pass goes by until it looks at all places again: few enough that the
+    /// clock goes on several times while each slot is passed once, and at most 128, so that a look at a place is seldom.
     #[inline(always)]
-    fn takings_per_look(self) -> u64 {
-        (self.last / 8).clamp(1, 64)
+    fn numbers_per_look(self) -> u64 {
+        (self.last / 8).clamp(1, 128)
+    }
+
+    /// Returns whether a slot is for each change, as all are but the last ones, which are left to deletes.
+    #[inline(always)]
+    fn is_for_all(self, slot: u64) -> bool
+        requires slot { slot < 2097152 }
+        ensures { result ≡ nat_le (slot + 2) self.last }
+    {
+        slot + LEFT_TO_DELETES <= self.last
     }
 
     /// Returns whether a card has a slot: it is one of the table, and the card's turn is the first one, or one that
@@ -118,6 +130,20 @@ impl Slots {
             NUMBERS_PER_TURN * next
         } else {
             NUMBERS_PER_TURN * (next + 1)
+        }
+    }
+
+    /// Returns the word of a slot as a table opens with so many start keys: a slot for deletes alone is free, unless a
+    /// card of a start key lies there, as other changes leave out its number of the first turn too.
+    pub(crate) fn opening_word(self, given: u64, slot: u64) -> u64
+        requires slot { slot ≤ self.last }
+        requires most { self.last ≤ greatest_card }
+        ensures { result ≡ opening_word self given slot }
+    {
+        if given < slot && !self.is_for_all(slot) {
+            FREE_FROM_START
+        } else {
+            0
         }
     }
 
@@ -472,16 +498,22 @@ impl<A: Allocator + Copy> CardTable<A> {
         self.period_exchange::<Brand>(seat, address, word, 8 * turn_of(card)) == word
     }
 
-    // Counts a slot that the pass is to take, and lets the clock go on and looks at all places once in so many.
-    fn look_now_and_then(&self, pass: &mut Pass<A>, slots: Slots)
+    // Counts the number of a card whose slot the pass is to take, and lets the clock go on and looks at all places once in
+    // so many numbers that it went by. It does so for each of the next takings where it went by many at once, as few
+    // slots are free, and for each slot that is for deletes alone: then the slots that these changes set free have different
+    // stamps, of which the next change can take the oldest.
+    fn look_now_and_then(&self, pass: &mut Pass<A>, slots: Slots, card: u64)
         requires own { pass.old.table ≡ self.now.id }
         ensures { pass.new ≡ record (pass.old) { safe = pass.new.safe } }
     {
-        pass.standing.takings = pass.standing.takings.saturating_add(1);
-        if slots.takings_per_look() <= pass.standing.takings {
-            pass.standing.takings = 0;
-            self.safe_number(pass);
+        let numbers = pass.standing.numbers.saturating_add(1);
+        let per_look = slots.numbers_per_look();
+        if numbers < per_look && slots.is_for_all(slot_of(card)) {
+            pass.standing.numbers = numbers;
+            return;
         }
+        pass.standing.numbers = numbers.saturating_sub(per_look).min(slots.last);
+        self.safe_number(pass);
     }
 
     // Loads the word of the slot of a card for a search, and tells what its caller picked.
@@ -555,7 +587,7 @@ impl<A: Allocator + Copy> CardTable<A> {
         } else {
             turn_in(word) == turn_of(card)
         };
-        could && (for_delete || slot_of(card) + LEFT_TO_DELETES <= slots.last)
+        could && (for_delete || slots.is_for_all(slot_of(card)))
     }
 
     // Returns the least number of a card, from this card on, whose slot the pass could take for a delete, or for another
@@ -584,6 +616,7 @@ impl<A: Allocator + Copy> CardTable<A> {
                 return None;
             }
             if self.is_takeable(pass, slots, next, read == 0, for_delete) {
+                pass.standing.numbers = pass.standing.numbers.saturating_add(read);
                 return Some(next);
             }
             next = slots.next_with_slot(next + 1);
@@ -657,7 +690,7 @@ impl<A: Allocator + Copy> CardTable<A> {
         if !slots.has_slot(card) {
             return false;
         }
-        self.look_now_and_then(pass, slots);
+        self.look_now_and_then(pass, slots, card);
         let word = self.own_slot(&mut pass.seat, slots, card);
         if word % 8 != 7 {
             return turn_in(word) == turn_of(card);

@@ -21,15 +21,15 @@ pub record GraceIsSound (places : ℕ) (w : Grace) : Type 0 where
   pub pending : (i c r : ℕ) → w.pending i ≡ Some (c, r) → IsStamp w c r
   pub free : (c r : ℕ) → w.free c ≡ Some r → IsStamp w c r
 
--- a state in which nothing has begun: nobody is in an operation, is about to free a card, or has looked at a place; no card
--- is free; and no stamp is safe
+-- a state in which nothing has begun: nobody is in an operation, is about to free a card, or has looked at a place; no stamp
+-- is safe; and a card that is free is gone, and its stamp is a past reading of the clock
 pub record IsStart (w : Grace) : Type 0 where
   pub word : (j : ℕ) → w.word j ≡ None
   pub pending : (i : ℕ) → w.pending i ≡ None
   pub least : (i : ℕ) → w.least i ≡ 0
   pub seen : (i j : ℕ) → w.seen i j ≡ false
   pub safe : (i : ℕ) → w.safe i ≡ 0
-  pub free : (c : ℕ) → w.free c ≡ None
+  pub free : (c r : ℕ) → w.free c ≡ Some r → (r ≤ w.clock) × (w.gone c ≡ true)
 
 -- such a state has what the steps keep
 abbrev pub GraceStarts : Type 0

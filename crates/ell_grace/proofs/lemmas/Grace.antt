@@ -27,7 +27,7 @@ grace_starts places w start = record {
   scanned = λ i j a is. absurd (some_not_none is (start.word j));
   least_past = λ i. (let none = start.least i in omega arith);
   pending = λ i c r is. absurd (some_not_none is (start.pending i));
-  free = λ c r is. absurd (some_not_none is (start.free c));
+  free = λ c r is. (let both = start.free c r is in record { past = both.0; gone = both.1; before = λ j a is. absurd (some_not_none is (start.word j)) });
 }
 
 -- the state after each step

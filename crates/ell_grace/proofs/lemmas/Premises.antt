@@ -15,6 +15,7 @@ use Rattle.ell_core.proofs.lemmas.stages.Ended.{insert_over-ended}
 use Rattle.ell_core.proofs.lemmas.stages.Order.{insert_over-changed}
 use Rattle.ell_core.proofs.lemmas.runs.Passed.{passed_on}
 use Rattle.ell_core.proofs.lemmas.runs.SmallRun.{over_state, answered_state, at, by, answers, over_passed}
+use Rattle.ell_core.proofs.lemmas.outcomes.Decide.{some_not_none}
 use Rattle.ell_grace.specs.Grace.{Grace, least_with, ticks, dies, begins, stamps, frees, scans, looks, settles}
 use Rattle.ell_grace.specs.Premises.{BeginsWhenGone, IsLedTo, start, more, TakesWhenBusy}
 
@@ -74,13 +75,13 @@ nothing = record {
 }
 
 nothing_begun : IsLedTo 1 nothing
-nothing_begun = start (record {
+nothing_begun = start {w = nothing} (record {
   word = λ j. refl;
   pending = λ i. refl;
   least = λ i. refl;
   seen = λ i j. refl;
   safe = λ i. refl;
-  free = λ c. refl;
+  free = λ c r is. absurd (some_not_none is refl);
 })
 
 -- card 5 is gone

@@ -12,7 +12,7 @@ use Rattle.ell_cards.specs.declared.view.Known.{Known}
 use Rattle.ell_cards.specs.declared.view.Slots.{Slots}
 use Rattle.ell_cards.specs.declared.view.Told.TheVariants.{Met}
 use Rattle.ell_cards.specs.declared.view.View.{View}
-use Rattle.ell_cards.specs.Ages.{IsOut, AreDead, ForgotWhen}
+use Rattle.ell_cards.specs.Ages.{IsOut, is_dead, is_aside, is_beyond, AreDead, ForgotWhen}
 use Rattle.ell_cards.specs.Apart.{cut_node, IsToldApart}
 use Rattle.ell_cards.specs.Laws.{machine_of_table}
 use Rattle.ell_cards.specs.Machines.{HasMachine}
@@ -30,7 +30,7 @@ use Rattle.ell_cards.proofs.lemmas.runs.Reaching.{reached_kept}
 use Rattle.ell_cards.proofs.lemmas.runs.Touching.{Still, still_from, root_since}
 use Rattle.ell_cards.proofs.lemmas.stepping.Looks.{child_born, child_read}
 use Rattle.ell_cards.proofs.lemmas.ties.Apart.{few_uncut, lying_apart, lying_block, met_lies, met_uncut, plain_few}
-use Rattle.ell_cards.proofs.lemmas.ties.Touched.{IsReady}
+use Rattle.ell_cards.proofs.lemmas.ties.Touched.{IsReady, claimed_within}
 use Rattle.ell_cards.proofs.lemmas.ties.Winning.{born_won}
 
 -- under an internal node that a pass has met that is the child that the machine has, and its card has won its flag
@@ -86,10 +86,11 @@ module _ (plan : TablePlan) (seat : ℕ) (dead : ℕ → Bool) (tree : TableStat
       ((not_dead m stage first).child (machine_of_table plan tree still.machine) still.from still.kept x inner told.0 told.1 right)
 
   kept_aside : ¬ IsOut plan h.from h.were.machine h.were.uses y
-  kept_aside (inl died) = child_was.0 died
-  kept_aside (inr aside) =
-      let on = (aside_in_run plan h.from h.were.machine (card y) aside (Makes seat h.call ∷ h.turns) tree (h.begun, h.made, h.run)).0 in
+  kept_aside (is_dead is) = child_was.0 is
+  kept_aside (is_aside is) =
+      let on = (aside_in_run plan h.from h.were.machine (card y) is (Makes seat h.call ∷ h.turns) tree (h.begun, h.made, h.run)).0 in
       aside_not_won plan tree on.0 (card y) on.1 (child_has_won plan tree on.0 seat v there x right inner met)
+  kept_aside (is_beyond is) = (let low = claimed_within plan tree still.machine (card y) (child_has_won plan tree still.machine seat v there x right inner met).0 in omega arith)
 
   pub child_was_alive : dead (card (child_now tree x right)) ≡ false
   child_was_alive = alive_where plan h.from dead h.were y child_was.1 kept_aside
@@ -114,9 +115,11 @@ module _ (plan : TablePlan) (tree : TableState) (dead : ℕ → Bool) (h : AreDe
       ((not_dead as_it_is stages sound).child as_it_is start.0 start.1 0 refl root.0 root.1 right)
 
   not_out : ¬ IsOut plan tree h.machine h.uses (child_now tree 0 right)
-  not_out (inl died) = child_is_kept.0 died
-  not_out (inr aside) =
-      aside_not_won plan tree h.machine (card (child_now tree 0 right)) aside (child_has_won plan tree h.machine seat v there 0 right refl met)
+  not_out (is_dead is) = child_is_kept.0 is
+  not_out (is_aside is) = aside_not_won plan tree h.machine (card (child_now tree 0 right)) is (child_has_won plan tree h.machine seat v there 0 right refl met)
+  not_out (is_beyond is) =
+      let low = claimed_within plan tree h.machine (card (child_now tree 0 right)) (child_has_won plan tree h.machine seat v there 0 right refl met).0 in
+      omega arith
 
   pub root_child_alive : dead (card (child_now tree 0 right)) ≡ false
   root_child_alive = alive_where plan tree dead h (child_now tree 0 right) child_is_kept.1 not_out

@@ -12,7 +12,7 @@ use Rattle.ell_core.specs.declared.exchange.Exchange.{Exchange}
 use Rattle.ell_core.specs.declared.exchange.Exchange.TheVariants as exchange
 use Rattle.ell_core.specs.declared.fact.Fact.TheVariants as fact
 use Rattle.ell_core.specs.history.Later.{wins_of}
-use Rattle.ell_core.specs.history.Stages.{Stage, Stages, Born, is_start, is_changed, is_cut}
+use Rattle.ell_core.specs.history.Stages.{Stage, Stages, Born, is_start, is_claimed, is_changed, is_cut}
 use Rattle.ell_core.specs.statements.Since.{has_ended}
 use Rattle.ell_core.proofs.lemmas.stages.LaterKeys.{born_below}
 use Rattle.ell_grace.specs.Dead.{IsDead}
@@ -23,7 +23,7 @@ use Rattle.ell_cards.specs.declared.call.Call.TheVariants as call
 use Rattle.ell_cards.specs.declared.view.Known.{Known}
 use Rattle.ell_cards.specs.declared.view.Slots.{Slots}
 use Rattle.ell_cards.specs.declared.view.Told.TheVariants.{Info}
-use Rattle.ell_cards.specs.Ages.{ForgotWhen}
+use Rattle.ell_cards.specs.Ages.{is_dead, is_aside, is_beyond, ForgotWhen}
 use Rattle.ell_cards.specs.Aside.{IsAside}
 use Rattle.ell_cards.specs.Calls.{May, child_address}
 use Rattle.ell_cards.specs.Guards.{MayIChild, MayDChild}
@@ -72,6 +72,10 @@ ended_changed s h = grind arith
 start_unchanged : (s : Stage) → is_start s ≡ true → changes (wins_of s) ≡ 0
 start_unchanged s h = grind arith
 
+-- one that has won one was claimed
+changed_claimed : (s : Stage) → 0 < changes (wins_of s) → is_claimed s ≡ true
+changed_claimed s h = grind arith
+
 -- by its stage it has won its child exchange
 changed_won : (s : Stage) → is_changed s ≡ true → count exchange.IChild (wins_of s) ≡ 1
 changed_won s h = grind arith
@@ -114,11 +118,17 @@ module _ (plan : TablePlan) (tree : TableState) (seat : ℕ) (dead : ℕ → Boo
       by : (b : Bool) → dead c ≡ b → b ≡ false
       by false e = refl
       by true e = elim (h.were.each c 0 (omega arith) e) [
-        | inl died ↦ absurd (ends (dead_ended h.were.machine.words stage h.were.uses.outs.invariant.words h.were.uses.uses h.were.uses.outs.outs c
-            (subst (IsDead h.were.machine.words stage) (omega arith) died)))
-        | inr aside ↦
-            let none = ap changes (aside_in_run plan h.from h.were.machine c (subst (IsAside h.were.machine.stages h.from.views) (omega arith) aside)
+        | is_dead is ↦ absurd (ends (dead_ended h.were.machine.words stage h.were.uses.outs.invariant.words h.were.uses.uses h.were.uses.outs.outs c
+            (subst (IsDead h.were.machine.words stage) (omega arith) is)))
+        | is_aside is ↦
+            let none = ap changes (aside_in_run plan h.from h.were.machine c (subst (IsAside h.were.machine.stages h.from.views) (omega arith) is)
             (Makes seat h.call ∷ h.turns) tree (h.begun, h.made, h.run)).1 in
+            absurd (omega arith)
+        | is_beyond is ↦
+            let goes = (run_goes plan h.from h.were.machine stage h.were.uses.outs.invariant (Makes seat h.call ∷ h.turns) tree (h.begun, h.made, h.run)).1 in
+            let wins = ap changes (goes.wins c) ∙ changes_append (wins_of (stage c)) (won c) in
+            let below = (goes.invariant.words.cards c).claimed.0 (changed_claimed (goes.stages c) (omega arith)) in
+            let limit = goes.invariant.limit in
             absurd (omega arith)
       ]
 

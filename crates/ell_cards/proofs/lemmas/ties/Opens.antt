@@ -1,5 +1,5 @@
 -- The memory of a table with places is tied to its tree as it opens.
-use Rattle.std.proofs.Common.{◌≡◌, ◌+◌, ◌-◌, ◌^◌, ◌<◌, ◌≤◌, ℕ, zero, suc, if◌then◌else◌, nat_lt, Bool, true, false, Some, None, List, [], ◌∷◌, ◌++◌, replicate, length, get_or, refl, sym, ap, ◌∙◌, subst, arith}
+use Rattle.std.proofs.Common.{◌≡◌, ◌≢◌, ◌+◌, ◌-◌, ◌%◌, ◌^◌, ◌<◌, ◌≤◌, ℕ, zero, suc, if◌then◌else◌, nat_lt, Bool, true, false, Some, None, List, [], ◌∷◌, ◌++◌, replicate, length, get_or, refl, sym, ap, ◌∙◌, subst, arith}
 use Rattle.std.proofs.lemmas.List.{length-append}
 use mathlib.Core.Option.{some, some-injective, some-ne-none}
 use lib.ListN.{get_elem?}
@@ -20,15 +20,15 @@ use Rattle.ell_cards.specs.Models.{TablePlan}
 use Rattle.ell_cards.specs.Periods.{WholeState, IsAtRest, opening_words, period_by}
 use Rattle.ell_cards.specs.Apart.{cut_node}
 use Rattle.ell_cards.specs.Shown.{IsWord, cut_field, cut_word}
-use Rattle.ell_cards.specs.SlotWords.{slot_of}
+use Rattle.ell_cards.specs.SlotWords.{slot_of, card_by, has_slot_in}
 use Rattle.ell_cards.specs.Starts.{MayStart, SlotsFit, IsReached}
 use Rattle.ell_cards.specs.States.{TableState}
-use Rattle.ell_cards.specs.Tied.{LiesThere, HasWon, IsTied}
+use Rattle.ell_cards.specs.Tied.{LiesThere, HasWon, IsKept, won, stored, IsTied}
 use Rattle.ell_cards.specs.Ties.{IsTiedByAges, OpeningsAreTied}
 use Rattle.ell_cards.proofs.lemmas.lifetimes.Openings.{start_next}
 use Rattle.ell_cards.proofs.lemmas.runs.Reaching.{reached_first}
 use Rattle.ell_cards.proofs.lemmas.shown.CutWords.{cut_same}
-use Rattle.ell_cards.proofs.lemmas.whole.Opens.{zeros_many, with_zeros, words_same, other_word, slots_empty, first_ages, first_periods}
+use Rattle.ell_cards.proofs.lemmas.whole.Opens.{zeros_many, with_zeros, words_same, lies_opened, out_opened, lies_as_given, lies_at_home, lies_or_free, other_word, slots_opened, first_ages, first_periods}
 use Rattle.ell_cards.proofs.lemmas.whole.Rests.{is_at_rest}
 use Rattle.ell_cards.proofs.lemmas.words.Slotted.{has_slot_by}
 
@@ -73,33 +73,47 @@ no_info flat start words are c _ = tt
 -- memory that has the tree's words in slots, whose words are 0, where each card that was claimed has a slot
 module _ (plan : TablePlan) (s : Slots) (low : s.last < 2097152) (tree : TableState) (r : HasMachine plan tree) (words : List ℕ)
     (same : (i : ℕ) → i < table_size s.last → get_or words i 0 ≡ get_or tree.words i 0) (small : (i : ℕ) → i < table_size s.last → get_or words i 0 < 2 ^ 64)
-    (few : get_or tree.words 0 0 ≤ s.last + 1) (none_said : (c : ℕ) (f : Field) → NoInfo f (get_or tree.words (address c f) 0))
+    (given : ℕ) (few : get_or tree.words 0 0 ≡ given + 1) (room : given ≤ s.last) (none_said : (c : ℕ) (f : Field) → NoInfo f (get_or tree.words (address c f) 0))
     (first : Known) (none : first.tree.worker.card ≡ None) (unslotted : first.period.slot ≡ None) (dead : ℕ → Bool) (was_dead : ℕ → ℕ → Bool) where
-  lies : (c : ℕ) → HasWon r.stages c → LiesThere s (λ slot. slot) c
-  lies c has =
-      let below = (r.invariant.words.cards c).claimed.0 has.0 in
-      let next = r.next in
-      let inside : c ≤ s.last = omega arith in
-      let slot : slot_of c ≡ c = omega arith in
-      (subst (λ x. x ≤ s.last) (sym slot) inside, slot)
-
   alone : (P : ℕ → Known → Type 0) → P 0 first → (j : ℕ) (u : Known) → get_elem? (first ∷ []) j ≡ some u → P j u
   alone P h zero u at = subst (P 0) (some-injective first u at) h
   alone P h (suc j) u at = absurd (some-ne-none u (sym at))
 
-  pub tied_as_it_opens : IsTied s tree (opening words [] first) r.stages (λ slot. slot) dead was_dead
+  lies : (c : ℕ) → HasWon r.stages c → LiesThere s (lies_opened s given) c
+  lies c has =
+      let below = (r.invariant.words.cards c).claimed.0 has.0 in
+      let next = r.next in
+      let inside : c ≤ given = omega arith in
+      let slot : slot_of c ≡ c = omega arith in
+      (omega arith, ap (lies_opened s given) slot ∙ lies_as_given s given c inside)
+
+  fits : (c : ℕ) → HasWon r.stages c → has_slot_in s.last c ≡ true
+  fits c has =
+      let below = (r.invariant.words.cards c).claimed.0 has.0 in
+      let next = r.next in
+      has_slot_by s.last c (lies c has).0 (λ none. omega arith)
+
+  -- a card of which memory keeps a word is one of the start keys
+  kept_was_given : (c : ℕ) (f : Field) → IsKept r.stages (first ∷ []) c f → c ≤ given
+  kept_was_given c f (won has says) = (let below = (r.invariant.words.cards c).claimed.0 has.0 in let next = r.next in omega arith)
+  kept_was_given c f (stored seat u at waits has) = absurd (some_not_none waits.0 (alone (λ j x. x.tree.worker.card ≡ None) none seat u at))
+
+  pub tied_as_it_opens : IsTied s tree (opening words [] first) r.stages (lies_opened s given) dead was_dead
   tied_as_it_opens = record {
     claim = same 0 (omega arith);
     flat = same 1 (omega arith);
-    root = refl;
-    own = λ slot inside. omega arith;
+    root = lies_as_given s given 0 (omega arith);
+    own = λ slot inside. lies_at_home s given slot (omega arith);
     at = λ slot f inside kept.
         let there = (address_in_table s.last slot f inside).1 in
+        subst (λ c. get_or words (address slot f) 0 ≡ cut_field f (get_or tree.words (address c f) 0))
+        (sym (lies_as_given s given slot (let low_card = kept_was_given (lies_opened s given slot) f kept in let home = lies_at_home s given slot (omega arith) in omega arith)))
+        (
         held_whole f (get_or words (address slot f) 0) (get_or tree.words (address slot f) 0) (small (address slot f) there) (same (address slot f) there)
-        (none_said slot f);
+        (none_said slot f));
     alive = λ c has lives. lies c has;
     lives = λ seat q a c u at placed an has alive. lies c has;
-    fits = λ c has. has_slot_by s.last c (lies c has).0 (λ none. (let is = (lies c has).1 in omega arith));
+    fits = fits;
     hand = λ seat c u at slot. absurd (some_not_none slot (alone (λ j x. x.period.slot ≡ None) unslotted seat u at));
     slotted = λ seat c u at slot. absurd (some_not_none slot (alone (λ j x. x.period.slot ≡ None) unslotted seat u at));
     past = λ seat c u at slot. absurd (some_not_none slot (alone (λ j x. x.period.slot ≡ None) unslotted seat u at));
@@ -116,7 +130,7 @@ module _ (plan : TablePlan) (s : Slots) (cards : List ℕ) (may : MayStart plan)
   tree_opened = opening (cards ++ replicate long 0) [] (first_of plan)
 
   abbrev pub opened : WholeState
-  opened = opening (opening_words s cards) [] (record { tree = first_of plan; period = period_by (Some s) })
+  opened = opening (opening_words s (length plan.start) cards) [] (record { tree = first_of plan; period = period_by (Some s) })
 
   pub reached_opened : IsReached plan tree_opened
   reached_opened =
@@ -128,11 +142,11 @@ module _ (plan : TablePlan) (s : Slots) (cards : List ℕ) (may : MayStart plan)
   rest : IsAtRest (first_of plan)
   rest = is_at_rest (first_of plan) refl refl refl refl refl
 
-  ages : AgesAreSound plan s tree_opened opened (λ slot. slot) (λ x. false) (λ q x. false)
-  ages = first_ages plan s tree_opened reached_opened cards size rest fit.0
+  ages : AgesAreSound plan s tree_opened opened (lies_opened s (length plan.start)) out_opened (λ q x. false)
+  ages = first_ages plan s tree_opened reached_opened (length plan.start) cards size rest fit.0 may.limit
 
-  there : (i : ℕ) → i < table_size s.last → get_or (opening_words s cards) i 0 ≡ get_or cards i 0
-  there i inside = other_word s cards size i (λ e. omega arith)
+  there : (i : ℕ) → i < table_size s.last → get_or (opening_words s (length plan.start) cards) i 0 ≡ get_or cards i 0
+  there i inside = other_word s (length plan.start) cards size i (omega arith) (λ e. omega arith)
 
   -- the claim word is behind the cards of the start keys
   next : get_or (cards ++ replicate long 0) 0 0 ≡ length plan.start + 1
@@ -142,19 +156,20 @@ module _ (plan : TablePlan) (s : Slots) (cards : List ℕ) (may : MayStart plan)
 
   pub periods_opened : HasPeriods plan s tree_opened opened
   periods_opened = record {
-    lie = λ slot. slot;
-    lies = λ slot inside used. (let is = slots_empty s cards size slot in omega arith);
-    dead = λ x. false;
+    lie = lies_opened s (length plan.start);
+    lies = λ slot inside. subst (λ n. n % 8 ≢ 7 → lies_opened s (length plan.start) slot ≡ card_by slot n) (sym (slots_opened s (length plan.start) cards size slot inside))
+        (lies_or_free s (length plan.start) slot);
+    dead = out_opened;
     began = λ q. 0;
     was_dead = λ q x. false;
-    periods = first_periods s cards size (first_of plan) rest fit.0;
+    periods = first_periods s (length plan.start) cards size (first_of plan) rest fit.0;
     ages = ages;
-    tied = tied_as_it_opens plan s (let most = fit.4 in omega arith) tree_opened ages.now.machine (opening_words s cards)
+    tied = tied_as_it_opens plan s (let most = fit.4 in omega arith) tree_opened ages.now.machine (opening_words s (length plan.start) cards)
         (λ i inside. there i inside ∙ sym (with_zeros cards long i))
         (λ i inside. subst (λ n. n < 2 ^ 64) (sym (there i inside)) (small i))
-        (let room = fit.3 in let word = next in omega arith)
+        (length plan.start) next fit.3
         (no_info plan.flat plan.start (cards ++ replicate long 0) (words_same (cards ++ replicate long 0) cards (with_zeros cards long) ∙ are))
-        (record { tree = first_of plan; period = period_by (Some s) }) refl refl (λ x. false) (λ q x. false);
+        (record { tree = first_of plan; period = period_by (Some s) }) refl refl out_opened (λ q x. false);
   }
 
 pub openings_are_tied : OpeningsAreTied
@@ -167,6 +182,6 @@ openings_are_tied plan s cards placed may size are small =
       lie = has.lie;
       dead = has.dead;
       was_dead = has.was_dead;
-      tied = subst (λ o. IsTiedByAges plan s (tree_opened plan s cards may fit size are small) (opening (opening_words s cards) [] (record { tree = first_of plan; period = period_by o })) has.lie has.dead has.was_dead)
+      tied = subst (λ o. IsTiedByAges plan s (tree_opened plan s cards may fit size are small) (opening (opening_words s (length plan.start) cards) [] (record { tree = first_of plan; period = period_by o })) has.lie has.dead has.was_dead)
           (sym placed) (record { ages = has.ages; tied = has.tied });
     }

@@ -19,7 +19,7 @@ use Rattle.ell_layout.proofs.lemmas.Writes.{put_other}
 use Rattle.ell_cards.specs.declared.view.Known.{Known}
 use Rattle.ell_cards.specs.declared.view.Period.{Period}
 use Rattle.ell_cards.specs.declared.view.View.{View}
-use Rattle.ell_cards.specs.Ages.{IsOut, AreDead}
+use Rattle.ell_cards.specs.Ages.{IsOut, is_dead, is_aside, is_beyond, AreDead}
 use Rattle.ell_cards.specs.Machines.{HasMachine}
 use Rattle.ell_cards.specs.Models.{TablePlan}
 use Rattle.ell_cards.specs.Periods.{slot_word, after_taking}
@@ -32,6 +32,7 @@ use Rattle.ell_cards.proofs.lemmas.whole.Ages.{ages_of_period}
 use Rattle.ell_cards.proofs.lemmas.whole.Trees.{tree_at}
 use Rattle.ell_cards.proofs.lemmas.whole.Untouched.{root_lives}
 use Rattle.ell_cards.proofs.lemmas.ties.Taking.{tie_of_taken}
+use Rattle.ell_cards.proofs.lemmas.ties.Touched.{claimed_within}
 use Rattle.ell_cards.proofs.lemmas.words.Slotted.{slot_inside}
 
 waits_unended : (s : Stage) → waits s ≡ true → has_ended s ≡ false
@@ -60,8 +61,9 @@ module _ (plan : TablePlan) (tree : TableState) (dead : ℕ → Bool) (now : Are
 
   pub hand_is_alive : dead d ≡ false
   hand_is_alive = false_where_not (dead d) (λ is. elim (now.each d 0 (omega arith) is) [
-    | inl died ↦ undead (subst (IsDead now.machine.words outs.stages) (omega arith) died)
-    | inr aside ↦ aside.nobody seat v there (h.0 ∙ ap Some (omega arith))
+    | is_dead is ↦ undead (subst (IsDead now.machine.words outs.stages) (omega arith) is)
+    | is_aside is ↦ is.nobody seat v there (h.0 ∙ ap Some (omega arith))
+    | is_beyond is ↦ (let low = claimed_within plan tree now.machine d (waits-claimed (now.machine.stages d) hand_is_waiting) in absurd (omega arith))
   ])
     where
       outs : HasOuts (machine_of_table plan tree now.machine)

@@ -1,6 +1,6 @@
 -- The word that a call touches is tied: it is one of the slots, its card lies there, and memory has there what is cut of what
 -- the tree has.
-use Rattle.std.proofs.Common.{◌≡◌, ◌≢◌, ◌⊎◌, ℕ, zero, suc, ◌%◌, ◌^◌, ◌<◌, inl, inr, Bool, true, false, Some, List, ◌∷◌, ◌+◌, ◌*◌, get_or, refl, sym, ap, ◌∙◌, subst, arith}
+use Rattle.std.proofs.Common.{◌≡◌, ◌≢◌, ◌⊎◌, ℕ, zero, suc, ◌%◌, ◌^◌, ◌<◌, ◌≤◌, inl, inr, Bool, true, false, Some, List, ◌∷◌, ◌+◌, ◌*◌, get_or, refl, sym, ap, ◌∙◌, subst, arith}
 use mathlib.Core.Option.{some}
 use lib.ListN.{get_elem?}
 use Rattle.ell_word.specs.Node.{card}
@@ -11,8 +11,10 @@ use Rattle.ell_layout.specs.Words.{key_field, value_field, child_field}
 use Rattle.ell_layout.proofs.lemmas.Listed.{address_in_table, addresses_apart}
 use Rattle.ell_core.specs.declared.fact.Fact.TheVariants as fact
 use Rattle.ell_core.proofs.lemmas.stages.Order.{insert_won-insert}
-use Rattle.ell_core.specs.history.Stages.{Stages, Born, is_start, is_delete}
-use Rattle.ell_core.specs.state.Machine.{Worker}
+use Rattle.ell_core.proofs.lemmas.following.waiting.Cards.{hand_waits}
+use Rattle.ell_core.proofs.lemmas.stages.Waiting.{waits-claimed}
+use Rattle.ell_core.specs.history.Stages.{Stages, Born, is_start, is_claimed, is_delete}
+use Rattle.ell_core.specs.state.Machine.{Worker, worker_of}
 use Rattle.ell_grace.specs.Dead.{IsDead, HasUses}
 use Rattle.ell_cards.specs.declared.call.Call.{Call}
 use Rattle.ell_cards.specs.declared.call.Call.TheVariants as call
@@ -20,7 +22,7 @@ use Rattle.ell_cards.specs.declared.view.Known.{Known}
 use Rattle.ell_cards.specs.declared.view.Slots.{Slots}
 use Rattle.ell_cards.specs.declared.view.Told.TheVariants.{Met}
 use Rattle.ell_cards.specs.declared.view.View.{View}
-use Rattle.ell_cards.specs.Ages.{IsOut, ForgotWhen}
+use Rattle.ell_cards.specs.Ages.{IsOut, is_dead, is_aside, is_beyond, ForgotWhen}
 use Rattle.ell_cards.specs.Aside.{IsAside, CallsTouchNoCardAside}
 use Rattle.ell_cards.specs.Calls.{word_of, May, slot_address, place_of}
 use Rattle.ell_cards.specs.Guards.{KnowsSaying}
@@ -42,7 +44,7 @@ use Rattle.ell_cards.proofs.lemmas.seats.Seats.{mine_is, mine_sound, relies, sta
 use Rattle.ell_cards.proofs.lemmas.shown.CutWords.{cut_same}
 use Rattle.ell_cards.proofs.lemmas.stepping.Exchanges.{told_is}
 use Rattle.ell_cards.proofs.lemmas.stepping.Known.{insert_flagged, insert_changed, known_delete, is_known_delete, delete_cut, delete_unmarkable}
-use Rattle.ell_cards.proofs.lemmas.runs.Alive.{calls_touch_no_dead_card}
+use Rattle.ell_cards.proofs.lemmas.runs.Alive.{calls_touch_no_dead_card, turns_keep_dead}
 use Rattle.ell_cards.proofs.lemmas.runs.Aside.{aside_not_won, aside_in_run}
 use Rattle.ell_cards.proofs.lemmas.whole.Rests.{rest_touches_the_root}
 use Rattle.ell_cards.proofs.lemmas.ties.Winning.{start_won, born_won, start_is_put, born_is_put, insert_is_put, says_by, insert_is_won, delete_is_won, marked_is_won}
@@ -222,6 +224,17 @@ calls_touch_no_card_aside plan s seat c begun made r turns now run v there next 
     let on = (aside_in_run plan s r d aside (Makes seat c ∷ turns) now (begun, made, run)).0 in
     aside_untouched plan now on.0 seat v there next may d f at on.1
 
+-- a card that was claimed is one of the table's
+pub claimed_within : (plan : TablePlan) (s : TableState) (r : HasMachine plan s) (c : ℕ) → is_claimed (r.stages c) ≡ true → c ≤ plan.last_card
+claimed_within plan s r c claimed = (let below = (r.invariant.words.cards c).claimed.0 claimed in let limit = r.invariant.limit in omega arith)
+
+-- so is the card that a call touches
+touched_within : (plan : TablePlan) (s : TableState) (r : HasMachine plan s) (seat : ℕ) (v : View) → get_elem? s.views seat ≡ some v → (c : Call) → May plan c v
+    → card_touched (touched_by c) ≤ plan.last_card
+touched_within plan s r seat v there (call.Fill c f value) may =
+    claimed_within plan s r c (waits-claimed (r.stages c) (hand_waits r.words r.stages (worker_of v.worker) c (mine_sound plan s r seat v there) may.holds may.unflagged))
+touched_within plan s r seat v there c may = claimed_within plan s r (card_touched (touched_by c)) (touched_won plan s r seat v there c may).0.0
+
 -- so no call of a pass touches a word of a card whose nodes were all out when it forgot what it was told
 pub calls_touch_nothing_out : (plan : TablePlan) (s : TableState) → IsReached plan s
     → (seat : ℕ) (c : Call) (begun : TableState) → CallIsMade plan s seat c begun → forgets c ≡ true
@@ -235,11 +248,25 @@ calls_touch_nothing_out plan s reached seat c begun made anew r has turns now ru
     off : (k : ℕ) → card (4 * d + k) ≡ d → IsAside r.stages s.views (card (4 * d + k)) → ⊥
     off k is aside = calls_touch_no_card_aside plan s seat c begun made r turns now run v there next may d f at (subst (IsAside r.stages s.views) is aside)
 
+    past : (k : ℕ) → card (4 * d + k) ≡ d → plan.last_card < card (4 * d + k) → ⊥
+    past k is far =
+        let on = (turns_keep_dead plan s r has (Makes seat c ∷ turns) now (begun, made, run)).0 in
+        elim (spots next) [
+          | inl claim ↦ no_claim d f (sym at ∙ claim.1)
+          | inr spot ↦
+              let same = (addresses_apart (card_touched (touched_by next)) d spot.0 f (sym spot.1 ∙ at)).0 in
+              let low = touched_within plan now on seat v there next may in
+              absurd (omega arith)
+        ]
+
     by : IsOut plan s r has (4 * d + 0) → IsOut plan s r has (4 * d + 1) → IsOut plan s r has (4 * d + 2) → ⊥
-    by (inr aside) _ _ = off 0 (omega arith) aside
-    by (inl a) (inr aside) _ = off 1 (omega arith) aside
-    by (inl a) (inl b) (inr aside) = off 2 (omega arith) aside
-    by (inl a) (inl b) (inl e) = calls_touch_no_dead_card plan s reached seat c begun made anew r has turns now run v there next may d f at (
+    by (is_aside is) _ _ = off 0 (omega arith) is
+    by (is_beyond is) _ _ = past 0 (omega arith) is
+    by (is_dead a) (is_aside is) _ = off 1 (omega arith) is
+    by (is_dead a) (is_beyond is) _ = past 1 (omega arith) is
+    by (is_dead a) (is_dead b) (is_aside is) = off 2 (omega arith) is
+    by (is_dead a) (is_dead b) (is_beyond is) = past 2 (omega arith) is
+    by (is_dead a) (is_dead b) (is_dead e) = calls_touch_no_dead_card plan s reached seat c begun made anew r has turns now run v there next may d f at (
       subst (IsDead r.words has.outs.stages) (omega arith) a,
       b,
       e,

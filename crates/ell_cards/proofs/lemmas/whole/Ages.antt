@@ -12,7 +12,7 @@ use Rattle.ell_cards.specs.declared.view.Known.{Known}
 use Rattle.ell_cards.specs.declared.view.SlotRead.{SlotRead}
 use Rattle.ell_cards.specs.declared.view.Slots.{Slots}
 use Rattle.ell_cards.specs.declared.view.View.{View}
-use Rattle.ell_cards.specs.Ages.{IsOut, AreDead, ForgotWhen, AgesAreSound}
+use Rattle.ell_cards.specs.Ages.{IsOut, is_dead, is_aside, is_beyond, AreDead, ForgotWhen, AgesAreSound}
 use Rattle.ell_cards.specs.Aside.{IsAside}
 use Rattle.ell_cards.specs.Calls.{May}
 use Rattle.ell_cards.specs.Laws.{machine_of_table}
@@ -64,8 +64,9 @@ module _ (plan : TablePlan) where
   -- what is out is out after it
   pub out_on : (s : TableState) (machine : HasMachine plan s) (uses : HasUses (machine_of_table plan s machine)) (t : Turn) (s' : TableState) (on : Onward s machine uses t s')
       → (x : ℕ) → IsOut plan s machine uses x → IsOut plan s' on.next on.used x
-  out_on s machine uses t s' on x (inl dead) = inl (on.stays x dead)
-  out_on s machine uses t s' on x (inr aside) = inr (on.aside (card x) aside)
+  out_on s machine uses t s' on x (is_dead is) = is_dead (on.stays x is)
+  out_on s machine uses t s' on x (is_aside is) = is_aside (on.aside (card x) is)
+  out_on s machine uses t s' on x (is_beyond is) = is_beyond is
 
   -- so are the cards that were
   abbrev pub dead_on : (s : TableState) (dead : ℕ → Bool) (h : AreDead plan s dead) (t : Turn) (s' : TableState) → Onward s h.machine h.uses t s' → AreDead plan s' dead

@@ -17,7 +17,7 @@ use Rattle.ell_cards.specs.declared.view.Seek.{Seek}
 use Rattle.ell_cards.specs.declared.view.SlotRead.{SlotRead}
 use Rattle.ell_cards.specs.declared.view.Slots.{Slots}
 use Rattle.ell_cards.specs.declared.view.View.{View}
-use Rattle.ell_cards.specs.Ages.{IsOut, HasPeriods, KnowsDeadNode, KnowsDeadCard, MayStamp}
+use Rattle.ell_cards.specs.Ages.{IsOut, is_dead, is_aside, HasPeriods, KnowsDeadNode, KnowsDeadCard, MayStamp}
 use Rattle.ell_cards.specs.Aside.{IsAside}
 use Rattle.ell_cards.specs.Apart.{cut_node}
 use Rattle.ell_cards.specs.CardNodes.{has_node, AreTakenOut, KnowsDeadNodes}
@@ -108,7 +108,7 @@ module _ (plan : TablePlan) (s : Slots) (tree : TableState) (t : WholeState) (id
 
   -- what the pass knows to be dead is out
   dead_by : (x : ℕ) → KnowsDeadNode k.tree x → OutNow x
-  dead_by x knows = inl (known_dead_is_dead plan tree id k.tree there knows.0 x knows.1 h.ages.now.machine h.ages.now.uses.outs)
+  dead_by x knows = is_dead (known_dead_is_dead plan tree id k.tree there knows.0 x knows.1 h.ages.now.machine h.ages.now.uses.outs)
 
   -- a node's low bits say in which slot its card lies
   low_slot : (y x : ℕ) → cut_node y ≡ x → slot_of (card y) ≡ slot_of (card x)
@@ -186,7 +186,7 @@ module _ (plan : TablePlan) (s : Slots) (tree : TableState) (t : WholeState) (id
       mine : (i : ℕ) → i < 3 → OutNow (4 * c + i)
       mine i low = elim may [
         | inl knows ↦ known knows i low
-        | inr lost ↦ inr (subst (IsAside h.ages.now.machine.stages tree.views) (omega arith) (h.ages.lost id c k here lost))
+        | inr lost ↦ is_aside (subst (IsAside h.ages.now.machine.stages tree.views) (omega arith) (h.ages.lost id c k here lost))
       ]
 
       each : (d i : ℕ) → i < 3 → put h.dead c true d ≡ true → OutNow (4 * d + i)

@@ -1,4 +1,4 @@
-use Rattle.std.proofs.Common.{◌≡◌, ◌≢◌, ℕ, ◌%◌, zero, suc, ◌+◌, ◌*◌, ◌-◌, ◌≤◌, ◌==◌, ◌&&◌, nat_lt, nat_le, if◌then◌else◌, Bool, true, false, Option, Some, None, List, [], ◌∷◌, ◌++◌, length, replicate, get_or, inl, inr, ◌⊎◌, refl, sym, ap, ◌∙◌, subst, arith, length-set, get_or-set_same, get_or-set_other, eq-eqb, true≢false}
+use Rattle.std.proofs.Common.{◌≡◌, ◌≢◌, ℕ, ◌%◌, zero, suc, ◌+◌, ◌*◌, ◌-◌, ◌/◌, ◌<◌, ◌≤◌, ◌==◌, ◌&&◌, nat_lt, nat_le, if◌then◌else◌, Bool, true, false, Option, Some, None, List, [], ◌∷◌, ◌++◌, length, replicate, get_or, inl, inr, ◌⊎◌, refl, sym, ap, ◌∙◌, subst, arith, length-set, get_or-set_same, get_or-set_other, set, eq-eqb, eqb-true, leb-true, ltb-true, true≢false}
 use Rattle.std.proofs.lemmas.Bool.{cases_eq, cases_lt, false≢true}
 use Rattle.std.proofs.lemmas.List.{length-append, length-replicate, get_or_past, get_or-replicate, get_or_append_left, get_or-append_right}
 use Rattle.std.proofs.lemmas.Option.{same_Some}
@@ -16,10 +16,10 @@ use Rattle.ell_cards.specs.declared.view.Slots.{Slots}
 use Rattle.ell_cards.specs.declared.view.View.{View}
 use Rattle.ell_cards.specs.Models.{TablePlan, last_slot, last_slot_of}
 use Rattle.ell_cards.specs.Changes.{first_of}
-use Rattle.ell_cards.specs.Periods.{slots_of, last_for, clock_word, place_word, slot_word, slots_size, stamp_at, pending_by, opening_words, whole_words, size_by, whole_size, period_by, announced_by, period_in, IsAtRest, PeriodHolds, PeriodsAreSound, grace_of}
+use Rattle.ell_cards.specs.Periods.{slots_of, last_for, clock_word, place_word, slot_word, slots_size, stamp_at, pending_by, opening_word, opening_words, opens_free, whole_words, size_by, whole_size, period_by, announced_by, period_in, IsAtRest, PeriodHolds, PeriodsAreSound, grace_of}
 use Rattle.ell_cards.specs.Aside.{IsAside}
-use Rattle.ell_cards.specs.Ages.{IsOut, ForgotWhen, AgesAreSound}
-use Rattle.ell_cards.specs.SlotWords.{slot_of, card_by, freed_by, is_noted}
+use Rattle.ell_cards.specs.Ages.{IsOut, is_beyond, ForgotWhen, AgesAreSound}
+use Rattle.ell_cards.specs.SlotWords.{slot_of, card_by, free_word, freed_by, is_noted}
 use Rattle.ell_cards.specs.States.{TableState}
 use Rattle.ell_cards.specs.Starts.{MayStart, SlotsFit, IsReached, most_places}
 use Rattle.ell_cards.proofs.lemmas.runs.Alive.{tables_have_uses}
@@ -47,52 +47,156 @@ pub words_same : (l m : List ℕ) → ((i : ℕ) → get_or l i 0 ≡ get_or m i
 unfolding words_of
 words_same l m same = λ t. record (table_words (same 0 t) (λ c f. same (address c f) t)) { flat_from = same 1 t }
 
--- the words of a table with places, at its start
-module _ (s : Slots) (cards : List ℕ) (size : length cards ≡ table_size s.last) where
-  abbrev all : List ℕ
-  all = opening_words s cards
+-- as a table opens with so many start keys, each card lies in the slot of its number, but where a slot is free: there lies one of a number that no card has
+abbrev pub lies_opened : Slots → ℕ → ℕ → ℕ
+lies_opened s given slot = if opens_free s given slot then 2305843009213693952 + slot else slot
 
-  behind : List ℕ
+-- and these alone are out
+abbrev pub out_opened : ℕ → Bool
+out_opened c = nat_lt greatest_number c
+
+-- in its slot lies each card of a start key, and each other card whose slot is not free
+pub lies_as_given : (s : Slots) (given slot : ℕ) → slot ≤ given → lies_opened s given slot ≡ slot
+lies_as_given s given slot low = ap (λ b. if b && nat_lt s.last (slot + 2) then 2305843009213693952 + slot else slot) below
+  where
+    below : nat_lt given slot ≡ false
+    below = grind (arith, low)
+
+pub lies_at_home : (s : Slots) (given slot : ℕ) → slot < 2097152 → slot_of (lies_opened s given slot) ≡ slot
+lies_at_home s given slot low = by (opens_free s given slot)
+  where
+    by : (b : Bool) → slot_of (if b then 2305843009213693952 + slot else slot) ≡ slot
+    by true = omega (arith, low)
+    by false = omega (arith, low)
+
+-- a slot's word tells whether it is free
+pub lies_or_free : (s : Slots) (given slot : ℕ) → opening_word s given slot % 8 ≢ 7 → lies_opened s given slot ≡ card_by slot (opening_word s given slot)
+lies_or_free s given slot = by (opens_free s given slot)
+  where
+    by : (b : Bool) → (if b then free_word 0 else 0) % 8 ≢ 7 → (if b then 2305843009213693952 + slot else slot) ≡ card_by slot (if b then free_word 0 else 0)
+    by true used = absurd (used refl)
+    by false used = omega arith
+
+-- and it notes only nodes that no card has
+pub noted_opened : (s : Slots) (given slot k : ℕ) → is_noted (opening_word s given slot) k ≡ true → greatest_number < (4 * lies_opened s given slot + k) / 4
+noted_opened s given slot k = by (opens_free s given slot) k
+  where
+    by : (b : Bool) (k : ℕ) → is_noted (if b then free_word 0 else 0) k ≡ true → greatest_number < (4 * (if b then 2305843009213693952 + slot else slot) + k) / 4
+    by true zero is = omega arith
+    by true (suc zero) is = omega arith
+    by true (suc (suc zero)) is = omega arith
+    by true (suc (suc (suc k))) is = absurd (false≢true is)
+    by false zero is = absurd (false≢true is)
+    by false (suc zero) is = absurd (false≢true is)
+    by false (suc (suc zero)) is = absurd (false≢true is)
+    by false (suc (suc (suc k))) is = absurd (false≢true is)
+
+-- the words of a table with places, at its start
+module _ (s : Slots) (given : ℕ) (cards : List ℕ) (size : length cards ≡ table_size s.last) where
+  abbrev all : List ℕ
+  all = opening_words s given cards
+
+  abbrev behind : List ℕ
   behind = cards ++ replicate (slots_size s - length cards) 0
 
+  abbrev placed : List ℕ
+  placed = set behind (place_word s 0) 1
+
+  abbrev last_but_one : List ℕ
+  last_but_one = set placed (slot_word s (s.last - 1)) (opening_word s given (s.last - 1))
+
+  behind_size : length behind ≡ slots_size s
+  behind_size = length-append cards (replicate (slots_size s - length cards) 0) ∙ (let many = zeros_many (slots_size s - length cards) in omega arith)
+
+  placed_size : length placed ≡ slots_size s
+  placed_size = length-set behind (place_word s 0) 1 ∙ behind_size
+
+  last_but_one_size : length last_but_one ≡ slots_size s
+  last_but_one_size = length-set placed (slot_word s (s.last - 1)) (opening_word s given (s.last - 1)) ∙ placed_size
+
   pub all_size : length all ≡ slots_size s
-  all_size =
-      length-set (cards ++ replicate (slots_size s - length cards) 0) (place_word s 0) 1
-      ∙ (length-append cards (replicate (slots_size s - length cards) 0) ∙ (let many = zeros_many (slots_size s - length cards) in omega arith))
+  all_size = length-set last_but_one (slot_word s s.last) (opening_word s given s.last) ∙ last_but_one_size
+
+  -- the words of slots are behind all others
+  before_slots : (i : ℕ) → i < clock_word s + 9 + 8 * s.places → get_or all i 0 ≡ get_or placed i 0
+  before_slots i low =
+      get_or-set_other last_but_one (slot_word s s.last) i (opening_word s given s.last) 0 (λ e. omega arith)
+      ∙ get_or-set_other placed (slot_word s (s.last - 1)) i (opening_word s given (s.last - 1)) 0 (λ e. omega arith)
 
   -- the first place is taken
   first_place : get_or all (place_word s 0) 0 ≡ 1
-  first_place = get_or-set_same (cards ++ replicate (slots_size s - length cards) 0) (place_word s 0) 1 0
-      (let both = length-append cards (replicate (slots_size s - length cards) 0) in let many = zeros_many (slots_size s - length cards) in omega arith)
+  first_place = before_slots (place_word s 0) (omega arith) ∙ get_or-set_same behind (place_word s 0) 1 0 (let long = behind_size in omega arith)
 
   -- all other words are those of the cards
-  pub other_word : (i : ℕ) → i ≢ place_word s 0 → get_or all i 0 ≡ get_or cards i 0
-  other_word i apart = get_or-set_other (cards ++ replicate (slots_size s - length cards) 0) (place_word s 0) i 1 0 apart ∙ with_zeros cards (slots_size s - length cards) i
+  unplaced : (i : ℕ) → i ≢ place_word s 0 → get_or placed i 0 ≡ get_or cards i 0
+  unplaced i apart = get_or-set_other behind (place_word s 0) i 1 0 apart ∙ with_zeros cards (slots_size s - length cards) i
 
-  behind_cards : (i : ℕ) → table_size s.last ≤ i → i ≢ place_word s 0 → get_or all i 0 ≡ 0
-  behind_cards i past apart = other_word i apart ∙ get_or_past cards i 0 (omega arith)
+  pub other_word : (i : ℕ) → i < clock_word s + 9 + 8 * s.places → i ≢ place_word s 0 → get_or all i 0 ≡ get_or cards i 0
+  other_word i low apart = before_slots i low ∙ unplaced i apart
 
-  -- no slot's word says anything
-  pub slots_empty : (slot : ℕ) → get_or all (slot_word s slot) 0 ≡ 0
-  slots_empty slot = behind_cards (slot_word s slot) (omega arith) (λ e. omega arith)
+  behind_cards : (i : ℕ) → table_size s.last ≤ i → i < clock_word s + 9 + 8 * s.places → i ≢ place_word s 0 → get_or all i 0 ≡ 0
+  behind_cards i past low apart = other_word i low apart ∙ get_or_past cards i 0 (omega arith)
+
+  -- the word of each slot
+  pub slots_opened : (slot : ℕ) → slot ≤ s.last → get_or all (slot_word s slot) 0 ≡ opening_word s given slot
+  slots_opened slot inside = elim (cases_eq slot s.last) [
+    | inl e ↦
+        subst (λ x. get_or all (slot_word s x) 0 ≡ opening_word s given x) (sym e)
+        (get_or-set_same last_but_one (slot_word s s.last) (opening_word s given s.last) 0 (let long = last_but_one_size in omega arith))
+    | inr n ↦ get_or-set_other last_but_one (slot_word s s.last) (slot_word s slot) (opening_word s given s.last) 0 (λ e. n (omega arith)) ∙ before slot inside n
+  ]
+    where
+      first : (slot : ℕ) → slot + 2 ≤ s.last → opening_word s given slot ≡ 0
+      first slot low = by (nat_lt given slot)
+        where
+          no : nat_lt s.last (slot + 2) ≡ false
+          no = grind (arith, low)
+
+          by : (b : Bool) → (if b && nat_lt s.last (slot + 2) then free_word 0 else 0) ≡ 0
+          by true = ap (λ b. if b then free_word 0 else 0) no
+          by false = refl
+
+      before : (slot : ℕ) → slot ≤ s.last → slot ≢ s.last → get_or last_but_one (slot_word s slot) 0 ≡ opening_word s given slot
+      before slot inside n = elim (cases_eq slot (s.last - 1)) [
+        | inl e ↦
+            subst (λ x. get_or last_but_one (slot_word s x) 0 ≡ opening_word s given x) (sym e)
+            (get_or-set_same placed (slot_word s (s.last - 1)) (opening_word s given (s.last - 1)) 0 (let long = placed_size in omega arith))
+        | inr m ↦
+            get_or-set_other placed (slot_word s (s.last - 1)) (slot_word s slot) (opening_word s given (s.last - 1)) 0 (λ e. m (omega arith))
+            ∙ (unplaced (slot_word s slot) (λ e. omega arith)
+            ∙ (get_or_past cards (slot_word s slot) 0 (omega arith)
+            ∙ sym (first slot (omega arith))))
+      ]
 
   -- no place announces anything
   quiet : (q : ℕ) → announced_by (get_or all (place_word s q) 0) ≡ None
   quiet q = elim (cases_eq (place_word s q) (place_word s 0)) [
     | inl e ↦ ap (λ i. announced_by (get_or all i 0)) e ∙ ap announced_by first_place
-    | inr n ↦ ap announced_by (behind_cards (place_word s q) (omega arith) n)
+    | inr n ↦ ap announced_by (behind_cards (place_word s q) (omega arith) (omega arith) n)
   ]
 
-  -- no slot is free
-  unfreed : (c : ℕ) → stamp_at s (λ slot. slot) all c ≡ None
-  unfreed c =
-      ap (λ n. if nat_le (slot_of c) s.last && slot_of c == c then freed_by n else None)
-      (behind_cards (slot_word s (slot_of c)) (omega arith) (λ e. omega arith))
-      ∙ neither (nat_le (slot_of c) s.last && slot_of c == c)
+  -- what is free is out, with a past stamp
+  free_is_out : (clock c r : ℕ) → stamp_at s (lies_opened s given) all c ≡ Some r → (r ≤ clock) × (out_opened c ≡ true)
+  free_is_out clock c r = inside (nat_le (slot_of c) s.last) refl
     where
-      neither : (b : Bool) → (if b then freed_by 0 else None) ≡ None
-      neither true = refl
-      neither false = refl
+      stamped : (o : Bool) → lies_opened s given (slot_of c) ≡ (if o then 2305843009213693952 + slot_of c else slot_of c) → (there : Bool) → (lies_opened s given (slot_of c) == c) ≡ there
+          → (if there then freed_by (if o then free_word 0 else 0) else None) ≡ Some r → (r ≤ clock) × (out_opened c ≡ true)
+      stamped true lies true here is =
+          let same = eqb-true (lies_opened s given (slot_of c)) c here in
+          let stamp = same_Some 0 r is in
+          let out : nat_lt greatest_number c ≡ true = grind (arith, same, lies) in
+          (omega arith, out)
+      stamped true lies false here is = absurd (some_not_none is refl)
+      stamped false lies true here is = absurd (some_not_none is refl)
+      stamped false lies false here is = absurd (some_not_none is refl)
+
+      inside : (b : Bool) → nat_le (slot_of c) s.last ≡ b
+          → (if b && lies_opened s given (slot_of c) == c then freed_by (get_or all (slot_word s (slot_of c)) 0) else None) ≡ Some r → (r ≤ clock) × (out_opened c ≡ true)
+      inside true low is =
+          let word = slots_opened (slot_of c) (leb-true (slot_of c) s.last low) in
+          stamped (opens_free s given (slot_of c)) refl (lies_opened s given (slot_of c) == c) refl
+          (sym (ap (λ n. if lies_opened s given (slot_of c) == c then freed_by n else None) word) ∙ is)
+      inside false low is = absurd (some_not_none is refl)
 
   module _ (v : View) (rest : IsAtRest v) (one : 1 ≤ s.places) where
     abbrev first : Known
@@ -116,17 +220,17 @@ module _ (s : Slots) (cards : List ℕ) (size : length cards ≡ table_size s.la
     nothing part x here there zero = here
     nothing part x here there (suc i) = there
 
-    pub first_periods : PeriodsAreSound s (opening all [] first) (λ slot. slot) (λ x. false) (λ q. 0) (λ q x. false)
+    pub first_periods : PeriodsAreSound s (opening all [] first) (lies_opened s given) out_opened (λ q. 0) (λ q x. false)
     first_periods = record {
-      sound = grace_starts s.places (grace_of s (opening all [] first) (λ slot. slot) (λ c. false) (λ q. 0) (λ q c. false)) (record {
+      sound = grace_starts s.places (grace_of s (opening all [] first) (lies_opened s given) out_opened (λ q. 0) (λ q c. false)) (record {
         word = λ q. unsaid (nat_lt q s.places) q;
         pending = nothing (λ p. pending_by p.stamp) None refl refl;
         least = nothing (λ p. p.least) 0 refl refl;
         seen = λ i q. nothing (λ p. nat_lt q p.looked) false (none q) (none q) i;
         safe = nothing (λ p. p.safe) 0 refl refl;
-        free = unfreed;
+        free = free_is_out (get_or all (clock_word s) 0);
       });
-      low = let clock = behind_cards (clock_word s) (omega arith) (λ e. omega arith) in omega arith;
+      low = let clock = behind_cards (clock_word s) (omega arith) (omega arith) (λ e. omega arith) in omega arith;
       each = alone (λ j u. PeriodHolds s all u) first_holds;
       since = λ i q a k at. alone (λ j u. u.period.place ≡ Some q → u.period.announced ≡ Some a → 0 ≡ u.period.began) (λ is an. refl) i k at;
       apart = λ i j q k l at at' has has'. alone (λ i u. i ≡ 0) refl i k at ∙ sym (alone (λ j u. j ≡ 0) refl j l at');
@@ -139,35 +243,29 @@ module _ (s : Slots) (cards : List ℕ) (size : length cards ≡ table_size s.la
         unsaid true q = quiet q
         unsaid false q = refl
 
--- a word that is 0 notes nothing
-none_noted : (k : ℕ) → is_noted 0 k ≡ true → ⊥
-none_noted zero is = false≢true is
-none_noted (suc zero) is = false≢true is
-none_noted (suc (suc zero)) is = false≢true is
-none_noted (suc (suc (suc k))) is = false≢true is
-
--- nothing is dead in it, and nobody is in a period
-pub first_ages : (plan : TablePlan) (s : Slots) (tree : TableState) → IsReached plan tree → (cards : List ℕ) (size : length cards ≡ table_size s.last) → IsAtRest (first_of plan) → 1 ≤ s.places
-    → AgesAreSound plan s tree (opening (opening_words s cards) [] (record { tree = first_of plan; period = period_by (Some s) })) (λ slot. slot) (λ x. false) (λ q x. false)
-first_ages plan s tree reached cards size rest one =
+-- what is out in it has numbers that no card has, and nobody is in a period
+pub first_ages : (plan : TablePlan) (s : Slots) (tree : TableState) → IsReached plan tree → (given : ℕ) (cards : List ℕ) (size : length cards ≡ table_size s.last) → IsAtRest (first_of plan) → 1 ≤ s.places
+    → plan.last_card ≤ greatest_number
+    → AgesAreSound plan s tree (opening (opening_words s given cards) [] (record { tree = first_of plan; period = period_by (Some s) })) (lies_opened s given) out_opened (λ q x. false)
+first_ages plan s tree reached given cards size rest one most =
     let has = tables_have_uses plan tree reached in record {
-      now = record { machine = has.0; uses = has.1; each = λ c k low is. absurd (false≢true is) };
-      still = λ q x is. is;
-      since = λ i q a k at. alone s cards size (first_of plan) rest one (λ j u. u.period.place ≡ Some q → u.period.announced ≡ Some a → IsAtRest u.tree ⊎ ForgotWhen plan tree j (λ x. false))
+      now = record { machine = has.0; uses = has.1; each = λ c k low is. is_beyond (let past = ltb-true greatest_number c is in omega arith) };
+      still = λ q x is. absurd (false≢true is);
+      since = λ i q a k at. alone s given cards size (first_of plan) rest one (λ j u. u.period.place ≡ Some q → u.period.announced ≡ Some a → IsAtRest u.tree ⊎ ForgotWhen plan tree j (λ x. false))
           (λ is an. inl rest) i k at;
-      noted = λ slot k low is. absurd (none_noted k (subst (λ n. is_noted n k ≡ true) (slots_empty s cards size slot) is));
-      read = λ i k r at. alone s cards size (first_of plan) rest one (λ j u. u.period.read ≡ Some r → r.word % 8 ≢ 7 → (b : ℕ) → is_noted r.word b ≡ true → IsOut plan tree has.0 has.1 (4 * card_by r.slot r.word + b))
+      noted = λ slot k low is. is_beyond (let past = noted_opened s given slot k (subst (λ n. is_noted n k ≡ true) (slots_opened s given cards size slot low) is) in omega arith);
+      read = λ i k r at. alone s given cards size (first_of plan) rest one (λ j u. u.period.read ≡ Some r → r.word % 8 ≢ 7 → (b : ℕ) → is_noted r.word b ≡ true → IsOut plan tree has.0 has.1 (4 * card_by r.slot r.word + b))
           (λ is. absurd (some_not_none is refl)) i k at;
-      lost = λ i c k at. alone s cards size (first_of plan) rest one (λ j u. u.period.lost ≡ Some c → IsAside has.0.stages tree.views c) (λ is. absurd (some_not_none is refl)) i k at;
+      lost = λ i c k at. alone s given cards size (first_of plan) rest one (λ j u. u.period.lost ≡ Some c → IsAside has.0.stages tree.views c) (λ is. absurd (some_not_none is refl)) i k at;
     }
 
 -- and has as many words as it is to have
-pub whole_length : (plan : TablePlan) → MayStart plan → (cards : List ℕ) → length cards ≡ table_size (last_slot plan) → length (whole_words plan.slots cards) ≡ whole_size plan
+pub whole_length : (plan : TablePlan) → MayStart plan → (cards : List ℕ) → length cards ≡ table_size (last_slot plan) → length (whole_words plan.slots (length plan.start) cards) ≡ whole_size plan
 whole_length plan may cards size = by plan.slots may.slots size
   where
-    by : (o : Option Slots) → SlotsFit plan o → length cards ≡ table_size (last_slot_of o plan.last_card) → length (whole_words o cards) ≡ size_by o plan.last_card
+    by : (o : Option Slots) → SlotsFit plan o → length cards ≡ table_size (last_slot_of o plan.last_card) → length (whole_words o (length plan.start) cards) ≡ size_by o plan.last_card
     by None fit size = size
-    by (Some s) fit size = all_size s cards (let last = fit.2 in let most = fit.4 in size ∙ ap table_size (omega arith))
+    by (Some s) fit size = all_size s (length plan.start) cards (let last = fit.2 in let most = fit.4 in size ∙ ap table_size (omega arith))
 
 -- the cards and places of a table fit its plan
 pub slots_fit : (plan : TablePlan) (last places : ℕ) → plan.slots ≡ slots_of last places → plan.last_card ≡ last_for last places → places ≤ most_places → length plan.start ≤ last → last ≤ greatest_card

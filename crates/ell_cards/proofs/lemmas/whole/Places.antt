@@ -52,7 +52,7 @@ size_some plan = by plan.slots
     by (Some s) = omega arith
 
 -- the first pass of a table has the first place, if there is one
-pub first_place_fits : (o : Option Slots) (last words : ℕ) → words ≡ size_by o last → PlaceFits (record { place = (period_by o).place; announces = false; found = 0; safe = 0; takings = 0 }) words (period_by o)
+pub first_place_fits : (o : Option Slots) (last words : ℕ) → words ≡ size_by o last → PlaceFits (record { place = (period_by o).place; announces = false; found = 0; safe = 0; numbers = 0 }) words (period_by o)
 first_place_fits None last words is = record {
   place = refl;
   other = refl;

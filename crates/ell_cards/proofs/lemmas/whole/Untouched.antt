@@ -13,7 +13,7 @@ use Rattle.ell_layout.proofs.lemmas.Listed.{same_card}
 use Rattle.ell_cards.specs.declared.call.Call.{Call}
 use Rattle.ell_cards.specs.declared.view.Known.{Known}
 use Rattle.ell_cards.specs.declared.view.Slots.{Slots}
-use Rattle.ell_cards.specs.Ages.{AreDead, ForgotWhen, HasPeriods}
+use Rattle.ell_cards.specs.Ages.{is_dead, is_aside, is_beyond, AreDead, ForgotWhen, HasPeriods}
 use Rattle.ell_cards.specs.Calls.{May, word_of}
 use Rattle.ell_cards.specs.Laws.{machine_of_table}
 use Rattle.ell_cards.specs.Models.{TablePlan}
@@ -34,11 +34,12 @@ use Rattle.ell_cards.proofs.lemmas.ties.Touched.{IsReady, spots, no_claim, touch
 -- the root is not dead
 pub root_lives : (plan : TablePlan) (tree : TableState) (dead : ℕ → Bool) → AreDead plan tree dead → dead 0 ≡ true → ⊥
 root_lives plan tree dead h is = elim (h.each 0 0 (omega arith) is) [
-  | inl died ↦ elim died [
+  | is_dead is ↦ elim is [
     | inl gone ↦ h.uses.outs.outs.out gone.taker 0 gone.takes root
     | inr never ↦ (never_comes_stays_out (machine_of_table plan tree h.machine) h.uses 0 never).out root
   ]
-  | inr aside ↦ false≢true (sym (waits-no_start (h.machine.stages 0) aside.waits) ∙ ap (λ st. is_start st) h.machine.invariant.words.opening)
+  | is_aside is ↦ false≢true (sym (waits-no_start (h.machine.stages 0) is.waits) ∙ ap (λ st. is_start st) h.machine.invariant.words.opening)
+  | is_beyond is ↦ omega arith
 ]
   where
     root : Reached h.machine.words 0

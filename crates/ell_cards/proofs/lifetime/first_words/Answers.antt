@@ -13,11 +13,11 @@ returns-clause-whole g c =
     whole_first c.args.plan.now c.requires.may cards c.in_ok-words.words.items (subst (λ (l : List ℕ). (i : ℕ) → IsWord (get_or l i 0)) c.as_slice.ensures.value c.are_words.ensures)
     (c.in_ok-cards.ensures.size ∙ (ap table_size c.last_slot-last.ensures ∙ ap (λ (p : TablePlan). table_size (last_slot p)) c.plan.view_is))
     c.in_ok-cards.ensures.are
-    (c.in_ok-words.ensures ∙ ap (λ (p : TablePlan). whole_words p.slots cards) c.plan.view_is)
+    (c.in_ok-words.ensures ∙ (ap (λ n. whole_words c.plan.inside.slots n cards) c.start_count.ensures ∙ ap (λ (p : TablePlan). whole_words p.slots (length c.args.plan.now.start) cards) c.plan.view_is))
 
 pub returns-clause-size : goal.returns-clause-size
 returns-clause-size g c =
     let cards = c.in_ok-cards.cards.items in
-    ap length (c.in_ok-words.ensures ∙ ap (λ (p : TablePlan). whole_words p.slots cards) c.plan.view_is)
+    ap length (c.in_ok-words.ensures ∙ (ap (λ n. whole_words c.plan.inside.slots n cards) c.start_count.ensures ∙ ap (λ (p : TablePlan). whole_words p.slots (length c.args.plan.now.start) cards) c.plan.view_is))
     ∙ whole_length c.args.plan.now c.requires.may cards
     (c.in_ok-cards.ensures.size ∙ (ap table_size c.last_slot-last.ensures ∙ ap (λ (p : TablePlan). table_size (last_slot p)) c.plan.view_is))

@@ -25,7 +25,7 @@ invariant_of-pass g c =
     let knows = table.knows in
     let size = ap (λ i. i.words) table.own ∙ table.words in
     let enough = size_some c.args.plan in
-    let stands = c.first.ensures ∙ ap (λ (p : TablePlan). record { place = (period_by p.slots).place; announces = false; found = 0; safe = 0; takings = 0 }) c.plan.view_is in (
+    let stands = c.first.ensures ∙ ap (λ (p : TablePlan). record { place = (period_by p.slots).place; announces = false; found = 0; safe = 0; numbers = 0 }) c.plan.view_is in (
       subst (λ (m : Me (Unit {0}) Known). PassFits keys share words (shown m.0.tree)) (sym knows)
           (subst (λ (p : TablePlan). PassFits p.keys (record { units = whole_share; counts = p.shared }) words (first_of c.args.plan)) (sym c.plan.view_is)
           (first_fits c.args.plan words (omega arith) c.requires.may.ascending)),
