@@ -18,6 +18,7 @@ enum {
     CHANGES_BEYOND = 30000000,
     THREADS = 4,
     ADDITIONS = 20000,
+    EACH = 16,
     WANTED = 30,
     MOST = 20000,
     MANY = 3000,
@@ -130,6 +131,45 @@ static long together(uint64_t cards) {
         wrong += w[t].wrong + (elltree_free(&w[t].handle) != ELLTREE_YES);
         w[t].wrong = 0;
     }
+    return wrong;
+}
+
+/* Four threads insert and delete keys of their own in a tree of two cards a key, three a thread and three more, so each card is soon in use. No card
+   is lost by that: once they have ended, one handle is never refused as it inserts all keys, again and again. */
+static void *crowd(void *given) {
+    struct worker *w = given;
+    uint64_t seed = 88172645463325252u + w->number, told;
+    for (uint64_t i = 0; i < ADDITIONS; i++) {
+        const uint64_t random = next(&seed), key = THREADS * ((random >> 20) % EACH) + w->number;
+        int32_t said;
+        while (again(said = random & 1 ? elltree_insert(&w->handle, key, i, TRIES) : elltree_take(&w->handle, key, TRIES, &told)))
+            ;
+        w->wrong += said != ELLTREE_YES && said != ELLTREE_NO;
+    }
+    return NULL;
+}
+
+static long none_is_lost(void) {
+    static struct worker w[THREADS];
+    pthread_t running[THREADS];
+    uint64_t told;
+    long wrong = elltree_open_reusing(&w[0].handle, NULL, 0, 2 * THREADS * EACH + 3 * THREADS + 3, THREADS) != ELLTREE_YES;
+    for (uint64_t t = 1; t < THREADS; t++) {
+        wrong += elltree_another(&w[0].handle, &w[t].handle) != ELLTREE_YES;
+        w[t].number = t;
+    }
+    for (int t = 0; t < THREADS; t++)
+        pthread_create(&running[t], NULL, crowd, &w[t]);
+    for (int t = 0; t < THREADS; t++)
+        pthread_join(running[t], NULL);
+    for (uint64_t round = 0; round < THREADS * EACH; round++) {
+        for (uint64_t key = 0; key < THREADS * EACH; key++)
+            wrong += elltree_insert(&w[0].handle, key, key, TRIES) < 0;
+        for (uint64_t key = 0; key <= round; key++)
+            wrong += elltree_take(&w[0].handle, key * (2 * round + 1) % (THREADS * EACH), TRIES, &told) != ELLTREE_YES;
+    }
+    for (int t = 0; t < THREADS; t++)
+        wrong += w[t].wrong + (elltree_free(&w[t].handle) != ELLTREE_YES);
     return wrong;
 }
 
@@ -312,8 +352,9 @@ static long made_and_freed(uint64_t cards) {
 }
 
 int main(void) {
-    const long wrong = as_many_as_asked_for() + all_filled_and_emptied() + alone(30, KEYS, CHANGES) + alone(1000, KEYS, CHANGES) + alone(9, 2, CHANGES_BEYOND) + together(64) +
-                       together(1000) + made_and_freed(64) + beside_one_that_is_stopped(100) + beside_one_that_rests();
+    const long wrong = as_many_as_asked_for() + all_filled_and_emptied() + alone(30, KEYS, CHANGES) + alone(1000, KEYS, CHANGES) +
+                       alone(9, 2, CHANGES_BEYOND) + together(64) + together(1000) + none_is_lost() + made_and_freed(64) +
+                       beside_one_that_is_stopped(100) + beside_one_that_rests();
     printf("%ld wrong\n", wrong);
     return wrong != 0;
 }

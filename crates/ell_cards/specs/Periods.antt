@@ -16,7 +16,7 @@ use Rattle.ell_cards.specs.declared.view.Told.TheVariants.{Met, Key}
 use Rattle.ell_cards.specs.declared.view.View.{View}
 use Rattle.ell_cards.specs.Models.{TablePlan, IsFree, IsTold}
 use Rattle.ell_cards.specs.Seeking.{could_have, could_take, missed_none, missed_one, no_seek, sought_on}
-use Rattle.ell_cards.specs.SlotWords.{slot_of, card_by, free_word, freed_by, has_slot_in, is_used_for}
+use Rattle.ell_cards.specs.SlotWords.{slot_of, card_by, free_word, freed_by, has_slot_in}
 
 -- the state of a table, with all that its passes know
 abbrev pub WholeState : Type 0
@@ -62,27 +62,34 @@ abbrev pub pending_by : Option Stamp → Option (ℕ × ℕ)
 pending_by None = None
 pending_by (Some stamp) = Some (stamp.card, stamp.reading)
 
--- As a table opens, the last two slots are free, with the stamp 0, unless a card of the start keys lies there. They are for
--- deletes alone, so other changes leave out their numbers, of the first turn as of any other.
-abbrev pub opens_free : Slots → ℕ → ℕ → Bool
-opens_free s given slot = nat_lt given slot && nat_lt s.last (slot + 2)
+-- the word of a slot as a table opens with so many start keys: each slot is free, with the stamp 0, unless the card of the root or of a
+-- start key lies there
+abbrev pub opening_word : ℕ → ℕ → ℕ
+opening_word given slot = if nat_lt given slot then free_word 0 else 0
 
--- the word of a slot as a table opens with so many start keys
-abbrev pub opening_word : Slots → ℕ → ℕ → ℕ
-opening_word s given slot = if opens_free s given slot then free_word 0 else 0
-
--- the words of cards, and behind them those of the periods at the start: nobody has a place but the first pass, and the
--- last two slots are free
-abbrev pub opening_words : Slots → ℕ → List ℕ → List ℕ
-opening_words s given words =
+-- the words of cards, and behind them those of periods, where nobody has a place but the first pass, and those of slots that
+-- are all free
+abbrev pub words_of_free_slots : Slots → List ℕ → List ℕ
+words_of_free_slots s cards =
     slice_set
-    (slice_set (slice_set (words ++ replicate (slots_size s - length words) 0) (place_word s 0) 1)
-    (slot_word s (s.last - 1)) (opening_word s given (s.last - 1)))
-    (slot_word s s.last) (opening_word s given s.last)
+    (slice_set ((cards ++ replicate (slot_word s 0 - length cards) 0) ++ replicate (slots_size s - slot_word s 0) (free_word 0))
+    (clock_word s) 1)
+    (place_word s 0) 1
 
-abbrev pub whole_words : Option Slots → ℕ → List ℕ → List ℕ
-whole_words None given words = words
-whole_words (Some s) given words = opening_words s given words
+-- The words of a table with places at its start, behind these of its cards: the clock is 1, so that the stamp 0 is safe for
+-- whoever looks at the places, of which the first pass has the first one and nobody another, and slots are free.
+pub record AreOpeningWords (s : Slots) (given : ℕ) (cards words : List ℕ) : Type 0 where
+  pub size : length words ≡ slots_size s
+  pub cards_first : (i : ℕ) → i < table_size s.last → slice_index words i ≡ slice_index cards i
+  pub clock : slice_index words (clock_word s) ≡ 1
+  pub place : slice_index words (place_word s 0) ≡ 1
+  pub others : (i : ℕ) → clock_word s < i → i < clock_word s + 9 + 8 * s.places → i ≢ place_word s 0
+      → slice_index words i ≡ 0
+  pub slots : (slot : ℕ) → slot ≤ s.last → slice_index words (slot_word s slot) ≡ opening_word given slot
+
+abbrev pub AreWholeWords : Option Slots → ℕ → List ℕ → List ℕ → Type 0
+AreWholeWords None given cards words = words ≡ cards
+AreWholeWords (Some s) given cards words = AreOpeningWords s given cards words
 
 -- the cards and the places of a table of cards up to a last one, none for no places, and the number of the last
 -- card to which its claims may come, if each card could have words
@@ -202,12 +209,9 @@ after_taking c p = record p { read = None; slot = Some c; sought = missed_none p
 abbrev pub after_missing : ℕ → ℕ → Period → Period
 after_missing c n p = record (after_read (slot_of c) n p) { sought = missed_one p.sought }
 
--- the word of a card's slot was read, and so the slot was taken if that card lies there already; else it may be one
--- that could be taken
+-- the word of a card's slot was read, which could be taken, or could not
 abbrev pub after_own : ℕ → ℕ → Period → Period
-after_own c n p =
-    if is_used_for c n then after_taking c p
-    else if could_take c n p.safe then after_read (slot_of c) n p else after_missing c n p
+after_own c n p = if could_take n p.safe then after_read (slot_of c) n p else after_missing c n p
 
 -- the clock was read for a card whose nodes are dead
 abbrev pub after_stamp : ℕ → ℕ → Period → Period

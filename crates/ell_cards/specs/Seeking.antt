@@ -2,17 +2,17 @@
 use Rattle.std.specs.Prelude.{◌≡◌, ℕ, ◌⊎◌, ◌+◌, ◌-◌, ◌*◌, ◌/◌, ◌<◌, ◌≤◌, ◌%◌, ◌==◌, ◌&&◌, nat_lt, nat_le, not, if◌then◌else◌, Bool, true, false, Option, IfSome}
 use Rattle.ell_cards.specs.declared.view.Seek.{Seek}
 use Rattle.ell_cards.specs.declared.view.Slots.{Slots}
-use Rattle.ell_cards.specs.SlotWords.{has_slot_in, slot_of, turn_of, turn_in, stamp_in}
+use Rattle.ell_cards.specs.SlotWords.{has_slot_in, slot_of, turn_of, stamp_in}
 
 -- how many of the numbers that have slots come before this one, which has one: each turn has as many as there are slots,
 -- but for those that child words do not tell from the first, which have none
 abbrev pub slots_before : Slots → ℕ → ℕ
 slots_before s c = (s.last + 1) * (turn_of c - turn_of c / 1048576) + slot_of c
 
--- whether a pass with a safe number could take the slot of a card, by the slot's word: that is of the card's turn and
--- not free, or it was set free with a stamp below the safe number
-abbrev pub could_take : ℕ → ℕ → ℕ → Bool
-could_take c n safe = if n % 8 == 7 then nat_lt (stamp_in n) safe else turn_in n == turn_of c
+-- whether a pass with a safe number could take a slot, by the slot's word: that was set free with a stamp below the safe
+-- number
+abbrev pub could_take : ℕ → ℕ → Bool
+could_take n safe = n % 8 == 7 && nat_lt (stamp_in n) safe
 
 -- the last two slots are for deletes alone: whether a change may have the slot of a card
 abbrev pub may_have : Slots → Bool → ℕ → Bool
@@ -20,7 +20,7 @@ may_have s for_delete c = if for_delete then true else nat_le (slot_of c + 2) s.
 
 -- whether a pass with a safe number could take the slot of a card for a change, by the slot's word
 abbrev pub could_have : Slots → Bool → ℕ → ℕ → ℕ → Bool
-could_have s for_delete c n safe = could_take c n safe && may_have s for_delete c
+could_have s for_delete c n safe = could_take n safe && may_have s for_delete c
 
 -- a pass that has not sought a slot has read none
 abbrev pub no_seek : Seek

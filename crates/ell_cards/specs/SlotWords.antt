@@ -42,7 +42,3 @@ card_by slot n = 2097152 * turn_in n + slot
 -- the stamp with which a word sets its slot free, if it does
 abbrev pub freed_by : ℕ → Option ℕ
 freed_by n = if n % 8 == 7 then Some (stamp_in n) else None
-
--- whether a slot is in use for this card, which has that slot, by the slot's word
-abbrev pub is_used_for : ℕ → ℕ → Bool
-is_used_for c n = not (n % 8 == 7) && turn_in n == turn_of c

@@ -22,7 +22,7 @@ use Rattle.ell_cards.specs.Apart.{IsApart, IsToldApart}
 use Rattle.ell_cards.specs.Calls.{May, child_address, place_of, atomic_of, left_by}
 use Rattle.ell_cards.specs.Models.{TablePlan, IsFree, IsTold, MayPart}
 use Rattle.ell_cards.specs.PeriodLaws.{IsInPeriod}
-use Rattle.ell_cards.specs.Periods.{WholeState, IsAtRest, slot_word, slots_size, opening_words, after_give, after_taking, given_period}
+use Rattle.ell_cards.specs.Periods.{WholeState, IsAtRest, slot_word, slots_size, AreOpeningWords, after_give, after_taking, given_period}
 use Rattle.ell_cards.specs.Shown.{IsWord, cut_by, IsNear}
 use Rattle.ell_cards.specs.SlotWords.{has_slot_in, slot_of, turn_of}
 use Rattle.ell_cards.specs.Starts.{MayStart, IsReached}
@@ -111,21 +111,20 @@ JoinsKeepTies = (plan : TablePlan) (s : Slots) (tree : TableState) (t : WholeSta
     })
     lie dead was_dead
 
--- the memory of a table with places, as it opens with these words of cards, is tied to a tree that turns may start
--- from
-pub record OpensTied (plan : TablePlan) (s : Slots) (cards : List ℕ) : Type 0 where
+-- the memory of a table with places, as it opens with these words, is tied to a tree that turns may start from
+pub record OpensTied (plan : TablePlan) (s : Slots) (words : List ℕ) : Type 0 where
   pub tree : TableState
   pub reached : IsReached plan tree
   pub views : trees_of (first_known plan ∷ []) ≡ tree.views
   pub lie : ℕ → ℕ
   pub dead : ℕ → Bool
   pub was_dead : ℕ → ℕ → Bool
-  pub tied : IsTiedByAges plan s tree (opening (opening_words s (length plan.start) cards) [] (first_known plan)) lie dead was_dead
+  pub tied : IsTiedByAges plan s tree (opening words [] (first_known plan)) lie dead was_dead
 
 abbrev pub OpeningsAreTied : Type 0
-OpeningsAreTied = (plan : TablePlan) (s : Slots) (cards : List ℕ) → plan.slots ≡ Some s → MayStart plan
+OpeningsAreTied = (plan : TablePlan) (s : Slots) (cards words : List ℕ) → plan.slots ≡ Some s → MayStart plan
     → length cards ≡ table_size s.last → words_of cards ≡ words_at_start plan.flat plan.start
-    → ((i : ℕ) → IsWord (slice_index cards i)) → OpensTied plan s cards
+    → ((i : ℕ) → IsWord (slice_index cards i)) → AreOpeningWords s (length plan.start) cards words → OpensTied plan s words
 
 -- A step of a pass on the words of periods leaves the words of cards as they are. The pass has for its card in hand the
 -- slot that it had, and nothing that was dead lives. If it begins a period, what was dead then is what was dead before
@@ -172,22 +171,6 @@ TakesKeepTies = (plan : TablePlan) (s : Slots) (tree : TableState) (t : WholeSta
     → u.period.announced ≡ Some a
     → was_dead q (lie (slot_of c)) ≡ true)
     → IsTiedByAges plan s tree (memory_taken s t id k c) (put lie (slot_of c) c) dead was_dead
-
--- Where that card lies in its slot already, as each of the first turn does, its pass takes the slot with its word
--- as it is.
-abbrev pub OwnSlotsKeepTies : Type 0
-OwnSlotsKeepTies = (plan : TablePlan) (s : Slots) (tree : TableState) (t : WholeState) (lie : ℕ → ℕ)
-    (dead : ℕ → Bool) (was_dead : ℕ → ℕ → Bool) → length t.words ≡ slots_size s
-    → IsTiedByAges plan s tree t lie dead was_dead → trees_of t.views ≡ tree.views
-    → (id : ℕ) (k : Known) → get_elem? t.views id ≡ some k → (c : ℕ) → HoldsWaiting k.tree c → has_slot_in s.last c ≡ true
-    → LiesThere s lie c
-    → IsTiedByAges plan s tree
-    (record {
-      words = slice_set t.words (slot_word s (slot_of c)) (slice_index t.words (slot_word s (slot_of c)));
-      homes = t.homes;
-      views = slice_set t.views id (record { tree = k.tree; period = after_taking c k.period });
-    })
-    lie dead was_dead
 
 -- the node to which a child word of the tree leads now
 abbrev pub child_now : TableState → ℕ → Bool → ℕ

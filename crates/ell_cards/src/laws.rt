@@ -31,7 +31,7 @@ ghost use Rattle.ell_cards.specs.Laws.{StepsAreEvents, SplitsAreHandovers, Joins
 ghost use Rattle.ell_cards.specs.Runs.{RunsAreLawful, RunsAreSchedules};
 ghost use Rattle.ell_cards.specs.RunLaws.{TableWinsAreInOrder, StartsAreKept, ReachedHasMachine};
 ghost use Rattle.ell_cards.specs.PeriodLaws.{SafeNumbersAreSafe, FreeSlotsAreUntouched};
-ghost use Rattle.ell_cards.specs.Ties.{CallsKeepTies, SplitsKeepTies, JoinsKeepTies, PeriodsKeepTies, TakesKeepTies, OwnSlotsKeepTies, OpeningsAreTied, CardsInSlotsAreFew, ExchangesAreNear, PassesTellApart, ChildrenAreApart};
+ghost use Rattle.ell_cards.specs.Ties.{CallsKeepTies, SplitsKeepTies, JoinsKeepTies, PeriodsKeepTies, TakesKeepTies, OpeningsAreTied, CardsInSlotsAreFew, ExchangesAreNear, PassesTellApart, ChildrenAreApart};
 ghost use Rattle.ell_cards.specs.ShownTakings.{TakingsAreShown};
 ghost use Rattle.ell_cards.specs.Shown.{StepsAreShown, CallsCanBeShown, GuardsAreLifted, ClaimsAreShown, StoresStayWhole, TellingsAreShown, CallsActAlike, HandoversAreShown};
 
@@ -379,8 +379,6 @@ pub fn ties_are_kept()
     // A step on the words of periods keeps memory tied, and so does one by which a pass takes a slot in which a dead card lies.
     ensures periods { PeriodsKeepTies }
     ensures takes { TakesKeepTies }
-    // So does one by which it takes the slot of a card that lies there already.
-    ensures owns { OwnSlotsKeepTies }
     // And so it is as a table opens.
     ensures opens { OpeningsAreTied }
     // Different cards that all lie in their slots are at most as many as there are slots.

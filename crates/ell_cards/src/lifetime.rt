@@ -15,7 +15,7 @@ ghost use Rattle.ell_cards.specs.Models.{flat_from, Steps, StepsOut, IsFree, IsC
 ghost use Rattle.ell_cards.specs.Changes.{left_view, right_view, joined_view};
 ghost use Rattle.ell_cards.specs.Inside.{IsNewTable};
 ghost use Rattle.ell_cards.specs.Stepping.{MaySplit, MayHave, PartsShare};
-ghost use Rattle.ell_cards.specs.Periods.{most_claims, last_for, slots_of, whole_size, whole_words};
+ghost use Rattle.ell_cards.specs.Periods.{AreWholeWords, most_claims, last_for, slot_word, slots_of, slots_size, whole_size, words_of_free_slots};
 ghost use Rattle.ell_cards.specs.Shown.{IsWord};
 ghost use Rattle.ell_cards.specs.Starts.{MayStart, OpensBy, most_places};
 ghost use Rattle.ell_cards.specs.Whole.{IsWhole, first_known};
@@ -26,6 +26,7 @@ use crate::pass::{Pass, Standing};
 use crate::period::last_slot;
 use crate::rule::{CardRule, Joined, PartedBy, SplitBy};
 use crate::share::{Share, WHOLE_SHARE};
+use crate::slots::FREE_FROM_START;
 use crate::table::CardTable;
 use crate::view::{Known, Plan, Slots, TableKind};
 use atomic_table::{Seat, Table};
@@ -476,27 +477,56 @@ fn card_words<A: Allocator + Copy>(
     Ok(words)
 }
 
-// These words, and behind them those of the periods, if there are places: nobody has one but the first pass, and of the
-// slots those that are for deletes alone are free, unless a card of so many start keys lies there.
+// These words, and behind them those of the periods, if there are places: the clock is 1, nobody has a place but the first
+// pass, and each slot is free but for the card of the root and those of so many start keys.
 fn with_places<A: Allocator + Copy>(
     words: Vec<u64, A>,
     slots: Option<Slots>,
     given: u64,
 ) -> Result<Vec<u64, A>, AllocError>
-    requires fit { IfSome slots (λ s. (s.last ≤ greatest_card) × (s.places ≤ greatest_card) × (length words.items ≡ table_size s.last)) }
-    ensures { IfOk result (λ all. all.items ≡ whole_words slots given words.items) }
+    requires fit { IfSome slots (λ s. (given ≤ s.last) × (s.last ≤ greatest_card) × (s.places ≤ greatest_card)
+        × (length words.items ≡ table_size s.last)) }
+    ensures { IfOk result (λ all. AreWholeWords slots given words.items all.items) }
 {
     let Some(slots) = slots else {
         return Ok(words);
     };
-    let mut words = words;
-    words.resize(slots.size(), 0)?;
-    words[slots.place_word(0)] = 1;
-    let last = slots.last;
-    let last_but_one = last.saturating_sub(1);
-    words[slots.slot_word(last_but_one)] = slots.opening_word(given, last_but_one);
-    words[slots.slot_word(last)] = slots.opening_word(given, last);
+    let mut words = with_free_slots(words, slots)?;
+    use_slots(words.as_mut_slice(), slots, given);
     Ok(words)
+}
+
+// These words, and behind them those of periods, and of slots that are all free.
+fn with_free_slots<A: Allocator + Copy>(
+    words: Vec<u64, A>,
+    slots: Slots,
+) -> Result<Vec<u64, A>, AllocError>
+    requires last { slots.last ≤ greatest_card }
+    requires few { slots.places ≤ greatest_card }
+    requires size { length words.items ≡ table_size slots.last }
+    ensures { IfOk result (λ all. all.items ≡ words_of_free_slots slots words.items) }
+{
+    let mut words = words;
+    words.resize(slots.slot_word(0), 0)?;
+    words.resize(slots.size(), FREE_FROM_START)?;
+    words[slots.clock_word()] = 1;
+    words[slots.place_word(0)] = 1;
+    Ok(words)
+}
+
+// Marks the slots up to this one as in use.
+fn use_slots(words: &mut [u64], slots: Slots, upto: u64)
+    requires inside { upto ≤ slots.last }
+    requires last { slots.last ≤ greatest_card }
+    requires few { slots.places ≤ greatest_card }
+    requires size { length words.old ≡ slots_size slots }
+    ensures size { length words.new ≡ slots_size slots }
+    ensures used { (slot : ℕ) → slot ≤ upto → slice_index words.new (slot_word slots slot) ≡ 0 }
+    ensures same { (i : ℕ) → ((slot : ℕ) → slot ≤ upto → i ≢ slot_word slots slot) → slice_index words.new i ≡ slice_index words.old i }
+{
+    for slot in 0..upto + 1 {
+        words[slots.slot_word(slot)] = 0;
+    }
 }
 
 // A copy of some items.

@@ -8,8 +8,8 @@ ghost use Rattle.ell_cards.specs.Ages.{KnowsDeadNode, MayStamp};
 ghost use Rattle.ell_cards.specs.CardNodes.{AreTakenOut, KnowsDeadNodes, NeverCome};
 ghost use Rattle.ell_cards.specs.Dead.{HasTakenOut};
 ghost use Rattle.ell_cards.specs.Guards.{MayFill};
-ghost use Rattle.ell_cards.specs.Periods.{StandsAs, after_missing, after_own, after_read, after_seek, after_stamp, after_taking, has_slot, last_reading, opening_word, slot_word, spread};
-ghost use Rattle.ell_cards.specs.Seeking.{FindsNone, FindsNoneIn, FindsOneFor, may_have, missed_none, missed_one, sought_on};
+ghost use Rattle.ell_cards.specs.Periods.{StandsAs, after_missing, after_own, after_read, after_seek, after_stamp, after_taking, has_slot, last_reading, slot_word, spread};
+ghost use Rattle.ell_cards.specs.Seeking.{could_take, FindsNone, FindsNoneIn, FindsOneFor, may_have, missed_none, missed_one, sought_on};
 ghost use Rattle.ell_cards.specs.SlotWords.{card_by, has_slot_in, has_slots, is_noted, slot_of, stamp_in, turn_in, turn_of};
 ghost use Rattle.ell_cards.specs.Stepping.{MayGoOn};
 ghost use Rattle.ell_cards.specs.Tied.{HoldsWaiting};
@@ -34,8 +34,8 @@ const TURNS_TOLD_APART: u64 = 1_048_576;
 /// How many slots are left to deletes: the last ones of the table, which a pass takes for no other change.
 const LEFT_TO_DELETES: u64 = 2;
 
-/// The word of a slot that was set free with the stamp 0.
-const FREE_FROM_START: u64 = 7;
+/// The word of a slot that is free from the start, with the stamp 0.
+pub(crate) const FREE_FROM_START: u64 = 7;
 
 /// Returns the slot in which a card lies.
 #[inline(always)]
@@ -75,6 +75,14 @@ fn stamp_in(word: u64) -> u64
     ensures { result ≡ stamp_in word }
 {
     word / 8
+}
+
+// Returns whether a slot was set free with a stamp below a safe number, by the slot's word.
+#[inline(always)]
+fn is_free_before(word: u64, safe: u64) -> bool
+    ensures { result ≡ could_take word safe }
+{
+    word % 8 == 7 && stamp_in(word) < safe
 }
 
 // Returns where a slot has its word among those of the slots. Passes that claim cards one after the other take slots
@@ -130,20 +138,6 @@ impl Slots {
             NUMBERS_PER_TURN * next
         } else {
             NUMBERS_PER_TURN * (next + 1)
-        }
-    }
-
-    /// Returns the word of a slot as a table opens with so many start keys: a slot for deletes alone is free, unless a
-    /// card of a start key lies there, as other changes leave out its number of the first turn too.
-    pub(crate) fn opening_word(self, given: u64, slot: u64) -> u64
-        requires slot { slot ≤ self.last }
-        requires most { self.last ≤ greatest_card }
-        ensures { result ≡ opening_word self given slot }
-    {
-        if given < slot && !self.is_for_all(slot) {
-            FREE_FROM_START
-        } else {
-            0
         }
     }
 
@@ -463,7 +457,7 @@ impl<A: Allocator + Copy> CardTable<A> {
         self.note_surely(&mut pass.seat, slots, card, nodes, false)
     }
 
-    // Reads the word of the slot of a card in hand, and so takes the slot if that card lies there already.
+    // Reads the word of the slot of a card in hand, and counts a miss if the pass could not take the slot.
     fn own_slot(&self, seat: &mut Seat<(), Known>, slots: Slots, card: u64) -> u64
         requires own { seat.old.table_id ≡ self.now.id }
         requires empty { seat.old.me.1 ≡ [] }
@@ -516,6 +510,16 @@ impl<A: Allocator + Copy> CardTable<A> {
         self.safe_number(pass);
     }
 
+    // Lets the clock go on and looks at all places, if the pass has not done so yet: no stamp is below the safe number 0.
+    fn look_first(&self, pass: &mut Pass<A>)
+        requires own { pass.old.table ≡ self.now.id }
+        ensures { pass.new ≡ record (pass.old) { safe = pass.new.safe } }
+    {
+        if pass.standing.safe == 0 {
+            self.safe_number(pass);
+        }
+    }
+
     // Loads the word of the slot of a card for a search, and tells what its caller picked.
     #[inline(always)]
     fn load_sought<J: PeriodTelling>(
@@ -562,9 +566,8 @@ impl<A: Allocator + Copy> CardTable<A> {
     }
 
     // Reads the word of the slot of a card by a search, which begins with it or goes on, for a delete or another change.
-    // Returns `true` if the pass could take the slot for that card and change: it is a slot of the card's turn already,
-    // and not free, or it was set free with a stamp below the pass's safe number; and it is for deletes alone only if
-    // the change is one.
+    // Returns `true` if the pass could take the slot for that change: it was set free with a stamp below the pass's safe
+    // number, and it is for deletes alone only if the change is one.
     fn is_takeable(
         &self,
         pass: &mut Pass<A>,
@@ -582,12 +585,7 @@ impl<A: Allocator + Copy> CardTable<A> {
         ensures has { result ≡ true → may_have slots for_delete card ≡ true }
     {
         let word = self.seek_slot(&mut pass.seat, slots, card, begins, for_delete);
-        let could = if word % 8 == 7 {
-            stamp_in(word) < pass.standing.safe
-        } else {
-            turn_in(word) == turn_of(card)
-        };
-        could && (for_delete || slots.is_for_all(slot_of(card)))
+        is_free_before(word, pass.standing.safe) && (for_delete || slots.is_for_all(slot_of(card)))
     }
 
     // Returns the least number of a card, from this card on, whose slot the pass could take for a delete, or for another
@@ -651,20 +649,20 @@ impl<A: Allocator + Copy> CardTable<A> {
         let Some(slots) = self.slots else {
             return Some(card);
         };
-        let safe = pass.standing.safe;
+        self.look_first(pass);
+        let before = pass.standing.safe;
         if let Some(found) = self.seek_takeable(pass, slots, card, for_delete) {
             return Some(found);
         }
-        if safe < self.safe_number(pass) {
+        if before < self.safe_number(pass) {
             self.seek_takeable(pass, slots, card, for_delete)
         } else {
             None
         }
     }
 
-    /// Takes the slot of the card in hand, if that card lies there already, as each one of the first turn does, or if
-    /// the slot was set free with a stamp below the pass's safe number. Returns `true` if it did: in a table without
-    /// places always, and never where the card has no slot. Its steps are not counted.
+    /// Takes the slot of the card in hand, if that was set free with a stamp below the pass's safe number. Returns `true`
+    /// if it did: in a table without places always, and never where the card has no slot. Its steps are not counted.
     pub fn take_slot(&self, pass: &mut Pass<A>, card: u64) -> bool
         requires own { pass.old.table ≡ self.now.id }
         requires may { MayFill pass.old.view card }
@@ -692,9 +690,7 @@ impl<A: Allocator + Copy> CardTable<A> {
         }
         self.look_now_and_then(pass, slots, card);
         let word = self.own_slot(&mut pass.seat, slots, card);
-        if word % 8 != 7 {
-            return turn_in(word) == turn_of(card);
-        }
-        stamp_in(word) < pass.standing.safe && self.take_free(&mut pass.seat, slots, card, word)
+        let safe = pass.standing.safe;
+        is_free_before(word, safe) && self.take_free(&mut pass.seat, slots, card, word)
     }
 }

@@ -19,8 +19,6 @@ pub mod Taking
 pub mod TakingSlots
 -- and so does all that a pass names
 pub mod Placed
--- or a card lies in its slot already
-pub mod Owning
 -- cards that lie in their slots at once are few
 pub mod Few
 -- who wins a child exchange knows it, and some pass does from there on

@@ -4,7 +4,6 @@ use Rattle.ell_cards.proofs.lemmas.ties.Handovers.{splits_keep_ties, joins_keep_
 use Rattle.ell_cards.proofs.lemmas.ties.Opens.{openings_are_tied}
 use Rattle.ell_cards.proofs.lemmas.ties.Periods.{periods_keep_ties}
 use Rattle.ell_cards.proofs.lemmas.ties.TakingSlots.{takes_keep_ties}
-use Rattle.ell_cards.proofs.lemmas.ties.Owning.{own_slots_keep_ties}
 use Rattle.ell_cards.proofs.lemmas.ties.Few.{few_in_slots}
 use Rattle.ell_cards.proofs.lemmas.whole.Apart.{passes_tell_apart, children_are_apart}
 use Rattle.ell_cards.proofs.laws.ties_are_kept.Goals as goal
@@ -16,7 +15,6 @@ returns c = record {
   joins = joins_keep_ties;
   periods = periods_keep_ties;
   takes = takes_keep_ties;
-  owns = own_slots_keep_ties;
   opens = openings_are_tied;
   few = few_in_slots;
   near = expected_links_are_near;

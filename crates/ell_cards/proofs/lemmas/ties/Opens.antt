@@ -17,7 +17,7 @@ use Rattle.ell_cards.specs.Ages.{AgesAreSound, HasPeriods}
 use Rattle.ell_cards.specs.Changes.{first_of}
 use Rattle.ell_cards.specs.Machines.{HasMachine}
 use Rattle.ell_cards.specs.Models.{TablePlan}
-use Rattle.ell_cards.specs.Periods.{WholeState, IsAtRest, opening_words, period_by}
+use Rattle.ell_cards.specs.Periods.{WholeState, IsAtRest, AreOpeningWords, period_by}
 use Rattle.ell_cards.specs.Apart.{cut_node}
 use Rattle.ell_cards.specs.Shown.{IsWord, cut_field, cut_word}
 use Rattle.ell_cards.specs.SlotWords.{slot_of, card_by, has_slot_in}
@@ -28,7 +28,7 @@ use Rattle.ell_cards.specs.Ties.{IsTiedByAges, OpeningsAreTied}
 use Rattle.ell_cards.proofs.lemmas.lifetimes.Openings.{start_next}
 use Rattle.ell_cards.proofs.lemmas.runs.Reaching.{reached_first}
 use Rattle.ell_cards.proofs.lemmas.shown.CutWords.{cut_same}
-use Rattle.ell_cards.proofs.lemmas.whole.Opens.{zeros_many, with_zeros, words_same, lies_opened, out_opened, lies_as_given, lies_at_home, lies_or_free, other_word, slots_opened, first_ages, first_periods}
+use Rattle.ell_cards.proofs.lemmas.whole.Opens.{zeros_many, with_zeros, words_same, lies_opened, out_opened, lies_as_given, lies_at_home, lies_or_free, first_ages, first_periods}
 use Rattle.ell_cards.proofs.lemmas.whole.Rests.{is_at_rest}
 use Rattle.ell_cards.proofs.lemmas.words.Slotted.{has_slot_by}
 
@@ -79,13 +79,13 @@ module _ (plan : TablePlan) (s : Slots) (low : s.last < 2097152) (tree : TableSt
   alone P h zero u at = subst (P 0) (some-injective first u at) h
   alone P h (suc j) u at = absurd (some-ne-none u (sym at))
 
-  lies : (c : ℕ) → HasWon r.stages c → LiesThere s (lies_opened s given) c
+  lies : (c : ℕ) → HasWon r.stages c → LiesThere s (lies_opened given) c
   lies c has =
       let below = (r.invariant.words.cards c).claimed.0 has.0 in
       let next = r.next in
       let inside : c ≤ given = omega arith in
       let slot : slot_of c ≡ c = omega arith in
-      (omega arith, ap (lies_opened s given) slot ∙ lies_as_given s given c inside)
+      (omega arith, ap (lies_opened given) slot ∙ lies_as_given given c inside)
 
   fits : (c : ℕ) → HasWon r.stages c → has_slot_in s.last c ≡ true
   fits c has =
@@ -98,16 +98,16 @@ module _ (plan : TablePlan) (s : Slots) (low : s.last < 2097152) (tree : TableSt
   kept_was_given c f (won has says) = (let below = (r.invariant.words.cards c).claimed.0 has.0 in let next = r.next in omega arith)
   kept_was_given c f (stored seat u at waits has) = absurd (some_not_none waits.0 (alone (λ j x. x.tree.worker.card ≡ None) none seat u at))
 
-  pub tied_as_it_opens : IsTied s tree (opening words [] first) r.stages (lies_opened s given) dead was_dead
+  pub tied_as_it_opens : IsTied s tree (opening words [] first) r.stages (lies_opened given) dead was_dead
   tied_as_it_opens = record {
     claim = same 0 (omega arith);
     flat = same 1 (omega arith);
-    root = lies_as_given s given 0 (omega arith);
-    own = λ slot inside. lies_at_home s given slot (omega arith);
+    root = lies_as_given given 0 (omega arith);
+    own = λ slot inside. lies_at_home given slot (omega arith);
     at = λ slot f inside kept.
         let there = (address_in_table s.last slot f inside).1 in
         subst (λ c. get_or words (address slot f) 0 ≡ cut_field f (get_or tree.words (address c f) 0))
-        (sym (lies_as_given s given slot (let low_card = kept_was_given (lies_opened s given slot) f kept in let home = lies_at_home s given slot (omega arith) in omega arith)))
+        (sym (lies_as_given given slot (let low_card = kept_was_given (lies_opened given slot) f kept in let home = lies_at_home given slot (omega arith) in omega arith)))
         (
         held_whole f (get_or words (address slot f) 0) (get_or tree.words (address slot f) 0) (small (address slot f) there) (same (address slot f) there)
         (none_said slot f));
@@ -121,8 +121,8 @@ module _ (plan : TablePlan) (s : Slots) (low : s.last < 2097152) (tree : TableSt
   }
 
 -- so it is as a table opens with these words of cards
-module _ (plan : TablePlan) (s : Slots) (cards : List ℕ) (may : MayStart plan) (fit : SlotsFit plan (Some s)) (size : length cards ≡ table_size s.last)
-    (are : words_of cards ≡ words_at_start plan.flat plan.start) (small : (i : ℕ) → IsWord (get_or cards i 0)) where
+module _ (plan : TablePlan) (s : Slots) (cards all : List ℕ) (may : MayStart plan) (fit : SlotsFit plan (Some s)) (size : length cards ≡ table_size s.last)
+    (are : words_of cards ≡ words_at_start plan.flat plan.start) (small : (i : ℕ) → IsWord (get_or cards i 0)) (h : AreOpeningWords s (length plan.start) cards all) where
   abbrev long : ℕ
   long = table_size plan.last_card - length cards
 
@@ -130,7 +130,7 @@ module _ (plan : TablePlan) (s : Slots) (cards : List ℕ) (may : MayStart plan)
   tree_opened = opening (cards ++ replicate long 0) [] (first_of plan)
 
   abbrev pub opened : WholeState
-  opened = opening (opening_words s (length plan.start) cards) [] (record { tree = first_of plan; period = period_by (Some s) })
+  opened = opening all [] (record { tree = first_of plan; period = period_by (Some s) })
 
   pub reached_opened : IsReached plan tree_opened
   reached_opened =
@@ -142,11 +142,8 @@ module _ (plan : TablePlan) (s : Slots) (cards : List ℕ) (may : MayStart plan)
   rest : IsAtRest (first_of plan)
   rest = is_at_rest (first_of plan) refl refl refl refl refl
 
-  ages : AgesAreSound plan s tree_opened opened (lies_opened s (length plan.start)) out_opened (λ q x. false)
-  ages = first_ages plan s tree_opened reached_opened (length plan.start) cards size rest fit.0 may.limit
-
-  there : (i : ℕ) → i < table_size s.last → get_or (opening_words s (length plan.start) cards) i 0 ≡ get_or cards i 0
-  there i inside = other_word s (length plan.start) cards size i (omega arith) (λ e. omega arith)
+  ages : AgesAreSound plan s tree_opened opened (lies_opened (length plan.start)) out_opened (λ q x. false)
+  ages = first_ages plan s tree_opened reached_opened (length plan.start) cards all size h rest fit.0 may.limit
 
   -- the claim word is behind the cards of the start keys
   next : get_or (cards ++ replicate long 0) 0 0 ≡ length plan.start + 1
@@ -156,32 +153,32 @@ module _ (plan : TablePlan) (s : Slots) (cards : List ℕ) (may : MayStart plan)
 
   pub periods_opened : HasPeriods plan s tree_opened opened
   periods_opened = record {
-    lie = lies_opened s (length plan.start);
-    lies = λ slot inside. subst (λ n. n % 8 ≢ 7 → lies_opened s (length plan.start) slot ≡ card_by slot n) (sym (slots_opened s (length plan.start) cards size slot inside))
-        (lies_or_free s (length plan.start) slot);
+    lie = lies_opened (length plan.start);
+    lies = λ slot inside. subst (λ n. n % 8 ≢ 7 → lies_opened (length plan.start) slot ≡ card_by slot n) (sym (h.slots slot inside))
+        (lies_or_free (length plan.start) slot);
     dead = out_opened;
     began = λ q. 0;
     was_dead = λ q x. false;
-    periods = first_periods s (length plan.start) cards size (first_of plan) rest fit.0;
+    periods = first_periods s (length plan.start) cards all size h (first_of plan) rest fit.0;
     ages = ages;
-    tied = tied_as_it_opens plan s (let most = fit.4 in omega arith) tree_opened ages.now.machine (opening_words s (length plan.start) cards)
-        (λ i inside. there i inside ∙ sym (with_zeros cards long i))
-        (λ i inside. subst (λ n. n < 2 ^ 64) (sym (there i inside)) (small i))
+    tied = tied_as_it_opens plan s (let most = fit.4 in omega arith) tree_opened ages.now.machine all
+        (λ i inside. h.cards_first i inside ∙ sym (with_zeros cards long i))
+        (λ i inside. subst (λ n. n < 2 ^ 64) (sym (h.cards_first i inside)) (small i))
         (length plan.start) next fit.3
         (no_info plan.flat plan.start (cards ++ replicate long 0) (words_same (cards ++ replicate long 0) cards (with_zeros cards long) ∙ are))
         (record { tree = first_of plan; period = period_by (Some s) }) refl refl out_opened (λ q x. false);
   }
 
 pub openings_are_tied : OpeningsAreTied
-openings_are_tied plan s cards placed may size are small =
+openings_are_tied plan s cards all placed may size are small h =
     let fit = subst (SlotsFit plan) placed may.slots in
-    let has = periods_opened plan s cards may fit size are small in record {
-      tree = tree_opened plan s cards may fit size are small;
-      reached = reached_opened plan s cards may fit size are small;
+    let has = periods_opened plan s cards all may fit size are small h in record {
+      tree = tree_opened plan s cards all may fit size are small h;
+      reached = reached_opened plan s cards all may fit size are small h;
       views = refl;
       lie = has.lie;
       dead = has.dead;
       was_dead = has.was_dead;
-      tied = subst (λ o. IsTiedByAges plan s (tree_opened plan s cards may fit size are small) (opening (opening_words s (length plan.start) cards) [] (record { tree = first_of plan; period = period_by o })) has.lie has.dead has.was_dead)
+      tied = subst (λ o. IsTiedByAges plan s (tree_opened plan s cards all may fit size are small h) (opening all [] (record { tree = first_of plan; period = period_by o })) has.lie has.dead has.was_dead)
           (sym placed) (record { ages = has.ages; tied = has.tied });
     }

@@ -1,6 +1,6 @@
-use Rattle.std.proofs.Common.{◌≡◌, ◌≢◌, ℕ, ◌%◌, zero, suc, ◌+◌, ◌*◌, ◌-◌, ◌/◌, ◌<◌, ◌≤◌, ◌==◌, ◌&&◌, nat_lt, nat_le, if◌then◌else◌, Bool, true, false, Option, Some, None, List, [], ◌∷◌, ◌++◌, length, replicate, get_or, inl, inr, ◌⊎◌, refl, sym, ap, ◌∙◌, subst, arith, length-set, get_or-set_same, get_or-set_other, set, eq-eqb, eqb-true, leb-true, ltb-true, true≢false}
+use Rattle.std.proofs.Common.{◌≡◌, ◌≢◌, ℕ, ◌%◌, zero, suc, ◌+◌, ◌*◌, ◌-◌, ◌/◌, ◌<◌, ◌≤◌, ◌==◌, ◌&&◌, nat_lt, nat_le, if◌then◌else◌, Bool, true, false, Option, Some, None, List, [], ◌∷◌, ◌++◌, length, replicate, take, drop, append-nil, get_or, inl, inr, ◌⊎◌, refl, sym, ap, ◌∙◌, subst, arith, length-set, get_or-set_same, get_or-set_other, set, eq-eqb, eqb-true, leb-true, ltb-true, true≢false}
 use Rattle.std.proofs.lemmas.Bool.{cases_eq, cases_lt, false≢true}
-use Rattle.std.proofs.lemmas.List.{length-append, length-replicate, get_or_past, get_or-replicate, get_or_append_left, get_or-append_right}
+use Rattle.std.proofs.lemmas.List.{drop_all, take_all, length-append, length-replicate, get_or_past, get_or-replicate, get_or_append_left, get_or-append_right}
 use Rattle.std.proofs.lemmas.Option.{same_Some}
 use mathlib.Core.Option.{some, some-injective, some-ne-none}
 use lib.ListN.{get_elem?}
@@ -16,7 +16,7 @@ use Rattle.ell_cards.specs.declared.view.Slots.{Slots}
 use Rattle.ell_cards.specs.declared.view.View.{View}
 use Rattle.ell_cards.specs.Models.{TablePlan, last_slot, last_slot_of}
 use Rattle.ell_cards.specs.Changes.{first_of}
-use Rattle.ell_cards.specs.Periods.{slots_of, last_for, clock_word, place_word, slot_word, slots_size, stamp_at, pending_by, opening_word, opening_words, opens_free, whole_words, size_by, whole_size, period_by, announced_by, period_in, IsAtRest, PeriodHolds, PeriodsAreSound, grace_of}
+use Rattle.ell_cards.specs.Periods.{slots_of, last_for, clock_word, place_word, slot_word, slots_size, stamp_at, pending_by, opening_word, words_of_free_slots, AreOpeningWords, AreWholeWords, size_by, whole_size, period_by, announced_by, period_in, IsAtRest, PeriodHolds, PeriodsAreSound, grace_of}
 use Rattle.ell_cards.specs.Aside.{IsAside}
 use Rattle.ell_cards.specs.Ages.{IsOut, is_beyond, ForgotWhen, AgesAreSound}
 use Rattle.ell_cards.specs.SlotWords.{slot_of, card_by, free_word, freed_by, is_noted}
@@ -47,39 +47,41 @@ pub words_same : (l m : List ℕ) → ((i : ℕ) → get_or l i 0 ≡ get_or m i
 unfolding words_of
 words_same l m same = λ t. record (table_words (same 0 t) (λ c f. same (address c f) t)) { flat_from = same 1 t }
 
--- as a table opens with so many start keys, each card lies in the slot of its number, but where a slot is free: there lies one of a number that no card has
-abbrev pub lies_opened : Slots → ℕ → ℕ → ℕ
-lies_opened s given slot = if opens_free s given slot then 2305843009213693952 + slot else slot
+is_below : (a b : ℕ) → a < b → nat_lt a b ≡ true
+is_below a b low = grind (arith, low)
+
+not_below : (a b : ℕ) → b ≤ a → nat_lt a b ≡ false
+not_below a b low = grind (arith, low)
+
+-- as a table opens with so many start keys, their cards lie in the slots of their numbers, and in each other slot one of a number that no card has
+abbrev pub lies_opened : ℕ → ℕ → ℕ
+lies_opened given slot = if nat_lt given slot then 2305843009213693952 + slot else slot
 
 -- and these alone are out
 abbrev pub out_opened : ℕ → Bool
 out_opened c = nat_lt greatest_number c
 
--- in its slot lies each card of a start key, and each other card whose slot is not free
-pub lies_as_given : (s : Slots) (given slot : ℕ) → slot ≤ given → lies_opened s given slot ≡ slot
-lies_as_given s given slot low = ap (λ b. if b && nat_lt s.last (slot + 2) then 2305843009213693952 + slot else slot) below
-  where
-    below : nat_lt given slot ≡ false
-    below = grind (arith, low)
+pub lies_as_given : (given slot : ℕ) → slot ≤ given → lies_opened given slot ≡ slot
+lies_as_given given slot low = ap (λ b. if b then 2305843009213693952 + slot else slot) (not_below given slot low)
 
-pub lies_at_home : (s : Slots) (given slot : ℕ) → slot < 2097152 → slot_of (lies_opened s given slot) ≡ slot
-lies_at_home s given slot low = by (opens_free s given slot)
+pub lies_at_home : (given slot : ℕ) → slot < 2097152 → slot_of (lies_opened given slot) ≡ slot
+lies_at_home given slot low = by (nat_lt given slot)
   where
     by : (b : Bool) → slot_of (if b then 2305843009213693952 + slot else slot) ≡ slot
     by true = omega (arith, low)
     by false = omega (arith, low)
 
 -- a slot's word tells whether it is free
-pub lies_or_free : (s : Slots) (given slot : ℕ) → opening_word s given slot % 8 ≢ 7 → lies_opened s given slot ≡ card_by slot (opening_word s given slot)
-lies_or_free s given slot = by (opens_free s given slot)
+pub lies_or_free : (given slot : ℕ) → opening_word given slot % 8 ≢ 7 → lies_opened given slot ≡ card_by slot (opening_word given slot)
+lies_or_free given slot = by (nat_lt given slot)
   where
     by : (b : Bool) → (if b then free_word 0 else 0) % 8 ≢ 7 → (if b then 2305843009213693952 + slot else slot) ≡ card_by slot (if b then free_word 0 else 0)
     by true used = absurd (used refl)
     by false used = omega arith
 
 -- and it notes only nodes that no card has
-pub noted_opened : (s : Slots) (given slot k : ℕ) → is_noted (opening_word s given slot) k ≡ true → greatest_number < (4 * lies_opened s given slot + k) / 4
-noted_opened s given slot k = by (opens_free s given slot) k
+pub noted_opened : (given slot k : ℕ) → is_noted (opening_word given slot) k ≡ true → greatest_number < (4 * lies_opened given slot + k) / 4
+noted_opened given slot k = by (nat_lt given slot) k
   where
     by : (b : Bool) (k : ℕ) → is_noted (if b then free_word 0 else 0) k ≡ true → greatest_number < (4 * (if b then 2305843009213693952 + slot else slot) + k) / 4
     by true zero is = omega arith
@@ -91,111 +93,133 @@ noted_opened s given slot k = by (opens_free s given slot) k
     by false (suc (suc zero)) is = absurd (false≢true is)
     by false (suc (suc (suc k))) is = absurd (false≢true is)
 
--- the words of a table with places, at its start
+-- the words of a table with places, as they are made: all slots free, and then the first ones used
 module _ (s : Slots) (given : ℕ) (cards : List ℕ) (size : length cards ≡ table_size s.last) where
-  abbrev all : List ℕ
-  all = opening_words s given cards
+  abbrev before : List ℕ
+  before = cards ++ replicate (slot_word s 0 - length cards) 0
 
   abbrev behind : List ℕ
-  behind = cards ++ replicate (slots_size s - length cards) 0
+  behind = before ++ replicate (slots_size s - slot_word s 0) (free_word 0)
 
-  abbrev placed : List ℕ
-  placed = set behind (place_word s 0) 1
+  abbrev placed_words : List ℕ
+  placed_words = words_of_free_slots s cards
 
-  abbrev last_but_one : List ℕ
-  last_but_one = set placed (slot_word s (s.last - 1)) (opening_word s given (s.last - 1))
+  before_size : length before ≡ slot_word s 0
+  before_size = length-append cards (replicate (slot_word s 0 - length cards) 0) ∙ (let many = zeros_many (slot_word s 0 - length cards) in omega arith)
 
   behind_size : length behind ≡ slots_size s
-  behind_size = length-append cards (replicate (slots_size s - length cards) 0) ∙ (let many = zeros_many (slots_size s - length cards) in omega arith)
+  behind_size =
+      length-append before (replicate (slots_size s - slot_word s 0) (free_word 0))
+      ∙ (let many = length-replicate (slots_size s - slot_word s 0) (free_word 0) in let long = before_size in omega arith)
 
-  placed_size : length placed ≡ slots_size s
-  placed_size = length-set behind (place_word s 0) 1 ∙ behind_size
+  placed_size : length placed_words ≡ slots_size s
+  placed_size = length-set (set behind (clock_word s) 1) (place_word s 0) 1 ∙ (length-set behind (clock_word s) 1 ∙ behind_size)
 
-  last_but_one_size : length last_but_one ≡ slots_size s
-  last_but_one_size = length-set placed (slot_word s (s.last - 1)) (opening_word s given (s.last - 1)) ∙ placed_size
+  low_word : (i : ℕ) → i < slot_word s 0 → get_or behind i 0 ≡ get_or cards i 0
+  low_word i low =
+      get_or_append_left before (replicate (slots_size s - slot_word s 0) (free_word 0)) 0 i (let long = before_size in omega arith)
+      ∙ with_zeros cards (slot_word s 0 - length cards) i
 
-  pub all_size : length all ≡ slots_size s
-  all_size = length-set last_but_one (slot_word s s.last) (opening_word s given s.last) ∙ last_but_one_size
+  free_slot : (slot : ℕ) → slot ≤ s.last → get_or behind (slot_word s slot) 0 ≡ free_word 0
+  free_slot slot inside =
+      let long = before_size in
+      get_or-append_right before (replicate (slots_size s - slot_word s 0) (free_word 0)) (length before) (slot_word s slot) 0 refl (omega arith)
+      ∙ get_or-replicate (slots_size s - slot_word s 0) (slot_word s slot - length before) (free_word 0) 0 (omega arith)
 
-  -- the words of slots are behind all others
-  before_slots : (i : ℕ) → i < clock_word s + 9 + 8 * s.places → get_or all i 0 ≡ get_or placed i 0
-  before_slots i low =
-      get_or-set_other last_but_one (slot_word s s.last) i (opening_word s given s.last) 0 (λ e. omega arith)
-      ∙ get_or-set_other placed (slot_word s (s.last - 1)) i (opening_word s given (s.last - 1)) 0 (λ e. omega arith)
+  other : (i : ℕ) → i ≢ clock_word s → i ≢ place_word s 0 → get_or placed_words i 0 ≡ get_or behind i 0
+  other i no_clock no_place =
+      get_or-set_other (set behind (clock_word s) 1) (place_word s 0) i 1 0 no_place
+      ∙ get_or-set_other behind (clock_word s) i 1 0 no_clock
 
-  -- the first place is taken
-  first_place : get_or all (place_word s 0) 0 ≡ 1
-  first_place = before_slots (place_word s 0) (omega arith) ∙ get_or-set_same behind (place_word s 0) 1 0 (let long = behind_size in omega arith)
-
-  -- all other words are those of the cards
-  unplaced : (i : ℕ) → i ≢ place_word s 0 → get_or placed i 0 ≡ get_or cards i 0
-  unplaced i apart = get_or-set_other behind (place_word s 0) i 1 0 apart ∙ with_zeros cards (slots_size s - length cards) i
-
-  pub other_word : (i : ℕ) → i < clock_word s + 9 + 8 * s.places → i ≢ place_word s 0 → get_or all i 0 ≡ get_or cards i 0
-  other_word i low apart = before_slots i low ∙ unplaced i apart
-
-  behind_cards : (i : ℕ) → table_size s.last ≤ i → i < clock_word s + 9 + 8 * s.places → i ≢ place_word s 0 → get_or all i 0 ≡ 0
-  behind_cards i past low apart = other_word i low apart ∙ get_or_past cards i 0 (omega arith)
-
-  -- the word of each slot
-  pub slots_opened : (slot : ℕ) → slot ≤ s.last → get_or all (slot_word s slot) 0 ≡ opening_word s given slot
-  slots_opened slot inside = elim (cases_eq slot s.last) [
-    | inl e ↦
-        subst (λ x. get_or all (slot_word s x) 0 ≡ opening_word s given x) (sym e)
-        (get_or-set_same last_but_one (slot_word s s.last) (opening_word s given s.last) 0 (let long = last_but_one_size in omega arith))
-    | inr n ↦ get_or-set_other last_but_one (slot_word s s.last) (slot_word s slot) (opening_word s given s.last) 0 (λ e. n (omega arith)) ∙ before slot inside n
-  ]
+  opens_so : (words : List ℕ) → length words ≡ slots_size s → ((slot : ℕ) → slot ≤ given → get_or words (slot_word s slot) 0 ≡ 0)
+      → ((i : ℕ) → ((slot : ℕ) → slot ≤ given → i ≢ slot_word s slot) → get_or words i 0 ≡ get_or placed_words i 0) → AreOpeningWords s given cards words
+  opens_so words long used same = record {
+    size = long;
+    cards_first = λ i low. same i (λ slot _ e. omega arith) ∙ (other i (λ e. omega arith) (λ e. omega arith) ∙ low_word i (omega arith));
+    clock =
+        same (clock_word s) (λ slot _ e. omega arith)
+        ∙ (get_or-set_other (set behind (clock_word s) 1) (place_word s 0) (clock_word s) 1 0 (λ e. omega arith)
+        ∙ get_or-set_same behind (clock_word s) 1 0 (let all = behind_size in omega arith));
+    place =
+        same (place_word s 0) (λ slot _ e. omega arith)
+        ∙ get_or-set_same (set behind (clock_word s) 1) (place_word s 0) 1 0 (let all = length-set behind (clock_word s) 1 ∙ behind_size in omega arith);
+    others = λ i past low n.
+        same i (λ slot _ e. omega arith)
+        ∙ (other i (λ e. omega arith) n ∙ (low_word i (omega arith) ∙ get_or_past cards i 0 (omega arith)));
+    slots = λ slot inside. by slot inside (cases_lt given slot);
+  }
     where
-      first : (slot : ℕ) → slot + 2 ≤ s.last → opening_word s given slot ≡ 0
-      first slot low = by (nat_lt given slot)
-        where
-          no : nat_lt s.last (slot + 2) ≡ false
-          no = grind (arith, low)
+      by : (slot : ℕ) → slot ≤ s.last → (given < slot) ⊎ (slot ≤ given) → get_or words (slot_word s slot) 0 ≡ opening_word given slot
+      by slot inside (inl past) =
+          same (slot_word s slot) (λ d low e. omega arith)
+          ∙ (other (slot_word s slot) (λ e. omega arith) (λ e. omega arith)
+          ∙ (free_slot slot inside ∙ sym (ap (λ b. if b then free_word 0 else 0) (is_below given slot past))))
+      by slot inside (inr low) = used slot low ∙ sym (ap (λ b. if b then free_word 0 else 0) (not_below given slot low))
 
-          by : (b : Bool) → (if b && nat_lt s.last (slot + 2) then free_word 0 else 0) ≡ 0
-          by true = ap (λ b. if b then free_word 0 else 0) no
-          by false = refl
+-- a list that was written over all of another one
+written_back : (n : ℕ) (l m : List ℕ) → length l ≤ n → length m ≤ length l → take n (l ++ drop (length l) m) ≡ l
+written_back n l m fits short = ap (λ k. take n (l ++ k)) (drop_all (length l) m short) ∙ (ap (take n) (append-nil l) ∙ take_all n l fits)
 
-      before : (slot : ℕ) → slot ≤ s.last → slot ≢ s.last → get_or last_but_one (slot_word s slot) 0 ≡ opening_word s given slot
-      before slot inside n = elim (cases_eq slot (s.last - 1)) [
-        | inl e ↦
-            subst (λ x. get_or last_but_one (slot_word s x) 0 ≡ opening_word s given x) (sym e)
-            (get_or-set_same placed (slot_word s (s.last - 1)) (opening_word s given (s.last - 1)) 0 (let long = placed_size in omega arith))
-        | inr m ↦
-            get_or-set_other placed (slot_word s (s.last - 1)) (slot_word s slot) (opening_word s given (s.last - 1)) 0 (λ e. m (omega arith))
-            ∙ (unplaced (slot_word s slot) (λ e. omega arith)
-            ∙ (get_or_past cards (slot_word s slot) 0 (omega arith)
-            ∙ sym (first slot (omega arith))))
-      ]
+-- the slots below a number are marked as used, and all other words are as they were
+pub record UsedBelow (s : Slots) (n : ℕ) (old words : List ℕ) : Type 0 where
+  pub used : (slot : ℕ) → slot < n → get_or words (slot_word s slot) 0 ≡ 0
+  pub same : (i : ℕ) → ((slot : ℕ) → slot < n → i ≢ slot_word s slot) → get_or words i 0 ≡ get_or old i 0
 
+pub used_none : (s : Slots) (words : List ℕ) → UsedBelow s 0 words words
+used_none s words = record { used = λ slot low. omega arith; same = λ i apart. refl }
+
+pub used_more : (s : Slots) (n : ℕ) (old words : List ℕ) → UsedBelow s n old words → slot_word s n < length words
+    → UsedBelow s (n + 1) old (set words (slot_word s n) 0)
+used_more s n old words h room = record {
+  used = λ slot low. elim (cases_eq slot n) [
+    | inl e ↦ subst (λ x. get_or (set words (slot_word s n) 0) (slot_word s x) 0 ≡ 0) (sym e) (get_or-set_same words (slot_word s n) 0 0 room)
+    | inr other ↦ get_or-set_other words (slot_word s n) (slot_word s slot) 0 0 (λ e. other (omega arith)) ∙ h.used slot (omega arith)
+  ];
+  same = λ i apart.
+      get_or-set_other words (slot_word s n) i 0 0 (apart n (omega arith))
+      ∙ h.same i (λ slot low. apart slot (omega arith));
+}
+
+-- so a table opens where its slots are used that far
+pub opens_used : (o : Option Slots) (s : Slots) (given n : ℕ) (cards free used : List ℕ) → o ≡ Some s → length cards ≡ table_size s.last → free ≡ words_of_free_slots s cards
+    → n ≡ length free → length used ≡ slots_size s → ((slot : ℕ) → slot ≤ given → get_or used (slot_word s slot) 0 ≡ 0)
+    → ((i : ℕ) → ((slot : ℕ) → slot ≤ given → i ≢ slot_word s slot) → get_or used i 0 ≡ get_or free i 0)
+    → AreWholeWords o given cards (take n (used ++ drop (length used) free))
+opens_used o s given n cards free used placed size are all long marked same =
+    let whole = ap length are ∙ placed_size s given cards size in
+    subst (λ x. AreWholeWords x given cards (take n (used ++ drop (length used) free))) (sym placed)
+    (subst (AreOpeningWords s given cards) (sym (written_back n used free (omega arith) (omega arith)))
+    (opens_so s given cards size used long marked (λ i apart. same i apart ∙ ap (λ l. get_or l i 0) are)))
+
+-- the words of a table with places, at its start
+module _ (s : Slots) (given : ℕ) (cards all : List ℕ) (size : length cards ≡ table_size s.last) (h : AreOpeningWords s given cards all) where
   -- no place announces anything
   quiet : (q : ℕ) → announced_by (get_or all (place_word s q) 0) ≡ None
   quiet q = elim (cases_eq (place_word s q) (place_word s 0)) [
-    | inl e ↦ ap (λ i. announced_by (get_or all i 0)) e ∙ ap announced_by first_place
-    | inr n ↦ ap announced_by (behind_cards (place_word s q) (omega arith) (omega arith) n)
+    | inl e ↦ ap (λ i. announced_by (get_or all i 0)) e ∙ ap announced_by h.place
+    | inr n ↦ ap announced_by (h.others (place_word s q) (omega arith) (omega arith) n)
   ]
 
   -- what is free is out, with a past stamp
-  free_is_out : (clock c r : ℕ) → stamp_at s (lies_opened s given) all c ≡ Some r → (r ≤ clock) × (out_opened c ≡ true)
+  free_is_out : (clock c r : ℕ) → stamp_at s (lies_opened given) all c ≡ Some r → (r ≤ clock) × (out_opened c ≡ true)
   free_is_out clock c r = inside (nat_le (slot_of c) s.last) refl
     where
-      stamped : (o : Bool) → lies_opened s given (slot_of c) ≡ (if o then 2305843009213693952 + slot_of c else slot_of c) → (there : Bool) → (lies_opened s given (slot_of c) == c) ≡ there
+      stamped : (o : Bool) → lies_opened given (slot_of c) ≡ (if o then 2305843009213693952 + slot_of c else slot_of c) → (there : Bool) → (lies_opened given (slot_of c) == c) ≡ there
           → (if there then freed_by (if o then free_word 0 else 0) else None) ≡ Some r → (r ≤ clock) × (out_opened c ≡ true)
       stamped true lies true here is =
-          let same = eqb-true (lies_opened s given (slot_of c)) c here in
+          let same = eqb-true (lies_opened given (slot_of c)) c here in
           let stamp = same_Some 0 r is in
-          let out : nat_lt greatest_number c ≡ true = grind (arith, same, lies) in
-          (omega arith, out)
+          (omega arith, is_below greatest_number c (omega arith))
       stamped true lies false here is = absurd (some_not_none is refl)
       stamped false lies true here is = absurd (some_not_none is refl)
       stamped false lies false here is = absurd (some_not_none is refl)
 
       inside : (b : Bool) → nat_le (slot_of c) s.last ≡ b
-          → (if b && lies_opened s given (slot_of c) == c then freed_by (get_or all (slot_word s (slot_of c)) 0) else None) ≡ Some r → (r ≤ clock) × (out_opened c ≡ true)
+          → (if b && lies_opened given (slot_of c) == c then freed_by (get_or all (slot_word s (slot_of c)) 0) else None) ≡ Some r → (r ≤ clock) × (out_opened c ≡ true)
       inside true low is =
-          let word = slots_opened (slot_of c) (leb-true (slot_of c) s.last low) in
-          stamped (opens_free s given (slot_of c)) refl (lies_opened s given (slot_of c) == c) refl
-          (sym (ap (λ n. if lies_opened s given (slot_of c) == c then freed_by n else None) word) ∙ is)
+          let word = h.slots (slot_of c) (leb-true (slot_of c) s.last low) in
+          stamped (nat_lt given (slot_of c)) refl (lies_opened given (slot_of c) == c) refl
+          (sym (ap (λ n. if lies_opened given (slot_of c) == c then freed_by n else None) word) ∙ is)
       inside false low is = absurd (some_not_none is refl)
 
   module _ (v : View) (rest : IsAtRest v) (one : 1 ≤ s.places) where
@@ -204,7 +228,7 @@ module _ (s : Slots) (given : ℕ) (cards : List ℕ) (size : length cards ≡ t
 
     first_holds : PeriodHolds s all first
     first_holds = record {
-      place = λ q is. (let same = same_Some 0 q is in (omega arith, ap (λ x. get_or all (place_word s x) 0) (sym same) ∙ first_place));
+      place = λ q is. (let same = same_Some 0 q is in (omega arith, ap (λ x. get_or all (place_word s x) 0) (sym same) ∙ h.place));
       other = λ q is. absurd (some_not_none is refl);
       two = λ q is other. some_not_none other refl;
       none = λ is. refl;
@@ -220,9 +244,9 @@ module _ (s : Slots) (given : ℕ) (cards : List ℕ) (size : length cards ≡ t
     nothing part x here there zero = here
     nothing part x here there (suc i) = there
 
-    pub first_periods : PeriodsAreSound s (opening all [] first) (lies_opened s given) out_opened (λ q. 0) (λ q x. false)
+    pub first_periods : PeriodsAreSound s (opening all [] first) (lies_opened given) out_opened (λ q. 0) (λ q x. false)
     first_periods = record {
-      sound = grace_starts s.places (grace_of s (opening all [] first) (lies_opened s given) out_opened (λ q. 0) (λ q c. false)) (record {
+      sound = grace_starts s.places (grace_of s (opening all [] first) (lies_opened given) out_opened (λ q. 0) (λ q c. false)) (record {
         word = λ q. unsaid (nat_lt q s.places) q;
         pending = nothing (λ p. pending_by p.stamp) None refl refl;
         least = nothing (λ p. p.least) 0 refl refl;
@@ -230,42 +254,45 @@ module _ (s : Slots) (given : ℕ) (cards : List ℕ) (size : length cards ≡ t
         safe = nothing (λ p. p.safe) 0 refl refl;
         free = free_is_out (get_or all (clock_word s) 0);
       });
-      low = let clock = behind_cards (clock_word s) (omega arith) (omega arith) (λ e. omega arith) in omega arith;
+      low = let clock = h.clock in omega arith;
       each = alone (λ j u. PeriodHolds s all u) first_holds;
       since = λ i q a k at. alone (λ j u. u.period.place ≡ Some q → u.period.announced ≡ Some a → 0 ≡ u.period.began) (λ is an. refl) i k at;
       apart = λ i j q k l at at' has has'. alone (λ i u. i ≡ 0) refl i k at ∙ sym (alone (λ j u. j ≡ 0) refl j l at');
     }
       where
         none : (q : ℕ) → nat_lt q 0 ≡ false
-        none q = grind (arith)
+        none q = not_below q 0 (omega arith)
 
         unsaid : (b : Bool) (q : ℕ) → (if b then announced_by (get_or all (place_word s q) 0) else None) ≡ None
         unsaid true q = quiet q
         unsaid false q = refl
 
 -- what is out in it has numbers that no card has, and nobody is in a period
-pub first_ages : (plan : TablePlan) (s : Slots) (tree : TableState) → IsReached plan tree → (given : ℕ) (cards : List ℕ) (size : length cards ≡ table_size s.last) → IsAtRest (first_of plan) → 1 ≤ s.places
-    → plan.last_card ≤ greatest_number
-    → AgesAreSound plan s tree (opening (opening_words s given cards) [] (record { tree = first_of plan; period = period_by (Some s) })) (lies_opened s given) out_opened (λ q x. false)
-first_ages plan s tree reached given cards size rest one most =
+pub first_ages : (plan : TablePlan) (s : Slots) (tree : TableState) → IsReached plan tree → (given : ℕ) (cards all : List ℕ) (size : length cards ≡ table_size s.last) (h : AreOpeningWords s given cards all)
+    → IsAtRest (first_of plan) → 1 ≤ s.places → plan.last_card ≤ greatest_number
+    → AgesAreSound plan s tree (opening all [] (record { tree = first_of plan; period = period_by (Some s) })) (lies_opened given) out_opened (λ q x. false)
+first_ages plan s tree reached given cards all size h rest one most =
     let has = tables_have_uses plan tree reached in record {
       now = record { machine = has.0; uses = has.1; each = λ c k low is. is_beyond (let past = ltb-true greatest_number c is in omega arith) };
       still = λ q x is. absurd (false≢true is);
-      since = λ i q a k at. alone s given cards size (first_of plan) rest one (λ j u. u.period.place ≡ Some q → u.period.announced ≡ Some a → IsAtRest u.tree ⊎ ForgotWhen plan tree j (λ x. false))
+      since = λ i q a k at. alone s given cards all size h (first_of plan) rest one (λ j u. u.period.place ≡ Some q → u.period.announced ≡ Some a → IsAtRest u.tree ⊎ ForgotWhen plan tree j (λ x. false))
           (λ is an. inl rest) i k at;
-      noted = λ slot k low is. is_beyond (let past = noted_opened s given slot k (subst (λ n. is_noted n k ≡ true) (slots_opened s given cards size slot low) is) in omega arith);
-      read = λ i k r at. alone s given cards size (first_of plan) rest one (λ j u. u.period.read ≡ Some r → r.word % 8 ≢ 7 → (b : ℕ) → is_noted r.word b ≡ true → IsOut plan tree has.0 has.1 (4 * card_by r.slot r.word + b))
+      noted = λ slot k low is. is_beyond (let past = noted_opened given slot k (subst (λ n. is_noted n k ≡ true) (h.slots slot low) is) in omega arith);
+      read = λ i k r at. alone s given cards all size h (first_of plan) rest one (λ j u. u.period.read ≡ Some r → r.word % 8 ≢ 7 → (b : ℕ) → is_noted r.word b ≡ true → IsOut plan tree has.0 has.1 (4 * card_by r.slot r.word + b))
           (λ is. absurd (some_not_none is refl)) i k at;
-      lost = λ i c k at. alone s given cards size (first_of plan) rest one (λ j u. u.period.lost ≡ Some c → IsAside has.0.stages tree.views c) (λ is. absurd (some_not_none is refl)) i k at;
+      lost = λ i c k at. alone s given cards all size h (first_of plan) rest one (λ j u. u.period.lost ≡ Some c → IsAside has.0.stages tree.views c) (λ is. absurd (some_not_none is refl)) i k at;
     }
 
+pub whole_by : (o p : Option Slots) (n m : ℕ) (cards words : List ℕ) → AreWholeWords o n cards words → o ≡ p → n ≡ m → AreWholeWords p m cards words
+whole_by o p n m cards words are same count = subst (λ x. AreWholeWords x m cards words) same (subst (λ i. AreWholeWords o i cards words) count are)
+
 -- and has as many words as it is to have
-pub whole_length : (plan : TablePlan) → MayStart plan → (cards : List ℕ) → length cards ≡ table_size (last_slot plan) → length (whole_words plan.slots (length plan.start) cards) ≡ whole_size plan
-whole_length plan may cards size = by plan.slots may.slots size
+pub whole_length : (plan : TablePlan) → MayStart plan → (cards words : List ℕ) → length cards ≡ table_size (last_slot plan) → AreWholeWords plan.slots (length plan.start) cards words → length words ≡ whole_size plan
+whole_length plan may cards words size are = by plan.slots size are
   where
-    by : (o : Option Slots) → SlotsFit plan o → length cards ≡ table_size (last_slot_of o plan.last_card) → length (whole_words o (length plan.start) cards) ≡ size_by o plan.last_card
-    by None fit size = size
-    by (Some s) fit size = all_size s (length plan.start) cards (let last = fit.2 in let most = fit.4 in size ∙ ap table_size (omega arith))
+    by : (o : Option Slots) → length cards ≡ table_size (last_slot_of o plan.last_card) → AreWholeWords o (length plan.start) cards words → length words ≡ size_by o plan.last_card
+    by None size are = ap length are ∙ size
+    by (Some s) size are = are.size
 
 -- the cards and places of a table fit its plan
 pub slots_fit : (plan : TablePlan) (last places : ℕ) → plan.slots ≡ slots_of last places → plan.last_card ≡ last_for last places → places ≤ most_places → length plan.start ≤ last → last ≤ greatest_card

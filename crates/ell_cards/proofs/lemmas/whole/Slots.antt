@@ -174,20 +174,6 @@ module _ (s : Slots) (t : WholeState) (id : ℕ) (k : Known) (here : get_elem? t
         again : (j : ℕ) → get_or (set t.words (slot_word s slot) (get_or t.words (slot_word s slot) 0)) j 0 ≡ get_or t.words j 0
         again = word_again t.words (slot_word s slot) (omega arith)
 
-    -- it reads that to take the slot, where a card lies already
-    pub slot_owned : (c : ℕ)
-        → PeriodsAreSound s (record { words = set t.words (slot_word s slot) (get_or t.words (slot_word s slot) 0); homes = t.homes; views = set t.views id (record { tree = k.tree; period = after_taking c k.period }) })
-        lie dead began was_dead
-    slot_owned c =
-        slots_after s t id k here lie dead began was_dead h (set t.words (slot_word s slot) (get_or t.words (slot_word s slot) 0)) (after_taking c k.period)
-        (record { place = refl; other = refl; other_says = refl; announced = refl }) refl refl refl refl refl (again (clock_word s)) (λ q. again (place_word s q))
-        lie dead was.pending was.free h.sound
-        (part_same t.views id k here (record { tree = k.tree; period = after_taking c k.period }) (λ p. pending_by p.stamp) refl)
-        (stamps_same s lie t.words (set t.words (slot_word s slot) (get_or t.words (slot_word s slot) 0)) (λ x low. again (slot_word s x)))
-      where
-        again : (j : ℕ) → get_or (set t.words (slot_word s slot) (get_or t.words (slot_word s slot) 0)) j 0 ≡ get_or t.words j 0
-        again = word_again t.words (slot_word s slot) (omega arith)
-
     -- it becomes another one
     module _ (n' : ℕ) where
       abbrev turned : List ℕ

@@ -8,7 +8,7 @@ use Rattle.ell_cards.specs.declared.view.Slots.{Slots}
 use Rattle.ell_cards.specs.Ages.{HasPeriods}
 use Rattle.ell_cards.specs.Changes.{first_of}
 use Rattle.ell_cards.specs.Models.{TablePlan, last_slot, last_slot_of}
-use Rattle.ell_cards.specs.Periods.{opening_words, whole_words, slots_size, period_by}
+use Rattle.ell_cards.specs.Periods.{AreWholeWords, period_by}
 use Rattle.ell_cards.specs.Shown.{IsWord, FieldIsWhole, StoresAreWhole}
 use Rattle.ell_cards.specs.Starts.{MayStart, SlotsFit}
 use Rattle.ell_cards.specs.Whole.{first_known, WordsAre, PeriodsAre, IsWhole, PlansFit}
@@ -18,16 +18,15 @@ use Rattle.ell_cards.proofs.lemmas.shown.ShownKinds.{field_is_whole}
 use Rattle.ell_cards.proofs.lemmas.shown.ShownViews.{unfilled_whole}
 use Rattle.ell_cards.proofs.lemmas.ties.Opens.{tree_opened, reached_opened, periods_opened}
 use Rattle.ell_cards.proofs.lemmas.whole.Lifts.{unplanned_fits}
-use Rattle.ell_cards.proofs.lemmas.whole.Opens.{all_size, with_zeros}
+use Rattle.ell_cards.proofs.lemmas.whole.Opens.{with_zeros}
 
 -- a table starts so
 pub whole_first : (plan : TablePlan) (may : MayStart plan) (cards words : List ℕ) → ((i : ℕ) → IsWord (get_or cards i 0)) → length cards ≡ table_size (last_slot plan) → words_of cards ≡ words_at_start plan.flat plan.start
-    → words ≡ whole_words plan.slots (length plan.start) cards → IsWhole plan (opening words [] (first_known plan))
-whole_first plan may cards words small size are is = by plan.slots refl may.slots
+    → AreWholeWords plan.slots (length plan.start) cards words → IsWhole plan (opening words [] (first_known plan))
+whole_first plan may cards words small size are is = by plan.slots refl may.slots is
   where
-    by : (o : Option Slots) → plan.slots ≡ o → SlotsFit plan o → IsWhole plan (opening words [] (first_known plan))
-    by None none fit =
-        let same : words ≡ cards = is ∙ ap (λ o. whole_words o (length plan.start) cards) none in
+    by : (o : Option Slots) → plan.slots ≡ o → SlotsFit plan o → AreWholeWords o (length plan.start) cards words → IsWhole plan (opening words [] (first_known plan))
+    by None none fit same =
         let all : length cards ≡ table_size plan.last_card = size ∙ ap (λ o. table_size (last_slot_of o plan.last_card)) none in
         record {
           tree = opening cards [] (first_of plan);
@@ -38,22 +37,20 @@ whole_first plan may cards words small size are is = by plan.slots refl may.slot
           words = subst (λ o. WordsAre o words cards) (sym none) same;
           periods = subst (λ o. PeriodsAre plan o (opening cards [] (first_of plan)) (opening words [] (first_known plan))) (sym none) tt;
         }
-    by (Some s) placed fit =
-        let same : words ≡ opening_words s (length plan.start) cards = is ∙ ap (λ o. whole_words o (length plan.start) cards) placed in
+    by (Some s) placed fit opens =
         let all : length cards ≡ table_size s.last = size ∙ ap (λ o. table_size (last_slot_of o plan.last_card)) placed in
-        let has = periods_opened plan s cards may fit all are small in
-        let tree = tree_opened plan s cards may fit all are small in record {
+        let has = periods_opened plan s cards words may fit all are small opens in
+        let tree = tree_opened plan s cards words may fit all are small opens in record {
           tree = tree;
-          reached = reached_opened plan s cards may fit all are small;
+          reached = reached_opened plan s cards words may fit all are small opens;
           views = refl;
           homes = refl;
           stores = each_first (first_of plan) (λ v. StoresAreWhole v × PlansFit plan.slots v) (unfilled_whole (first_of plan) refl refl, unplanned_fits plan.slots (first_of plan) refl);
           words = subst (λ o. WordsAre o words tree.words) (sym placed) (
-            subst (λ l. length l ≡ slots_size s) (sym same) (all_size s (length plan.start) cards all),
+            opens.size,
             λ c f. subst (FieldIsWhole f) (sym (with_zeros cards (table_size plan.last_card - length cards) (address c f)))
                 (field_is_whole f (get_or cards (address c f) 0) (small (address c f))),
           );
           periods = subst (λ o. PeriodsAre plan o tree (opening words [] (first_known plan))) (sym placed)
-              (subst (λ l. HasPeriods plan s tree (opening l [] (first_known plan))) (sym same)
-              (subst (λ o. HasPeriods plan s tree (opening (opening_words s (length plan.start) cards) [] (record { tree = first_of plan; period = period_by o }))) (sym placed) has));
+              (subst (λ o. HasPeriods plan s tree (opening words [] (record { tree = first_of plan; period = period_by o }))) (sym placed) has);
         }

@@ -1,7 +1,6 @@
--- A pass takes the slot of its card in hand: that card lies there already, or the slot was set free with a stamp below the pass's safe number.
-use Rattle.std.proofs.Common.{◌≡◌, ◌≢◌, ℕ, ◌+◌, ◌*◌, ◌%◌, ◌<◌, ◌≤◌, ◌==◌, if◌then◌else◌, Bool, true, false, Some, length, get_or, set, inl, inr, ◌⊎◌, refl, sym, ap, ◌∙◌, subst, arith, eq-eqb, ne_eqb}
+-- A pass takes the slot of its card in hand, which was set free with a stamp below the pass's safe number.
+use Rattle.std.proofs.Common.{◌≡◌, ◌≢◌, ℕ, ◌*◌, ◌%◌, ◌<◌, ◌≤◌, ◌==◌, if◌then◌else◌, Bool, true, false, Some, length, get_or, inl, inr, ◌⊎◌, refl, sym, ap, ◌∙◌, subst, arith, eq-eqb, ne_eqb}
 use Rattle.std.proofs.lemmas.Bool.{cases_eq}
-use Rattle.std.proofs.lemmas.Bool.Decides.{nat_tests}
 use Rattle.std.proofs.lemmas.Option.{same_Some}
 use mathlib.Core.Option.{some}
 use lib.ListN.{get_elem?}
@@ -15,19 +14,16 @@ use Rattle.ell_cards.specs.Ages.{HasPeriods}
 use Rattle.ell_cards.specs.Models.{TablePlan}
 use Rattle.ell_cards.specs.Periods.{WholeState, slot_word, slots_size, after_missing, after_own, after_read, after_taking}
 use Rattle.ell_cards.specs.Seeking.{could_take, missed_one}
-use Rattle.ell_cards.specs.SlotWords.{has_slot_in, slot_of, turn_of, turn_in, stamp_in, is_used_for}
+use Rattle.ell_cards.specs.SlotWords.{has_slot_in, slot_of, turn_of, stamp_in}
 use Rattle.ell_cards.specs.Starts.{IsReached}
 use Rattle.ell_cards.specs.States.{TableState}
 use Rattle.ell_cards.specs.Stepping.{MayGoOn}
 use Rattle.ell_cards.specs.Tied.{HoldsWaiting}
 use Rattle.ell_cards.specs.Whole.{trees_of}
-use Rattle.ell_cards.proofs.lemmas.ties.Owning.{own_slots_keep_ties}
 use Rattle.ell_cards.proofs.lemmas.ties.TakingSlots.{takes_keep_ties}
 use Rattle.ell_cards.proofs.lemmas.whole.Freeing.{reads_now}
 use Rattle.ell_cards.proofs.lemmas.whole.Going.{turned_to, goes_on_whole}
-use Rattle.ell_cards.proofs.lemmas.whole.Seats.{lie_same}
-use Rattle.ell_cards.proofs.lemmas.whole.Slots.{slot_owned, slot_taken, taken_is_dead, taken_was_dead_for, lie_taken}
-use Rattle.ell_cards.proofs.lemmas.whole.Steps.{word_again}
+use Rattle.ell_cards.proofs.lemmas.whole.Slots.{slot_taken, taken_is_dead, taken_was_dead_for, lie_taken}
 use Rattle.ell_cards.proofs.lemmas.whole.Trees.{tree_at}
 
 -- what the pass knows of periods, by whether the word was as it was
@@ -36,17 +32,6 @@ word_was b p taken old is same = is ∙ ap (λ x. if x then taken else old) same
 
 pub word_changed : (b : Bool) (p taken old : Period) → p ≡ (if b then taken else old) → b ≡ false → p ≡ old
 word_changed b p taken old is other = is ∙ ap (λ x. if x then taken else old) other
-
--- by the word of a slot that is in use for a card the slot is in use, at the card's turn
-used_is_taken : (c n : ℕ) → is_used_for c n ≡ true → n % 8 ≢ 7
-used_is_taken c n is = grind (arith, nat_tests)
-
-used_has_turn : (c n : ℕ) → is_used_for c n ≡ true → turn_in n ≡ turn_of c
-used_has_turn c n is = grind (arith, nat_tests)
-
--- the card of a slot at a turn
-card_of_turn : (c n : ℕ) → turn_in n ≡ turn_of c → 2097152 * turn_in n + slot_of c ≡ c
-card_of_turn c n turn = omega arith
 
 -- the periods of a table where a pass takes the slot of its card in hand
 module _ (plan : TablePlan) (s : Slots) (tree : TableState) (t : WholeState) (id : ℕ) (k : Known) (here : get_elem? t.views id ≡ some k) (same : trees_of t.views ≡ tree.views)
@@ -57,39 +42,19 @@ module _ (plan : TablePlan) (s : Slots) (tree : TableState) (t : WholeState) (id
   abbrev found : ℕ
   found = get_or t.words at 0
 
-  -- that card lies there already
-  own_now : get_or t.words (slot_word s (slot_of c)) 0 % 8 ≢ 7 → turn_in (get_or t.words (slot_word s (slot_of c)) 0) ≡ turn_of c
-      → HasPeriods plan s tree (turned_to t id k (after_taking c k.period) (slot_word s (slot_of c)) (get_or t.words (slot_word s (slot_of c)) 0))
-  own_now used turn =
-      let tied = own_slots_keep_ties plan s tree t h.lie h.dead h.was_dead size (record { ages = h.ages; tied = h.tied }) same id k here c hand numbered (inside, h.lies (slot_of c) inside used ∙ card_of_turn c found turn) in record {
-        lie = h.lie;
-        lies = lie_same s h.lie t.words (set t.words at found) (λ slot low. word_again t.words at (omega arith) (slot_word s slot)) h.lies;
-        dead = h.dead;
-        began = h.began;
-        was_dead = h.was_dead;
-        periods = slot_owned s t id k here h.lie h.dead h.began h.was_dead h.periods size (slot_of c) inside c;
-        ages = tied.ages;
-        tied = tied.tied;
-      }
-
   -- it reads the slot's word
   pub reads_so : (sought : Seek) → HasPeriods plan s tree (turned_to t id k (record (after_read (slot_of c) (get_or t.words (slot_word s (slot_of c)) 0) k.period) { sought = sought }) (slot_word s (slot_of c)) (get_or t.words (slot_word s (slot_of c)) 0))
   reads_so sought = reads_now plan s tree t id k here (ap (λ l. get_elem? l id) (sym same) ∙ tree_at t.views id k here) h size reached (slot_of c) inside sought
 
-  -- so the pass reads the slot's word, and has taken the slot if that is so
+  -- and counts a miss if it could not take the slot
   pub owns_now : HasPeriods plan s tree (turned_to t id k (after_own c (get_or t.words (slot_word s (slot_of c)) 0) k.period) (slot_word s (slot_of c)) (get_or t.words (slot_word s (slot_of c)) 0))
-  owns_now = by (is_used_for c found) refl
+  owns_now = by (could_take found k.period.safe)
     where
-      by : (b : Bool) → is_used_for c found ≡ b
-          → HasPeriods plan s tree (turned_to t id k (if b then after_taking c k.period else if could_take c found k.period.safe then after_read (slot_of c) found k.period else after_missing c found k.period) (slot_word s (slot_of c)) found)
-      by true is = own_now (used_is_taken c found is) (used_has_turn c found is)
-      by false is = not_own (could_take c found k.period.safe)
-        where
-          not_own : (b : Bool) → HasPeriods plan s tree (turned_to t id k (if b then after_read (slot_of c) found k.period else after_missing c found k.period) (slot_word s (slot_of c)) found)
-          not_own true = reads_so k.period.sought
-          not_own false = reads_so (missed_one k.period.sought)
+      by : (b : Bool) → HasPeriods plan s tree (turned_to t id k (if b then after_read (slot_of c) found k.period else after_missing c found k.period) (slot_word s (slot_of c)) found)
+      by true = reads_so k.period.sought
+      by false = reads_so (missed_one k.period.sought)
 
-  -- or the slot was set free with a stamp below the pass's safe number
+  -- it takes the slot, if that was set free with a stamp below the pass's safe number
   pub takes_now : s.last < 2097152 → (n : ℕ) → get_or t.words (slot_word s (slot_of c)) 0 ≡ n → n % 8 ≡ 7 → stamp_in n < k.period.safe
       → HasPeriods plan s tree (turned_to t id k (after_taking c k.period) (slot_word s (slot_of c)) (8 * turn_of c))
   takes_now low n is free safe =
@@ -111,7 +76,7 @@ module _ (plan : TablePlan) (s : Slots) (tree : TableState) (t : WholeState) (id
 
 -- these steps are steps of the table
 module _ (plan : TablePlan) (s : Slots) (placed : plan.slots ≡ Some s) (k : Known) (c : ℕ) (hand : HoldsWaiting k.tree c) (inside : slot_of c ≤ s.last) (numbered : has_slot_in s.last c ≡ true) where
-  -- a pass reads the word of the slot, and has taken it if its card lies there already
+  -- a pass reads the word of the slot
   pub owns_slot : MayGoOn plan k (slot_word s (slot_of c)) (λ n. n) (λ n p. p ≡ after_own c n k.period)
   owns_slot =
       goes_on_whole plan s placed k (slot_word s (slot_of c)) (λ n. n) (λ n p. p ≡ after_own c n k.period) (λ t. after_own c (get_or t.words (slot_word s (slot_of c)) 0) k.period)
