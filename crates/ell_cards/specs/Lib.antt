@@ -37,6 +37,8 @@ pub mod Aside
 pub mod Ages
 -- some of the three nodes of a card
 pub mod CardNodes
+-- that dead nodes are noted
+pub mod Noting
 -- the rule of a table: its tree, and its periods
 pub mod Whole
 -- what the safe numbers of passes tell

@@ -15,7 +15,7 @@ use Rattle.ell_cards.specs.declared.view.Told.{Told}
 use Rattle.ell_cards.specs.declared.view.Told.TheVariants.{Met, Key}
 use Rattle.ell_cards.specs.declared.view.View.{View}
 use Rattle.ell_cards.specs.Models.{TablePlan, IsFree, IsTold}
-use Rattle.ell_cards.specs.Seeking.{could_have, could_take, missed_none, missed_one, no_seek, sought_on}
+use Rattle.ell_cards.specs.Seeking.{could_have, could_take, missed_none, missed_one, no_seek, noted_in, outrun_once, sought_on}
 use Rattle.ell_cards.specs.SlotWords.{slot_of, card_by, free_word, freed_by, has_slot_in}
 
 -- the state of a table, with all that its passes know
@@ -200,6 +200,17 @@ abbrev pub after_seek : Slots → Bool → Bool → ℕ → ℕ → ℕ → Peri
 after_seek s begins for_delete c made n p = record (after_read (slot_of c) n p) {
   sought = sought_on s begins for_delete c made (could_have s for_delete c n p.safe) p.sought;
 }
+
+-- the word of a slot was read by a pass that is to note nodes there
+abbrev pub after_noting_read : ℕ → ℕ → Period → Period
+after_noting_read slot n p = record (after_read slot n p) { sought = noted_in slot n p.sought }
+
+-- it notes them by an exchange for this word, if another one stood there by then in vain; or it exchanges the word of a
+-- card that it has laid aside, which notes no nodes
+abbrev pub after_noting : Bool → Bool → ℕ → ℕ → Period → Period
+after_noting false won slot n p = p
+after_noting true true slot n p = record p { sought = noted_in slot n p.sought }
+after_noting true false slot n p = record p { sought = outrun_once p.sought }
 
 -- the slot of a card was taken
 abbrev pub after_taking : ℕ → Period → Period

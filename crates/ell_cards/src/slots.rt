@@ -2,14 +2,16 @@
 //! of the three nodes of the card are dead. Once all three are, the slot is set free: the word then has a reading of
 //! the clock as its stamp, and a pass takes the slot for another card once that stamp is safe. The numbers of a later
 //! turn that child words do not tell from the first have no slots. The steps are not counted.
-ghost use Rattle.std.specs.Prelude.{◌≡◌, ◌≢◌, ◌+◌, ◌*◌, ◌<◌, ◌≤◌, ◌%◌, ◌⊎◌, nat_le, ℕ, IfSome, None, Some, [], true, false};
-ghost use Rattle.ell_word.specs.Node.{greatest_card, greatest_number};
+ghost use prog.Atomic.{either};
+ghost use Rattle.std.specs.Prelude.{◌==◌, ◌≡◌, ◌≢◌, ◌+◌, ◌*◌, ◌<◌, ◌≤◌, ◌%◌, ◌⊎◌, nat_le, ℕ, IfSome, None, Some, [], true, false};
+ghost use Rattle.ell_word.specs.Node.{card, greatest_card, greatest_number};
 ghost use Rattle.ell_cards.specs.Ages.{KnowsDeadNode, MayStamp};
-ghost use Rattle.ell_cards.specs.CardNodes.{AreTakenOut, KnowsDeadNodes, NeverCome};
+ghost use Rattle.ell_cards.specs.CardNodes.{AreTakenOut, KnowsDeadNodes, NeverCome, node_alone};
 ghost use Rattle.ell_cards.specs.Dead.{HasTakenOut};
 ghost use Rattle.ell_cards.specs.Guards.{MayFill};
-ghost use Rattle.ell_cards.specs.Periods.{StandsAs, after_missing, after_own, after_read, after_seek, after_stamp, after_taking, has_slot, last_reading, slot_word, spread};
-ghost use Rattle.ell_cards.specs.Seeking.{could_take, FindsNone, FindsNoneIn, FindsOneFor, may_have, missed_none, missed_one, sought_on};
+ghost use Rattle.ell_cards.specs.Periods.{StandsAs, after_missing, after_noting, after_noting_read, after_own, after_read, after_seek, after_stamp, after_taking, has_slot, last_reading, slot_word, spread};
+ghost use Rattle.ell_cards.specs.Seeking.{could_take, FindsNone, FindsNoneIn, FindsOneFor, may_have, missed_none, missed_one, noted_in, outrun_once, sought_on};
+ghost use Rattle.ell_cards.specs.Noting.{HasNoted, IsNotedBy, IsOfOtherTurn, IsSoughtAs, NotedThere, WasReplaced};
 ghost use Rattle.ell_cards.specs.SlotWords.{card_by, has_slot_in, has_slots, is_noted, slot_of, stamp_in, turn_in, turn_of};
 ghost use Rattle.ell_cards.specs.Stepping.{MayGoOn};
 ghost use Rattle.ell_cards.specs.Tied.{HoldsWaiting};
@@ -196,6 +198,31 @@ impl<A: Allocator + Copy> CardTable<A> {
         self.period_load::<Brand>(seat, self.clock_address(slots))
     }
 
+    // Exchanges the word of a slot for another one, if it is this still, and tells what its caller picked. Returns the
+    // word that it found.
+    #[inline(always)]
+    fn exchange_slot<J: PeriodTelling>(
+        &self,
+        seat: &mut Seat<(), Known>,
+        slots: Slots,
+        slot: u64,
+        word: u64,
+        other: u64,
+        notes: bool,
+    ) -> u64
+        requires own { seat.old.table_id ≡ self.now.id }
+        requires empty { seat.old.me.1 ≡ [] }
+        requires slots { self.now.plan.slots ≡ Some slots }
+        requires slot { slot ≤ slots.last }
+        requires rule { MayGoOn self.now.plan seat.old.me.0 (slot_word slots slot) (λ n. either (n == word) other n) J.then }
+        ensures told { J.then result seat.new.me.0.period }
+        ensures tree { seat.new.me.0.tree ≡ seat.old.me.0.tree }
+        ensures seat { (seat.new.table_id ≡ seat.old.table_id) × (seat.new.me.1 ≡ []) }
+    {
+        let _ = notes;
+        self.period_exchange::<J>(seat, self.slot_address(slots, slot), word, other)
+    }
+
     // Notes more nodes of the card in a slot as dead, by another word of the slot that notes them too, if its word is
     // this still. Returns `true` if it was.
     fn note_more(
@@ -215,16 +242,23 @@ impl<A: Allocator + Copy> CardTable<A> {
         requires others { noted % 8 ≢ 7 }
         requires dead { (i : ℕ) → is_noted noted i ≡ true →
             (is_noted word i ≡ true) ⊎ KnowsDeadNode seat.old.me.0.tree (4 * card_by slot word + i) }
-        ensures period { seat.new.me.0.period ≡ seat.old.me.0.period }
+        ensures period { seat.new.me.0.period ≡ after_noting true result slot noted seat.old.me.0.period }
         ensures tree { seat.new.me.0.tree ≡ seat.old.me.0.tree }
         ensures seat { (seat.new.table_id ≡ seat.old.table_id) × (seat.new.me.1 ≡ []) }
     {
-        self.period_exchange::<Brand>(seat, self.slot_address(slots, slot), word, noted) == word
+        self.exchange_slot::<Brand>(seat, slots, slot, word, noted, true) == word
     }
 
-    // Sets a slot free, all nodes of whose card the pass knows to be dead, or whose card it has laid aside, if the
-    // slot's word is this still. Returns `true` if it was.
-    fn set_free(&self, seat: &mut Seat<(), Known>, slots: Slots, slot: u64, word: u64) -> bool
+    // Sets a slot free, all nodes of whose card the pass knows to be dead, as it notes the last of them, or whose card it
+    // has laid aside, if the slot's word is this still. Returns `true` if it was.
+    fn set_free(
+        &self,
+        seat: &mut Seat<(), Known>,
+        slots: Slots,
+        slot: u64,
+        word: u64,
+        notes: bool,
+    ) -> bool
         requires own { seat.old.table_id ≡ self.now.id }
         requires empty { seat.old.me.1 ≡ [] }
         requires slots { self.now.plan.slots ≡ Some slots }
@@ -235,19 +269,22 @@ impl<A: Allocator + Copy> CardTable<A> {
         requires may { MayStamp seat.old.me.0 (card_by slot word) }
         ensures stands { StandsAs seat.old.me.0.period seat.new.me.0.period }
         ensures slot { seat.new.me.0.period.slot ≡ seat.old.me.0.period.slot }
-        ensures sought { seat.new.me.0.period.sought ≡ seat.old.me.0.period.sought }
+        ensures aside { notes ≡ false → seat.new.me.0.period.sought ≡ seat.old.me.0.period.sought }
+        ensures outrun { notes ≡ true → result ≡ false →
+            seat.new.me.0.period.sought ≡ outrun_once seat.old.me.0.period.sought }
+        ensures noted { notes ≡ true → result ≡ true → (word : ℕ) × (word % 8 ≡ 7)
+            × (seat.new.me.0.period.sought ≡ noted_in slot word seat.old.me.0.period.sought) }
         ensures safe { seat.new.me.0.period.safe ≡ seat.old.me.0.period.safe }
         ensures tree { seat.new.me.0.tree ≡ seat.old.me.0.tree }
         ensures seat { (seat.new.table_id ≡ seat.old.table_id) × (seat.new.me.1 ≡ []) }
     {
         let reading = self.stamp(seat, slots, slot, word);
-        let address = self.slot_address(slots, slot);
-        self.period_exchange::<Brand>(seat, address, word, 8 * reading + 7) == word
+        self.exchange_slot::<Brand>(seat, slots, slot, word, 8 * reading + 7, notes) == word
     }
 
-    // Reads the word of the slot of nodes that the card in hand has taken out of the tree, of whose numbers the pass
-    // knows the low bits. Unless the slot is free, the card that lies there by that word is theirs.
-    fn read_taken_out(
+    // Reads the word of the slot of a card of which the pass is to note nodes. If its card in hand has taken these out of the
+    // tree, of whose numbers it knows the low bits, the card that lies there by that word is theirs, unless the slot is free.
+    fn read_to_note(
         &self,
         seat: &mut Seat<(), Known>,
         slots: Slots,
@@ -260,9 +297,9 @@ impl<A: Allocator + Copy> CardTable<A> {
         requires slots { self.now.plan.slots ≡ Some slots }
         requires slot { slot ≤ slots.last }
         requires card { slot_of card ≡ slot }
-        requires taken { AreTakenOut (shown seat.old.me.0.tree) card nodes }
-        ensures read { seat.new.me.0.period ≡ after_read slot result seat.old.me.0.period }
-        ensures dead { result % 8 ≢ 7 → KnowsDeadNodes seat.old.me.0.tree (card_by slot result) nodes }
+        ensures read { seat.new.me.0.period ≡ after_noting_read slot result seat.old.me.0.period }
+        ensures dead { AreTakenOut (shown seat.old.me.0.tree) card nodes →
+            result % 8 ≢ 7 → KnowsDeadNodes seat.old.me.0.tree (card_by slot result) nodes }
         ensures tree { seat.new.me.0.tree ≡ seat.old.me.0.tree }
         ensures seat { (seat.new.table_id ≡ seat.old.table_id) × (seat.new.me.1 ≡ []) }
     {
@@ -287,10 +324,14 @@ impl<A: Allocator + Copy> CardTable<A> {
         requires slot { slot ≤ slots.last }
         requires low { slots.last < 2097152 }
         requires read { seat.old.me.0.period.read ≡ Some (record { slot = slot; word = word }) }
+        requires found { seat.old.me.0.period.sought.noted ≡ Some (record { slot = slot; word = word }) }
         requires dead { word % 8 ≢ 7 → KnowsDeadNodes seat.old.me.0.tree (card_by slot word) nodes }
         ensures stands { StandsAs seat.old.me.0.period seat.new.me.0.period }
         ensures slot { seat.new.me.0.period.slot ≡ seat.old.me.0.period.slot }
-        ensures sought { seat.new.me.0.period.sought ≡ seat.old.me.0.period.sought }
+        ensures sought { IsSoughtAs seat.old.me.0.period.sought seat.new.me.0.period.sought }
+        ensures outrun { result ≡ None →
+            seat.new.me.0.period.sought.outrun ≡ seat.old.me.0.period.sought.outrun + 1 }
+        ensures noted { result ≢ None → NotedThere seat.new.me.0.period.sought slot nodes (λ _. ⊥) }
         ensures safe { seat.new.me.0.period.safe ≡ seat.old.me.0.period.safe }
         ensures tree { seat.new.me.0.tree ≡ seat.old.me.0.tree }
         ensures seat { (seat.new.table_id ≡ seat.old.table_id) × (seat.new.me.1 ≡ []) }
@@ -300,7 +341,7 @@ impl<A: Allocator + Copy> CardTable<A> {
             return Some(false);
         }
         if noted % 8 == 7 {
-            self.set_free(seat, slots, slot, word).then_some(true)
+            self.set_free(seat, slots, slot, word, true).then_some(true)
         } else {
             self.note_more(seat, slots, slot, word, noted)
                 .then_some(false)
@@ -328,18 +369,18 @@ impl<A: Allocator + Copy> CardTable<A> {
         requires never { taken_out ≡ false → NeverCome (shown seat.old.me.0.tree) card nodes }
         ensures stands { StandsAs seat.old.me.0.period seat.new.me.0.period }
         ensures slot { seat.new.me.0.period.slot ≡ seat.old.me.0.period.slot }
-        ensures sought { seat.new.me.0.period.sought ≡ seat.old.me.0.period.sought }
+        ensures sought { IsSoughtAs seat.old.me.0.period.sought seat.new.me.0.period.sought }
+        ensures outrun { result ≡ None →
+            seat.new.me.0.period.sought.outrun ≡ seat.old.me.0.period.sought.outrun + 1 }
+        ensures noted { result ≢ None →
+            NotedThere seat.new.me.0.period.sought (slot_of card) nodes (WasReplaced taken_out card) }
         ensures safe { seat.new.me.0.period.safe ≡ seat.old.me.0.period.safe }
         ensures tree { seat.new.me.0.tree ≡ seat.old.me.0.tree }
         ensures seat { (seat.new.table_id ≡ seat.old.table_id) × (seat.new.me.1 ≡ []) }
     {
         let slot = slot_of(card);
-        if taken_out {
-            let word = self.read_taken_out(seat, slots, slot, card, nodes);
-            return self.note_word(seat, slots, slot, word, nodes);
-        }
-        let word = self.read_slot(seat, slots, slot);
-        if turn_in(word) != turn_of(card) {
+        let word = self.read_to_note(seat, slots, slot, card, nodes);
+        if !taken_out && turn_in(word) != turn_of(card) {
             return Some(false);
         }
         self.note_word(seat, slots, slot, word, nodes)
@@ -364,12 +405,14 @@ impl<A: Allocator + Copy> CardTable<A> {
         requires never { taken_out ≡ false → NeverCome (shown seat.old.me.0.tree) card nodes }
         ensures stands { StandsAs seat.old.me.0.period seat.new.me.0.period }
         ensures slot { seat.new.me.0.period.slot ≡ seat.old.me.0.period.slot }
-        ensures sought { seat.new.me.0.period.sought ≡ seat.old.me.0.period.sought }
+        ensures sought { IsSoughtAs seat.old.me.0.period.sought seat.new.me.0.period.sought }
+        ensures noted { NotedThere seat.new.me.0.period.sought (slot_of card) nodes (WasReplaced taken_out card)
+            ⊎ (seat.new.me.0.period.sought.outrun ≡ seat.old.me.0.period.sought.outrun + 3) }
         ensures safe { seat.new.me.0.period.safe ≡ seat.old.me.0.period.safe }
         ensures tree { seat.new.me.0.tree ≡ seat.old.me.0.tree }
         ensures seat { (seat.new.table_id ≡ seat.old.table_id) × (seat.new.me.1 ≡ []) }
     {
-        for _ in 0..3 {
+        for _ in 0..3u64 {
             if let Some(freed) = self.note_dead(seat, slots, card, nodes, taken_out) {
                 return freed;
             }
@@ -399,7 +442,7 @@ impl<A: Allocator + Copy> CardTable<A> {
         }
         let word = self.read_slot(seat, slots, slot);
         if turn_in(word) == turn_of(card) && word % 8 == 0 {
-            self.set_free(seat, slots, slot, word);
+            self.set_free(seat, slots, slot, word, false);
         }
     }
 
@@ -409,9 +452,13 @@ impl<A: Allocator + Copy> CardTable<A> {
         requires own { pass.old.table ≡ self.now.id }
         requires taken { HasTakenOut pass.old.view node }
         // What the pass knows of the tree is as it was, and it has made no step that is counted.
-        ensures same { pass.new ≡ pass.old }
+        ensures same { HasNoted pass.old pass.new }
+        // The pass left in the slot, or found there, a word that notes the node, or sets the slot free; unless it
+        // was outrun three times.
+        ensures noted { IfSome self.now.plan.slots (λ s.
+            IsNotedBy pass.old.sought pass.new.sought s (card node) (node_alone (node % 4)) (λ _. ⊥)) }
         // A table without places has no slots that become free.
-        ensures none { self.now.plan.slots ≡ None → result ≡ false }
+        ensures none { self.now.plan.slots ≡ None → (result ≡ false) × (pass.new ≡ pass.old) }
     {
         self.retire_taken_out(pass, card_of(node), CardNodes::only(node))
     }
@@ -424,9 +471,13 @@ impl<A: Allocator + Copy> CardTable<A> {
         requires own { pass.old.table ≡ self.now.id }
         requires taken { AreTakenOut pass.old.view card nodes }
         // What the pass knows of the tree is as it was, and it has made no step that is counted.
-        ensures same { pass.new ≡ pass.old }
+        ensures same { HasNoted pass.old pass.new }
+        // The pass left in the slot, or found there, a word that notes these nodes, or sets the slot free; unless it
+        // was outrun three times.
+        ensures noted { IfSome self.now.plan.slots (λ s.
+            IsNotedBy pass.old.sought pass.new.sought s card nodes (λ _. ⊥)) }
         // A table without places has no slots that become free.
-        ensures none { self.now.plan.slots ≡ None → result ≡ false }
+        ensures none { self.now.plan.slots ≡ None → (result ≡ false) × (pass.new ≡ pass.old) }
     {
         let Some(slots) = self.slots else {
             return false;
@@ -444,9 +495,13 @@ impl<A: Allocator + Copy> CardTable<A> {
         requires own { pass.old.table ≡ self.now.id }
         requires never { NeverCome pass.old.view card nodes }
         // What the pass knows of the tree is as it was, and it has made no step that is counted.
-        ensures same { pass.new ≡ pass.old }
+        ensures same { HasNoted pass.old pass.new }
+        // The pass left in the slot, or found there, a word that notes these nodes, or sets the slot free, or is of
+        // another turn than the card's; unless it was outrun three times.
+        ensures noted { IfSome self.now.plan.slots (λ s.
+            IsNotedBy pass.old.sought pass.new.sought s card nodes (IsOfOtherTurn card)) }
         // A table without places has no slots that become free.
-        ensures none { self.now.plan.slots ≡ None → result ≡ false }
+        ensures none { self.now.plan.slots ≡ None → (result ≡ false) × (pass.new ≡ pass.old) }
     {
         let Some(slots) = self.slots else {
             return false;

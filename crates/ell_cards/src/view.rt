@@ -142,7 +142,8 @@ pub struct Period {
     pub sought: Seek,
 }
 
-/// What a pass has read in its last search for a slot: a row of numbers that have slots, one after the other.
+/// What a pass knows of the words of slots: what it has read in its last search for a slot, a row of numbers that have slots,
+/// one after the other; and what it has noted last.
 #[derive(Clone, Copy)]
 pub struct Seek {
     /// Whether it sought one for a delete.
@@ -157,6 +158,10 @@ pub struct Seek {
     pub made: u64,
     /// So many cards that it had in hand since it took a slot last had slots that it could not take.
     pub missed: u64,
+    /// The word of a slot that it left there, or else read, as it noted nodes last.
+    pub noted: Option<SlotRead>,
+    /// So often another word stood there by then.
+    pub outrun: u64,
 }
 
 /// The word of a slot as a pass has read it.

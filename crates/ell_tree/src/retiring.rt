@@ -7,6 +7,7 @@ ghost use Rattle.ell_layout.specs.declared.field.Field.TheVariants as field;
 ghost use Rattle.ell_cards.specs.declared.view.Told.TheVariants.{Info};
 ghost use Rattle.ell_cards.specs.Dead.{HasTakenOut, KnowsDeleteEnded};
 ghost use Rattle.ell_cards.specs.Models.{IsTold, Knows};
+ghost use Rattle.ell_cards.specs.Noting.{HasNoted};
 ghost use Rattle.ell_tree.specs.Retiring.{HasPut};
 
 use crate::searching::Place;
@@ -28,7 +29,7 @@ pub(crate) fn retire_put<A: Allocator + Copy>(
     requires own { pass.old.table ≡ table.now.id }
     requires limit { card ≤ greatest_number }
     requires put { HasPut what place pass.old.view card }
-    ensures same { pass.new ≡ pass.old }
+    ensures same { HasNoted pass.old pass.new }
 {
     if is_internal(place.node) {
         let unused = if what.key < place.key {
@@ -63,7 +64,7 @@ pub(crate) fn retire_deleted<A: Allocator + Copy>(
     requires over { Knows pass.old.view (DOver card) }
     requires parent { IsTold pass.old.view (Info card field.P parent) }
     requires leaf { IsTold pass.old.view (Info card field.L leaf) }
-    ensures same { pass.new ≡ pass.old }
+    ensures same { HasNoted pass.old pass.new }
 {
     retire_both(table, pass, parent, leaf);
     retire_own(table, pass, card);
@@ -74,7 +75,7 @@ fn retire_both<A: Allocator + Copy>(table: &CardTable<A>, pass: &mut Pass<A>, on
     requires own { pass.old.table ≡ table.now.id }
     requires one { HasTakenOut pass.old.view one }
     requires other { HasTakenOut pass.old.view other }
-    ensures same { pass.new ≡ pass.old }
+    ensures same { HasNoted pass.old pass.new }
 {
     let card = card_of(one);
     if card_of(other) == card {
@@ -90,7 +91,7 @@ fn retire_both<A: Allocator + Copy>(table: &CardTable<A>, pass: &mut Pass<A>, on
 pub(crate) fn retire_own<A: Allocator + Copy>(table: &CardTable<A>, pass: &mut Pass<A>, card: u64)
     requires own { pass.old.table ≡ table.now.id }
     requires ended { KnowsDeleteEnded pass.old.view card }
-    ensures same { pass.new ≡ pass.old }
+    ensures same { HasNoted pass.old pass.new }
 {
     table.retire_nodes(pass, card, CardNodes::all());
 }

@@ -1,4 +1,4 @@
-use Rattle.std.proofs.Common.{◌≡◌, ◌≢◌, ◌⊎◌, false, ℕ, zero, suc, ◌+◌, ◌*◌, ◌%◌, ◌<◌, ◌≤◌, Some, inl, inr, refl, ◌∙◌, subst, max, min, true, arith}
+use Rattle.std.proofs.Common.{◌≡◌, ◌≢◌, ◌⊎◌, false, ℕ, zero, suc, ◌+◌, ◌*◌, ◌%◌, ◌<◌, ◌≤◌, Some, inl, inr, refl, sym, ◌∙◌, subst, max, min, true, arith}
 use Rattle.std.proofs.lemmas.Bool.{false≢true}
 use Rattle.ell_ops.specs.declared.op.Op.{Op}
 use Rattle.ell_word.specs.Node.{IsInternal, card, left_leaf, right_leaf}
@@ -8,17 +8,42 @@ use Rattle.ell_core.specs.acts.Searching.{put_of}
 use Rattle.ell_core.proofs.lemmas.keeping.Puts.{put_key}
 use Rattle.ell_layout.specs.declared.field.Field.TheVariants as field
 use Rattle.ell_layout.specs.Words.{IsLeaf}
+use Rattle.ell_cards.specs.declared.view.Seek.{Seek}
 use Rattle.ell_cards.specs.declared.view.Told.TheVariants.{Info}
 use Rattle.ell_cards.specs.declared.view.View.{View}
 use Rattle.ell_cards.specs.CardNodes.{AllOfCard, NeverCome, all_nodes, node_alone}
 use Rattle.ell_cards.specs.Dead.{HasTakenOut, KnowsDeleteEnded, KnowsNeverComes}
-use Rattle.ell_cards.specs.Models.{IsTold, Knows, Does}
+use Rattle.ell_cards.specs.Models.{PassModel, IsTold, Knows, Does}
+use Rattle.ell_cards.specs.Noting.{HasNoted}
 use Rattle.ell_cards.proofs.lemmas.views.DeadNodes.{so_alone}
 use Rattle.ell_tree.specs.declared.searching.Place.{Place}
 use Rattle.ell_tree.specs.Helps.{IsInsert}
-use Rattle.ell_tree.specs.Keeping.{LosesNothing}
+use Rattle.ell_tree.specs.Keeping.{Keeps, KeepsAll, KeepsAllButMet, LosesNothing}
 use Rattle.ell_tree.specs.Retiring.{HasPut}
 use Rattle.ell_tree.specs.Searches.{node_with}
+
+-- what a pass kept it has kept once it has noted nodes
+keeps_noted : (a m : PassModel) (sought : Seek) (n : ℕ) → Keeps a m n → Keeps a (record m { sought = sought }) n
+keeps_noted a m sought n h = record { table = h.table; label = h.label; view = h.view; took = record { steps = h.took.steps; made = h.took.made } }
+
+pub keeps_all_noted : (a m m' : PassModel) (n : ℕ) → KeepsAll a m n → HasNoted m m' → KeepsAll a m' n
+keeps_all_noted a m m' n h same = subst (λ x. KeepsAll a x n) (sym same) (record {
+  keeps = keeps_noted a m _ n h.keeps;
+  taken = h.taken;
+  card = h.card;
+  flagged = h.flagged;
+  search = h.search;
+  hindrances = h.hindrances;
+})
+
+pub keeps_but_met_noted : (a m m' : PassModel) (n : ℕ) → KeepsAllButMet a m n → HasNoted m m' → KeepsAllButMet a m' n
+keeps_but_met_noted a m m' n h same = subst (λ x. KeepsAllButMet a x n) (sym same) (record {
+  keeps = keeps_noted a m _ n h.keeps;
+  taken = h.taken;
+  card = h.card;
+  flagged = h.flagged;
+  search = h.search;
+})
 
 -- none of the nodes of a delete's card that has ended comes
 pub own_nodes_dead : (v : View) (c : ℕ) → KnowsDeleteEnded v c → NeverCome v c all_nodes

@@ -1,8 +1,9 @@
-use Rattle.std.proofs.Common.{◌≡◌, ◌≢◌, ℕ, zero, suc, ◌+◌, ◌*◌, ◌/◌, ◌%◌, ◌<◌, ◌≤◌, ◌==◌, Bool, true, false, Some, length, get_or, set, inl, inr, ◌⊎◌, refl, sym, ap, ◌∙◌, subst, arith, eq-eqb, ne_eqb, get_or-set_same, get_or-set_other}
+use Rattle.std.proofs.Common.{◌≡◌, ◌≢◌, ℕ, zero, suc, ◌+◌, ◌*◌, ◌/◌, ◌%◌, ◌<◌, ◌≤◌, ◌==◌, if◌then◌else◌, Bool, true, false, Option, Some, None, length, get_or, set, inl, inr, ◌⊎◌, refl, sym, ap, ◌∙◌, subst, arith, eq-eqb, eqb-true, ne_eqb, get_or-set_same, get_or-set_other}
 use Rattle.std.specs.Int.Bits.{bit_or, or_zero_l, or_zero_r}
 use Rattle.std.proofs.lemmas.Nat.{or_shr, or_mod, or_lt, le_or_l}
 use Rattle.std.proofs.lemmas.Bool.{cases_eq, false≢true}
 use Rattle.std.proofs.lemmas.Bool.Decides.{nat_tests}
+use Rattle.std.specs.Bool.{then_some}
 use Rattle.std.proofs.lemmas.Option.{same_Some}
 use mathlib.Core.Option.{some}
 use lib.ListN.{get_elem?}
@@ -23,8 +24,9 @@ use Rattle.ell_cards.specs.Apart.{cut_node}
 use Rattle.ell_cards.specs.CardNodes.{has_node, AreTakenOut, KnowsDeadNodes}
 use Rattle.ell_cards.specs.Dead.{HasTakenOut}
 use Rattle.ell_cards.specs.Models.{TablePlan}
-use Rattle.ell_cards.specs.Periods.{WholeState, clock_word, slot_word, slots_size, last_reading, LieInSlots, pending_by, after_read, after_seek, after_stamp, PeriodsAreSound}
-use Rattle.ell_cards.specs.Seeking.{could_have, sought_on}
+use Rattle.ell_cards.specs.Noting.{NotedThere, NotesNodes}
+use Rattle.ell_cards.specs.Periods.{WholeState, clock_word, slot_word, slots_size, last_reading, LieInSlots, pending_by, after_noting, after_noting_read, after_read, after_seek, after_stamp, PeriodsAreSound}
+use Rattle.ell_cards.specs.Seeking.{could_have, noted_in, outrun_once, sought_on}
 use Rattle.ell_cards.specs.Shown.{shown}
 use Rattle.ell_cards.specs.SlotWords.{card_by, slot_of, turn_of, turn_in, free_word, is_noted}
 use Rattle.ell_cards.specs.Starts.{IsReached}
@@ -37,7 +39,7 @@ use Rattle.ell_cards.proofs.lemmas.ties.Apart.{met_lies}
 use Rattle.ell_cards.proofs.lemmas.whole.Ages.{ages_of_period}
 use Rattle.ell_cards.proofs.lemmas.whole.Apart.{ready_there}
 use Rattle.ell_cards.proofs.lemmas.ties.Periods.{tie_of_period}
-use Rattle.ell_cards.proofs.lemmas.whole.Going.{turned_to, behind, same_noted, same_again, stays, goes_on_there}
+use Rattle.ell_cards.proofs.lemmas.whole.Going.{turned_to, behind, same_noted, same_again, seeks_now, goes_on_there}
 use Rattle.ell_cards.proofs.lemmas.whole.Steps.{word_again}
 use Rattle.ell_cards.proofs.lemmas.whole.Seats.{period_was, lie_same}
 use Rattle.ell_cards.proofs.lemmas.whole.Slots.{slot_read, card_stamped, slot_noted, slot_freed, lie_noted, lie_freed}
@@ -71,6 +73,35 @@ noted_or n m (suc (suc zero)) is = elim (or_odd (n / 4) (m / 4) (sym (ap (λ x. 
   | inr one ↦ inr (eq-eqb (m / 4 % 2) 1 one)
 ]
 noted_or n m (suc (suc (suc i))) is = absurd (false≢true is)
+
+-- and what is one of these is noted then, as is what was noted
+odd_or : (n m : ℕ) → (n % 2 ≡ 1) ⊎ (m % 2 ≡ 1) → bit_or n m % 2 ≡ 1
+odd_or n m odd = or_mod n m 1 ∙ by (n % 2) (m % 2) (omega arith) (omega arith) odd
+  where
+    by : (x y : ℕ) → x < 2 → y < 2 → (x ≡ 1) ⊎ (y ≡ 1) → bit_or x y ≡ 1
+    by zero zero x_low y_low (inl e) = absurd (omega arith)
+    by zero zero x_low y_low (inr e) = absurd (omega arith)
+    by zero (suc zero) x_low y_low one = refl
+    by (suc zero) zero x_low y_low one = refl
+    by (suc zero) (suc zero) x_low y_low one = refl
+    by zero (suc (suc y)) x_low y_low one = absurd (omega arith)
+    by (suc zero) (suc (suc y)) x_low y_low one = absurd (omega arith)
+    by (suc (suc x)) y x_low y_low one = absurd (omega arith)
+
+pub or_noted : (n m i : ℕ) → (is_noted n i ≡ true) ⊎ (is_noted m i ≡ true) → is_noted (bit_or n m) i ≡ true
+or_noted n m zero is = eq-eqb (bit_or n m % 2) 1 (odd_or n m (elim is [ inl was ↦ inl (eqb-true (n % 2) 1 was) | inr one ↦ inr (eqb-true (m % 2) 1 one) ]))
+or_noted n m (suc zero) is =
+    eq-eqb (bit_or n m / 2 % 2) 1
+    (ap (λ x. x % 2) (or_shr n m 1) ∙ odd_or (n / 2) (m / 2) (elim is [ inl was ↦ inl (eqb-true (n / 2 % 2) 1 was) | inr one ↦ inr (eqb-true (m / 2 % 2) 1 one) ]))
+or_noted n m (suc (suc zero)) is =
+    eq-eqb (bit_or n m / 4 % 2) 1
+    (ap (λ x. x % 2) (or_shr n m 2) ∙ odd_or (n / 4) (m / 4) (elim is [ inl was ↦ inl (eqb-true (n / 4 % 2) 1 was) | inr one ↦ inr (eqb-true (m / 4 % 2) 1 one) ]))
+or_noted n m (suc (suc (suc i))) (inl is) = absurd (false≢true is)
+or_noted n m (suc (suc (suc i))) (inr is) = absurd (false≢true is)
+
+-- so these nodes are noted
+pub notes_all : (n m : ℕ) (nodes : CardNodes) → ((i : ℕ) → is_noted m i ≡ has_node nodes i) → NotesNodes nodes (bit_or n m)
+notes_all n m nodes bits = inr (λ i has. or_noted n m i (inr (bits i ∙ has)))
 
 -- a card lies in its slot by each word of its turn
 pub lies_by : (c slot n : ℕ) → slot ≡ slot_of c → turn_in n ≡ turn_of c → card_by slot n ≡ c
@@ -202,23 +233,23 @@ module _ (plan : TablePlan) (s : Slots) (tree : TableState) (t : WholeState) (id
       ]
 
   -- a slot's word becomes another one, by which the same cards lie in slots, and what it notes is dead
-  turns_now : (slot n : ℕ) → slot ≤ s.last → LieInSlots s (set t.words (slot_word s slot) n) h.lie
-      → PeriodsAreSound s (turned_to t id k k.period (slot_word s slot) n) h.lie h.dead h.began h.was_dead
+  turns_now : (slot n : ℕ) (sought : Seek) → slot ≤ s.last → LieInSlots s (set t.words (slot_word s slot) n) h.lie
+      → PeriodsAreSound s (turned_to t id k (record (k.period) { sought = sought }) (slot_word s slot) n) h.lie h.dead h.began h.was_dead
       → ((i : ℕ) → is_noted n i ≡ true → OutNow (4 * h.lie slot + i))
-      → HasPeriods plan s tree (turned_to t id k k.period (slot_word s slot) n)
-  turns_now slot n inside lies sound notes = record {
+      → HasPeriods plan s tree (turned_to t id k (record (k.period) { sought = sought }) (slot_word s slot) n)
+  turns_now slot n sought inside lies sound notes = record {
     lie = h.lie;
     lies = lies;
     dead = h.dead;
     began = h.began;
     was_dead = h.was_dead;
     periods = sound;
-    ages = ages_of_period plan s tree t id k here k refl (set t.words (slot_word s slot) n) h.lie h.lie h.dead h.dead h.was_dead h.was_dead h.ages
+    ages = ages_of_period plan s tree t id k here (record { tree = k.tree; period = record (k.period) { sought = sought } }) refl (set t.words (slot_word s slot) n) h.lie h.lie h.dead h.dead h.was_dead h.was_dead h.ages
         h.ages.now.each h.ages.still (λ q a at an. h.ages.since id q a k here at an) (λ j q a u other at placed an. refl)
         noted
         (λ r has. h.ages.read id k r here has)
         (λ c has. h.ages.lost id c k here has);
-    tied = tie_of_period s tree t h.ages.now.machine.stages h.lie h.dead h.dead h.was_dead h.was_dead h.tied id k here k.period refl (set t.words (slot_word s slot) n)
+    tied = tie_of_period s tree t h.ages.now.machine.stages h.lie h.dead h.dead h.was_dead h.was_dead h.tied id k here (record (k.period) { sought = sought }) refl (set t.words (slot_word s slot) n)
         (behind plan s tree t id k here h (slot_word s slot) n (omega arith)) (λ c lives. lives)
         (λ q a at an. inl (at, an, λ c lives. lives)) (λ seat q a u other at placed an c lives. lives) t.homes;
   }
@@ -235,12 +266,12 @@ module _ (plan : TablePlan) (s : Slots) (tree : TableState) (t : WholeState) (id
       ]
 
   -- more nodes of the card that lies in a slot are noted as dead
-  pub notes_now : (slot n m : ℕ) → slot ≤ s.last → get_or t.words (slot_word s slot) 0 ≡ n → turn_in m ≡ turn_in n → n % 8 ≢ 7 → m % 8 ≢ 7
+  pub notes_now : (slot n m : ℕ) (sought : Seek) → slot ≤ s.last → get_or t.words (slot_word s slot) 0 ≡ n → turn_in m ≡ turn_in n → n % 8 ≢ 7 → m % 8 ≢ 7
       → ((i : ℕ) → is_noted m i ≡ true → (is_noted n i ≡ true) ⊎ KnowsDeadNode k.tree (4 * card_by slot n + i))
-      → HasPeriods plan s tree (turned_to t id k k.period (slot_word s slot) m)
-  notes_now slot n m inside is turn some_bit some_bit' knows =
-      turns_now slot m inside (lie_noted s h.lie t.words h.lies slot (omega arith) m used (turn ∙ ap turn_in (sym is)))
-      (slot_noted s t id k here h.lie h.dead h.began h.was_dead h.periods size slot inside m used some_bit')
+      → HasPeriods plan s tree (turned_to t id k (record (k.period) { sought = sought }) (slot_word s slot) m)
+  notes_now slot n m sought inside is turn some_bit some_bit' knows =
+      turns_now slot m sought inside (lie_noted s h.lie t.words h.lies slot (omega arith) m used (turn ∙ ap turn_in (sym is)))
+      (slot_noted s t id k here h.lie h.dead h.began h.was_dead h.periods size slot inside sought m used some_bit')
       (λ i noted. elim (knows i noted) [
         | inl was ↦ h.ages.noted slot i inside (subst (λ x. is_noted x i ≡ true) (sym is) was)
         | inr dead ↦ subst (λ c. OutNow (4 * c + i)) (sym lies_there) (dead_by (4 * card_by slot n + i) dead)
@@ -253,12 +284,12 @@ module _ (plan : TablePlan) (s : Slots) (tree : TableState) (t : WholeState) (id
       lies_there = h.lies slot inside used ∙ ap (card_by slot) is
 
   -- or the slot is set free, if all nodes of the card are dead
-  pub frees_now : (slot reading : ℕ) → slot ≤ s.last → (n : ℕ) → get_or t.words (slot_word s slot) 0 ≡ n → n % 8 ≢ 7
+  pub frees_now : (slot reading : ℕ) (sought : Seek) → slot ≤ s.last → (n : ℕ) → get_or t.words (slot_word s slot) 0 ≡ n → n % 8 ≢ 7
       → k.period.stamp ≡ Some (record { card = card_by slot n; reading = reading })
-      → HasPeriods plan s tree (turned_to t id k k.period (slot_word s slot) (free_word reading))
-  frees_now slot reading inside n is some_bit has =
-      turns_now slot (free_word reading) inside (lie_freed s h.lie t.words h.lies slot (omega arith) reading)
-      (slot_freed s t id k here h.lie h.dead h.began h.was_dead h.periods size slot inside reading (h.tied.own slot inside) stamp)
+      → HasPeriods plan s tree (turned_to t id k (record (k.period) { sought = sought }) (slot_word s slot) (free_word reading))
+  frees_now slot reading sought inside n is some_bit has =
+      turns_now slot (free_word reading) sought inside (lie_freed s h.lie t.words h.lies slot (omega arith) reading)
+      (slot_freed s t id k here h.lie h.dead h.began h.was_dead h.periods size slot inside sought reading (h.tied.own slot inside) stamp)
       (λ i noted. h.ages.now.each (h.lie slot) i (few (free_word reading) i noted) dead)
     where
       lies_there : h.lie slot ≡ card_by slot n
@@ -308,12 +339,12 @@ module _ (plan : TablePlan) (s : Slots) (placed : plan.slots ≡ Some s) (slot :
   three nodes (suc (suc zero)) is = omega arith
   three nodes (suc (suc (suc i))) is = absurd (false≢true is)
 
-  reads_taken : (k : Known) → MayGoOn plan k (slot_word s slot) (λ n. n) (λ n p. (p ≡ after_read slot n k.period) × TellsTaken k n)
+  reads_taken : (k : Known) → MayGoOn plan k (slot_word s slot) (λ n. n) (λ n p. (p ≡ after_noting_read slot n k.period) × TellsTaken k n)
   reads_taken k =
-      goes_on_there plan s placed k (slot_word s slot) (λ n. n) (λ n p. (p ≡ after_read slot n k.period) × TellsTaken k n)
-      (λ t. after_read slot (get_or t.words (slot_word s slot) 0) k.period)
+      goes_on_there plan s placed k (slot_word s slot) (λ n. n) (λ n p. (p ≡ after_noting_read slot n k.period) × TellsTaken k n)
+      (λ t. after_noting_read slot (get_or t.words (slot_word s slot) 0) k.period)
       (λ tree t id reached here there h size. (
-        reads_now plan s tree t id k here there h size reached slot inside k.period.sought,
+        reads_now plan s tree t id k here there h size reached slot inside (noted_in slot (get_or t.words (slot_word s slot) 0) k.period.sought),
         (
           refl,
           λ c nodes at taken used i has. by c i (three nodes i has) _ (taken_lies plan s tree t id k here there h size reached placed slot inside used (4 * c + i)
@@ -334,17 +365,17 @@ module _ (plan : TablePlan) (s : Slots) (placed : plan.slots ≡ Some s) (slot :
       omega arith
 
   pub reads_any_taken : (k : Known) (word : ℕ) → word ≡ slot_word s slot
-      → MayGoOn plan k word (λ n. n) (λ n p. (o : Slots) (r : ℕ) → plan.slots ≡ Some o → word ≡ slot_word o r → (p ≡ after_read r n k.period)
+      → MayGoOn plan k word (λ n. n) (λ n p. (o : Slots) (r : ℕ) → plan.slots ≡ Some o → word ≡ slot_word o r → (p ≡ after_noting_read r n k.period)
       × ((c : ℕ) (nodes : CardNodes) → slot_of c ≡ r → AreTakenOut (shown k.tree) c nodes → n % 8 ≢ 7 → KnowsDeadNodes k.tree (card_by r n) nodes))
   reads_any_taken k word is id t h homes here small =
-      let may = subst (λ i. MayGoOn plan k i (λ n. n) (λ n p. (p ≡ after_read slot n k.period) × TellsTaken k n)) (sym is) (reads_taken k) in
+      let may = subst (λ i. MayGoOn plan k i (λ n. n) (λ n p. (p ≡ after_noting_read slot n k.period) × TellsTaken k n)) (sym is) (reads_taken k) in
       let x = may id t h homes here small in (
         x.0,
         x.1,
         x.2,
         x.3,
         (
-          λ o r slots at. subst (λ (y : ℕ). (x.0.period ≡ after_read y (get_or t.words word 0) k.period)
+          λ o r slots at. subst (λ (y : ℕ). (x.0.period ≡ after_noting_read y (get_or t.words word 0) k.period)
               × ((c : ℕ) (nodes : CardNodes) → slot_of c ≡ y → AreTakenOut (shown k.tree) c nodes → get_or t.words word 0 % 8 ≢ 7
               → KnowsDeadNodes k.tree (card_by y (get_or t.words word 0)) nodes)) (one_slot o r slots word at is) x.4.0,
           x.4.1,
@@ -367,44 +398,86 @@ module _ (plan : TablePlan) (s : Slots) (placed : plan.slots ≡ Some s) (slot :
       now : WholeState → Seek
       now t = sought_on s begins for_delete c made (could_have s for_delete c (get_or t.words (slot_word s slot) 0) k.period.safe) k.period.sought
 
+  -- it exchanges a word for another one, and knows something else of what it sought by whether it was that one
+  exchanges : (k : Known) (n m : ℕ) (won lost : Seek)
+      → ((tree : TableState) (t : WholeState) (id : ℕ) → IsReached plan tree → get_elem? t.views id ≡ some k → get_elem? tree.views id ≡ some k.tree → HasPeriods plan s tree t → length t.words ≡ slots_size s
+      → get_or t.words (slot_word s slot) 0 ≡ n → HasPeriods plan s tree (turned_to t id k (record (k.period) { sought = won }) (slot_word s slot) m))
+      → ((tree : TableState) (t : WholeState) (id : ℕ) → IsReached plan tree → get_elem? t.views id ≡ some k → get_elem? tree.views id ≡ some k.tree → HasPeriods plan s tree t → length t.words ≡ slots_size s
+      → get_or t.words (slot_word s slot) 0 ≢ n → HasPeriods plan s tree (turned_to t id k (record (k.period) { sought = lost }) (slot_word s slot) (get_or t.words (slot_word s slot) 0)))
+      → MayGoOn plan k (slot_word s slot) (λ x. either (x == n) m x) (λ x p. p ≡ record (k.period) { sought = if x == n then won else lost })
+  exchanges k n m won lost wins loses =
+      goes_on_there plan s placed k (slot_word s slot) (λ x. either (x == n) m x) (λ x p. p ≡ record (k.period) { sought = if x == n then won else lost })
+      (λ t. record (k.period) { sought = if get_or t.words (slot_word s slot) 0 == n then won else lost })
+      (λ tree t id reached here there h size. (by tree t id reached here there h size (cases_eq (get_or t.words (slot_word s slot) 0) n), refl))
+    where
+      after : (tree : TableState) (t : WholeState) (id : ℕ) → Bool → Type 0
+      after tree t id b = HasPeriods plan s tree (turned_to t id k (record (k.period) { sought = if b then won else lost }) (slot_word s slot) (either b m (get_or t.words (slot_word s slot) 0)))
+
+      by : (tree : TableState) (t : WholeState) (id : ℕ) → IsReached plan tree → get_elem? t.views id ≡ some k → get_elem? tree.views id ≡ some k.tree → HasPeriods plan s tree t → length t.words ≡ slots_size s
+          → (get_or t.words (slot_word s slot) 0 ≡ n) ⊎ (get_or t.words (slot_word s slot) 0 ≢ n)
+          → HasPeriods plan s tree (turned_to t id k (record (k.period) { sought = if get_or t.words (slot_word s slot) 0 == n then won else lost }) (slot_word s slot)
+          (either (get_or t.words (slot_word s slot) 0 == n) m (get_or t.words (slot_word s slot) 0)))
+      by tree t id reached here there h size (inl is) =
+          subst (after tree t id) (sym (eq-eqb (get_or t.words (slot_word s slot) 0) n is)) (wins tree t id reached here there h size is)
+      by tree t id reached here there h size (inr other) =
+          subst (after tree t id) (sym (ne_eqb (get_or t.words (slot_word s slot) 0) n other)) (loses tree t id reached here there h size other)
+
+  -- another word stood there
+  stood_other : (k : Known) (sought : Seek) (n : ℕ) (tree : TableState) (t : WholeState) (id : ℕ) → IsReached plan tree → get_elem? t.views id ≡ some k → get_elem? tree.views id ≡ some k.tree
+      → HasPeriods plan s tree t → length t.words ≡ slots_size s → get_or t.words (slot_word s slot) 0 ≢ n
+      → HasPeriods plan s tree (turned_to t id k (record (k.period) { sought = sought }) (slot_word s slot) (get_or t.words (slot_word s slot) 0))
+  stood_other k sought n tree t id reached here there h size other = seeks_now plan s tree t id k here h size (slot_word s slot) (omega arith) sought
+
   -- it notes more nodes as dead, if the word is as it was
   pub notes_nodes : (k : Known) (n m : ℕ) → turn_in m ≡ turn_in n → n % 8 ≢ 7 → m % 8 ≢ 7
       → ((i : ℕ) → is_noted m i ≡ true → (is_noted n i ≡ true) ⊎ KnowsDeadNode k.tree (4 * card_by slot n + i))
-      → MayGoOn plan k (slot_word s slot) (λ x. either (x == n) m x) (λ x p. p ≡ k.period)
+      → MayGoOn plan k (slot_word s slot) (λ x. either (x == n) m x) (λ x p. p ≡ after_noting true (x == n) slot m k.period)
   notes_nodes k n m turn some_bit some_bit' knows =
-      goes_on_there plan s placed k (slot_word s slot) (λ x. either (x == n) m x) (λ x p. p ≡ k.period) (λ t. k.period)
-      (λ tree t id reached here there h size. (by tree t id reached here there h size (cases_eq (get_or t.words (slot_word s slot) 0) n), refl))
+      subst (λ (f : ℕ → Period). MayGoOn plan k (slot_word s slot) (λ x. either (x == n) m x) (λ x p. p ≡ f x)) (λ i x. told (x == n) i)
+      (exchanges k n m (noted_in slot m k.period.sought) (outrun_once k.period.sought)
+      (λ tree t id reached here there h size is. notes_now plan s tree t id k here there h size reached slot n m (noted_in slot m k.period.sought) inside is turn some_bit some_bit' knows)
+      (stood_other k (outrun_once k.period.sought) n))
     where
-      by : (tree : TableState) (t : WholeState) (id : ℕ) → IsReached plan tree → get_elem? t.views id ≡ some k → get_elem? tree.views id ≡ some k.tree → HasPeriods plan s tree t → length t.words ≡ slots_size s
-          → (get_or t.words (slot_word s slot) 0 ≡ n) ⊎ (get_or t.words (slot_word s slot) 0 ≢ n)
-          → HasPeriods plan s tree (turned_to t id k k.period (slot_word s slot) (either (get_or t.words (slot_word s slot) 0 == n) m (get_or t.words (slot_word s slot) 0)))
-      by tree t id reached here there h size (inl is) =
-          subst (λ x. HasPeriods plan s tree (turned_to t id k k.period (slot_word s slot) x))
-          (sym (ap (λ b. either b m (get_or t.words (slot_word s slot) 0)) (eq-eqb (get_or t.words (slot_word s slot) 0) n is)))
-          (notes_now plan s tree t id k here there h size reached slot n m inside is turn some_bit some_bit' knows)
-      by tree t id reached here there h size (inr other) =
-          subst (λ x. HasPeriods plan s tree (turned_to t id k k.period (slot_word s slot) x))
-          (sym (ap (λ b. either b m (get_or t.words (slot_word s slot) 0)) (ne_eqb (get_or t.words (slot_word s slot) 0) n other)))
-          (stays plan s tree t id k here h size (slot_word s slot) (omega arith))
+      told : (b : Bool) → record (k.period) { sought = if b then noted_in slot m k.period.sought else outrun_once k.period.sought } ≡ after_noting true b slot m k.period
+      told true = refl
+      told false = refl
 
   -- or it sets the slot free, if all nodes of its card are dead
-  pub frees_slot : (k : Known) (reading n : ℕ) → n % 8 ≢ 7 → k.period.stamp ≡ Some (record { card = card_by slot n; reading = reading })
-      → MayGoOn plan k (slot_word s slot) (λ m. either (m == n) (free_word reading) m) (λ m p. p ≡ k.period)
-  frees_slot k reading n some_bit has =
-      goes_on_there plan s placed k (slot_word s slot) (λ m. either (m == n) (free_word reading) m) (λ m p. p ≡ k.period) (λ t. k.period)
-      (λ tree t id reached here there h size. (by tree t id reached here there h size (cases_eq (get_or t.words (slot_word s slot) 0) n), refl))
+  pub frees_slot : (k : Known) (notes : Bool) (reading n : ℕ) → n % 8 ≢ 7 → k.period.stamp ≡ Some (record { card = card_by slot n; reading = reading })
+      → MayGoOn plan k (slot_word s slot) (λ m. either (m == n) (free_word reading) m) (λ m p. p ≡ after_noting notes (m == n) slot (free_word reading) k.period)
+  frees_slot k notes reading n some_bit has = by notes
     where
-      by : (tree : TableState) (t : WholeState) (id : ℕ) → IsReached plan tree → get_elem? t.views id ≡ some k → get_elem? tree.views id ≡ some k.tree → HasPeriods plan s tree t → length t.words ≡ slots_size s
-          → (get_or t.words (slot_word s slot) 0 ≡ n) ⊎ (get_or t.words (slot_word s slot) 0 ≢ n)
-          → HasPeriods plan s tree (turned_to t id k k.period (slot_word s slot) (either (get_or t.words (slot_word s slot) 0 == n) (free_word reading) (get_or t.words (slot_word s slot) 0)))
-      by tree t id reached here there h size (inl is) =
-          subst (λ m. HasPeriods plan s tree (turned_to t id k k.period (slot_word s slot) m))
-          (sym (ap (λ b. either b (free_word reading) (get_or t.words (slot_word s slot) 0)) (eq-eqb (get_or t.words (slot_word s slot) 0) n is)))
-          (frees_now plan s tree t id k here there h size reached slot reading inside n is some_bit has)
-      by tree t id reached here there h size (inr other) =
-          subst (λ m. HasPeriods plan s tree (turned_to t id k k.period (slot_word s slot) m))
-          (sym (ap (λ b. either b (free_word reading) (get_or t.words (slot_word s slot) 0)) (ne_eqb (get_or t.words (slot_word s slot) 0) n other)))
-          (stays plan s tree t id k here h size (slot_word s slot) (omega arith))
+      so : (won lost : Seek) → MayGoOn plan k (slot_word s slot) (λ x. either (x == n) (free_word reading) x) (λ x p. p ≡ record (k.period) { sought = if x == n then won else lost })
+      so won lost = exchanges k n (free_word reading) won lost
+          (λ tree t id reached here there h size is. frees_now plan s tree t id k here there h size reached slot reading won inside n is some_bit has)
+          (stood_other k lost n)
+
+      noting : (b : Bool) → record (k.period) { sought = if b then noted_in slot (free_word reading) k.period.sought else outrun_once k.period.sought } ≡ after_noting true b slot (free_word reading) k.period
+      noting true = refl
+      noting false = refl
+
+      aside : (b : Bool) → record (k.period) { sought = if b then k.period.sought else k.period.sought } ≡ after_noting false b slot (free_word reading) k.period
+      aside true = refl
+      aside false = refl
+
+      by : (notes : Bool) → MayGoOn plan k (slot_word s slot) (λ m. either (m == n) (free_word reading) m) (λ m p. p ≡ after_noting notes (m == n) slot (free_word reading) k.period)
+      by true = subst (λ (f : ℕ → Period). MayGoOn plan k (slot_word s slot) (λ x. either (x == n) (free_word reading) x) (λ x p. p ≡ f x)) (λ i x. noting (x == n) i)
+          (so (noted_in slot (free_word reading) k.period.sought) (outrun_once k.period.sought))
+      by false = subst (λ (f : ℕ → Period). MayGoOn plan k (slot_word s slot) (λ x. either (x == n) (free_word reading) x) (λ x p. p ≡ f x)) (λ i x. aside (x == n) i)
+          (so k.period.sought k.period.sought)
+
+-- what a pass knows that noted more nodes
+pub noted_more : (old p : Period) (won : Bool) (o : Option Bool) (slot m : ℕ) (nodes : CardNodes) → p ≡ after_noting true won slot m old → o ≡ then_some won false → o ≢ None
+    → NotesNodes nodes m → NotedThere p.sought slot nodes (λ n. ⊥)
+noted_more old p true o slot m nodes told is given notes = (m, ap (λ (x : Period). x.sought.noted) told, inl notes)
+noted_more old p false o slot m nodes told is given notes = absurd (given is)
+
+-- what a pass knows then, if it set the slot free by that
+pub noted_free : (old p : Period) (notes won : Bool) (slot reading : ℕ) → p ≡ after_noting notes won slot (free_word reading) old → notes ≡ true → won ≡ true
+    → (word : ℕ) × (word % 8 ≡ 7) × (p.sought ≡ noted_in slot word old.sought)
+noted_free old p true true slot reading told notes won = (free_word reading, omega arith, ap (λ (x : Period). x.sought) told)
+noted_free old p true false slot reading told notes won = absurd (false≢true won)
+noted_free old p false won slot reading told notes is = absurd (false≢true notes)
 
 -- a pass reads the clock for a card whose nodes it knows dead, or which it laid aside
 pub stamps_card : (plan : TablePlan) (s : Slots) → plan.slots ≡ Some s → (k : Known) (c : ℕ) → MayStamp k c

@@ -13,6 +13,7 @@ use Rattle.ell_layout.specs.Words.{put}
 use Rattle.ell_layout.proofs.lemmas.Writes.{put_same, put_other}
 use Rattle.ell_cards.specs.declared.view.Known.{Known}
 use Rattle.ell_cards.specs.declared.view.Period.{Period}
+use Rattle.ell_cards.specs.declared.view.Seek.{Seek}
 use Rattle.ell_cards.specs.declared.view.Slots.{Slots}
 use Rattle.ell_cards.specs.Ages.{IsOut, HasPeriods}
 use Rattle.ell_cards.specs.Models.{TablePlan}
@@ -29,7 +30,7 @@ use Rattle.ell_cards.proofs.lemmas.ties.Periods.{tie_of_period}
 use Rattle.ell_cards.proofs.lemmas.whole.Ages.{ages_of_period}
 use Rattle.ell_cards.proofs.lemmas.whole.Apart.{ready_there}
 use Rattle.ell_cards.proofs.lemmas.whole.Seats.{before_clock, lie_same}
-use Rattle.ell_cards.proofs.lemmas.whole.Steps.{word_again, periods_stay, periods_read, periods_ticked, periods_seen, periods_announced, periods_retracted, periods_taken, periods_given, periods_released}
+use Rattle.ell_cards.proofs.lemmas.whole.Steps.{word_again, periods_sought, periods_read, periods_ticked, periods_seen, periods_announced, periods_retracted, periods_taken, periods_given, periods_released}
 use Rattle.ell_cards.proofs.lemmas.whole.Trees.{tree_at}
 
 -- the table where a pass knows something else of periods, and a word became another one
@@ -81,10 +82,15 @@ module _ (plan : TablePlan) (s : Slots) (tree : TableState) (t : WholeState) (id
       → get_or (set t.words i (get_or t.words i 0)) (slot_word s slot) 0 ≡ get_or t.words (slot_word s slot) 0
   same_again size i inside slot = word_again t.words i (omega arith) (slot_word s slot)
 
+  -- whatever the pass knows of what it sought
+  pub seeks_now : length t.words ≡ slots_size s → (i : ℕ) → i < slots_size s → (sought : Seek)
+      → HasPeriods plan s tree (turned_to t id k (record (k.period) { sought = sought }) i (get_or t.words i 0))
+  seeks_now size i inside sought =
+      going (record (k.period) { sought = sought }) i (get_or t.words i 0) (λ q a at an. (at, an)) refl refl refl (λ j low. word_again t.words i (omega arith) j) (same_again size i inside)
+      (periods_sought s t id k here h.lie h.dead h.began h.was_dead h.periods size i inside sought)
+
   pub stays : length t.words ≡ slots_size s → (i : ℕ) → i < slots_size s → HasPeriods plan s tree (turned_to t id k k.period i (get_or t.words i 0))
-  stays size i inside =
-      going k.period i (get_or t.words i 0) (λ q a at an. (at, an)) refl refl refl (λ j low. word_again t.words i (omega arith) j) (same_again size i inside)
-      (periods_stay s t id k here h.lie h.dead h.began h.was_dead h.periods size i inside)
+  stays size i inside = seeks_now size i inside k.period.sought
 
   -- and after one begins
   pub begins_now : (q reading : ℕ) → k.period.place ≡ Some q → k.period.announced ≡ None → k.period.reading ≡ Some reading → length t.words ≡ slots_size s

@@ -202,13 +202,13 @@ module _ (s : Slots) (t : WholeState) (id : ℕ) (k : Known) (here : get_elem? t
       stamp_was c lies = stamp_there s lie t.words c slot found inside lies refl
 
     -- a word that sets nothing free becomes one that does not either
-    pub slot_noted : (n' : ℕ) → get_or t.words (slot_word s slot) 0 % 8 ≢ 7 → n' % 8 ≢ 7
-        → PeriodsAreSound s (record { words = set t.words (slot_word s slot) n'; homes = t.homes; views = set t.views id (record { tree = k.tree; period = k.period }) }) lie dead began was_dead
-    slot_noted n' some_bit some_bit' =
-        slots_after s t id k here lie dead began was_dead h (turned n') k.period
+    pub slot_noted : (sought : Seek) (n' : ℕ) → get_or t.words (slot_word s slot) 0 % 8 ≢ 7 → n' % 8 ≢ 7
+        → PeriodsAreSound s (record { words = set t.words (slot_word s slot) n'; homes = t.homes; views = set t.views id (record { tree = k.tree; period = record (k.period) { sought = sought } }) }) lie dead began was_dead
+    slot_noted sought n' some_bit some_bit' =
+        slots_after s t id k here lie dead began was_dead h (turned n') (record (k.period) { sought = sought })
         (record { place = refl; other = refl; other_says = refl; announced = refl }) refl refl refl refl refl (turned_clock n') (turned_place n')
         lie dead was.pending was.free h.sound
-        (part_same t.views id k here (record { tree = k.tree; period = k.period }) (λ p. pending_by p.stamp) refl)
+        (part_same t.views id k here (record { tree = k.tree; period = record (k.period) { sought = sought } }) (λ p. pending_by p.stamp) refl)
         stays
       where
         stays : (c : ℕ) → stamp_at s lie (turned n') c ≡ stamp_at s lie t.words c
@@ -218,14 +218,14 @@ module _ (s : Slots) (t : WholeState) (id : ℕ) (k : Known) (here : get_elem? t
         ]
 
     -- the card that lies there is set free with the stamp that the pass has for it
-    pub slot_freed : (reading : ℕ) → slot_of (lie slot) ≡ slot → k.period.stamp ≡ Some (record { card = lie slot; reading = reading })
-        → PeriodsAreSound s (record { words = set t.words (slot_word s slot) (free_word reading); homes = t.homes; views = set t.views id (record { tree = k.tree; period = k.period }) }) lie dead began was_dead
-    slot_freed reading home has =
-        slots_after s t id k here lie dead began was_dead h (turned n') k.period
+    pub slot_freed : (sought : Seek) (reading : ℕ) → slot_of (lie slot) ≡ slot → k.period.stamp ≡ Some (record { card = lie slot; reading = reading })
+        → PeriodsAreSound s (record { words = set t.words (slot_word s slot) (free_word reading); homes = t.homes; views = set t.views id (record { tree = k.tree; period = record (k.period) { sought = sought } }) }) lie dead began was_dead
+    slot_freed sought reading home has =
+        slots_after s t id k here lie dead began was_dead h (turned n') (record (k.period) { sought = sought })
         (record { place = refl; other = refl; other_says = refl; announced = refl }) refl refl refl refl refl (turned_clock n') (turned_place n')
         lie dead was.pending (put was.free card (Some reading))
         (grace_goes_on s.places was (record was { free = put was.free card (Some reading) }) h.sound (frees id card reading pending refl))
-        (part_same t.views id k here (record { tree = k.tree; period = k.period }) (λ p. pending_by p.stamp) refl)
+        (part_same t.views id k here (record { tree = k.tree; period = record (k.period) { sought = sought } }) (λ p. pending_by p.stamp) refl)
         stamp
       where
         n' : ℕ

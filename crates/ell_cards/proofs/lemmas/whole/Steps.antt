@@ -13,6 +13,7 @@ use Rattle.ell_grace.specs.Periods.{GraceIsSound}
 use Rattle.ell_grace.proofs.lemmas.Grace.{grace_goes_on}
 use Rattle.ell_cards.specs.declared.view.Known.{Known}
 use Rattle.ell_cards.specs.declared.view.Period.{Period}
+use Rattle.ell_cards.specs.declared.view.Seek.{Seek}
 use Rattle.ell_cards.specs.declared.view.Slots.{Slots}
 use Rattle.ell_cards.specs.Periods.{WholeState, clock_word, place_word, slot_word, slots_size, stamp_at, pending_by, period_in, word_at_place, announced_by, place_says, last_reading, after_clock, after_announce, after_retract, after_look_at, after_take, after_give, after_release, settled_at, HasPlace, own, spare, IsAtRest, PeriodHolds, PeriodsAreSound, grace_of}
 use Rattle.ell_cards.proofs.lemmas.whole.Seats.{places_apart, before_slots, clock_before_slots, stamps_same, period_was, part_put, part_same, holds_on}
@@ -124,19 +125,38 @@ module _ (s : Slots) (t : WholeState) (id : ℕ) (k : Known) (here : get_elem? t
     same_holds : PeriodHolds s again k
     same_holds = holds_on s t.words again k (λ q has. same_at (place_word s q)) (let clock = same_at (clock_word s) in omega arith) (h.each id k here)
 
-    pub periods_stay : PeriodsAreSound s (record { words = again; homes = t.homes; views = set t.views id (record { tree = k.tree; period = k.period }) }) lie dead began was_dead
-    periods_stay =
-        periods_after s t id k here lie dead began was_dead h again k.period (same_at (clock_word s)) (λ j u other at q has. same_at (place_word s q)) (λ q has. inl has) lie dead began was_dead
-        (λ r a at an. h.since id r a k here at an) (λ j r a u other there at an. h.since j r a u there at an)
-        (grace_same s.places (grace_of s t lie dead began was_dead)
-        (grace_of s (record { words = again; homes = t.homes; views = set t.views id (record { tree = k.tree; period = k.period }) }) lie dead began was_dead)
-        (same_at (clock_word s)) (λ c. refl) same_word (λ q. refl) (λ q c. refl)
-        (part_same t.views id k here k (λ p. pending_by p.stamp) refl)
-        (part_same t.views id k here k (λ p. p.least) refl)
-        (λ j q. part_same t.views id k here k (λ p. nat_lt q p.looked) refl j)
-        (part_same t.views id k here k (λ p. p.safe) refl)
-        same_stamps h.sound)
-        same_holds
+    -- whatever it knows of what it sought
+    module _ (sought : Seek) where
+      abbrev seeks : Known
+      seeks = record { tree = k.tree; period = record (k.period) { sought = sought } }
+
+      seeking_place : (q : ℕ) → HasPlace seeks.period q → HasPlace k.period q
+      seeking_place q (own e) = own e
+      seeking_place q (spare e) = spare e
+
+      seeks_holds : PeriodHolds s again seeks
+      seeks_holds = record {
+        place = same_holds.place;
+        other = same_holds.other;
+        two = same_holds.two;
+        none = same_holds.none;
+        reading = same_holds.reading;
+        rests = same_holds.rests;
+      }
+
+      pub periods_sought : PeriodsAreSound s (record { words = again; homes = t.homes; views = set t.views id seeks }) lie dead began was_dead
+      periods_sought =
+          periods_after s t id k here lie dead began was_dead h again seeks.period (same_at (clock_word s)) (λ j u other at q has. same_at (place_word s q)) (λ q has. inl (seeking_place q has)) lie dead began was_dead
+          (λ r a at an. h.since id r a k here at an) (λ j r a u other there at an. h.since j r a u there at an)
+          (grace_same s.places (grace_of s t lie dead began was_dead)
+          (grace_of s (record { words = again; homes = t.homes; views = set t.views id seeks }) lie dead began was_dead)
+          (same_at (clock_word s)) (λ c. refl) same_word (λ q. refl) (λ q c. refl)
+          (part_same t.views id k here seeks (λ p. pending_by p.stamp) refl)
+          (part_same t.views id k here seeks (λ p. p.least) refl)
+          (λ j q. part_same t.views id k here seeks (λ p. nat_lt q p.looked) refl j)
+          (part_same t.views id k here seeks (λ p. p.safe) refl)
+          same_stamps h.sound)
+          seeks_holds
 
   -- the pass reads the clock
   abbrev reading_now : ℕ

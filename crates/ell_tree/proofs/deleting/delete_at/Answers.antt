@@ -17,6 +17,7 @@ use Rattle.ell_tree.proofs.lemmas.Meeting.{meets_trans, meets_more, above_way, p
 use Rattle.ell_tree.proofs.lemmas.Halting.{keeps_meets, keeps_in_meets, said_meets, flag_lost}
 use Rattle.ell_tree.proofs.lemmas.Filling.{delete_card, delete_wants, told_grandparent, told_leaf, told_parent, told_was}
 use Rattle.ell_tree.proofs.lemmas.Milestones.{sees_end, gives_out}
+use Rattle.ell_tree.proofs.lemmas.Retiring.{keeps_but_met_noted}
 use Rattle.ell_tree.proofs.lemmas.Searches.{unknown_above, named_above, passed_above, searched_in_try}
 use Rattle.ell_tree.proofs.deleting.delete_at.Goals as goal
 
@@ -269,7 +270,7 @@ returns-clause-ends g c =
     let t = c.take_card.new.pass in
     let f = c.flag_delete.new.pass in
     let m = c.retire_deleted.new.pass in
-    let met : KeepsAllButMet f m (help_steps (deepest c.args.table.now.plan) + 2) = rw c.retire_deleted.ensures.same c.finish_own.ensures.keeps_but_met in
+    let met : KeepsAllButMet f m (help_steps (deepest c.args.table.now.plan) + 2) = keeps_but_met_noted f c.finish_own.new.pass m (help_steps (deepest c.args.table.now.plan) + 2) c.finish_own.ensures.keeps_but_met c.retire_deleted.ensures.same in
     let said = c.answer in
     let op = Delete c.args.key in
     let taken = keeps_in_meets c.args.table.now.plan a t _ c.take_card.ensures.keeps c.in-Card.ensures.claims.2 in
@@ -292,7 +293,7 @@ returns-clause-took g c =
     let t = c.take_card.new.pass in
     let f = c.flag_delete.new.pass in
     let m = c.retire_deleted.new.pass in
-    let met : KeepsAllButMet f m (help_steps (deepest c.args.table.now.plan) + 2) = rw c.retire_deleted.ensures.same c.finish_own.ensures.keeps_but_met in
+    let met : KeepsAllButMet f m (help_steps (deepest c.args.table.now.plan) + 2) = keeps_but_met_noted f c.finish_own.new.pass m (help_steps (deepest c.args.table.now.plan) + 2) c.finish_own.ensures.keeps_but_met c.retire_deleted.ensures.same in
     let said = c.answer in
     let new = said.new.pass in
     let place = c.args.place in

@@ -18,7 +18,7 @@ use Rattle.ell_tree.proofs.lemmas.Meeting.{meets_trans, meets_more, put_way, now
 use Rattle.ell_tree.proofs.lemmas.Halting.{keeps_meets, keeps_in_meets, seek_meets, walk_meets, said_meets, flag_lost}
 use Rattle.ell_tree.proofs.lemmas.Hindrances.{root_in_try}
 use Rattle.ell_tree.proofs.lemmas.Putting.{put_wants, put_refused, put_done, refused_outer}
-use Rattle.ell_tree.proofs.lemmas.Retiring.{has_put}
+use Rattle.ell_tree.proofs.lemmas.Retiring.{has_put, keeps_all_noted}
 use Rattle.ell_tree.proofs.lemmas.Milestones.{sees_end, gives_out}
 use Rattle.ell_tree.proofs.inserting.try_put.Goals as goal
 
@@ -212,7 +212,7 @@ returns-in-Ok-clause-ends g c =
     let t = c.take_card.new.pass in
     let f = c.flag_insert.new.pass in
     let m = c.retire_put.new.pass in
-    let kept : KeepsAll f m 3 = rw c.retire_put.ensures.same c.finish_insert.ensures.keeps_all in
+    let kept : KeepsAll f m 3 = keeps_all_noted f c.finish_insert.new.pass m 3 c.finish_insert.ensures.keeps_all c.retire_put.ensures.same in
     let said = c.answer-in-Ok in
     let taken = meets_trans a.view s.new.pass.view t.view (seek_meets a s.new.pass _ s.ensures.keeps_but_search)
     (keeps_in_meets c.args.table.now.plan s.new.pass t _ c.take_card.ensures.keeps c.in-Card.ensures.claims.2) in

@@ -1,4 +1,5 @@
-use Rattle.std.specs.Prelude.{◌≡◌, []}
+use Rattle.std.specs.Prelude.{◌≡◌, ◌+◌, []}
+use Rattle.ell_cards.specs.Noting.{IsSoughtAs}
 use Rattle.ell_cards.specs.Periods.{StandsAs}
 use Rattle.ell_cards.proofs.table.CardTable.note_surely.Given as goal
 
@@ -9,7 +10,8 @@ invariant-loop g l = record {
   empty : l.seat.me.1 ≡ [];
   stands : StandsAs l.fn.seat.me.0.period l.seat.me.0.period;
   slot : l.seat.me.0.period.slot ≡ l.fn.seat.me.0.period.slot;
-  sought : l.seat.me.0.period.sought ≡ l.fn.seat.me.0.period.sought;
+  sought : IsSoughtAs l.fn.seat.me.0.period.sought l.seat.me.0.period.sought;
+  outrun : l.seat.me.0.period.sought.outrun ≡ l.fn.seat.me.0.period.sought.outrun + l.counter;
   safe : l.seat.me.0.period.safe ≡ l.fn.seat.me.0.period.safe;
   tree : l.seat.me.0.tree ≡ l.fn.seat.me.0.tree;
 }

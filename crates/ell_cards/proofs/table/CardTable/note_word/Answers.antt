@@ -1,6 +1,7 @@
-use Rattle.std.proofs.Common.{◌≢◌, ◌%◌, refl, inl}
+use Rattle.std.proofs.Common.{◌≢◌, ◌%◌, refl, inl, subst}
 use Rattle.std.specs.Int.Bits.{bit_or}
-use Rattle.ell_cards.proofs.lemmas.whole.Freeing.{noted_turn, noted_dead, all_noted, full_stays}
+use Rattle.ell_cards.specs.Noting.{NotesNodes}
+use Rattle.ell_cards.proofs.lemmas.whole.Freeing.{noted_turn, noted_dead, noted_more, notes_all, all_noted, full_stays}
 use Rattle.ell_cards.proofs.table.CardTable.note_word.Goals as goal
 
 -- a word that sets its slot free notes all nodes already
@@ -30,3 +31,13 @@ note_more-requires-clause-dead g c =
 
 pub note_more-requires-clause-turn : goal.note_more-requires-clause-turn
 note_more-requires-clause-turn g c = noted_turn c.args.word c.bits.result c.bits.ensures.low
+
+-- the word notes the nodes already, or it notes them once they are noted
+pub returns-then-noted-word-clause-noted : goal.returns-then-noted-word-clause-noted
+returns-then-noted-word-clause-noted g c some =
+    (c.args.word, c.requires.found, inl (subst (NotesNodes c.args.nodes) c.if-noted-word.true (notes_all c.args.word c.bits.result c.args.nodes c.bits.ensures.each)))
+
+pub returns-else-noted-eq7-clause-noted : goal.returns-else-noted-eq7-clause-noted
+returns-else-noted-eq7-clause-noted g c =
+    λ some. noted_more c.args.seat.now.me.0.period c.note_more.new.seat.me.0.period c.note_more.result c.then_some-else-noted-eq7.result c.args.slot (bit_or c.args.word c.bits.result) c.args.nodes
+    c.note_more.ensures.period c.then_some-else-noted-eq7.ensures some (notes_all c.args.word c.bits.result c.args.nodes c.bits.ensures.each)

@@ -1,5 +1,5 @@
 use Rattle.ell_cards.proofs.lemmas.whole.Freeing.{reads_any_taken}
-use Rattle.ell_cards.proofs.table.CardTable.read_taken_out.Goals as goal
+use Rattle.ell_cards.proofs.table.CardTable.read_to_note.Goals as goal
 
 pub period_load-requires-clause-rule : goal.period_load-requires-clause-rule
 period_load-requires-clause-rule g c =
@@ -9,4 +9,4 @@ pub returns-clause-read : goal.returns-clause-read
 returns-clause-read g c = (c.period_load.ensures.told c.args.slots c.args.slot c.requires.slots c.slot_address.ensures.word).0
 
 pub returns-clause-dead : goal.returns-clause-dead
-returns-clause-dead g c = (c.period_load.ensures.told c.args.slots c.args.slot c.requires.slots c.slot_address.ensures.word).1 c.args.card c.args.nodes c.requires.card c.requires.taken
+returns-clause-dead g c = (c.period_load.ensures.told c.args.slots c.args.slot c.requires.slots c.slot_address.ensures.word).1 c.args.card c.args.nodes c.requires.card
