@@ -124,10 +124,10 @@ ELLTREE_MUST_USE static inline int32_t elltree_open(struct elltree_handle *handl
 }
 
 /* Opens a tree as elltree_open does, whose cards come back: once what a change took out of the tree is read by no call any more, its card serves
-   another change. So the tree goes on as long as its keys fit: twice as many cards as keys, and some more, are enough. A thread that stands
-   still in a call holds cards back until it goes on, and a handle in no call holds none. The tree has this number of handles at a time, its
-   first one among them, at least one and at most 1,000,000, and one that is freed makes room for another. A card and a pair to start with take
-   104 bytes each, and a handle 64.
+   another change. So the tree goes on as long as its keys fit: twice as many cards as keys, and some more, are enough. Two of the cards are for
+   deletes alone, so that a tree that inserts have filled can be emptied. A thread that stands still in a call holds cards back until it goes on,
+   and a handle in no call holds none. The tree has this number of handles at a time, its first one among them, at least one and at most
+   1,000,000, and one that is freed makes room for another. A card and a pair to start with take 104 bytes each, and a handle 64.
    Refusals: those of elltree_open. */
 ELLTREE_MUST_USE static inline int32_t elltree_open_reusing(struct elltree_handle *handle, const struct elltree_pair *start, size_t start_count,
                                                             uint64_t cards, uint32_t handles) {
