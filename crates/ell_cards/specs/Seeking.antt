@@ -1,5 +1,5 @@
 -- What a search for a slot has read.
-use Rattle.std.specs.Prelude.{◌≡◌, ℕ, ◌⊎◌, ◌+◌, ◌-◌, ◌*◌, ◌/◌, ◌<◌, ◌≤◌, ◌%◌, ◌==◌, ◌&&◌, nat_lt, nat_le, not, if◌then◌else◌, Bool, true, false, Option, Some, None, IfSome}
+use Rattle.std.specs.Prelude.{◌≡◌, ℕ, ◌⊎◌, ◌+◌, ◌-◌, ◌*◌, ◌/◌, ◌<◌, ◌≤◌, ◌%◌, ◌==◌, ◌&&◌, nat_lt, nat_le, not, if◌then◌else◌, Bool, true, false, Option, IfSome, [], ◌∷◌}
 use Rattle.ell_cards.specs.declared.view.Seek.{Seek}
 use Rattle.ell_cards.specs.declared.view.Slots.{Slots}
 use Rattle.ell_cards.specs.SlotWords.{has_slot_in, slot_of, turn_of, stamp_in}
@@ -24,7 +24,7 @@ could_have s for_delete c n safe = could_take n safe && may_have s for_delete c
 
 -- a pass that has not sought a slot has read none
 abbrev pub no_seek : Seek
-no_seek = record { for_delete = false; from = 0; read = 0; takeable = 0; made = 0; missed = 0; noted = None; outrun = 0 }
+no_seek = record { for_delete = false; from = 0; read = 0; takeable = 0; made = 0; missed = 0; noted = []; outrun = 0 }
 
 -- whether this number is the next one of the row
 abbrev pub is_next : Slots → ℕ → Seek → Bool
@@ -51,7 +51,7 @@ missed_none k = record k { missed = 0 }
 
 -- the word of a slot that a pass left there, or else read, as it noted nodes
 abbrev pub noted_in : ℕ → ℕ → Seek → Seek
-noted_in slot word k = record k { noted = Some (record { slot = slot; word = word }) }
+noted_in slot word k = record k { noted = record { slot = slot; word = word } ∷ k.noted }
 
 -- or another word stood there by then
 abbrev pub outrun_once : Seek → Seek

@@ -10,7 +10,8 @@ ghost use Rattle.ell_cards.specs.CardNodes.{AreTakenOut, KnowsDeadNodes, NeverCo
 ghost use Rattle.ell_cards.specs.Dead.{HasTakenOut};
 ghost use Rattle.ell_cards.specs.Guards.{MayFill};
 ghost use Rattle.ell_cards.specs.Periods.{StandsAs, after_missing, after_noting, after_noting_read, after_own, after_read, after_seek, after_stamp, after_taking, has_slot, last_reading, slot_word, spread};
-ghost use Rattle.ell_cards.specs.Seeking.{could_take, FindsNone, FindsNoneIn, FindsOneFor, may_have, missed_none, missed_one, noted_in, outrun_once, sought_on};
+ghost use Rattle.ell_cards.specs.Seeking.{could_take, FindsNone, FindsNoneIn, FindsOneFor, may_have, missed_none, missed_one, sought_on};
+ghost use Rattle.ell_cards.specs.Models.{Has};
 ghost use Rattle.ell_cards.specs.Noting.{HasNoted, IsNotedBy, IsOfOtherTurn, IsSoughtAs, NotedThere, WasReplaced};
 ghost use Rattle.ell_cards.specs.SlotWords.{card_by, has_slot_in, has_slots, is_noted, slot_of, stamp_in, turn_in, turn_of};
 ghost use Rattle.ell_cards.specs.Stepping.{MayGoOn};
@@ -270,10 +271,11 @@ impl<A: Allocator + Copy> CardTable<A> {
         ensures stands { StandsAs seat.old.me.0.period seat.new.me.0.period }
         ensures slot { seat.new.me.0.period.slot ≡ seat.old.me.0.period.slot }
         ensures aside { notes ≡ false → seat.new.me.0.period.sought ≡ seat.old.me.0.period.sought }
+        ensures sought { IsSoughtAs seat.old.me.0.period.sought seat.new.me.0.period.sought }
         ensures outrun { notes ≡ true → result ≡ false →
-            seat.new.me.0.period.sought ≡ outrun_once seat.old.me.0.period.sought }
+            seat.new.me.0.period.sought.outrun ≡ seat.old.me.0.period.sought.outrun + 1 }
         ensures noted { notes ≡ true → result ≡ true → (word : ℕ) × (word % 8 ≡ 7)
-            × (seat.new.me.0.period.sought ≡ noted_in slot word seat.old.me.0.period.sought) }
+            × Has seat.new.me.0.period.sought.noted (record { slot = slot; word = word }) }
         ensures safe { seat.new.me.0.period.safe ≡ seat.old.me.0.period.safe }
         ensures tree { seat.new.me.0.tree ≡ seat.old.me.0.tree }
         ensures seat { (seat.new.table_id ≡ seat.old.table_id) × (seat.new.me.1 ≡ []) }
@@ -324,7 +326,7 @@ impl<A: Allocator + Copy> CardTable<A> {
         requires slot { slot ≤ slots.last }
         requires low { slots.last < 2097152 }
         requires read { seat.old.me.0.period.read ≡ Some (record { slot = slot; word = word }) }
-        requires found { seat.old.me.0.period.sought.noted ≡ Some (record { slot = slot; word = word }) }
+        requires found { Has seat.old.me.0.period.sought.noted (record { slot = slot; word = word }) }
         requires dead { word % 8 ≢ 7 → KnowsDeadNodes seat.old.me.0.tree (card_by slot word) nodes }
         ensures stands { StandsAs seat.old.me.0.period seat.new.me.0.period }
         ensures slot { seat.new.me.0.period.slot ≡ seat.old.me.0.period.slot }
@@ -407,7 +409,7 @@ impl<A: Allocator + Copy> CardTable<A> {
         ensures slot { seat.new.me.0.period.slot ≡ seat.old.me.0.period.slot }
         ensures sought { IsSoughtAs seat.old.me.0.period.sought seat.new.me.0.period.sought }
         ensures noted { NotedThere seat.new.me.0.period.sought (slot_of card) nodes (WasReplaced taken_out card)
-            ⊎ (seat.new.me.0.period.sought.outrun ≡ seat.old.me.0.period.sought.outrun + 3) }
+            ⊎ (seat.old.me.0.period.sought.outrun + 3 ≤ seat.new.me.0.period.sought.outrun) }
         ensures safe { seat.new.me.0.period.safe ≡ seat.old.me.0.period.safe }
         ensures tree { seat.new.me.0.tree ≡ seat.old.me.0.tree }
         ensures seat { (seat.new.table_id ≡ seat.old.table_id) × (seat.new.me.1 ≡ []) }

@@ -111,7 +111,7 @@ pub struct View {
 }
 
 /// What a pass knows of grace periods. No value of this type is made.
-#[derive(Clone, Copy)]
+#[derive(Drop)]
 pub struct Period {
     /// Its place, unless it has none.
     pub place: Option<u64>,
@@ -143,8 +143,8 @@ pub struct Period {
 }
 
 /// What a pass knows of the words of slots: what it has read in its last search for a slot, a row of numbers that have slots,
-/// one after the other; and what it has noted last.
-#[derive(Clone, Copy)]
+/// one after the other; and what it has noted. No value of this type is made.
+#[derive(Drop)]
 pub struct Seek {
     /// Whether it sought one for a delete.
     pub for_delete: bool,
@@ -158,8 +158,8 @@ pub struct Seek {
     pub made: u64,
     /// So many cards that it had in hand since it took a slot last had slots that it could not take.
     pub missed: u64,
-    /// The word of a slot that it left there, or else read, as it noted nodes last.
-    pub noted: Option<SlotRead>,
+    /// The words of slots that it left there, or else read, as it noted nodes, the last first.
+    pub noted: LinkedList<SlotRead>,
     /// So often another word stood there by then.
     pub outrun: u64,
 }

@@ -23,8 +23,8 @@ use Rattle.ell_cards.specs.Aside.{IsAside}
 use Rattle.ell_cards.specs.Apart.{cut_node}
 use Rattle.ell_cards.specs.CardNodes.{has_node, AreTakenOut, KnowsDeadNodes}
 use Rattle.ell_cards.specs.Dead.{HasTakenOut}
-use Rattle.ell_cards.specs.Models.{TablePlan}
-use Rattle.ell_cards.specs.Noting.{NotedThere, NotesNodes}
+use Rattle.ell_cards.specs.Models.{TablePlan, Has, latest, earlier}
+use Rattle.ell_cards.specs.Noting.{IsSoughtAs, NotedThere, NotesNodes}
 use Rattle.ell_cards.specs.Periods.{WholeState, clock_word, slot_word, slots_size, last_reading, LieInSlots, pending_by, after_noting, after_noting_read, after_read, after_seek, after_stamp, PeriodsAreSound}
 use Rattle.ell_cards.specs.Seeking.{could_have, noted_in, outrun_once, sought_on}
 use Rattle.ell_cards.specs.Shown.{shown}
@@ -466,16 +466,50 @@ module _ (plan : TablePlan) (s : Slots) (placed : plan.slots ≡ Some s) (slot :
       by false = subst (λ (f : ℕ → Period). MayGoOn plan k (slot_word s slot) (λ x. either (x == n) (free_word reading) x) (λ x p. p ≡ f x)) (λ i x. aside (x == n) i)
           (so k.period.sought k.period.sought)
 
+-- what a pass has sought is so after it has read a word, or exchanged one
+pub sought_read : (old p : Period) (slot n : ℕ) → p ≡ after_noting_read slot n old → IsSoughtAs old.sought p.sought
+sought_read old p slot n told = subst (λ (x : Period). IsSoughtAs old.sought x.sought) (sym told) (record {
+  same = refl;
+  kept = λ r has. earlier r (record { slot = slot; word = n }) old.sought.noted has;
+  outrun = omega arith;
+})
+
+pub sought_noting : (old p : Period) (notes won : Bool) (slot n : ℕ) → p ≡ after_noting notes won slot n old → IsSoughtAs old.sought p.sought
+sought_noting old p false won slot n told =
+    subst (λ (x : Period). IsSoughtAs old.sought x.sought) (sym told) (record { same = refl; kept = λ r has. has; outrun = omega arith })
+sought_noting old p true true slot n told = subst (λ (x : Period). IsSoughtAs old.sought x.sought) (sym told) (record {
+  same = refl;
+  kept = λ r has. earlier r (record { slot = slot; word = n }) old.sought.noted has;
+  outrun = omega arith;
+})
+sought_noting old p true false slot n told =
+    subst (λ (x : Period). IsSoughtAs old.sought x.sought) (sym told) (record { same = refl; kept = λ r has. has; outrun = omega arith })
+
+pub sought_still : (a : Seek) → IsSoughtAs a a
+sought_still a = record { same = refl; kept = λ r has. has; outrun = omega arith }
+
+pub sought_trans : (a b d : Seek) → IsSoughtAs a b → IsSoughtAs b d → IsSoughtAs a d
+sought_trans a b d one two = record {
+  same = two.same ∙ ap (λ (x : Seek). record x { noted = d.noted; outrun = d.outrun }) one.same;
+  kept = λ r has. two.kept r (one.kept r has);
+  outrun = let first = one.outrun in let second = two.outrun in omega arith;
+}
+
 -- what a pass knows that noted more nodes
 pub noted_more : (old p : Period) (won : Bool) (o : Option Bool) (slot m : ℕ) (nodes : CardNodes) → p ≡ after_noting true won slot m old → o ≡ then_some won false → o ≢ None
     → NotesNodes nodes m → NotedThere p.sought slot nodes (λ n. ⊥)
-noted_more old p true o slot m nodes told is given notes = (m, ap (λ (x : Period). x.sought.noted) told, inl notes)
+noted_more old p true o slot m nodes told is given notes =
+    (m, subst (λ (x : Period). Has x.sought.noted (record { slot = slot; word = m })) (sym told) (latest (record { slot = slot; word = m }) old.sought.noted), inl notes)
 noted_more old p false o slot m nodes told is given notes = absurd (given is)
 
 -- what a pass knows then, if it set the slot free by that
 pub noted_free : (old p : Period) (notes won : Bool) (slot reading : ℕ) → p ≡ after_noting notes won slot (free_word reading) old → notes ≡ true → won ≡ true
-    → (word : ℕ) × (word % 8 ≡ 7) × (p.sought ≡ noted_in slot word old.sought)
-noted_free old p true true slot reading told notes won = (free_word reading, omega arith, ap (λ (x : Period). x.sought) told)
+    → (word : ℕ) × (word % 8 ≡ 7) × Has p.sought.noted (record { slot = slot; word = word })
+noted_free old p true true slot reading told notes won = (
+  free_word reading,
+  omega arith,
+  subst (λ (x : Period). Has x.sought.noted (record { slot = slot; word = free_word reading })) (sym told) (latest (record { slot = slot; word = free_word reading }) old.sought.noted),
+)
 noted_free old p true false slot reading told notes won = absurd (false≢true won)
 noted_free old p false won slot reading told notes is = absurd (false≢true notes)
 

@@ -1,4 +1,4 @@
-use Rattle.std.specs.Prelude.{◌≡◌, ◌+◌, []}
+use Rattle.std.specs.Prelude.{◌≡◌, ◌≤◌, ◌+◌, []}
 use Rattle.ell_cards.specs.Noting.{IsSoughtAs}
 use Rattle.ell_cards.specs.Periods.{StandsAs}
 use Rattle.ell_cards.proofs.table.CardTable.note_surely.Given as goal
@@ -11,7 +11,7 @@ invariant-loop g l = record {
   stands : StandsAs l.fn.seat.me.0.period l.seat.me.0.period;
   slot : l.seat.me.0.period.slot ≡ l.fn.seat.me.0.period.slot;
   sought : IsSoughtAs l.fn.seat.me.0.period.sought l.seat.me.0.period.sought;
-  outrun : l.seat.me.0.period.sought.outrun ≡ l.fn.seat.me.0.period.sought.outrun + l.counter;
+  outrun : l.fn.seat.me.0.period.sought.outrun + l.counter ≤ l.seat.me.0.period.sought.outrun;
   safe : l.seat.me.0.period.safe ≡ l.fn.seat.me.0.period.safe;
   tree : l.seat.me.0.tree ≡ l.fn.seat.me.0.tree;
 }

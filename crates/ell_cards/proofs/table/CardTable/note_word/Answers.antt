@@ -1,7 +1,7 @@
-use Rattle.std.proofs.Common.{◌≢◌, ◌%◌, refl, inl, subst}
+use Rattle.std.proofs.Common.{◌≢◌, ◌%◌, refl, inl, subst, true}
 use Rattle.std.specs.Int.Bits.{bit_or}
 use Rattle.ell_cards.specs.Noting.{NotesNodes}
-use Rattle.ell_cards.proofs.lemmas.whole.Freeing.{noted_turn, noted_dead, noted_more, notes_all, all_noted, full_stays}
+use Rattle.ell_cards.proofs.lemmas.whole.Freeing.{noted_turn, noted_dead, noted_more, notes_all, all_noted, full_stays, sought_still, sought_noting}
 use Rattle.ell_cards.proofs.table.CardTable.note_word.Goals as goal
 
 -- a word that sets its slot free notes all nodes already
@@ -41,3 +41,10 @@ pub returns-else-noted-eq7-clause-noted : goal.returns-else-noted-eq7-clause-not
 returns-else-noted-eq7-clause-noted g c =
     λ some. noted_more c.args.seat.now.me.0.period c.note_more.new.seat.me.0.period c.note_more.result c.then_some-else-noted-eq7.result c.args.slot (bit_or c.args.word c.bits.result) c.args.nodes
     c.note_more.ensures.period c.then_some-else-noted-eq7.ensures some (notes_all c.args.word c.bits.result c.args.nodes c.bits.ensures.each)
+
+pub returns-then-noted-word-clause-sought : goal.returns-then-noted-word-clause-sought
+returns-then-noted-word-clause-sought g c = sought_still c.args.seat.now.me.0.period.sought
+
+pub returns-else-noted-eq7-clause-sought : goal.returns-else-noted-eq7-clause-sought
+returns-else-noted-eq7-clause-sought g c =
+    sought_noting c.args.seat.now.me.0.period c.note_more.new.seat.me.0.period true c.note_more.result c.args.slot (bit_or c.args.word c.bits.result) c.note_more.ensures.period

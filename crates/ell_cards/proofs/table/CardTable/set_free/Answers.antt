@@ -1,7 +1,7 @@
-use Rattle.std.proofs.Common.{ap, ◌∙◌}
-use Rattle.ell_cards.specs.Seeking.{noted_in}
+use Rattle.std.proofs.Common.{ap, subst}
+use Rattle.ell_cards.specs.Noting.{IsSoughtAs}
 use Rattle.ell_cards.specs.declared.view.Period.{Period}
-use Rattle.ell_cards.proofs.lemmas.whole.Freeing.{frees_slot, noted_free}
+use Rattle.ell_cards.proofs.lemmas.whole.Freeing.{frees_slot, noted_free, sought_noting}
 use Rattle.ell_cards.proofs.table.CardTable.set_free.Goals as goal
 
 pub stamp-reading-requires-clause-dead : goal.stamp-reading-requires-clause-dead
@@ -14,6 +14,9 @@ exchange_slot-requires-clause-rule g c =
 
 pub returns-clause-noted : goal.returns-clause-noted
 returns-clause-noted g c notes won =
-    let read = c.stamp-reading.new.seat.me.0.period in
-    let x = noted_free read c.exchange_slot.new.seat.me.0.period c.args.notes _ c.args.slot c.stamp-reading.result c.exchange_slot.ensures.told notes won in
-    (x.0, x.1, x.2 ∙ ap (λ (p : Period). noted_in c.args.slot x.0 p.sought) c.stamp-reading.ensures.stamp)
+    noted_free c.stamp-reading.new.seat.me.0.period c.exchange_slot.new.seat.me.0.period c.args.notes _ c.args.slot c.stamp-reading.result c.exchange_slot.ensures.told notes won
+
+pub returns-clause-sought : goal.returns-clause-sought
+returns-clause-sought g c =
+    subst (λ (p : Period). IsSoughtAs p.sought c.exchange_slot.new.seat.me.0.period.sought) c.stamp-reading.ensures.stamp
+    (sought_noting c.stamp-reading.new.seat.me.0.period c.exchange_slot.new.seat.me.0.period c.args.notes _ c.args.slot _ c.exchange_slot.ensures.told)
