@@ -12,7 +12,7 @@ use Rattle.ell_cards.specs.Aside.{IsAside}
 use Rattle.ell_cards.specs.Dead.{KnowsDead}
 use Rattle.ell_cards.specs.Laws.{machine_of_table}
 use Rattle.ell_cards.specs.Machines.{HasMachine}
-use Rattle.ell_cards.specs.Models.{TablePlan}
+use Rattle.ell_cards.specs.Models.{TablePlan, Has}
 use Rattle.ell_cards.specs.Periods.{WholeState, IsAtRest, LieInSlots, PeriodsAreSound, slot_word}
 use Rattle.ell_cards.specs.SlotWords.{card_by, is_noted}
 use Rattle.ell_cards.specs.Starts.{IsReached}
@@ -47,10 +47,17 @@ pub record ForgotWhen (plan : TablePlan) (tree : TableState) (seat : ℕ) (dead 
   pub turns : List Turn
   pub run : TableRun plan begun turns tree
 
+-- what a word of a slot noted of the card there is noted still, or the slot is free, or another card lies there
+abbrev pub StaysNoted : Slots → List ℕ → (ℕ → ℕ) → SlotRead → ℕ → Type 0
+StaysNoted s words lie r i =
+    (slice_index words (slot_word s r.slot) % 8 ≡ 7) ⊎ (is_noted (slice_index words (slot_word s r.slot)) i ≡ true)
+    ⊎ (lie r.slot ≢ card_by r.slot r.word)
+
 -- What the grace periods of a table take for dead is so in its tree, and what was dead when a period began is dead
 -- still: cards of which each node is dead, or which were laid aside. The pass of each period is at rest, or it has
 -- forgotten what it was told since that was dead. The nodes that a slot's word notes as dead are out, and so are those
--- that a word of a slot in use noted which a pass has read. And the card whose flag a pass lost last was laid aside.
+-- that a word of a slot in use noted which a pass has read. What such a word noted that a pass left or read as it noted
+-- nodes stays noted. And the card whose flag a pass lost last was laid aside.
 pub record AgesAreSound (plan : TablePlan) (s : Slots) (tree : TableState) (t : WholeState) (lie : ℕ → ℕ)
     (dead : ℕ → Bool) (was_dead : ℕ → ℕ → Bool) : Type 0 where
   pub now : AreDead plan tree dead
@@ -62,6 +69,9 @@ pub record AgesAreSound (plan : TablePlan) (s : Slots) (tree : TableState) (t : 
   pub read : (seat : ℕ) (k : Known) (r : SlotRead) → get_elem? t.views seat ≡ some k → k.period.read ≡ Some r
       → r.word % 8 ≢ 7 → (i : ℕ) → is_noted r.word i ≡ true
       → IsOut plan tree now.machine now.uses (4 * card_by r.slot r.word + i)
+  pub stay : (seat : ℕ) (k : Known) (r : SlotRead) → get_elem? t.views seat ≡ some k → Has k.period.sought.noted r
+      → r.word % 8 ≢ 7 → (i : ℕ) → is_noted r.word i ≡ true
+      → (r.slot ≤ s.last) × IsOut plan tree now.machine now.uses (4 * card_by r.slot r.word + i) × StaysNoted s t.words lie r i
   pub lost : (seat c : ℕ) (k : Known) → get_elem? t.views seat ≡ some k → k.period.lost ≡ Some c
       → IsAside now.machine.stages tree.views c
 

@@ -243,6 +243,7 @@ impl<A: Allocator + Copy> CardTable<A> {
         requires others { noted % 8 ≢ 7 }
         requires dead { (i : ℕ) → is_noted noted i ≡ true →
             (is_noted word i ≡ true) ⊎ KnowsDeadNode seat.old.me.0.tree (4 * card_by slot word + i) }
+        requires more { (i : ℕ) → is_noted word i ≡ true → is_noted noted i ≡ true }
         ensures period { seat.new.me.0.period ≡ after_noting true result slot noted seat.old.me.0.period }
         ensures tree { seat.new.me.0.tree ≡ seat.old.me.0.tree }
         ensures seat { (seat.new.table_id ≡ seat.old.table_id) × (seat.new.me.1 ≡ []) }

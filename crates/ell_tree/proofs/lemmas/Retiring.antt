@@ -27,7 +27,7 @@ keeps_noted : (a m : PassModel) (sought : Seek) (n : ℕ) → Keeps a m n → Ke
 keeps_noted a m sought n h = record { table = h.table; label = h.label; view = h.view; took = record { steps = h.took.steps; made = h.took.made } }
 
 pub keeps_all_noted : (a m m' : PassModel) (n : ℕ) → KeepsAll a m n → HasNoted m m' → KeepsAll a m' n
-keeps_all_noted a m m' n h same = subst (λ x. KeepsAll a x n) (sym same) (record {
+keeps_all_noted a m m' n h noted = subst (λ x. KeepsAll a x n) (sym noted.same) (record {
   keeps = keeps_noted a m _ n h.keeps;
   taken = h.taken;
   card = h.card;
@@ -37,7 +37,7 @@ keeps_all_noted a m m' n h same = subst (λ x. KeepsAll a x n) (sym same) (recor
 })
 
 pub keeps_but_met_noted : (a m m' : PassModel) (n : ℕ) → KeepsAllButMet a m n → HasNoted m m' → KeepsAllButMet a m' n
-keeps_but_met_noted a m m' n h same = subst (λ x. KeepsAllButMet a x n) (sym same) (record {
+keeps_but_met_noted a m m' n h noted = subst (λ x. KeepsAllButMet a x n) (sym noted.same) (record {
   keeps = keeps_noted a m _ n h.keeps;
   taken = h.taken;
   card = h.card;

@@ -31,7 +31,7 @@ splits_keep_ties plan s tree t lie dead was_dead low h id k here there keys free
     on : AgesOn plan s tree t lie dead was_dead h.ages (Splits id keys) (state_split tree id k.tree keys)
         (record { words = t.words; homes = t.homes; views = set t.views id left ++ right ∷ [] })
     on = ages_after_split plan s tree (state_split tree id k.tree keys) t id k here keys turn left right
-        (is_at_rest (left_view keys k.tree) refl refl refl refl refl) (is_at_rest (right_view keys k.tree) refl refl refl refl refl) refl refl refl refl lie dead was_dead h.ages
+        (is_at_rest (left_view keys k.tree) refl refl refl refl refl) (is_at_rest (right_view keys k.tree) refl refl refl refl refl) refl refl refl refl refl refl lie dead was_dead h.ages
 
     stays : (seat : ℕ) (u : Known) → get_elem? (set t.views id left ++ right ∷ []) seat ≡ some u → StaysSo t.views seat u
     stays seat u at = elim (at_end (set t.views id left) right u seat at) [
@@ -64,7 +64,7 @@ joins_keep_ties plan s tree t lie dead was_dead low h id other k l here here' th
 
     on : AgesOn plan s tree t lie dead was_dead h.ages (Joins id other) after (record { words = t.words; homes = t.homes; views = views })
     on = ages_after_join plan s tree after t id other k here turn both spent_known
-        (is_at_rest (joined_view k.tree l.tree) refl refl refl refl refl) (is_at_rest spent_view refl refl refl refl refl) refl refl refl refl lie dead was_dead h.ages
+        (is_at_rest (joined_view k.tree l.tree) refl refl refl refl refl) (is_at_rest spent_view refl refl refl refl refl) refl refl refl refl refl refl lie dead was_dead h.ages
 
     stays : (seat : ℕ) (u : Known) → get_elem? views seat ≡ some u → StaysSo t.views seat u
     stays seat u at = ⊎_elim

@@ -1,8 +1,9 @@
 -- A pass that takes a slot for its card in hand keeps memory tied: that card waits, so it is not dead, and nobody else has it in hand.
-use Rattle.std.proofs.Common.{◌≡◌, ◌+◌, ◌*◌, ◌<◌, ◌≤◌, ℕ, zero, suc, inl, inr, Bool, true, false, Some, List, length, get_or, set, refl, sym, ap, ◌∙◌, subst, arith, true≢false, get_or-set_same, get_or-set_other}
+use Rattle.std.proofs.Common.{◌≡◌, ◌≢◌, ◌+◌, ◌*◌, ◌%◌, ◌<◌, ◌≤◌, ℕ, zero, suc, inl, inr, Bool, true, false, Some, List, length, get_or, set, refl, sym, ap, ◌∙◌, subst, arith, true≢false, get_or-set_same, get_or-set_other}
 use Rattle.std.proofs.lemmas.Bool.{cases_eq, false≢true}
 use mathlib.Core.Option.{some}
 use lib.ListN.{get_elem?}
+use Rattle.ell_word.specs.Node.{card}
 use Rattle.ell_core.proofs.lemmas.following.waiting.Cards.{hand_waits, one_hand}
 use Rattle.ell_core.proofs.lemmas.outcomes.Decide.{some_not_none}
 use Rattle.ell_core.proofs.lemmas.stages.Waiting.{waits-claimed}
@@ -15,15 +16,16 @@ use Rattle.ell_grace.specs.Gone.{HasOuts}
 use Rattle.ell_cards.specs.Laws.{machine_of_table}
 use Rattle.ell_grace.proofs.lemmas.dead.Out.{dead_ended}
 use Rattle.ell_layout.specs.Words.{put}
-use Rattle.ell_layout.proofs.lemmas.Writes.{put_other}
+use Rattle.ell_layout.proofs.lemmas.Writes.{put_other, put_same}
 use Rattle.ell_cards.specs.declared.view.Known.{Known}
 use Rattle.ell_cards.specs.declared.view.Period.{Period}
 use Rattle.ell_cards.specs.declared.view.View.{View}
-use Rattle.ell_cards.specs.Ages.{IsOut, is_dead, is_aside, is_beyond, AreDead}
+use Rattle.ell_cards.specs.declared.view.SlotRead.{SlotRead}
+use Rattle.ell_cards.specs.Ages.{IsOut, is_dead, is_aside, is_beyond, AreDead, StaysNoted}
 use Rattle.ell_cards.specs.Machines.{HasMachine}
 use Rattle.ell_cards.specs.Models.{TablePlan}
 use Rattle.ell_cards.specs.Periods.{slot_word, after_taking}
-use Rattle.ell_cards.specs.SlotWords.{slot_of, turn_of, is_noted}
+use Rattle.ell_cards.specs.SlotWords.{card_by, slot_of, turn_of, is_noted}
 use Rattle.ell_cards.specs.States.{TableState, seat_worker}
 use Rattle.ell_cards.specs.Tied.{HoldsWaiting}
 use Rattle.ell_cards.specs.Ties.{TakesKeepTies}
@@ -33,6 +35,8 @@ use Rattle.ell_cards.proofs.lemmas.whole.Trees.{tree_at}
 use Rattle.ell_cards.proofs.lemmas.whole.Untouched.{root_lives}
 use Rattle.ell_cards.proofs.lemmas.ties.Taking.{tie_of_taken}
 use Rattle.ell_cards.proofs.lemmas.ties.Touched.{claimed_within}
+use Rattle.ell_cards.proofs.lemmas.ties.Winning.{born_won}
+use Rattle.ell_grace.proofs.lemmas.outs.Taken.{taken_born}
 use Rattle.ell_cards.proofs.lemmas.words.Slotted.{slot_inside}
 
 waits_unended : (s : Stage) → waits s ≡ true → has_ended s ≡ false
@@ -81,11 +85,37 @@ module _ (plan : TablePlan) (tree : TableState) (dead : ℕ → Bool) (now : Are
         | inr ended ↦ false≢true (sym (waits_unended (outs.stages d) waiting) ∙ ended)
       ]
 
+-- nor is any node of it out
+module _ (plan : TablePlan) (tree : TableState) (dead : ℕ → Bool) (now : AreDead plan tree dead) (seat : ℕ) (v : View) (there : get_elem? tree.views seat ≡ some v)
+    (d : ℕ) (h : HoldsWaiting v d) (i : ℕ) (few : i < 3) where
+  outs_now : HasOuts (machine_of_table plan tree now.machine)
+  outs_now = now.uses.outs
+
+  waits_now : waits (now.uses.outs.stages d) ≡ true
+  waits_now = hand_waits now.machine.words now.uses.outs.stages ((machine plan tree now.machine seat v there).worker seat) d (now.uses.outs.invariant.workers.each seat)
+      (let me = mine_is plan tree now.machine seat v there in ap (λ (u : Worker). u.card) me ∙ h.0)
+      (let me = mine_is plan tree now.machine seat v there in ap (λ (u : Worker). u.flagged) me ∙ h.1)
+
+  never_dead : IsDead now.machine.words now.uses.outs.stages (4 * d + i) → ⊥
+  never_dead (inl gone) =
+      let born = taken_born now.machine.words now.uses.outs.stages now.uses.outs.invariant.words gone.taker (4 * d + i) gone.takes in
+      let won = born_won (now.uses.outs.stages (card (4 * d + i))) ((4 * d + i) % 4) born in
+      true≢false (sym (subst (λ c. waits (now.uses.outs.stages c) ≡ true) (omega (arith, few)) waits_now) ∙ won.1)
+  never_dead (inr never) =
+      false≢true (sym (waits_unended (now.uses.outs.stages d) waits_now) ∙ subst (λ c. has_ended (now.uses.outs.stages c) ≡ true) (omega (arith, few)) never.0)
+
+  pub hand_not_out : IsOut plan tree now.machine now.uses (4 * d + i) → ⊥
+  hand_not_out (is_dead is) = never_dead is
+  hand_not_out (is_aside is) = is.nobody seat v there (h.0 ∙ ap (λ c. Some c) (omega (arith, few)))
+  hand_not_out (is_beyond is) =
+      let low = claimed_within plan tree now.machine d (waits-claimed (now.machine.stages d) (hand_is_waiting plan tree dead now seat v there d h)) in
+      omega (arith, few, is, low)
+
 pub takes_keep_ties : TakesKeepTies
 takes_keep_ties plan s tree t lie dead was_dead low size h same id k here c hand numbered gone was_gone = record {
   ages = ages_of_period plan s tree t id k here (record { tree = k.tree; period = p }) refl words lie (put lie (slot_of c) c) dead dead was_dead was_dead h.ages
       h.ages.now.each h.ages.still (λ q a at an. h.ages.since id q a k here at an) (λ j q a u other at placed an. refl)
-      noted (λ r has. absurd (some_not_none has refl)) (λ d has. h.ages.lost id d k here has);
+      noted (λ r has. absurd (some_not_none has refl)) keep (λ r has. inl has) (λ d has. h.ages.lost id d k here has);
   tied = tie_of_taken s low tree t r.stages lie dead was_dead h.tied id k here c inside numbered hand
       (λ won. true≢false (sym (hand_is_waiting plan tree dead h.ages.now id k.tree (sits id k here) c hand) ∙ won.1)) claimed p refl refl refl
       room gone was_gone (false_where_not (dead 0) (root_lives plan tree dead h.ages.now))
@@ -129,6 +159,22 @@ takes_keep_ties plan s tree t lie dead was_dead low size h same id k here c hand
         } in
         sym (one_hand (machine plan tree r id k.tree (sits id k here)) r.stages r.invariant id seat c mine
         (ap (λ (z : Worker). z.card) (ap seat_worker (sits seat u at)) ∙ has))
+
+    -- the card that lies there now is none of which a node was out
+    keep : (read : SlotRead) (i : ℕ) → i < 3 → read.slot ≤ s.last → IsOut plan tree r h.ages.now.uses (4 * card_by read.slot read.word + i)
+        → StaysNoted s t.words lie read i → StaysNoted s words (put lie (slot_of c) c) read i
+    keep read i few low out old = elim (cases_eq read.slot (slot_of c)) [
+      | inl e ↦ inr (inr (λ is.
+          let now : put lie (slot_of c) c read.slot ≡ c = ap (put lie (slot_of c) c) e ∙ put_same lie (slot_of c) c in
+          hand_not_out plan tree dead h.ages.now id k.tree (sits id k here) c hand i few (subst (λ d. IsOut plan tree r h.ages.now.uses (4 * d + i)) (sym is ∙ now) out)))
+      | inr apart ↦
+          let same = get_or-set_other t.words (slot_word s (slot_of c)) (slot_word s read.slot) (8 * turn_of c) 0 (λ e. apart (omega arith)) in
+          elim old [
+            | inl full ↦ inl (ap (λ m. m % 8) same ∙ full)
+            | inr (inl was) ↦ inr (inl (subst (λ m. is_noted m i ≡ true) (sym same) was))
+            | inr (inr other) ↦ inr (inr (λ is. other (sym (put_other lie (slot_of c) c read.slot apart) ∙ is)))
+          ]
+    ]
 
     noted : (slot i : ℕ) → slot ≤ s.last → is_noted (get_or words (slot_word s slot) 0) i ≡ true
         → IsOut plan tree r h.ages.now.uses (4 * put lie (slot_of c) c slot + i)

@@ -1,4 +1,5 @@
-use Rattle.std.proofs.Common.{◌≡◌, ◌≢◌, ℕ, ◌+◌, ◌*◌, ◌%◌, ◌<◌, ◌≤◌, Bool, true, false, Some, List, [], ◌∷◌, ◌++◌, get_or, set, inl, inr, ◌⊎◌, refl, sym, ap, ◌∙◌, subst, ⊎_elim}
+use Rattle.std.proofs.lemmas.Bool.{false≢true}
+use Rattle.std.proofs.Common.{◌≡◌, ◌≢◌, arith, ℕ, zero, suc, ◌+◌, ◌*◌, ◌%◌, ◌<◌, ◌≤◌, Bool, true, false, Some, List, [], ◌∷◌, ◌++◌, get_or, set, inl, inr, ◌⊎◌, refl, sym, ap, ◌∙◌, subst, ⊎_elim}
 use mathlib.Core.Option.{some}
 use mathlib.Core.Option.{Option as Maybe}
 use lib.ListN.{get_elem?}
@@ -12,12 +13,12 @@ use Rattle.ell_cards.specs.declared.view.Known.{Known}
 use Rattle.ell_cards.specs.declared.view.SlotRead.{SlotRead}
 use Rattle.ell_cards.specs.declared.view.Slots.{Slots}
 use Rattle.ell_cards.specs.declared.view.View.{View}
-use Rattle.ell_cards.specs.Ages.{IsOut, is_dead, is_aside, is_beyond, AreDead, ForgotWhen, AgesAreSound}
+use Rattle.ell_cards.specs.Ages.{IsOut, is_dead, is_aside, is_beyond, AreDead, ForgotWhen, StaysNoted, AgesAreSound}
 use Rattle.ell_cards.specs.Aside.{IsAside}
 use Rattle.ell_cards.specs.Calls.{May}
 use Rattle.ell_cards.specs.Laws.{machine_of_table}
 use Rattle.ell_cards.specs.Machines.{HasMachine}
-use Rattle.ell_cards.specs.Models.{TablePlan}
+use Rattle.ell_cards.specs.Models.{TablePlan, Has}
 use Rattle.ell_cards.specs.Periods.{WholeState, IsAtRest, slot_word}
 use Rattle.ell_cards.specs.SlotWords.{card_by, is_noted}
 use Rattle.ell_cards.specs.Starts.{IsReached}
@@ -30,6 +31,13 @@ use Rattle.ell_cards.proofs.lemmas.runs.Alive.{turn_keeps_dead}
 use Rattle.ell_cards.proofs.lemmas.runs.Aside.{aside_on}
 use Rattle.ell_cards.proofs.lemmas.runs.TurnsOfRuns.{one_more_turn, turn_lawful}
 use Rattle.ell_cards.proofs.lemmas.whole.Rests.{stays_at_rest}
+
+-- what is noted is a node of three
+pub few_noted : (n i : ℕ) → is_noted n i ≡ true → i < 3
+few_noted n zero is = omega arith
+few_noted n (suc zero) is = omega arith
+few_noted n (suc (suc zero)) is = omega arith
+few_noted n (suc (suc (suc i))) is = absurd (false≢true is)
 
 -- a call that forgets nothing begins nothing
 keeps_quiet : (c : Call) → forgets c ≡ false → IsQuiet c
@@ -121,6 +129,17 @@ module _ (plan : TablePlan) where
         → IsOut plan tree' on.next on.used (4 * card_by r.slot r.word + i)
     read_on seat k r at has used i is = out_on tree h.now.machine h.now.uses by tree' on (4 * card_by r.slot r.word + i) (h.read seat k r at has used i is)
 
+    -- what words noted that a pass left or read stays noted, if the words of slots are as they were
+    pub stay_on : (words : List ℕ) → ((slot : ℕ) → slot ≤ s.last → get_or words (slot_word s slot) 0 ≡ get_or t.words (slot_word s slot) 0)
+        → (seat : ℕ) (k : Known) (r : SlotRead) → get_elem? t.views seat ≡ some k → Has k.period.sought.noted r → r.word % 8 ≢ 7 → (i : ℕ) → is_noted r.word i ≡ true
+        → (r.slot ≤ s.last) × IsOut plan tree' on.next on.used (4 * card_by r.slot r.word + i) × StaysNoted s words lie r i
+    stay_on words same seat k r at has used i is =
+        let old = h.stay seat k r at has used i is in (
+          old.0,
+          out_on tree h.now.machine h.now.uses by tree' on (4 * card_by r.slot r.word + i) old.1,
+          subst (λ n. (n % 8 ≡ 7) ⊎ (is_noted n i ≡ true) ⊎ (lie r.slot ≢ card_by r.slot r.word)) (sym (same r.slot old.0)) old.2,
+        )
+
     -- so is the card whose flag a pass lost last laid aside
     pub lost_on : (seat c : ℕ) (k : Known) → get_elem? t.views seat ≡ some k → k.period.lost ≡ Some c → IsAside on.next.stages tree'.views c
     lost_on seat c k at has = on.aside c (h.lost seat c k at has)
@@ -161,6 +180,10 @@ module _ (plan : TablePlan) where
             (λ (e : (seat ≡ id) × (knows ≡ u)). read_on s tree after t lie dead was_dead h (Makes id c) on id k r here (subst (λ (x : Known). x.period.read ≡ Some r) (sym e.1) has))
             (λ (e : (seat ≢ id) × (get_elem? t.views seat ≡ some u)). read_on s tree after t lie dead was_dead h (Makes id c) on seat u r e.1 has)
             (at_set t.views id seat knows u at);
+        stay = λ seat u r at has. ⊎_elim
+            (λ (e : (seat ≡ id) × (knows ≡ u)). stay_on s tree after t lie dead was_dead h (Makes id c) on words same id k r here (subst (λ (x : Known). Has x.period.sought.noted r) (sym e.1) has))
+            (λ (e : (seat ≢ id) × (get_elem? t.views seat ≡ some u)). stay_on s tree after t lie dead was_dead h (Makes id c) on words same seat u r e.1 has)
+            (at_set t.views id seat knows u at);
         lost = λ seat d u at has. ⊎_elim
             (λ (e : (seat ≡ id) × (knows ≡ u)). lost_on s tree after t lie dead was_dead h (Makes id c) on id d k here (ap (λ (x : Known). x.period.lost) e.1 ∙ has))
             (λ (e : (seat ≢ id) × (get_elem? t.views seat ≡ some u)). lost_on s tree after t lie dead was_dead h (Makes id c) on seat d u e.1 has)
@@ -198,9 +221,12 @@ module _ (plan : TablePlan) where
         → ((j q a : ℕ) (u : Known) → j ≢ id → get_elem? t.views j ≡ some u → u.period.place ≡ Some q → u.period.announced ≡ Some a → was_dead' q ≡ was_dead q)
         → ((slot i : ℕ) → slot ≤ s.last → is_noted (get_or words (slot_word s slot) 0) i ≡ true → OutNow (4 * lie' slot + i))
         → ((r : SlotRead) → now.period.read ≡ Some r → r.word % 8 ≢ 7 → (i : ℕ) → is_noted r.word i ≡ true → OutNow (4 * card_by r.slot r.word + i))
+        → ((r : SlotRead) (i : ℕ) → i < 3 → r.slot ≤ s.last → OutNow (4 * card_by r.slot r.word + i) → StaysNoted s t.words lie r i → StaysNoted s words lie' r i)
+        → ((r : SlotRead) → Has now.period.sought.noted r → Has k.period.sought.noted r ⊎ (r.word % 8 ≢ 7 → (i : ℕ) → is_noted r.word i ≡ true
+        → (r.slot ≤ s.last) × OutNow (4 * card_by r.slot r.word + i) × StaysNoted s words lie' r i))
         → ((c : ℕ) → now.period.lost ≡ Some c → IsAside h.now.machine.stages tree.views c)
         → AgesAreSound plan s tree (record { words = words; homes = t.homes; views = set t.views id now }) lie' dead' was_dead'
-    ages_of_period each still mine others noted read lost = record {
+    ages_of_period each still mine others noted read keep notes lost = record {
       now = record { machine = h.now.machine; uses = h.now.uses; each = each };
       still = still;
       since = λ seat q a u at placed an. ⊎_elim
@@ -213,12 +239,27 @@ module _ (plan : TablePlan) where
           (λ (e : (seat ≡ id) × (now ≡ u)). read r (subst (λ (x : Known). x.period.read ≡ Some r) (sym e.1) has))
           (λ (e : (seat ≢ id) × (get_elem? t.views seat ≡ some u)). h.read seat u r e.1 has)
           (at_set t.views id seat now u at);
+      stay = λ seat u r at has used i is. ⊎_elim
+          (λ (e : (seat ≡ id) × (now ≡ u)). mine_stays r (subst (λ (x : Known). Has x.period.sought.noted r) (sym e.1) has) used i is)
+          (λ (e : (seat ≢ id) × (get_elem? t.views seat ≡ some u)). stays r i (few_noted r.word i is) (h.stay seat u r e.1 has used i is))
+          (at_set t.views id seat now u at);
       lost = λ seat c u at has. ⊎_elim
           (λ (e : (seat ≡ id) × (now ≡ u)). lost c (ap (λ (x : Known). x.period.lost) e.1 ∙ has))
           (λ (e : (seat ≢ id) × (get_elem? t.views seat ≡ some u)). h.lost seat c u e.1 has)
           (at_set t.views id seat now u at);
     }
       where
+        stays : (r : SlotRead) (i : ℕ) → i < 3 → (r.slot ≤ s.last) × OutNow (4 * card_by r.slot r.word + i) × StaysNoted s t.words lie r i
+            → (r.slot ≤ s.last) × OutNow (4 * card_by r.slot r.word + i) × StaysNoted s words lie' r i
+        stays r i few old = (old.0, old.1, keep r i few old.0 old.1 old.2)
+
+        mine_stays : (r : SlotRead) → Has now.period.sought.noted r → r.word % 8 ≢ 7 → (i : ℕ) → is_noted r.word i ≡ true
+            → (r.slot ≤ s.last) × OutNow (4 * card_by r.slot r.word + i) × StaysNoted s words lie' r i
+        mine_stays r has used i is = elim (notes r has) [
+          | inl was ↦ stays r i (few_noted r.word i is) (h.stay id k r here was used i is)
+          | inr new ↦ new used i is
+        ]
+
         own : (seat q a : ℕ) (u : Known) → seat ≡ id → now ≡ u → u.period.place ≡ Some q → u.period.announced ≡ Some a
             → IsAtRest u.tree ⊎ ForgotWhen plan tree seat (was_dead' q)
         own seat q a u e is =

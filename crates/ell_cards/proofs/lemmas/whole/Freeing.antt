@@ -1,4 +1,4 @@
-use Rattle.std.proofs.Common.{◌≡◌, ◌≢◌, ℕ, zero, suc, ◌+◌, ◌*◌, ◌/◌, ◌%◌, ◌<◌, ◌≤◌, ◌==◌, if◌then◌else◌, Bool, true, false, Option, Some, None, length, get_or, set, inl, inr, ◌⊎◌, refl, sym, ap, ◌∙◌, subst, arith, eq-eqb, eqb-true, ne_eqb, get_or-set_same, get_or-set_other}
+use Rattle.std.proofs.Common.{◌≡◌, ◌≢◌, ℕ, zero, suc, ◌+◌, ◌*◌, ◌/◌, ◌%◌, ◌<◌, ◌≤◌, ◌==◌, ◌&&◌, not, if◌then◌else◌, Bool, true, false, Option, Some, None, length, get_or, set, inl, inr, ◌⊎◌, refl, sym, ap, ◌∙◌, subst, arith, eq-eqb, eqb-true, ne_eqb, get_or-set_same, get_or-set_other}
 use Rattle.std.specs.Int.Bits.{bit_or, or_zero_l, or_zero_r}
 use Rattle.std.proofs.lemmas.Nat.{or_shr, or_mod, or_lt, le_or_l}
 use Rattle.std.proofs.lemmas.Bool.{cases_eq, false≢true}
@@ -18,7 +18,7 @@ use Rattle.ell_cards.specs.declared.view.Seek.{Seek}
 use Rattle.ell_cards.specs.declared.view.SlotRead.{SlotRead}
 use Rattle.ell_cards.specs.declared.view.Slots.{Slots}
 use Rattle.ell_cards.specs.declared.view.View.{View}
-use Rattle.ell_cards.specs.Ages.{IsOut, is_dead, is_aside, HasPeriods, KnowsDeadNode, KnowsDeadCard, MayStamp}
+use Rattle.ell_cards.specs.Ages.{IsOut, is_dead, is_aside, StaysNoted, HasPeriods, KnowsDeadNode, KnowsDeadCard, MayStamp}
 use Rattle.ell_cards.specs.Aside.{IsAside}
 use Rattle.ell_cards.specs.Apart.{cut_node}
 use Rattle.ell_cards.specs.CardNodes.{has_node, AreTakenOut, KnowsDeadNodes}
@@ -26,7 +26,7 @@ use Rattle.ell_cards.specs.Dead.{HasTakenOut}
 use Rattle.ell_cards.specs.Models.{TablePlan, Has, latest, earlier}
 use Rattle.ell_cards.specs.Noting.{IsSoughtAs, NotedThere, NotesNodes}
 use Rattle.ell_cards.specs.Periods.{WholeState, clock_word, slot_word, slots_size, last_reading, LieInSlots, pending_by, after_noting, after_noting_read, after_read, after_seek, after_stamp, PeriodsAreSound}
-use Rattle.ell_cards.specs.Seeking.{could_have, noted_in, outrun_once, sought_on}
+use Rattle.ell_cards.specs.Seeking.{could_have, is_next, one_if, noted_in, outrun_once, sought_on}
 use Rattle.ell_cards.specs.Shown.{shown}
 use Rattle.ell_cards.specs.SlotWords.{card_by, slot_of, turn_of, turn_in, free_word, is_noted}
 use Rattle.ell_cards.specs.Starts.{IsReached}
@@ -39,7 +39,7 @@ use Rattle.ell_cards.proofs.lemmas.ties.Apart.{met_lies}
 use Rattle.ell_cards.proofs.lemmas.whole.Ages.{ages_of_period}
 use Rattle.ell_cards.proofs.lemmas.whole.Apart.{ready_there}
 use Rattle.ell_cards.proofs.lemmas.ties.Periods.{tie_of_period}
-use Rattle.ell_cards.proofs.lemmas.whole.Going.{turned_to, behind, same_noted, same_again, seeks_now, goes_on_there}
+use Rattle.ell_cards.proofs.lemmas.whole.Going.{turned_to, behind, same_noted, same_stays, same_again, seeks_now, goes_on_there}
 use Rattle.ell_cards.proofs.lemmas.whole.Steps.{word_again}
 use Rattle.ell_cards.proofs.lemmas.whole.Seats.{period_was, lie_same}
 use Rattle.ell_cards.proofs.lemmas.whole.Slots.{slot_read, card_stamped, slot_noted, slot_freed, lie_noted, lie_freed}
@@ -131,6 +131,20 @@ full_stays n m low all =
     let least = le_or_l (n % 8) (m % 8) in
     omega arith
 
+-- what a pass has noted it noted before, or just now
+pub noted_or_was : (k : Seek) (slot n : ℕ) (r : SlotRead) → Has (noted_in slot n k).noted r → Has k.noted r ⊎ (r ≡ record { slot = slot; word = n })
+noted_or_was k slot n r (latest _ _) = inr refl
+noted_or_was k slot n r (earlier _ _ _ has) = inl has
+
+-- a search notes nothing
+still_noted : (s : Slots) (begins for_delete : Bool) (c made : ℕ) (takes : Bool) (k : Seek) → (sought_on s begins for_delete c made takes k).noted ≡ k.noted
+still_noted s begins for_delete c made takes k = by (not begins && is_next s c k)
+  where
+    by : (b : Bool) → (if b then record k { read = k.read + 1; takeable = k.takeable + one_if takes }
+        else record k { for_delete = for_delete; from = c; read = 1; takeable = one_if takes; made = made }).noted ≡ k.noted
+    by true = refl
+    by false = refl
+
 -- the steps of a pass on the words of slots, as those of a whole table
 module _ (plan : TablePlan) (s : Slots) (tree : TableState) (t : WholeState) (id : ℕ) (k : Known) (here : get_elem? t.views id ≡ some k)
     (there : get_elem? tree.views id ≡ some k.tree) (h : HasPeriods plan s tree t) (size : length t.words ≡ slots_size s) (reached : IsReached plan tree) where
@@ -156,10 +170,11 @@ module _ (plan : TablePlan) (s : Slots) (tree : TableState) (t : WholeState) (id
       let place = place_whole was.whole x was.is in
       subst (KnowsDeadNode k.tree) (omega (arith, found, place)) was.dead
 
-  -- it reads the word of a slot, whatever its search has read then
+  -- it reads the word of a slot, whatever its search has read then, and may note that it read that
   pub reads_now : (slot : ℕ) → slot ≤ s.last → (sought : Seek)
+      → ((r : SlotRead) → Has sought.noted r → Has k.period.sought.noted r ⊎ (r ≡ record { slot = slot; word = get_or t.words (slot_word s slot) 0 }))
       → HasPeriods plan s tree (turned_to t id k (record (after_read slot (get_or t.words (slot_word s slot) 0) k.period) { sought = sought }) (slot_word s slot) (get_or t.words (slot_word s slot) 0))
-  reads_now slot inside sought =
+  reads_now slot inside sought notes =
       let n = get_or t.words (slot_word s slot) 0 in record {
         lie = h.lie;
         lies = lie_same s h.lie t.words (set t.words (slot_word s slot) n) (λ other low. same_again plan s tree t id k here h size (slot_word s slot) (omega arith) other) h.lies;
@@ -171,6 +186,8 @@ module _ (plan : TablePlan) (s : Slots) (tree : TableState) (t : WholeState) (id
             h.ages.now.each h.ages.still (λ q a at an. h.ages.since id q a k here at an) (λ j q a u other at placed an. refl)
             (same_noted plan s tree t id k here h (set t.words (slot_word s slot) n) (same_again plan s tree t id k here h size (slot_word s slot) (omega arith)))
             (λ r has used i is. subst (λ (x : SlotRead). x.word % 8 ≢ 7 → is_noted x.word i ≡ true → OutNow (4 * card_by x.slot x.word + i)) (same_Some _ r has) (reads i) used is)
+            (same_stays plan s tree t id k here h (set t.words (slot_word s slot) n) (same_again plan s tree t id k here h size (slot_word s slot) (omega arith)))
+            (λ r has. elim (notes r has) [ inl was ↦ inl was | inr new ↦ inr (subst (Stays n) (sym new) stays) ])
             (λ c has. h.ages.lost id c k here has);
         tied = tie_of_period s tree t h.ages.now.machine.stages h.lie h.dead h.dead h.was_dead h.was_dead h.tied id k here (record (after_read slot n k.period) { sought = sought }) refl (set t.words (slot_word s slot) n)
             (λ j low. word_again t.words (slot_word s slot) (omega arith) j)
@@ -180,6 +197,14 @@ module _ (plan : TablePlan) (s : Slots) (tree : TableState) (t : WholeState) (id
       reads : (i : ℕ) → get_or t.words (slot_word s slot) 0 % 8 ≢ 7 → is_noted (get_or t.words (slot_word s slot) 0) i ≡ true
           → OutNow (4 * card_by slot (get_or t.words (slot_word s slot) 0) + i)
       reads i used is = subst (λ c. OutNow (4 * c + i)) (h.lies slot inside used) (h.ages.noted slot i inside is)
+
+      Stays : ℕ → SlotRead → Type 0
+      Stays n r = r.word % 8 ≢ 7 → (i : ℕ) → is_noted r.word i ≡ true
+          → (r.slot ≤ s.last) × OutNow (4 * card_by r.slot r.word + i) × StaysNoted s (set t.words (slot_word s slot) n) h.lie r i
+
+      stays : Stays (get_or t.words (slot_word s slot) 0) (record { slot = slot; word = get_or t.words (slot_word s slot) 0 })
+      stays used i is =
+          (inside, reads i used is, inr (inl (subst (λ m. is_noted m i ≡ true) (sym (same_again plan s tree t id k here h size (slot_word s slot) (omega arith) slot)) is)))
 
   -- it reads the clock for a card whose nodes it knows dead, or which it laid aside
   pub stamps_now : (c : ℕ) → MayStamp k c
@@ -196,6 +221,8 @@ module _ (plan : TablePlan) (s : Slots) (tree : TableState) (t : WholeState) (id
             each (λ q d was. still d (h.ages.still q d was)) (λ q a at an. h.ages.since id q a k here at an) (λ j q a u other at placed an. refl)
             (same_noted plan s tree t id k here h (set t.words (clock_word s) n) (same_again plan s tree t id k here h size (clock_word s) (omega arith)))
             (λ r has. h.ages.read id k r here has)
+            (same_stays plan s tree t id k here h (set t.words (clock_word s) n) (same_again plan s tree t id k here h size (clock_word s) (omega arith)))
+            (λ r has. inl has)
             (λ d has. h.ages.lost id d k here has);
         tied = tie_of_period s tree t h.ages.now.machine.stages h.lie h.dead (put h.dead c true) h.was_dead h.was_dead h.tied id k here (after_stamp c n k.period) refl (set t.words (clock_word s) n)
             (λ j low. word_again t.words (clock_word s) (omega arith) j)
@@ -233,11 +260,13 @@ module _ (plan : TablePlan) (s : Slots) (tree : TableState) (t : WholeState) (id
       ]
 
   -- a slot's word becomes another one, by which the same cards lie in slots, and what it notes is dead
-  turns_now : (slot n : ℕ) (sought : Seek) → slot ≤ s.last → LieInSlots s (set t.words (slot_word s slot) n) h.lie
+  turns_now : (slot n : ℕ) (sought : Seek) → slot ≤ s.last → get_or t.words (slot_word s slot) 0 % 8 ≢ 7
+      → ((i : ℕ) → is_noted (get_or t.words (slot_word s slot) 0) i ≡ true → (n % 8 ≡ 7) ⊎ (is_noted n i ≡ true))
+      → ((r : SlotRead) → Has sought.noted r → Has k.period.sought.noted r ⊎ (r ≡ record { slot = slot; word = n })) → LieInSlots s (set t.words (slot_word s slot) n) h.lie
       → PeriodsAreSound s (turned_to t id k (record (k.period) { sought = sought }) (slot_word s slot) n) h.lie h.dead h.began h.was_dead
       → ((i : ℕ) → is_noted n i ≡ true → OutNow (4 * h.lie slot + i))
       → HasPeriods plan s tree (turned_to t id k (record (k.period) { sought = sought }) (slot_word s slot) n)
-  turns_now slot n sought inside lies sound notes = record {
+  turns_now slot n sought inside used grows fresh lies sound notes = record {
     lie = h.lie;
     lies = lies;
     dead = h.dead;
@@ -248,12 +277,46 @@ module _ (plan : TablePlan) (s : Slots) (tree : TableState) (t : WholeState) (id
         h.ages.now.each h.ages.still (λ q a at an. h.ages.since id q a k here at an) (λ j q a u other at placed an. refl)
         noted
         (λ r has. h.ages.read id k r here has)
+        (λ r i few low out. keep r i low)
+        (λ r has. elim (fresh r has) [ inl was ↦ inl was | inr new ↦ inr (subst Stays (sym new) stays) ])
         (λ c has. h.ages.lost id c k here has);
     tied = tie_of_period s tree t h.ages.now.machine.stages h.lie h.dead h.dead h.was_dead h.was_dead h.tied id k here (record (k.period) { sought = sought }) refl (set t.words (slot_word s slot) n)
         (behind plan s tree t id k here h (slot_word s slot) n (omega arith)) (λ c lives. lives)
         (λ q a at an. inl (at, an, λ c lives. lives)) (λ seat q a u other at placed an c lives. lives) t.homes;
   }
     where
+      after : ℕ → ℕ
+      after other = get_or (set t.words (slot_word s slot) n) (slot_word s other) 0
+
+      turned : (other : ℕ) → other ≡ slot → get_or (set t.words (slot_word s slot) n) (slot_word s other) 0 ≡ n
+      turned other e = ap (λ x. get_or (set t.words (slot_word s slot) n) (slot_word s x) 0) e ∙ get_or-set_same t.words (slot_word s slot) n 0 (omega arith)
+
+      Stays : SlotRead → Type 0
+      Stays r = r.word % 8 ≢ 7 → (i : ℕ) → is_noted r.word i ≡ true
+          → (r.slot ≤ s.last) × OutNow (4 * card_by r.slot r.word + i) × StaysNoted s (set t.words (slot_word s slot) n) h.lie r i
+
+      stays : Stays (record { slot = slot; word = n })
+      stays some_bit i is = (
+        inside,
+        subst (λ c. OutNow (4 * c + i)) (lies slot inside (λ full. some_bit (ap (λ x. x % 8) (sym (turned slot refl)) ∙ full)) ∙ ap (card_by slot) (turned slot refl)) (notes i is),
+        inr (inl (subst (λ m. is_noted m i ≡ true) (sym (turned slot refl)) is)),
+      )
+
+      keep : (r : SlotRead) (i : ℕ) → r.slot ≤ s.last → StaysNoted s t.words h.lie r i → StaysNoted s (set t.words (slot_word s slot) n) h.lie r i
+      keep r i low old = elim (cases_eq r.slot slot) [
+        | inl e ↦ elim old [
+          | inl full ↦ absurd (used (ap (λ x. get_or t.words (slot_word s x) 0 % 8) (sym e) ∙ full))
+          | inr (inl was) ↦ elim (grows i (subst (λ x. is_noted (get_or t.words (slot_word s x) 0) i ≡ true) e was)) [
+            | inl full ↦ inl (ap (λ m. m % 8) (turned r.slot e) ∙ full)
+            | inr is ↦ inr (inl (subst (λ m. is_noted m i ≡ true) (sym (turned r.slot e)) is))
+          ]
+          | inr (inr other) ↦ inr (inr other)
+        ]
+        | inr apart ↦
+            let same = get_or-set_other t.words (slot_word s slot) (slot_word s r.slot) n 0 (λ e. apart (omega arith)) in
+            subst (λ m. (m % 8 ≡ 7) ⊎ (is_noted m i ≡ true) ⊎ (h.lie r.slot ≢ card_by r.slot r.word)) (sym same) old
+      ]
+
       noted : (other i : ℕ) → other ≤ s.last → is_noted (get_or (set t.words (slot_word s slot) n) (slot_word s other) 0) i ≡ true → OutNow (4 * h.lie other + i)
       noted other i low is = elim (cases_eq other slot) [
         | inl e ↦
@@ -268,9 +331,11 @@ module _ (plan : TablePlan) (s : Slots) (tree : TableState) (t : WholeState) (id
   -- more nodes of the card that lies in a slot are noted as dead
   pub notes_now : (slot n m : ℕ) (sought : Seek) → slot ≤ s.last → get_or t.words (slot_word s slot) 0 ≡ n → turn_in m ≡ turn_in n → n % 8 ≢ 7 → m % 8 ≢ 7
       → ((i : ℕ) → is_noted m i ≡ true → (is_noted n i ≡ true) ⊎ KnowsDeadNode k.tree (4 * card_by slot n + i))
+      → ((i : ℕ) → is_noted n i ≡ true → is_noted m i ≡ true)
+      → ((r : SlotRead) → Has sought.noted r → Has k.period.sought.noted r ⊎ (r ≡ record { slot = slot; word = m }))
       → HasPeriods plan s tree (turned_to t id k (record (k.period) { sought = sought }) (slot_word s slot) m)
-  notes_now slot n m sought inside is turn some_bit some_bit' knows =
-      turns_now slot m sought inside (lie_noted s h.lie t.words h.lies slot (omega arith) m used (turn ∙ ap turn_in (sym is)))
+  notes_now slot n m sought inside is turn some_bit some_bit' knows more fresh =
+      turns_now slot m sought inside used (λ i was. inr (more i (subst (λ x. is_noted x i ≡ true) is was))) fresh (lie_noted s h.lie t.words h.lies slot (omega arith) m used (turn ∙ ap turn_in (sym is)))
       (slot_noted s t id k here h.lie h.dead h.began h.was_dead h.periods size slot inside sought m used some_bit')
       (λ i noted. elim (knows i noted) [
         | inl was ↦ h.ages.noted slot i inside (subst (λ x. is_noted x i ≡ true) (sym is) was)
@@ -286,9 +351,10 @@ module _ (plan : TablePlan) (s : Slots) (tree : TableState) (t : WholeState) (id
   -- or the slot is set free, if all nodes of the card are dead
   pub frees_now : (slot reading : ℕ) (sought : Seek) → slot ≤ s.last → (n : ℕ) → get_or t.words (slot_word s slot) 0 ≡ n → n % 8 ≢ 7
       → k.period.stamp ≡ Some (record { card = card_by slot n; reading = reading })
+      → ((r : SlotRead) → Has sought.noted r → Has k.period.sought.noted r ⊎ (r ≡ record { slot = slot; word = free_word reading }))
       → HasPeriods plan s tree (turned_to t id k (record (k.period) { sought = sought }) (slot_word s slot) (free_word reading))
-  frees_now slot reading sought inside n is some_bit has =
-      turns_now slot (free_word reading) sought inside (lie_freed s h.lie t.words h.lies slot (omega arith) reading)
+  frees_now slot reading sought inside n is some_bit has fresh =
+      turns_now slot (free_word reading) sought inside (λ e. some_bit (ap (λ x. x % 8) (sym is) ∙ e)) (λ i was. inl (omega arith)) fresh (lie_freed s h.lie t.words h.lies slot (omega arith) reading)
       (slot_freed s t id k here h.lie h.dead h.began h.was_dead h.periods size slot inside sought reading (h.tied.own slot inside) stamp)
       (λ i noted. h.ages.now.each (h.lie slot) i (few (free_word reading) i noted) dead)
     where
@@ -313,7 +379,7 @@ module _ (plan : TablePlan) (s : Slots) (placed : plan.slots ≡ Some s) (slot :
   pub reads_slot : (k : Known) → MayGoOn plan k (slot_word s slot) (λ n. n) (λ n p. p ≡ after_read slot n k.period)
   reads_slot k =
       goes_on_there plan s placed k (slot_word s slot) (λ n. n) (λ n p. p ≡ after_read slot n k.period) (λ t. after_read slot (get_or t.words (slot_word s slot) 0) k.period)
-      (λ tree t id reached here there h size. (reads_now plan s tree t id k here there h size reached slot inside k.period.sought, refl))
+      (λ tree t id reached here there h size. (reads_now plan s tree t id k here there h size reached slot inside k.period.sought (λ r has. inl has), refl))
 
   -- whatever slot a word is of
   pub reads_any : (k : Known) (word : ℕ) → word ≡ slot_word s slot
@@ -344,7 +410,8 @@ module _ (plan : TablePlan) (s : Slots) (placed : plan.slots ≡ Some s) (slot :
       goes_on_there plan s placed k (slot_word s slot) (λ n. n) (λ n p. (p ≡ after_noting_read slot n k.period) × TellsTaken k n)
       (λ t. after_noting_read slot (get_or t.words (slot_word s slot) 0) k.period)
       (λ tree t id reached here there h size. (
-        reads_now plan s tree t id k here there h size reached slot inside (noted_in slot (get_or t.words (slot_word s slot) 0) k.period.sought),
+        reads_now plan s tree t id k here there h size reached slot inside (noted_in slot (get_or t.words (slot_word s slot) 0) k.period.sought)
+            (noted_or_was k.period.sought slot (get_or t.words (slot_word s slot) 0)),
         (
           refl,
           λ c nodes at taken used i has. by c i (three nodes i has) _ (taken_lies plan s tree t id k here there h size reached placed slot inside used (4 * c + i)
@@ -391,7 +458,8 @@ module _ (plan : TablePlan) (s : Slots) (placed : plan.slots ≡ Some s) (slot :
       (goes_on_there plan s placed k (slot_word s slot) (λ n. n) (λ n p. p ≡ after_seek s begins for_delete c made n k.period) (λ t. after_seek s begins for_delete c made (get_or t.words (slot_word s slot) 0) k.period)
       (λ tree t id reached here there h size. (
         subst (λ x. HasPeriods plan s tree (turned_to t id k (record (after_read x (get_or t.words (slot_word s slot) 0) k.period) { sought = now t }) (slot_word s slot) (get_or t.words (slot_word s slot) 0))) (sym lies)
-            (reads_now plan s tree t id k here there h size reached slot inside (now t)),
+            (reads_now plan s tree t id k here there h size reached slot inside (now t)
+            (λ r has. inl (subst (λ l. Has l r) (still_noted s begins for_delete c made (could_have s for_delete c (get_or t.words (slot_word s slot) 0) k.period.safe) k.period.sought) has))),
         refl,
       )))
     where
@@ -423,20 +491,21 @@ module _ (plan : TablePlan) (s : Slots) (placed : plan.slots ≡ Some s) (slot :
           subst (after tree t id) (sym (ne_eqb (get_or t.words (slot_word s slot) 0) n other)) (loses tree t id reached here there h size other)
 
   -- another word stood there
-  stood_other : (k : Known) (sought : Seek) (n : ℕ) (tree : TableState) (t : WholeState) (id : ℕ) → IsReached plan tree → get_elem? t.views id ≡ some k → get_elem? tree.views id ≡ some k.tree
+  stood_other : (k : Known) (sought : Seek) → sought.noted ≡ k.period.sought.noted → (n : ℕ) (tree : TableState) (t : WholeState) (id : ℕ) → IsReached plan tree → get_elem? t.views id ≡ some k → get_elem? tree.views id ≡ some k.tree
       → HasPeriods plan s tree t → length t.words ≡ slots_size s → get_or t.words (slot_word s slot) 0 ≢ n
       → HasPeriods plan s tree (turned_to t id k (record (k.period) { sought = sought }) (slot_word s slot) (get_or t.words (slot_word s slot) 0))
-  stood_other k sought n tree t id reached here there h size other = seeks_now plan s tree t id k here h size (slot_word s slot) (omega arith) sought
+  stood_other k sought same n tree t id reached here there h size other = seeks_now plan s tree t id k here h size (slot_word s slot) (omega arith) sought same
 
   -- it notes more nodes as dead, if the word is as it was
   pub notes_nodes : (k : Known) (n m : ℕ) → turn_in m ≡ turn_in n → n % 8 ≢ 7 → m % 8 ≢ 7
       → ((i : ℕ) → is_noted m i ≡ true → (is_noted n i ≡ true) ⊎ KnowsDeadNode k.tree (4 * card_by slot n + i))
+      → ((i : ℕ) → is_noted n i ≡ true → is_noted m i ≡ true)
       → MayGoOn plan k (slot_word s slot) (λ x. either (x == n) m x) (λ x p. p ≡ after_noting true (x == n) slot m k.period)
-  notes_nodes k n m turn some_bit some_bit' knows =
+  notes_nodes k n m turn some_bit some_bit' knows more =
       subst (λ (f : ℕ → Period). MayGoOn plan k (slot_word s slot) (λ x. either (x == n) m x) (λ x p. p ≡ f x)) (λ i x. told (x == n) i)
       (exchanges k n m (noted_in slot m k.period.sought) (outrun_once k.period.sought)
-      (λ tree t id reached here there h size is. notes_now plan s tree t id k here there h size reached slot n m (noted_in slot m k.period.sought) inside is turn some_bit some_bit' knows)
-      (stood_other k (outrun_once k.period.sought) n))
+      (λ tree t id reached here there h size is. notes_now plan s tree t id k here there h size reached slot n m (noted_in slot m k.period.sought) inside is turn some_bit some_bit' knows more (noted_or_was k.period.sought slot m))
+      (stood_other k (outrun_once k.period.sought) refl n))
     where
       told : (b : Bool) → record (k.period) { sought = if b then noted_in slot m k.period.sought else outrun_once k.period.sought } ≡ after_noting true b slot m k.period
       told true = refl
@@ -447,10 +516,11 @@ module _ (plan : TablePlan) (s : Slots) (placed : plan.slots ≡ Some s) (slot :
       → MayGoOn plan k (slot_word s slot) (λ m. either (m == n) (free_word reading) m) (λ m p. p ≡ after_noting notes (m == n) slot (free_word reading) k.period)
   frees_slot k notes reading n some_bit has = by notes
     where
-      so : (won lost : Seek) → MayGoOn plan k (slot_word s slot) (λ x. either (x == n) (free_word reading) x) (λ x p. p ≡ record (k.period) { sought = if x == n then won else lost })
-      so won lost = exchanges k n (free_word reading) won lost
-          (λ tree t id reached here there h size is. frees_now plan s tree t id k here there h size reached slot reading won inside n is some_bit has)
-          (stood_other k lost n)
+      so : (won lost : Seek) → ((r : SlotRead) → Has won.noted r → Has k.period.sought.noted r ⊎ (r ≡ record { slot = slot; word = free_word reading })) → lost.noted ≡ k.period.sought.noted
+          → MayGoOn plan k (slot_word s slot) (λ x. either (x == n) (free_word reading) x) (λ x p. p ≡ record (k.period) { sought = if x == n then won else lost })
+      so won lost fresh same = exchanges k n (free_word reading) won lost
+          (λ tree t id reached here there h size is. frees_now plan s tree t id k here there h size reached slot reading won inside n is some_bit has fresh)
+          (stood_other k lost same n)
 
       noting : (b : Bool) → record (k.period) { sought = if b then noted_in slot (free_word reading) k.period.sought else outrun_once k.period.sought } ≡ after_noting true b slot (free_word reading) k.period
       noting true = refl
@@ -462,9 +532,9 @@ module _ (plan : TablePlan) (s : Slots) (placed : plan.slots ≡ Some s) (slot :
 
       by : (notes : Bool) → MayGoOn plan k (slot_word s slot) (λ m. either (m == n) (free_word reading) m) (λ m p. p ≡ after_noting notes (m == n) slot (free_word reading) k.period)
       by true = subst (λ (f : ℕ → Period). MayGoOn plan k (slot_word s slot) (λ x. either (x == n) (free_word reading) x) (λ x p. p ≡ f x)) (λ i x. noting (x == n) i)
-          (so (noted_in slot (free_word reading) k.period.sought) (outrun_once k.period.sought))
+          (so (noted_in slot (free_word reading) k.period.sought) (outrun_once k.period.sought) (noted_or_was k.period.sought slot (free_word reading)) refl)
       by false = subst (λ (f : ℕ → Period). MayGoOn plan k (slot_word s slot) (λ x. either (x == n) (free_word reading) x) (λ x p. p ≡ f x)) (λ i x. aside (x == n) i)
-          (so k.period.sought k.period.sought)
+          (so k.period.sought k.period.sought (λ r has. inl has) refl)
 
 -- what a pass has sought is so after it has read a word, or exchanged one
 pub sought_read : (old p : Period) (slot n : ℕ) → p ≡ after_noting_read slot n old → IsSoughtAs old.sought p.sought

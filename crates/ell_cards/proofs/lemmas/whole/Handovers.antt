@@ -12,15 +12,15 @@ use Rattle.ell_cards.specs.declared.view.Known.{Known}
 use Rattle.ell_cards.specs.declared.view.Period.{Period}
 use Rattle.ell_cards.specs.declared.view.Slots.{Slots}
 use Rattle.ell_cards.specs.declared.view.View.{View}
-use Rattle.ell_cards.specs.Models.{TablePlan}
+use Rattle.ell_cards.specs.Models.{TablePlan, Has}
 use Rattle.ell_cards.specs.Changes.{joined_view, spent_view}
 use Rattle.ell_cards.specs.Periods.{WholeState, no_period, after_give, given_period, joined_period, period_in, pending_by, place_says, IsAtRest, PeriodHolds, HasPlace, own, spare, PeriodsAreSound, grace_of}
 use Rattle.ell_cards.specs.Ages.{AgesAreSound}
 use Rattle.ell_cards.specs.States.{TableState}
 use Rattle.ell_cards.specs.Turns.{TableTurns, Splits as SplitsInto, Joins as JoinsWith}
 use Rattle.ell_cards.specs.Whole.{joined_known, spent_known}
-use Rattle.ell_cards.proofs.lemmas.whole.Ages.{AgesOn, Onward, onward, dead_on, still_since, noted_on, read_on, lost_on}
-use Rattle.ell_cards.proofs.lemmas.whole.Rests.{is_at_rest}
+use Rattle.ell_cards.proofs.lemmas.whole.Ages.{AgesOn, Onward, onward, dead_on, still_since, noted_on, read_on, lost_on, stay_on}
+use Rattle.ell_cards.proofs.lemmas.whole.Rests.{is_at_rest, has_none}
 use Rattle.ell_cards.proofs.lemmas.whole.Seats.{part_same, part_put}
 use Rattle.ell_cards.proofs.lemmas.whole.Trees.{grace_same}
 
@@ -154,6 +154,7 @@ module _ (sl : Slots) (t : WholeState) (id : ℕ) (k : Known) (here : get_elem? 
 module _ (plan : TablePlan) (s : Slots) (tree tree' : TableState) (t : WholeState) (id : ℕ) (k : Known) (here : get_elem? t.views id ≡ some k) (keys : List ℕ) (turn : TableTurns plan tree (SplitsInto id keys) tree')
     (left right : Known) (left_rests : IsAtRest left.tree) (right_rests : IsAtRest right.tree) (left_read : left.period.read ≡ k.period.read) (right_read : right.period.read ≡ None)
     (left_lost : left.period.lost ≡ k.period.lost) (right_lost : right.period.lost ≡ None)
+    (left_noted : left.period.sought.noted ≡ k.period.sought.noted) (right_noted : right.period.sought.noted ≡ [])
     (lie : ℕ → ℕ) (dead : ℕ → Bool) (was_dead : ℕ → ℕ → Bool) where
   pub ages_after_split : (h : AgesAreSound plan s tree t lie dead was_dead)
       → AgesOn plan s tree t lie dead was_dead h (SplitsInto id keys) tree' (record { words = t.words; homes = t.homes; views = set t.views id left ++ right ∷ [] })
@@ -176,6 +177,14 @@ module _ (plan : TablePlan) (s : Slots) (tree tree' : TableState) (t : WholeStat
             (λ (e : (seat ≢ id) × (get_elem? t.views seat ≡ some u)). read_on plan s tree tree' t lie dead was_dead h (SplitsInto id keys) on seat u r e.1 has)
             (at_set t.views id seat left u was)
         | inr new ↦ λ i is. absurd (some_not_none (ap (λ (x : Known). x.period.read) new.1 ∙ has) right_read)
+      ];
+      stay = λ seat u r at has. elim (at_end (set t.views id left) right u seat at) [
+        | inl was ↦ ⊎_elim
+            (λ (e : (seat ≡ id) × (left ≡ u)). stay_on plan s tree tree' t lie dead was_dead h (SplitsInto id keys) on t.words (λ slot low. refl) id k r here
+            (subst (λ l. Has l r) left_noted (subst (λ (x : Known). Has x.period.sought.noted r) (sym e.1) has)))
+            (λ (e : (seat ≢ id) × (get_elem? t.views seat ≡ some u)). stay_on plan s tree tree' t lie dead was_dead h (SplitsInto id keys) on t.words (λ slot low. refl) seat u r e.1 has)
+            (at_set t.views id seat left u was)
+        | inr new ↦ absurd (has_none r (subst (λ l. Has l r) right_noted (subst (λ (x : Known). Has x.period.sought.noted r) (sym new.1) has)))
       ];
       lost = λ seat c u at has. elim (at_end (set t.views id left) right u seat at) [
         | inl was ↦ ⊎_elim
@@ -330,6 +339,7 @@ module _ (sl : Slots) (t : WholeState) (id other : ℕ) (k l : Known) (here : ge
 module _ (plan : TablePlan) (s : Slots) (tree tree' : TableState) (t : WholeState) (id other : ℕ) (k : Known) (here : get_elem? t.views id ≡ some k) (turn : TableTurns plan tree (JoinsWith id other) tree')
     (both spent : Known) (both_rests : IsAtRest both.tree) (spent_rests : IsAtRest spent.tree) (both_read : both.period.read ≡ k.period.read) (spent_read : spent.period.read ≡ None)
     (both_lost : both.period.lost ≡ k.period.lost) (spent_lost : spent.period.lost ≡ None)
+    (both_noted : both.period.sought.noted ≡ k.period.sought.noted) (spent_noted : spent.period.sought.noted ≡ [])
     (lie : ℕ → ℕ) (dead : ℕ → Bool) (was_dead : ℕ → ℕ → Bool) where
   pub ages_after_join : (h : AgesAreSound plan s tree t lie dead was_dead)
       → AgesOn plan s tree t lie dead was_dead h (JoinsWith id other) tree' (record { words = t.words; homes = t.homes; views = set (set t.views id both) other spent })
@@ -351,6 +361,14 @@ module _ (plan : TablePlan) (s : Slots) (tree tree' : TableState) (t : WholeStat
           (λ (e : (seat ≢ other) × (get_elem? (set t.views id both) seat ≡ some u)). ⊎_elim
           (λ (f : (seat ≡ id) × (both ≡ u)). read_on plan s tree tree' t lie dead was_dead h (JoinsWith id other) on id k r here (sym both_read ∙ (ap (λ (x : Known). x.period.read) f.1 ∙ has)))
           (λ (f : (seat ≢ id) × (get_elem? t.views seat ≡ some u)). read_on plan s tree tree' t lie dead was_dead h (JoinsWith id other) on seat u r f.1 has)
+          (at_set t.views id seat both u e.1))
+          (at_set (set t.views id both) other seat spent u at);
+      stay = λ seat u r at has. ⊎_elim
+          (λ (e : (seat ≡ other) × (spent ≡ u)). absurd (has_none r (subst (λ l. Has l r) spent_noted (subst (λ (x : Known). Has x.period.sought.noted r) (sym e.1) has))))
+          (λ (e : (seat ≢ other) × (get_elem? (set t.views id both) seat ≡ some u)). ⊎_elim
+          (λ (f : (seat ≡ id) × (both ≡ u)). stay_on plan s tree tree' t lie dead was_dead h (JoinsWith id other) on t.words (λ slot low. refl) id k r here
+          (subst (λ l. Has l r) both_noted (subst (λ (x : Known). Has x.period.sought.noted r) (sym f.1) has)))
+          (λ (f : (seat ≢ id) × (get_elem? t.views seat ≡ some u)). stay_on plan s tree tree' t lie dead was_dead h (JoinsWith id other) on t.words (λ slot low. refl) seat u r f.1 has)
           (at_set t.views id seat both u e.1))
           (at_set (set t.views id both) other seat spent u at);
       lost = λ seat c u at has. ⊎_elim

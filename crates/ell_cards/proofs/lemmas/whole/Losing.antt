@@ -83,6 +83,7 @@ module _ (plan : TablePlan) (s : Slots) (tree : TableState) (t : WholeState) (id
   lost_ages = ages_of_period plan s tree t id k here now refl t.words h.lie h.lie h.dead h.dead h.was_dead h.was_dead h.ages
       h.ages.now.each h.ages.still (λ q a at an. h.ages.since id q a k here at an) (λ j q a u other at placed an. refl)
       h.ages.noted (λ r has. h.ages.read id k r here has)
+      (λ r i few low out still. still) (λ r has. inl has)
       (λ d has. subst (IsAside h.ages.now.machine.stages tree.views) (same_Some c d has) aside)
 
   -- the pass notes the card that it has laid aside

@@ -11,7 +11,7 @@ use Rattle.ell_cards.specs.declared.view.Period.{Period}
 use Rattle.ell_cards.specs.declared.view.Seek.{Seek}
 use Rattle.ell_cards.specs.declared.view.Slots.{Slots}
 use Rattle.ell_cards.specs.Ages.{HasPeriods}
-use Rattle.ell_cards.specs.Models.{TablePlan}
+use Rattle.ell_cards.specs.Models.{TablePlan, Has}
 use Rattle.ell_cards.specs.Periods.{WholeState, slot_word, slots_size, after_missing, after_own, after_read, after_taking}
 use Rattle.ell_cards.specs.Seeking.{could_take, missed_one}
 use Rattle.ell_cards.specs.SlotWords.{has_slot_in, slot_of, turn_of, stamp_in}
@@ -43,16 +43,17 @@ module _ (plan : TablePlan) (s : Slots) (tree : TableState) (t : WholeState) (id
   found = get_or t.words at 0
 
   -- it reads the slot's word
-  pub reads_so : (sought : Seek) → HasPeriods plan s tree (turned_to t id k (record (after_read (slot_of c) (get_or t.words (slot_word s (slot_of c)) 0) k.period) { sought = sought }) (slot_word s (slot_of c)) (get_or t.words (slot_word s (slot_of c)) 0))
-  reads_so sought = reads_now plan s tree t id k here (ap (λ l. get_elem? l id) (sym same) ∙ tree_at t.views id k here) h size reached (slot_of c) inside sought
+  pub reads_so : (sought : Seek) → sought.noted ≡ k.period.sought.noted → HasPeriods plan s tree (turned_to t id k (record (after_read (slot_of c) (get_or t.words (slot_word s (slot_of c)) 0) k.period) { sought = sought }) (slot_word s (slot_of c)) (get_or t.words (slot_word s (slot_of c)) 0))
+  reads_so sought noted =
+      reads_now plan s tree t id k here (ap (λ l. get_elem? l id) (sym same) ∙ tree_at t.views id k here) h size reached (slot_of c) inside sought (λ r has. inl (subst (λ l. Has l r) noted has))
 
   -- and counts a miss if it could not take the slot
   pub owns_now : HasPeriods plan s tree (turned_to t id k (after_own c (get_or t.words (slot_word s (slot_of c)) 0) k.period) (slot_word s (slot_of c)) (get_or t.words (slot_word s (slot_of c)) 0))
   owns_now = by (could_take found k.period.safe)
     where
       by : (b : Bool) → HasPeriods plan s tree (turned_to t id k (if b then after_read (slot_of c) found k.period else after_missing c found k.period) (slot_word s (slot_of c)) found)
-      by true = reads_so k.period.sought
-      by false = reads_so (missed_one k.period.sought)
+      by true = reads_so k.period.sought refl
+      by false = reads_so (missed_one k.period.sought) refl
 
   -- it takes the slot, if that was set free with a stamp below the pass's safe number
   pub takes_now : s.last < 2097152 → (n : ℕ) → get_or t.words (slot_word s (slot_of c)) 0 ≡ n → n % 8 ≡ 7 → stamp_in n < k.period.safe
@@ -102,7 +103,7 @@ module _ (plan : TablePlan) (s : Slots) (placed : plan.slots ≡ Some s) (k : Kn
           (takes_now plan s tree t id k here same h size c hand inside numbered reached low n is free safe)
       by tree t id reached here same h size (inr other) =
           subst (after t tree id (get_or t.words (slot_word s (slot_of c)) 0)) (sym (ne_eqb (get_or t.words (slot_word s (slot_of c)) 0) n other))
-          (reads_so plan s tree t id k here same h size c hand inside numbered reached (missed_one k.period.sought))
+          (reads_so plan s tree t id k here same h size c hand inside numbered reached (missed_one k.period.sought) refl)
 
   -- whichever card the pass has in hand, and whatever slot's word this is
   one : (d : ℕ) → k.tree.worker.card ≡ Some d → c ≡ d

@@ -89,7 +89,7 @@ retire_deleted-requires-clause-leaf g c =
 -- once it is over, it is answered
 pub answer-requires-clause-may : goal.answer-requires-clause-may
 answer-requires-clause-may g c =
-    rw c.retire_deleted.ensures.same
+    rw c.retire_deleted.ensures.same.same
     (search rules)
 
 -- a flag or a mark stood at the grandparent
@@ -275,7 +275,7 @@ returns-clause-ends g c =
     let op = Delete c.args.key in
     let taken = keeps_in_meets c.args.table.now.plan a t _ c.take_card.ensures.keeps c.in-Card.ensures.claims.2 in
     let flagged = meets_trans a.view t.view f.view taken (keeps_meets t f _ c.flag_delete.ensures.keeps c.in_default-flag_delete.ensures.flags.hindrances) in
-    let meets : Meets f.view m.view = rw c.retire_deleted.ensures.same c.finish_own.ensures.meets in
+    let meets : Meets f.view m.view = rw c.retire_deleted.ensures.same.same c.finish_own.ensures.meets in
     let finished = meets_trans a.view f.view m.view flagged meets in
     let answers = said.ensures.answers op (search rules) in (
       keeps_in_answers c.args.table.now op _ a t said.new.pass _ c.take_card.ensures.keeps
@@ -339,6 +339,6 @@ returns-in-Err-clause-taken g c = λ plain.
 pub returns-clause-taken : goal.returns-clause-taken
 returns-clause-taken g c = λ plain.
     let said : TakesNoCard c.finish_own.new.pass c.answer.new.pass =
-    c.answer.ensures.taken ∙ ap (λ (p : PassModel). cards_taken p) c.retire_deleted.ensures.same in
+    c.answer.ensures.taken ∙ ap (λ (p : PassModel). cards_taken p) c.retire_deleted.ensures.same.same in
     let one = c.in-Card.ensures.taken plain in
     omega (arith, said, c.finish_own.ensures.keeps_but_met.taken, c.flag_delete.ensures.taken, one)

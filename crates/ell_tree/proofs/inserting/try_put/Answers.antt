@@ -85,7 +85,7 @@ retire_put-requires-clause-put g c =
 -- once it is over, it is answered
 pub answer-requires-in-Ok-clause-may : goal.answer-requires-in-Ok-clause-may
 answer-requires-in-Ok-clause-may g c =
-    rw c.retire_put.ensures.same
+    rw c.retire_put.ensures.same.same
     (search rules)
 
 -- there was no place for it
@@ -284,7 +284,7 @@ returns-in-Lost-clause-taken g c = λ plain.
 pub returns-in-Ok-clause-taken : goal.returns-in-Ok-clause-taken
 returns-in-Ok-clause-taken g c = λ plain.
     let said : TakesNoCard c.finish_insert.new.pass c.answer-in-Ok.new.pass =
-    c.answer-in-Ok.ensures.taken ∙ ap (λ (p : PassModel). cards_taken p) c.retire_put.ensures.same in
+    c.answer-in-Ok.ensures.taken ∙ ap (λ (p : PassModel). cards_taken p) c.retire_put.ensures.same.same in
     let one = c.in-Card.ensures.taken plain in
     let taken : TakesOneCard c.args.pass.now c.answer-in-Ok.new.pass =
     omega (arith, said, c.finish_insert.ensures.keeps_all.taken, c.flag_insert.ensures.taken, one, c.search-place.ensures.keeps_but_search.taken) in

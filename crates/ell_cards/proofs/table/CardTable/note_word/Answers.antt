@@ -1,7 +1,7 @@
 use Rattle.std.proofs.Common.{◌≢◌, ◌%◌, refl, inl, subst, true}
 use Rattle.std.specs.Int.Bits.{bit_or}
 use Rattle.ell_cards.specs.Noting.{NotesNodes}
-use Rattle.ell_cards.proofs.lemmas.whole.Freeing.{noted_turn, noted_dead, noted_more, notes_all, all_noted, full_stays, sought_still, sought_noting}
+use Rattle.ell_cards.proofs.lemmas.whole.Freeing.{noted_turn, noted_dead, noted_more, notes_all, or_noted, all_noted, full_stays, sought_still, sought_noting}
 use Rattle.ell_cards.proofs.table.CardTable.note_word.Goals as goal
 
 -- a word that sets its slot free notes all nodes already
@@ -48,3 +48,6 @@ returns-then-noted-word-clause-sought g c = sought_still c.args.seat.now.me.0.pe
 pub returns-else-noted-eq7-clause-sought : goal.returns-else-noted-eq7-clause-sought
 returns-else-noted-eq7-clause-sought g c =
     sought_noting c.args.seat.now.me.0.period c.note_more.new.seat.me.0.period true c.note_more.result c.args.slot (bit_or c.args.word c.bits.result) c.note_more.ensures.period
+
+pub note_more-requires-clause-more : goal.note_more-requires-clause-more
+note_more-requires-clause-more g c i was = or_noted c.args.word c.bits.result i (inl was)
