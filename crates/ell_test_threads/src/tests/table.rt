@@ -163,14 +163,14 @@ fn all_places_are_found_in_a_row_and_again(rt: HostRuntime) {
 fn a_look_that_goes_on_holds_safe_numbers_down(rt: HostRuntime) {
     let (table, pass) = with_places(&rt, 3);
     let (mut one, mut two) = parted(&rt, &table, pass);
-    assert!(rt; table.safe_number(&mut one) == 1);
+    assert!(rt; table.safe_number(&mut one) == 2);
     assert!(rt; table.look(&mut two).node == 4);
-    assert!(rt; table.safe_number(&mut one) == 1 && table.safe_number(&mut two) == 1);
+    assert!(rt; table.safe_number(&mut one) == 2 && table.safe_number(&mut two) == 2);
     table.end_look(&mut two);
-    assert!(rt; table.safe_number(&mut one) == 4);
+    assert!(rt; table.safe_number(&mut one) == 5);
     assert!(rt; table.look(&mut two).node == 4);
     let mut both = joined(&rt, &table, one, two);
-    assert!(rt; table.safe_number(&mut both) == 5);
+    assert!(rt; table.safe_number(&mut both) == 6);
 }
 
 // Each value has its text.
