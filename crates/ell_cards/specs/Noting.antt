@@ -31,7 +31,8 @@ IsSoughtAs old new = new ≡ record old { noted = new.noted; outrun = new.outrun
 
 -- so is all else that contracts see of it
 abbrev pub HasNoted : PassModel → PassModel → Type 0
-HasNoted old new = new ≡ record old { sought = record (old.sought) { noted = new.sought.noted; outrun = new.sought.outrun } }
+HasNoted old new =
+    new ≡ record old { sought = record (old.sought) { noted = new.sought.noted; outrun = new.sought.outrun } }
 
 -- A pass noted nodes of a card that has a slot, unless another word stood there by then, three times in a row; and this
 -- may be so of the word instead.

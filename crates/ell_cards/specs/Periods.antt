@@ -62,22 +62,23 @@ abbrev pub pending_by : Option Stamp → Option (ℕ × ℕ)
 pending_by None = None
 pending_by (Some stamp) = Some (stamp.card, stamp.reading)
 
--- the word of a slot as a table opens with so many start keys: each slot is free, with the stamp 0, unless the card of the root or of a
--- start key lies there
+-- the word of a slot as a table opens with so many start keys: each slot is free, with the stamp 0, unless the card of
+-- the root or of a start key lies there
 abbrev pub opening_word : ℕ → ℕ → ℕ
 opening_word given slot = if nat_lt given slot then free_word 0 else 0
 
--- the words of cards, and behind them those of periods, where nobody has a place but the first pass, and those of slots that
--- are all free
+-- the words of cards, and behind them those of periods, where nobody has a place but the first pass, and those of slots
+-- that are all free
 abbrev pub words_of_free_slots : Slots → List ℕ → List ℕ
 words_of_free_slots s cards =
     slice_set
-    (slice_set ((cards ++ replicate (slot_word s 0 - length cards) 0) ++ replicate (slots_size s - slot_word s 0) (free_word 0))
+    (slice_set
+    ((cards ++ replicate (slot_word s 0 - length cards) 0) ++ replicate (slots_size s - slot_word s 0) (free_word 0))
     (clock_word s) 1)
     (place_word s 0) 1
 
--- The words of a table with places at its start, behind these of its cards: the clock is 1, so that the stamp 0 is safe for
--- whoever looks at the places, of which the first pass has the first one and nobody another, and slots are free.
+-- The words of a table with places at its start, behind these of its cards: the clock is 1, so that the stamp 0 is safe
+-- for whoever looks at the places, of which the first pass has the first one and nobody another, and slots are free.
 pub record AreOpeningWords (s : Slots) (given : ℕ) (cards words : List ℕ) : Type 0 where
   pub size : length words ≡ slots_size s
   pub cards_first : (i : ℕ) → i < table_size s.last → slice_index words i ≡ slice_index cards i
@@ -205,8 +206,8 @@ after_seek s begins for_delete c made n p = record (after_read (slot_of c) n p) 
 abbrev pub after_noting_read : ℕ → ℕ → Period → Period
 after_noting_read slot n p = record (after_read slot n p) { sought = noted_in slot n p.sought }
 
--- it notes them by an exchange for this word, if another one stood there by then in vain; or it exchanges the word of a
--- card that it has laid aside, which notes no nodes
+-- A pass exchanged the word of a slot for this one: to note nodes there, which it did or was outrun; or to set the slot of
+-- a card free that it has laid aside, which notes no nodes.
 abbrev pub after_noting : Bool → Bool → ℕ → ℕ → Period → Period
 after_noting false won slot n p = p
 after_noting true true slot n p = record p { sought = noted_in slot n p.sought }

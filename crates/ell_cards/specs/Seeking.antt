@@ -9,8 +9,8 @@ use Rattle.ell_cards.specs.SlotWords.{has_slot_in, slot_of, turn_of, stamp_in}
 abbrev pub slots_before : Slots → ℕ → ℕ
 slots_before s c = (s.last + 1) * (turn_of c - turn_of c / 1048576) + slot_of c
 
--- whether a pass with a safe number could take a slot, by the slot's word: that was set free with a stamp below the safe
--- number
+-- whether a pass with a safe number could take a slot, by the slot's word: that was set free with a stamp below the
+-- safe number
 abbrev pub could_take : ℕ → ℕ → Bool
 could_take n safe = n % 8 == 7 && nat_lt (stamp_in n) safe
 
@@ -24,7 +24,16 @@ could_have s for_delete c n safe = could_take n safe && may_have s for_delete c
 
 -- a pass that has not sought a slot has read none
 abbrev pub no_seek : Seek
-no_seek = record { for_delete = false; from = 0; read = 0; takeable = 0; made = 0; missed = 0; noted = None; outrun = 0 }
+no_seek = record {
+  for_delete = false;
+  from = 0;
+  read = 0;
+  takeable = 0;
+  made = 0;
+  missed = 0;
+  noted = None;
+  outrun = 0;
+}
 
 -- whether this number is the next one of the row
 abbrev pub is_next : Slots → ℕ → Seek → Bool

@@ -124,7 +124,8 @@ pub record OpensTied (plan : TablePlan) (s : Slots) (words : List ℕ) : Type 0 
 abbrev pub OpeningsAreTied : Type 0
 OpeningsAreTied = (plan : TablePlan) (s : Slots) (cards words : List ℕ) → plan.slots ≡ Some s → MayStart plan
     → length cards ≡ table_size s.last → words_of cards ≡ words_at_start plan.flat plan.start
-    → ((i : ℕ) → IsWord (slice_index cards i)) → AreOpeningWords s (length plan.start) cards words → OpensTied plan s words
+    → ((i : ℕ) → IsWord (slice_index cards i)) → AreOpeningWords s (length plan.start) cards words
+    → OpensTied plan s words
 
 -- A step of a pass on the words of periods leaves the words of cards as they are. The pass has for its card in hand the
 -- slot that it had, and nothing that was dead lives. If it begins a period, what was dead then is what was dead before

@@ -477,8 +477,8 @@ fn card_words<A: Allocator + Copy>(
     Ok(words)
 }
 
-// These words, and behind them those of the periods, if there are places: the clock is 1, nobody has a place but the first
-// pass, and each slot is free but for the card of the root and those of so many start keys.
+// These words, and behind them those of the periods, if there are places: the clock is 1, nobody has a place but the
+// first pass, and each slot is free but for the card of the root and those of so many start keys.
 fn with_places<A: Allocator + Copy>(
     words: Vec<u64, A>,
     slots: Option<Slots>,
@@ -522,7 +522,8 @@ fn use_slots(words: &mut [u64], slots: Slots, upto: u64)
     requires size { length words.old ≡ slots_size slots }
     ensures size { length words.new ≡ slots_size slots }
     ensures used { (slot : ℕ) → slot ≤ upto → slice_index words.new (slot_word slots slot) ≡ 0 }
-    ensures same { (i : ℕ) → ((slot : ℕ) → slot ≤ upto → i ≢ slot_word slots slot) → slice_index words.new i ≡ slice_index words.old i }
+    ensures same { (i : ℕ) → ((slot : ℕ) → slot ≤ upto → i ≢ slot_word slots slot)
+        → slice_index words.new i ≡ slice_index words.old i }
 {
     for slot in 0..upto + 1 {
         words[slots.slot_word(slot)] = 0;

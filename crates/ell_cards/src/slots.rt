@@ -98,7 +98,8 @@ fn spread(slot: u64) -> u64
 
 impl Slots {
     /// Returns how many numbers that have slots a pass goes by until it looks at all places again: few enough that the
-    /// clock goes on several times while each slot is passed once, and at most 128, so that a look at a place is seldom.
+    /// clock goes on several times while each slot is passed once, and at most 128, so that a look at a place is
+    /// seldom.
     #[inline(always)]
     fn numbers_per_look(self) -> u64 {
         (self.last / 8).clamp(1, 128)
@@ -282,8 +283,9 @@ impl<A: Allocator + Copy> CardTable<A> {
         self.exchange_slot::<Brand>(seat, slots, slot, word, 8 * reading + 7, notes) == word
     }
 
-    // Reads the word of the slot of a card of which the pass is to note nodes. If its card in hand has taken these out of the
-    // tree, of whose numbers it knows the low bits, the card that lies there by that word is theirs, unless the slot is free.
+    // Reads the word of the slot of a card of which the pass is to note nodes. If its card in hand has taken these out of
+    // the tree, of whose numbers it knows the low bits, the card that lies there by that word is theirs, unless the slot
+    // is free.
     fn read_to_note(
         &self,
         seat: &mut Seat<(), Known>,
